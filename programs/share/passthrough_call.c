@@ -294,7 +294,7 @@ static int create_file(const struct call *call)
 		return error == EEXIST && !(asked->flags & O_EXCL) ? ESTALE : error;
 	}
 	path = open_made(call, name, fd);
-	error = path < 0 ? errno : enter(call, &found, path, entry);
+	error = path < 0 ? errno : enter(call, &found, path, entry, NULL);
 	if (path < 0)
 		node_give_back(nodes);
 	if (!error) {

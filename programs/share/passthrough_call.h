@@ -86,13 +86,13 @@ void tell_attr(const struct call *call, const struct statx *seen, bool is_apart,
 /* The inode number that is told. */
 uint64_t inode_of(const struct call *call, uint64_t device, uint64_t inode, bool is_apart);
 /* The entry of a file that was found so, and opened with O_PATH, or of the name: a node was reserved, which
- * it is, or is given back. 0, or an error. */
-int enter(const struct call *call, const struct found *found, int fd, nizwarf_entry *entry);
-int enter_name(const struct call *call, const struct found *found, nizwarf_entry *entry);
+ * it is, or is given back. `*is_new`, if there is one, becomes true if the file wasn't known. 0, or an error. */
+int enter(const struct call *call, const struct found *found, int fd, nizwarf_entry *entry, bool *is_new);
+int enter_name(const struct call *call, const struct found *found, nizwarf_entry *entry, bool *is_new);
 /* The entry of a name: 0, or an error. */
 int look_up(const struct call *call, const struct found *found, nizwarf_entry *entry);
-/* The same, quicker if it isn't known. */
-int look_up_new(const struct call *call, const struct found *found, nizwarf_entry *entry);
+/* The same, quicker if it isn't known: `*is_new`, as above. */
+int look_up_new(const struct call *call, const struct found *found, nizwarf_entry *entry, bool *is_new);
 /* A name in a node that is in hand. */
 struct found found_in(const struct grip *directory, const char *name);
 

@@ -70,15 +70,16 @@ void tell_entry(const struct call *call, uint64_t number, const struct statx *se
 		entry->attr.flags = FUSE_ATTR_SUBMOUNT;
 }
 
-/* enter(), which says too whether the file wasn't known. */
-static int enter_and_tell(const struct call *call, const struct found *found, int fd, nizwarf_entry *entry,
-			  bool *is_new)
+struct found found_in(const struct grip *directory, const char *name)
+{
+	return (struct found){ directory->fd, directory->node, name };
+}
+
+int enter(const struct call *call, const struct found *found, int fd, nizwarf_entry *entry, bool *is_new)
 {
 	struct statx seen;
 	uint64_t number;
 	int error;
-
-	*is_new = false;
 
 	if (statx(fd, "", AT_EMPTY_PATH | AT_SYMLINK_NOFOLLOW, WANTED, &seen)) {
 		error = errno;
@@ -92,37 +93,15 @@ static int enter_and_tell(const struct call *call, const struct found *found, in
 	return error;
 }
 
-struct found found_in(const struct grip *directory, const char *name)
-{
-	return (struct found){ directory->fd, directory->node, name };
-}
-
-int enter(const struct call *call, const struct found *found, int fd, nizwarf_entry *entry)
-{
-	bool is_new;
-
-	return enter_and_tell(call, found, fd, entry, &is_new);
-}
-
-/* Opens the file of a name with what was reserved for it, and enters it. */
-static int open_reserved(const struct call *call, const struct found *found, nizwarf_entry *entry,
-			 bool *is_new)
+int enter_name(const struct call *call, const struct found *found, nizwarf_entry *entry, bool *is_new)
 {
 	const int fd = openat(found->directory, found->name, O_PATH | O_NOFOLLOW | O_CLOEXEC);
 	const int error = fd < 0 ? errno : 0;
 
-	*is_new = false;
 	if (!error)
-		return enter_and_tell(call, found, fd, entry, is_new);
+		return enter(call, found, fd, entry, is_new);
 	node_give_back(&call->all->nodes);
 	return error;
-}
-
-int enter_name(const struct call *call, const struct found *found, nizwarf_entry *entry)
-{
-	bool is_new;
-
-	return open_reserved(call, found, entry, &is_new);
 }
 
 /* The entry of a name if its file is known, where nothing can be reserved for a new one: or else this error. */
@@ -143,21 +122,11 @@ static int find_known(const struct call *call, const struct found *found, int er
 	return 0;
 }
 
-/* Opens the file of a name, and enters it. */
-static int open_and_enter(const struct call *call, const struct found *found, nizwarf_entry *entry,
-			  bool *is_new)
+int look_up_new(const struct call *call, const struct found *found, nizwarf_entry *entry, bool *is_new)
 {
 	const int error = node_reserve(&call->all->nodes);
 
-	*is_new = false;
-	return error ? find_known(call, found, error, entry) : open_reserved(call, found, entry, is_new);
-}
-
-int look_up_new(const struct call *call, const struct found *found, nizwarf_entry *entry)
-{
-	bool is_new;
-
-	return open_and_enter(call, found, entry, &is_new);
+	return error ? find_known(call, found, error, entry) : enter_name(call, found, entry, is_new);
 }
 
 int look_up(const struct call *call, const struct found *found, nizwarf_entry *entry)
@@ -178,5 +147,6 @@ int look_up(const struct call *call, const struct found *found, nizwarf_entry *e
 			return 0;
 		}
 	}
-	return open_and_enter(call, found, entry, expects_new);
+	*expects_new = false;
+	return look_up_new(call, found, entry, expects_new);
 }

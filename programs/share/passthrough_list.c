@@ -102,7 +102,7 @@ static void find_entry(const struct call *call, const struct dirent64 *found, ni
 
 	if (node_may_be_known(&call->all->nodes, call->node.node, found->d_ino) ?
 		    look_up(call, &at, entry) :
-		    look_up_new(call, &at, entry))
+		    look_up_new(call, &at, entry, NULL))
 		memset(entry, 0, sizeof(*entry));
 }
 

@@ -88,7 +88,7 @@ int make_node(const struct call *call)
 		node_give_back(&call->all->nodes);
 		return error;
 	}
-	error = enter_name(call, &found, &call->answer->entry);
+	error = enter_name(call, &found, &call->answer->entry, NULL);
 	if (error) {
 		const struct statx made = made_by(call);
 

@@ -472,7 +472,6 @@ int node_enter(struct nodes *all, const struct found *found, int fd, const struc
 	struct node *made;
 	int error;
 
-	*is_new = false;
 	*number = handle ? add_lookup(all, seen, handle, NULL) : 0;
 	if (*number) {
 		node_let_go(all, fd);
@@ -482,7 +481,8 @@ int node_enter(struct nodes *all, const struct found *found, int fd, const struc
 	if (error)
 		return error;
 	*number = add_made(all, seen, &made);
-	*is_new = !made;
+	if (is_new && !made)
+		*is_new = true;
 	free_node(made);
 	return *number ? 0 : ENOMEM;
 }
@@ -566,7 +566,6 @@ int nodes_begin(struct nodes *all, int root, int proc, enum file_handles handles
 	const struct found nowhere = { -1, NULL, NULL };
 	struct statx seen;
 	uint64_t number;
-	bool is_new;
 
 	memset(all, 0, sizeof(*all));
 	table_begin(&all->nodes);
@@ -582,7 +581,7 @@ int nodes_begin(struct nodes *all, int root, int proc, enum file_handles handles
 	all->most_kept = most_to_keep(others);
 	all->most_nodes = most;
 	atomic_flag_clear(&all->said_most);
-	if (node_reserve(all) || node_enter(all, &nowhere, root, &seen, &number, &is_new))
+	if (node_reserve(all) || node_enter(all, &nowhere, root, &seen, &number, NULL))
 		return -1;
 	all->named_mount = no_devices ? mount_of(&seen) : 0;
 	all->handles_alone = handles == HANDLES_ALONE;
