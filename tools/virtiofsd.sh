@@ -1,8 +1,8 @@
 #!/usr/bin/env bash
-# Builds the daemon virtiofsd 1.13.2 with the protocol layer here in place of its own, or holds it against the
-# unmodified one.
+# Builds the daemon virtiofsd 1.13.2 with the protocol layer here in place of its own.
 #
-# Usage: tools/virtiofsd.sh [--check [--seed N] [--requests N] | --unmodified] [FOLDER]
+# Usage: tools/virtiofsd.sh [--unmodified] [FOLDER]
+#        tools/virtiofsd.sh --check [--seed N] [--requests N] [FOLDER]
 # It leaves the daemon as nizwarf-virtiofsd in the folder, which is out/virtiofsd if none is given. The daemon
 # takes virtiofsd's options, which its own --help lists. It is built again if a source is newer.
 #
@@ -15,16 +15,13 @@
 # tools/measure/virtiofsd-speed.sh measures the two side by side. Both are built by the same compiler and profile:
 # virtiofsd's own for a release, which optimises when it links, with one codegen unit.
 #
-# With --check it builds it, and asks it and Debian's own program of virtiofsd 1.13.2 the same over equal
-# folders, by vhost-user: the hostile requests of tests/beside, and N well-formed ones by a seed (20000, and
-# 1). It then asks the one with the layer here as many that are mostly broken. It prints how many came to the
-# same, what differs and why, and what was survived. It takes three minutes, and wants root and Python 3.
+# With --check tests/beside/replaced.sh holds it against Debian's own program, with these words.
 #
 # It wants apt-get, a C compiler, cargo 1.85 or later, libcap-ng, libseccomp, and the Rattle toolchain. It
 # links the proved library if that is built and no source is newer; otherwise tools/lib/unproved.sh builds it
 # without a proof, which takes a minute more. CARGO_BUILD_JOBS is how many processors cargo uses.
-# Status 0: it was built, and with --check all came to the same, or to what is known to differ; 1: not so;
-# 2: it could not start.
+# Status 0: it was built, and its path printed, and with --check all came to what it must; 1: not so; 2: it could not
+# start.
 set -euo pipefail
 . "$(dirname "$0")/lib/usage.sh"
 . "$(dirname "$0")/lib/transport.sh"
@@ -37,22 +34,16 @@ refuse() {
     exit 2
 }
 
-check='' unmodified='' seed=1 count=20000 folder=''
-while [ $# -gt 0 ]; do
-    case $1 in
-        --check) check=1 ;;
+if [ "${1:-}" = --check ]; then
+    exec "$here/tests/beside/replaced.sh" "${@:2}"
+fi
+unmodified='' folder=''
+for word in "$@"; do
+    case $word in
         --unmodified) unmodified=1 ;;
-        --seed | --requests)
-            [ -n "$check" ] || refuse "$1 is for --check."
-            [[ ${2:-} =~ ^[1-9][0-9]{0,8}$ ]] || refuse "$1 wants a number from 1 on."
-            if [ "$1" = --seed ]; then seed=$2; else count=$2; fi
-            shift
-            ;;
-        *) take_folder "$1" ;;
+        *) take_folder "$word" ;;
     esac
-    shift
 done
-[ -z "$check" ] || [ -z "$unmodified" ] || refuse "--check and --unmodified don't go together."
 if [ "$(uname -m)" != x86_64 ]; then
     echo "It is made for x86-64 alone." >&2
     exit 2
@@ -66,10 +57,6 @@ version=$(cargo --version | sed -nE 's/^cargo 1\.([0-9]+)\..*/\1/p')
 if [ "${version:-0}" -lt 85 ]; then
     echo "This is $(cargo --version), and 1.85 is wanted: $cargo_packages." >&2
     exit 2
-fi
-if [ -n "$check" ]; then
-    need_front --check
-    need prlimit "Install util-linux."
 fi
 make_folder
 mkdir -p "$folder/link" "$folder/lib" "$folder/home"
@@ -168,38 +155,5 @@ if [ ! -e "$daemon" ] || [ -n "$(find "${needed[@]}" -newer "$daemon" -print -qu
     cp "$folder/target/release/virtiofsd" "$daemon.new"
     mv "$daemon.new" "$daemon"
 fi
-if [ -z "$check" ]; then
-    "$daemon" --version >&2
-    echo "$daemon"
-    exit
-fi
-
-# Debian's program, by its own loader and libraries, whatever the machine has.
-fetch_program() {
-    local part=$folder/part
-    rm -rf "$part"
-    use_suite trixie "$part/apt"
-    unpack_packages "$part/unpacked" virtiofsd libc6 libcap-ng0 libgcc-s1 libseccomp2
-    mv "$part/unpacked" "$folder/debian"
-    rm -rf "$part"
-}
-
-if [ ! -e "$folder/debian" ]; then
-    echo "Downloading Debian's program of virtiofsd .." >&2
-    quietly "$folder/said" fetch_program || {
-        echo "Debian's package virtiofsd of trixie can't be had by apt-get here." >&2
-        exit 2
-    }
-fi
-libraries=$folder/debian/usr/lib/x86_64-linux-gnu
-theirs=("$libraries/ld-linux-x86-64.so.2" --library-path "$libraries" "$folder/debian/usr/libexec/virtiofsd")
-version=$("${theirs[@]}" --version)
-if [[ $version != *1.13.2* ]]; then
-    echo "This is $version and not virtiofsd 1.13.2." >&2
-    exit 2
-fi
-build_front ask
-work=$(mktemp -d)
-trap 'rm -rf "$work"' EXIT
-python3 -B "$here/tests/beside/replaced.py" "$folder/ask" "$work" "$seed" "$count" "$daemon" \
-    "${theirs[@]}"
+"$daemon" --version >&2
+echo "$daemon"

@@ -2,7 +2,7 @@
 # What a person does with the mounted file system in memory, with what must come of it.
 #
 # Usage: tests/mount/session.sh [--shared] [--acl] FOLDER
-# FOLDER is a mount that nothing was done with. tools/mount.sh runs it, and tools/guest.sh in the guest, by
+# FOLDER is a mount that nothing was done with. tests/mount/check.sh runs it, and tools/guest.sh in the guest, by
 # busybox. With --shared it is a mount of a folder of the host, as tools/share.sh makes, where names are not
 # counted. What must come is written by hand, from what POSIX says, and of what that leaves open from what Linux
 # does on a tmpfs; but access control lists are refused without --acl. If git is there, a repository is cloned into it

@@ -30,3 +30,9 @@ take_none() {
         exit 2
     fi
 }
+
+# Tells that a part of the script begins, and how many there are: `part "what it does"`, at the beginning of a line.
+part() {
+    part_number=$((${part_number:-0} + 1))
+    echo "$part_number of $(grep -c '^part ' "$0"): $1" >&2
+}

@@ -1,0 +1,69 @@
+#!/usr/bin/env bash
+# Holds virtiofsd over the layer here, which tools/virtiofsd.sh builds, against Debian's own program of virtiofsd 1.13.2:
+# it asks both the same over equal folders, by vhost-user: the hostile requests of tests/beside, and N well-formed ones
+# by a seed (20000, and 1). It then asks the one with the layer here as many that are mostly broken. It prints how many
+# came to the same, what differs and why, and what was survived.
+#
+# Usage: tests/beside/replaced.sh [--seed N] [--requests N] [FOLDER]
+# The folder is that of tools/virtiofsd.sh, where Debian's packages are unpacked, and never installed.
+#
+# It takes three minutes, and wants root, Python 3, and what tools/virtiofsd.sh does.
+# Status 0: all came to the same, or to what is known to differ; 1: not so; 2: it could not start.
+set -euo pipefail
+. "$(dirname "$0")/../../tools/lib/usage.sh"
+. "$(dirname "$0")/../../tools/lib/transport.sh"
+. "$(dirname "$0")/../../tools/lib/debian.sh"
+. "$(dirname "$0")/../../tools/lib/front.sh"
+
+refuse() {
+    echo "$1" >&2
+    echo "Usage: tests/beside/replaced.sh [--seed N] [--requests N] [FOLDER]" >&2
+    exit 2
+}
+
+seed=1 count=20000 folder=''
+while [ $# -gt 0 ]; do
+    case $1 in
+        --seed | --requests)
+            [[ ${2:-} =~ ^[1-9][0-9]{0,8}$ ]] || refuse "$1 wants a number from 1 on."
+            if [ "$1" = --seed ]; then seed=$2; else count=$2; fi
+            shift
+            ;;
+        *) take_folder "$1" ;;
+    esac
+    shift
+done
+need_front "$0"
+need prlimit "Install util-linux."
+make_folder
+daemon=$("$here/tools/virtiofsd.sh" "$folder")
+
+# Debian's program, by its own loader and libraries, whatever the machine has.
+fetch_program() {
+    local part=$folder/part
+    rm -rf "$part"
+    use_suite trixie "$part/apt"
+    unpack_packages "$part/unpacked" virtiofsd libc6 libcap-ng0 libgcc-s1 libseccomp2
+    mv "$part/unpacked" "$folder/debian"
+    rm -rf "$part"
+}
+
+if [ ! -e "$folder/debian" ]; then
+    echo "Downloading Debian's program of virtiofsd .." >&2
+    quietly "$folder/said" fetch_program || {
+        echo "Debian's package virtiofsd of trixie can't be had by apt-get here." >&2
+        exit 2
+    }
+fi
+libraries=$folder/debian/usr/lib/x86_64-linux-gnu
+theirs=("$libraries/ld-linux-x86-64.so.2" --library-path "$libraries" "$folder/debian/usr/libexec/virtiofsd")
+version=$("${theirs[@]}" --version)
+if [[ $version != *1.13.2* ]]; then
+    echo "This is $version and not virtiofsd 1.13.2." >&2
+    exit 2
+fi
+build_front ask
+work=$(mktemp -d)
+trap 'rm -rf "$work"' EXIT
+python3 -B "$here/tests/beside/replaced.py" "$folder/ask" "$work" "$seed" "$count" "$daemon" \
+    "${theirs[@]}"

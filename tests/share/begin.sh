@@ -1,0 +1,25 @@
+# Sourced by the scripts beside it: the program that is tested, and where.
+# shellcheck shell=bash
+. "$(dirname "${BASH_SOURCE[0]}")/../../tools/lib/transport.sh"
+. "$(dirname "${BASH_SOURCE[0]}")/../../tools/lib/mounts.sh"
+
+# Builds the program, as `share`, and a front end, as `ask`, and makes the folder `work`, which goes with the script
+# and what it mounts: begin_share "$@"
+begin_share() {
+    need_root "Only root may mount, and make files of other users"
+    if [ ! -e /dev/fuse ]; then
+        echo "Missing: /dev/fuse. \`modprobe fuse\` makes it where the kernel has the module." >&2
+        exit 2
+    fi
+    need python3 "Install it: apt-get install python3."
+    # (what is mounted from here on is in no other namespace, where it would stay in use)
+    own_mounts "$@"
+    build_transport share vfs_door
+    # shellcheck disable=SC2034
+    share=$transport
+    ask=$here/out/c/ask
+    cc -std=c11 -O2 -Wall -Wextra -Werror -DPATIENCE=600 -o "$ask" "$here/tests/beside/ask.c"
+    # (in memory where that is a file system: one on a disk may say of a directory that it has one name)
+    # shellcheck disable=SC2119
+    TMPDIR=$([ ! -d /dev/shm ] || echo /dev/shm) own_work
+}

@@ -1,0 +1,531 @@
+#!/usr/bin/env bash
+# Tests nizwarf-share, on folders of its own.
+#
+# Usage: tests/share/check.sh
+# It refuses words that can't be. Over /dev/fuse tests/mount/session.sh does what a person does, with one worker, with
+# four, with a cache of what is written later, with file handles, with few descriptors; after each the descriptors of
+# the server are counted. A file that came after a remembered name is opened by who may alone. calls.py asks it what it
+# asks a plain folder. escape.c tries to leave the sandbox from within, and the server's capabilities and directories
+# are looked at. Files of several file systems below the folder are told apart, and how many are known is bounded; what
+# a node takes is printed (nodes.py). Over vhost-user it is asked the hostile requests of tests/beside, and more that
+# are made up, under sanitizers and in its sandbox (hostile.py); a machine that goes away is followed by another.
+# Last, tools/dev/lint.sh holds its sources against clang-tidy and cppcheck, if they are installed.
+#
+# It takes three minutes, and wants root, /dev/fuse, python3, a C compiler and the Rattle toolchain. It links the proved
+# library if that is built and no source is newer; otherwise tools/lib/unproved.sh builds it without a proof.
+# Status 0: all was right; 1: not so; 2: it could not start.
+set -euo pipefail
+. "$(dirname "$0")/../../tools/lib/usage.sh"
+. "$(dirname "$0")/begin.sh"
+take_none "$@"
+begin_share "$@"
+server=
+status=0
+
+# Tells of what is wrong.
+wrong() {
+    echo "FAILED: $1" >&2
+    status=1
+}
+
+# How many descriptors the server has, which is the child of what stands by its sandbox.
+descriptors() {
+    local child
+    child=$(cat "/proc/$server/task/$server/children")
+    find "/proc/$((${child:-$server}))/fd" -mindepth 1 | wc -l
+}
+
+# Until it is mounted.
+await_mount() {
+    for _ in $(seq 100); do
+        ! mountpoint -q "$work/mount" || break
+        sleep 0.05
+    done
+}
+
+# What a person does over a mount with these words.
+try_mount() {
+    local before after lists=()
+    [[ " $* " != *" --posix-acl "* ]] || lists=(--acl)
+    rm -rf "$work/folder" "$work/mount"
+    mkdir "$work/folder" "$work/mount"
+    "$share" -o allow_other --log-level=warn "$@" "$work/folder" "$work/mount" &
+    server=$!
+    await_mount
+    ls "$work/mount" > /dev/null
+    before=$(descriptors)
+    "$here/tests/mount/session.sh" --shared "${lists[@]}" "$work/mount" > "$work/said" || {
+        grep -A 2 WRONG "$work/said" >&2 || true
+        wrong "the session with $*"
+    }
+    # The kernel gives back what it does not remember.
+    echo 2 > /proc/sys/vm/drop_caches
+    for _ in $(seq 50); do
+        after=$(descriptors)
+        [ "$after" -gt "$((before + 1))" ] || break
+        sleep 0.1
+    done
+    # (one may be that of the mount, by which file handles are opened)
+    [ "$after" -le "$((before + 1))" ] || wrong "$after descriptors are left of $before with $*"
+    umount "$work/mount"
+    wait "$server" || wrong "the server ended with $? with $*"
+    server=
+    ! mountpoint -q "$work/mount" || wrong "something is mounted after $*"
+    echo "$* : $(tail -n 1 "$work/said"), $before descriptors before it and $after after it."
+}
+
+# Ends by a signal, also where the folder is in use. What stands by unmounts if the server is killed.
+try_signals() {
+    mkdir -p "$work/folder" "$work/mount"
+    "$share" --log-level=error "$@" "$work/folder" "$work/mount" &
+    server=$!
+    await_mount
+    exec 3> "$work/mount/open"
+    kill -TERM "$server"
+    for _ in $(seq 100); do
+        mountpoint -q "$work/mount" || break
+        sleep 0.05
+    done
+    echo late >&3
+    exec 3>&-
+    wait "$server" || wrong "the server ended with $? after a signal"
+    server=
+    [ "$(cat "$work/folder/open")" = late ] || wrong "an open file was cut off"
+    echo "A signal unmounted it, and an open file was served to its end, with $*"
+}
+
+try_kill() {
+    local came=0
+    "$share" --log-level=off "$work/folder" "$work/mount" &
+    server=$!
+    await_mount
+    kill -KILL $(($(cat "/proc/$server/task/$server/children")))
+    wait "$server" || came=$?
+    server=
+    [ "$came" = 1 ] || wrong "it ended with $came when the server was killed"
+    ! mountpoint -q "$work/mount" || wrong "a mount is left of a server that was killed"
+}
+
+# Code that got into the server has no way out of its sandbox: a program has its place, and the server itself is
+# looked at from outside.
+try_escape() {
+    local from=$here/programs/share came sandbox filter seccomp=() links=()
+    ! "$share" --version | grep -q "with libseccomp" || seccomp=(-DWITH_SECCOMP)
+    [ "${#seccomp[@]}" = 0 ] || links=(-lseccomp)
+    cc -std=c11 -O2 -Wall -Wextra -Werror -pthread "${seccomp[@]}" -I "$here/include" -I "$here/programs/transport" -o "$work/escape" \
+        "$here/tests/share/escape.c" "$from/share_sandbox.c" "$from/share_users.c" "$from/passthrough_who.c" "${links[@]}"
+    mkdir -p "$work/folder"
+    touch "$work/outside"
+    for sandbox in namespace chroot; do
+        for filter in none ${seccomp:+kill}; do
+            came=0
+            timeout 20 "$work/escape" "$sandbox" "$filter" "$work/folder" "$work/outside" > "$work/said" 2>&1 || came=$?
+            # (the filter ends it at the call that opens a handle)
+            if [ "$filter" = kill ] && [ "$(cat "$work/said")" = "nizwarf-share: signal 31 ended the server" ]; then
+                came=0
+                : > "$work/said"
+            elif [ "$filter" = kill ]; then
+                came="$came, and no signal"
+            fi
+            if [ "$came" != 0 ] || [ -s "$work/said" ]; then
+                wrong "a way out of the sandbox $sandbox, with the filter $filter: status $came, $(cat "$work/said")"
+            fi
+        done
+        for filter in never prefer; do
+            hold_server "$filter" "--sandbox=$sandbox" "--inode-file-handles=$filter" || wrong "the server in the sandbox $sandbox, with handles $filter"
+        done
+    done
+    hold_server never || wrong "the server without a word for its sandbox"
+    hold_server never --sandbox=none || wrong "the server without a sandbox"
+    # (in a container, as a rule)
+    setpriv --bounding-set=-sys_admin "$share" --log-level=error --sandbox=chroot --socket-path="$work/held" \
+        "$work/folder" 2> "$work/warned" &
+    server=$!
+    ask_directories "$work/held" without:0:0 || true
+    if [ ! -d "$work/folder/without" ] || ! grep -q CAP_SYS_ADMIN "$work/warned"; then
+        wrong "a chroot without CAP_SYS_ADMIN: $(cat "$work/warned" "$work/said")"
+    fi
+    kill "$server"
+    wait "$server" || wrong "a chroot without CAP_SYS_ADMIN ended with $?"
+    server=
+    echo "There is no way out of a sandbox, and no capability that isn't wanted."
+}
+
+# What a server has: capabilities, and directories, of which no `..` is another one. HANDLES WORDS
+hold_server() {
+    local came=0
+    "$share" --log-level=error "${@:2}" --socket-path="$work/held" "$work/folder" &
+    server=$!
+    timeout 20 python3 -B "$here/tests/share/holds.py" "$server" "$work/folder" "$work/held" "$@" || came=1
+    kill "$server"
+    wait "$server" || came=1
+    server=
+    return "$came"
+}
+
+# Asks for directories, each NAME:UID:GID of who asks, and says what came: ask_directories SOCKET NAME..
+ask_directories() {
+    python3 -B "$here/tests/share/directories.py" "${@:2}" | timeout 60 "$ask" "$1" > "$work/said"
+}
+
+# Who isn't root has a sandbox too, if the kernel lets users make namespaces, and is root in it if ids are mapped.
+try_user() {
+    local user=(setpriv --reuid=65534 --regid=65534 --clear-groups) own words wanted came
+    if ! "${user[@]}" unshare --user true 2> /dev/null; then
+        echo "Users can't make namespaces here: a share by one was left out." >&2
+        return
+    fi
+    cp "$share" "$work/share"
+    own="--uid-map=:0:65534:1: --gid-map=+0+65534+1+"
+    for words in "=65534:65534" "$own=65534:65534" "--uid-map=:0:65534:1:=65534:65534" \
+        "$own --uid-map=:1:200000:1000: --gid-map=:1:300000:1000:=65534:65534 200006:300004"; do
+        wanted=${words##*=}
+        if [ "$wanted" != "${wanted% *}" ]; then
+            if ! command -v newuidmap > /dev/null || [ ! -e /etc/subuid ] || [ ! -e /etc/subgid ]; then
+                echo "There is no newuidmap here: ids by subuid(5) were left out. \`apt-get install uidmap\` has it." >&2
+                continue
+            fi
+            # (this namespace of mounts is the script's own)
+            echo nobody:200000:1000 > "$work/subuid"
+            echo nobody:300000:1000 > "$work/subgid"
+            mount --bind "$work/subuid" /etc/subuid
+            mount --bind "$work/subgid" /etc/subgid
+        fi
+        rm -rf "$work/user"
+        mkdir "$work/user"
+        chown 65534:65534 "$work/user"
+        # shellcheck disable=SC2086
+        "${user[@]}" "$work/share" --log-level=warn ${words%=*} --socket-path="$work/user/socket" "$work/user" &
+        server=$!
+        ask_directories "$work/user/socket" made1:0:0 made2:7:5 || true
+        [ "$(stat -c %u:%g "$work/user"/made* | sort -u | xargs)" = "$(echo "$wanted" | xargs -n1 | sort -u | xargs)" ] ||
+            wrong "a share by a user, with ${words%=*}: $(stat -c "%n %u:%g" "$work/user"/made*) $(cat "$work/said")"
+        kill "$server"
+        wait "$server" || wrong "a share by a user ended with $?, with ${words%=*}"
+        server=
+        [ ! -e "$work/user/socket" ] || wrong "the socket of a user is left, with ${words%=*}"
+    done
+    umount -q /etc/subuid /etc/subgid || true
+    for words in --uid-map=0:65534:1 --uid-map=:0:65534:1 --uid-map=:0:65534:0: --gid-map=:0:65534:1:1: --gid-map=:0:x:1: \
+        --gid-map=:0:4294967295:1: "--uid-map=:0:65534:1: --sandbox=none"; do
+        came=0
+        # shellcheck disable=SC2086
+        "${user[@]}" timeout 20 "$work/share" $words --socket-path="$work/user/socket" "$work/user" 2> "$work/said" || came=$?
+        if [ "$came" != 2 ] || ! grep -q -- "${words%%=*}" "$work/said"; then
+            wrong "a share by a user ended with $came, and not with 2, with $words"
+        fi
+    done
+    echo "A user shares a folder in a sandbox, also as root of its own ids."
+}
+
+# By the capability for it attributes of trusted.* are served, and not without. What a server lacks it can't do.
+try_capabilities() {
+    local words wanted
+    mkdir -p "$work/folder" "$work/mount"
+    for words in "--xattr:user" "--xattr --modcaps=+SYS_ADMIN:-mknod:user trusted" \
+        "--xattr --modcaps=-chown:-sys_admin:user no-chown"; do
+        wanted=${words##*:}
+        # shellcheck disable=SC2086
+        "$share" --log-level=error ${words%:*} "$work/folder" "$work/mount" &
+        server=$!
+        await_mount
+        timeout 20 python3 -B "$here/tests/share/may.py" "$work/mount/file" "$wanted" || wrong "the capabilities of $words"
+        umount "$work/mount"
+        wait "$server" || wrong "the server ended with $? with $words"
+        server=
+    done
+    echo "It has the capabilities that --modcaps says."
+}
+
+# A file that a client knows is opened, whatever takes its name meanwhile; and it is remembered that there is none.
+try_names() {
+    local came
+    rm -rf "$work/folder"
+    mkdir -p "$work/folder" "$work/mount"
+    echo this > "$work/folder/file"
+    "$share" --log-level=error --cache=always -o negative_timeout=2 "$@" "$work/folder" "$work/mount" &
+    server=$!
+    await_mount
+    [ "$(cat "$work/mount/file")" = this ] || wrong "a file that is read, with $*"
+    mv "$work/folder/file" "$work/folder/moved"
+    mkfifo "$work/folder/file"
+    came=$(timeout 20 cat "$work/mount/file") || came="status $?"
+    [ "$came" = this ] || wrong "a pipe took the name of a file, and reading it came to $came, with $*"
+    rm "$work/folder/file"
+    echo other > "$work/folder/file"
+    timeout 20 sh -c "echo more >> '$work/mount/file'" || wrong "a file that lost its name isn't written, with $*"
+    [ "$(cat "$work/folder/moved" "$work/folder/file" | tr '\n' ' ')" = "this more other " ] ||
+        wrong "another file took a name, and was written, with $*"
+    [ ! -e "$work/mount/none" ] || wrong "a name that is none"
+    touch "$work/folder/none"
+    [ ! -e "$work/mount/none" ] || wrong "it is not remembered that there is no such name, with $*"
+    sleep 2.1
+    [ -e "$work/mount/none" ] || wrong "it is remembered for too long that there is no such name, with $*"
+    umount "$work/mount"
+    wait "$server" || wrong "the server ended with $? with $*"
+    server=
+    echo "Files are the ones that were looked up, with $*"
+}
+
+# Who may not open a file may not by O_CREAT either, where it came behind a name that was remembered as none.
+try_late() {
+    rm -rf "$work/folder"
+    mkdir -p "$work/folder" "$work/mount"
+    chmod 1777 "$work/folder"
+    "$share" --log-level=error -o allow_other,negative_timeout=60 "$work/folder" "$work/mount" &
+    server=$!
+    await_mount
+    timeout 60 python3 -B "$here/tests/share/late.py" "$work/folder" "$work/mount" || wrong "a file that came late"
+    umount "$work/mount"
+    wait "$server" || wrong "the server ended with $? behind a file that came late"
+    server=
+    echo "A file that came late is opened by who may."
+}
+
+# Without standard descriptors none of these is another file's; and what is traced is its owner's.
+try_closed() {
+    local child fd
+    mkdir -p "$work/folder" "$work/mount"
+    "$share" --trace="$work/trace" "$work/folder" "$work/mount" <&- >&- 2>&- &
+    server=$!
+    await_mount
+    touch "$work/mount/touched"
+    child=$(cat "/proc/$server/task/$server/children")
+    for fd in 0 1 2; do
+        [ "$(readlink "/proc/$((child))/fd/$fd")" = /dev/null ] || wrong "the descriptor $fd, which was closed"
+    done
+    [ "$(stat -c %a "$work/trace")" = 600 ] || wrong "others may read the trace"
+    umount "$work/mount"
+    wait "$server" || wrong "the server without standard descriptors ended with $?"
+    server=
+    echo "It serves without standard descriptors."
+}
+
+# What waits, for a lease, a file system or a front end, keeps neither the next one nor a signal waiting.
+try_ends() {
+    local ends=$work/ends
+    mkdir "$ends"
+    timeout -k 5 120 unshare --mount \
+        python3 -B "$here/tests/share/ends.py" "$share" "$ends" "$@" 2> "$ends/said" ||
+        { cat "$ends/said" >&2 && wrong "tests/share/ends.py with $*"; }
+    ! grep -E 'ERROR: |WARNING: ThreadSanitizer|runtime error' "$ends/said" >&2 || wrong "a sanitizer, at an end"
+    rm -rf "$ends" || true
+}
+
+# What is asked of a plain folder too.
+try_calls() {
+    mkdir "$work/calls"
+    timeout 120 python3 -B "$here/tests/share/calls.py" "$share" "$ask" "$work/calls" "$@" ||
+        wrong "tests/share/calls.py with $*"
+    umount -lq "$work/calls"/* || true
+    rm -rf "$work/calls" || true
+    echo "Calls come to what they do on a plain folder${*:+, with $*}."
+}
+
+# What a client knows of files: which are one, how many there may be, and what each takes.
+try_nodes() {
+    cc -std=c11 -O2 -Wall -Wextra -Werror -pthread -o "$here/out/c/share_numbers" "$here/tests/share/numbers.c" \
+        "$here/programs/share/passthrough_numbers.c"
+    "$here/out/c/share_numbers" || wrong "inode numbers"
+    mkdir "$work/nodes"
+    python3 -B "$here/tests/share/nodes.py" "$share" "$ask" "$work/nodes" || wrong "what a client knows"
+    umount -lq "$work/nodes"/* || true
+}
+
+# Words that can't be, what is printed, and who is told that it serves.
+try_words() {
+    local came words
+    mkdir -p "$work/folder/below" "$work/mount"
+    for words in "" "--cache=some $work/folder $work/mount" "$work/folder" "--no-such-word $work/folder $work/mount" \
+        "$work/folder $work/folder/below" "$work/none $work/mount" "--fd=77 $work/folder" \
+        "--socket-path=$work/socket $work/folder too-many" "--sandbox=some $work/folder $work/mount" \
+        "--thread-pool-size=65 $work/folder $work/mount" "-o no-such-option $work/folder $work/mount" \
+        "-o attr_timeout=0x1 $work/folder $work/mount" "--inode-file-handles=always $work/folder $work/mount" \
+        "--node-limit=1 $work/folder $work/mount" \
+        "--modcaps=sys_admin $work/folder $work/mount" "--modcaps=+some $work/folder $work/mount" \
+        "--inode-file-handles=auto $work/folder $work/mount" "--uid-map=:0:1:1: $work/folder $work/mount" \
+        "--socket-path= $work/folder" "-o =5 $work/folder $work/mount" "-o fsname= $work/folder $work/mount"; do
+        came=0
+        # shellcheck disable=SC2086
+        timeout 10 "$share" $words > "$work/said" 2>&1 || came=$?
+        if [ "$came" != 2 ] || [ ! -s "$work/said" ]; then
+            wrong "it ended with $came and not with 2 for: $words"
+        fi
+    done
+    # What can't be is named: a beginning of a word is none.
+    for words in --no-such-word --cach=never --cache --xattr=1 -x "-o no-such-option" "-o flock" "-o loglevel" \
+        "-o sandbox=some"; do
+        # shellcheck disable=SC2086
+        timeout 10 "$share" "$work/folder" "$work/mount" $words > "$work/said" 2>&1 && wrong "it serves with $words"
+        grep -qF -- "${words##*[ =]}" "$work/said" || grep -qF -- ": ${words##* }" "$work/said" ||
+            wrong "$words is not named in: $(cat "$work/said")"
+    done
+    # How many files can be open is said where others were asked for.
+    (ulimit -n 1000 && "$share" --socket-path=/ "$work/folder") > "$work/said" 2>&1 || true
+    ! grep -q "can be open" "$work/said" || wrong "it says how many files can be open unasked"
+    "$share" --rlimit-nofile=2147483647 --socket-path=/ "$work/folder" > "$work/said" 2>&1 || true
+    grep -q "can be open, and not 2147483647" "$work/said" || wrong "it does not say how many files can be open"
+    grep -q "set-user-ID" <<< "$("$share" --help)" || wrong "--help does not say what a guest's root makes"
+    "$share" --print-capabilities | python3 -c 'import json, sys; assert json.load(sys.stdin)["type"] == "fs"' ||
+        wrong "--print-capabilities"
+    # It is mounted as soon as the command has ended, and holds nothing of the caller's.
+    came=$(timeout 20 "$share" --daemonize --log-level=error "$work/folder" "$work/mount" 2>&1) || wrong "--daemonize"
+    mountpoint -q "$work/mount" || wrong "--daemonize, which did not wait for the mount, and said: $came"
+    umount "$work/mount"
+    timeout 60 python3 -B "$here/tests/share/notify.py" "$share" "$work" || wrong "NOTIFY_SOCKET"
+    echo "Words that can't be are refused, and it is told when it serves."
+}
+
+# The lines by which libvirt 9.0 and 11 start a daemon, with all that these have words for: each is served.
+try_managers() {
+    rm -rf "$work/a,b"
+    mkdir "$work/a,b"
+    timeout 60 python3 -B "$here/tests/share/managers.py" "$ask" "$share" "$work" || wrong "a line of libvirt"
+    echo "It is started as libvirt starts a daemon."
+}
+
+# A socket for a group has its mode from the beginning; and what takes its place meanwhile isn't the group's.
+try_group() {
+    local came=0 group
+    group=$(id -gn nobody)
+    touch "$work/target"
+    chmod 600 "$work/target"
+    cc -shared -fPIC -Wall -Wextra -Werror -o "$work/swap.so" "$here/tests/share/swap_socket.c"
+    TARGET=$work/target LD_PRELOAD=$work/swap.so timeout 20 "$share" --log-level=error --socket-path="$work/socket" \
+        --socket-group="$group" "$work/folder" 2> "$work/said" || came=$?
+    [ "$came $(stat -c '%a %u %g' "$work/target")" = "1 600 0 0" ] ||
+        wrong "a link in place of a socket: it ended with $came, $(stat -c '%a %u %g' "$work/target"), $(cat "$work/said")"
+    "$share" --log-level=error --socket-path="$work/socket" --socket-group="$group" "$work/folder" &
+    server=$!
+    await_socket "$work/socket"
+    [ "$(stat -c '%a %U %G' "$work/socket")" = "660 root $group" ] || wrong "the socket of a group"
+    kill "$server"
+    wait "$server" || wrong "the server of a group ended with $?"
+    server=
+    echo "A group has the socket, and nothing else."
+}
+
+# Until there is a socket.
+await_socket() {
+    for _ in $(seq 100); do
+        [ ! -S "$1" ] || break
+        sleep 0.05
+    done
+}
+
+# Where the root is no mount point it says which sandbox can be, and that one serves.
+try_chroot() {
+    local came=0 inside=(unshare --mount "$here/tests/share/in_chroot.sh" "$work/root") way
+    mkdir -p "$work/root/folder"
+    cp "$share" "$work/root/share"
+    timeout 20 "${inside[@]}" 2> "$work/said" || came=$?
+    if [ "$came" != 1 ] || ! grep -q -e --sandbox=chroot "$work/said"; then
+        wrong "in a chroot it ended with $came: $(cat "$work/said")"
+    fi
+    for way in chroot none; do
+        "${inside[@]}" --sandbox="$way" &
+        server=$!
+        await_socket "$work/root/socket"
+        kill "$server"
+        wait "$server" || wrong "in a chroot it ended with $? with --sandbox=$way"
+        server=
+    done
+    echo "In a chroot it serves in another sandbox."
+}
+
+# Asks a server over vhost-user: ask_hostile WHAT-IT-IS WORDS
+ask_hostile() {
+    python3 -B "$here/tests/share/hostile.py" "$ask" "$work" "$1" "$share" "${@:2}" || wrong "$1 over vhost-user"
+    umount -lq "$work/shared/mounted" || true
+}
+
+# Whether the compiler has these flags.
+has_flags() {
+    echo 'int main(void) { return 0; }' | cc -x c "$@" -o "$work/program" - 2> /dev/null
+}
+
+# The same over both, under sanitizers of the compiler.
+try_sanitizers() {
+    local plain=$share flags=(-g -O1 "-fsanitize=$1" -fno-sanitize-recover=all) words=(--sandbox=none --seccomp=none)
+    if ! has_flags "${flags[@]}"; then
+        echo "The compiler lacks them." >&2
+        return
+    fi
+    build_transport share vfs_door "${flags[@]}"
+    share=$transport
+    ask_hostile "under the sanitizers $1" --xattr --announce-submounts "${words[@]}"
+    try_mount --thread-pool-size=4 --xattr --log-level=error "${words[@]}"
+    try_calls "${words[@]}"
+    try_ends "${words[@]}"
+    share=$plain
+}
+
+try_lint() {
+    if command -v clang-tidy > /dev/null && command -v cppcheck > /dev/null; then
+        "$here/tools/dev/lint.sh" || wrong "tools/dev/lint.sh"
+    else
+        echo "clang-tidy or cppcheck is not installed." >&2
+    fi
+}
+
+part "words, and what is printed"
+try_words
+part "lines of libvirt"
+try_managers
+part "a socket for a group"
+try_group
+part "in a chroot"
+try_chroot
+part "capabilities"
+try_capabilities
+part "ways out of the sandbox"
+try_escape
+part "a session with one worker"
+try_mount --thread-pool-size=1
+part "a session with four workers"
+try_mount --thread-pool-size=4
+part "a session with what is written later"
+try_mount --thread-pool-size=4 --writeback
+part "a session without a sandbox"
+try_mount --cache=always --xattr --sandbox=none --seccomp=none
+part "a session without a cache"
+try_mount --cache=never --no-readdirplus
+part "a session with file handles"
+try_mount --inode-file-handles=prefer --xattr
+part "a session with file handles alone"
+try_mount --inode-file-handles=mandatory -o entry_timeout=0.5,attr_timeout=0 --sandbox=chroot
+part "a session with few descriptors"
+try_mount --inode-file-handles=prefer --rlimit-nofile=100
+part "a session with access control lists"
+try_mount --posix-acl
+part "signals, and a server that is killed"
+try_signals --sandbox=namespace
+try_signals --sandbox=none
+try_kill
+part "names that change"
+try_names --sandbox=namespace
+try_names --sandbox=none
+part "a file that came late"
+try_late
+part "without standard descriptors"
+try_closed
+part "calls, beside a plain folder"
+try_calls
+part "a share by a user"
+try_user
+part "what a client knows of files"
+try_nodes
+part "ends"
+try_ends
+part "hostile requests"
+ask_hostile "over vhost-user, in its sandbox" --xattr
+part "hostile requests, without a sandbox and with one worker"
+ask_hostile "without a sandbox, one worker" --xattr --announce-submounts --sandbox=none --seccomp=none \
+    --thread-pool-size=1
+part "the same under the sanitizers of addresses and behaviour"
+try_sanitizers address,undefined
+part "the same under that of threads"
+try_sanitizers thread
+part "clang-tidy and cppcheck"
+try_lint
+exit "$status"

@@ -1,0 +1,19 @@
+#!/usr/bin/env bash
+# Puts shares of folders under load, and has them meet faults, by tests/share/load.py: programs that stress a file
+# system, machines, both killed amid a request; full disks, descriptors that run out, allocations that are refused in
+# turn and by chance, openings in turn. What was written is held against what is there, what is refused makes no name,
+# and descriptors and memory are counted.
+#
+# Usage: tests/share/load.sh MINUTES
+# It wants root, /dev/fuse, python3, stress-ng, a C compiler and the Rattle toolchain, and as much of the processor as
+# it is given: `nice` and `taskset` bound it.
+# Status 0: all was right; 1: not so; 2: it could not start.
+set -euo pipefail
+. "$(dirname "$0")/../../tools/lib/usage.sh"
+. "$(dirname "$0")/begin.sh"
+[[ $#:${1:-} =~ ^1:[0-9]+$ ]] || { echo "Usage: tests/share/load.sh MINUTES" >&2 && exit 2; }
+need stress-ng "Install it: apt-get install stress-ng."
+begin_share "$@"
+build_transport share vfs_door "$here/tests/share/refuse_some.c" -Wl,--wrap=malloc -Wl,--wrap=calloc \
+    -Wl,--wrap=realloc -Wl,--wrap=aligned_alloc -Wl,--wrap=openat
+python3 -B "$here/tests/share/load.py" "$share" "$transport" "$ask" "$work" "$1"

@@ -1,0 +1,26 @@
+"""Starts a share as systemd does, for check.sh: it tells NOTIFY_SOCKET that it serves. notify.py SHARE WORK"""
+import os
+import socket
+import struct
+import subprocess
+import sys
+
+share, work = sys.argv[1:]
+told = socket.socket(socket.AF_UNIX, socket.SOCK_DGRAM)
+told.setsockopt(socket.SOL_SOCKET, socket.SO_PASSCRED, 1)
+told.bind(work + "/told")
+told.settimeout(20)
+listening = socket.socket(socket.AF_UNIX)
+listening.bind(work + "/listening")
+listening.listen(1)
+for words in (["--socket-path=" + work + "/socket"], ["--fd=%d" % listening.fileno()]):
+    server = subprocess.Popen([share, "--log-level=error", *words, work + "/folder"],
+                              env=dict(os.environ, NOTIFY_SOCKET=work + "/told"), pass_fds=[listening.fileno()])
+    said, beside, _, _ = told.recvmsg(100, 100)
+    # (systemd believes the process alone that it started)
+    assert said == b"READY=1\n" and struct.unpack_from("i", beside[0][2])[0] == server.pid
+    server.terminate()
+    assert server.wait(20) == 0
+assert not os.path.exists(work + "/socket")
+os.unlink(work + "/told")
+os.unlink(work + "/listening")
