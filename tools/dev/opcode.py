@@ -33,7 +33,8 @@ def read(path):
 
 
 def tracked():
-    said = subprocess.run(["git", "ls-files", "--cached", "--others", "--exclude-standard"], cwd=HERE, stdout=subprocess.PIPE, text=True, check=True).stdout
+    words = ["git", "ls-files", "--cached", "--others", "--exclude-standard"]
+    said = subprocess.run(words, cwd=HERE, stdout=subprocess.PIPE, text=True, check=True).stdout
     return [path for path in said.splitlines() if os.path.isfile(os.path.join(HERE, path))]
 
 
@@ -52,7 +53,7 @@ def listed():
     section = section.partition("\n## ")[0]
     for number, line in enumerate(section.split("\n"), before.count("\n") + 2):
         folder = ""
-        for code in re.findall(r"`([^` ]+)`", line) if line.startswith("| ") else []:
+        for code in re.findall(r"`([^` ]+)`", line.split("|")[1]) if line.startswith("| ") else []:
             if re.search(r"/|\.\w+$", code):
                 folder = code.rpartition("/")[0] if "/" in code else folder
                 path = code if "/" in code else f"{folder}/{code}"

@@ -301,6 +301,54 @@ impl Call<'_> {
     }
 }
 
+/// What a field is in the call of this name, as the functions of the header read it.
+impl RawCall {
+    /// How many lookups of the node are given back.
+    pub fn forget_lookups(&self) -> u64 {
+        self.length
+    }
+
+    /// Which fields of `attr` to set, as bits of [`SetattrValid`](crate::SetattrValid).
+    pub fn setattr_fields(&self) -> u32 {
+        self.flags
+    }
+
+    /// The text of the link.
+    pub fn symlink_text(&self) -> Range {
+        self.other_name
+    }
+
+    /// How many bytes of data there is room for.
+    pub fn read_room(&self) -> u64 {
+        self.length
+    }
+
+    /// Further flags, as bits of [`SetxattrFlags`](crate::SetxattrFlags).
+    pub fn setxattr_more_flags(&self) -> u32 {
+        self.more
+    }
+
+    /// What is to be allowed, as `R_OK`.
+    pub fn access_mask(&self) -> u32 {
+        self.more
+    }
+
+    /// `SEEK_DATA` or `SEEK_HOLE`.
+    pub fn lseek_whence(&self) -> u32 {
+        self.more
+    }
+
+    /// The flags of `copy_file_range(2)`.
+    pub fn copy_flags(&self) -> u64 {
+        self.lock_owner
+    }
+
+    /// The options that are offered.
+    pub fn init_offered(&self) -> u64 {
+        self.length
+    }
+}
+
 /// The slices of a request.
 type Request<'r> = &'r [IoSlice<'r>];
 

@@ -19,8 +19,8 @@
 //! - `getxattr`, `listxattr`: the seed as a length where it is a multiple of 3, else as many bytes
 //!   as the rest by 500 of its third.
 //! - `statfs`: numbers by the seed.
-//! - `lseek`: the offset where the seed is even, else the seed.
-//! - `copyfilerange`: the length, at most the seed.
+//! - A place in a file: the offset where the seed is even, else the seed.
+//! - How much was copied: the length, at most the seed.
 //! - `read`, `write`: bytes of the file of the module `contents`, and into it.
 //! - `readdir`: the directory of the module `listing`, from the offset on.
 //! - `tmpfile`: ENOSYS.
@@ -295,7 +295,7 @@ impl<'a> SeededFs<'a> {
         }
     }
 
-    // The place that LSEEK finds.
+    // The place in a file that is found.
     fn sought(&self, offset: u64) -> Result<Given, Fault>
         ensures { IsOffset result }
     {
