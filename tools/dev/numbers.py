@@ -172,11 +172,11 @@ RUST_FFI, RUST_ATTR = "bindings/rust/src/ffi.rs", "bindings/rust/src/attr.rs"
 for path, name, c_name, other, without in (
         (CALLS, "Range", "range", {}, ()),
         (CALLS, "SetattrData", "setattr", {}, ()),
-        (CALLS, "CallData", "call", {"count": "length", "value": "data"}, ()),
+        (CALLS, "CallData", "call", {}, ()),
         (DATA, "AttrData", "attr", {}, ()),
         (DATA, "EntryData", "entry", {}, ()),
         (DATA, "StatisticsData", "statfs", {}, ()),
-        (DATA, "AnswerData", "answer", {"statistics": "statfs"}, ANSWERED),
+        (DATA, "AnswerData", "answer", {}, ANSWERED),
         (DATA, "ItemData<'a>", "item", {"type_": "type"}, {"name_size"}),
         (DOOR, "SessionData", "session", {}, ()),
         (DOOR, "ToldData", "told", {}, ()),

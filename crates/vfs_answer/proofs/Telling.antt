@@ -26,7 +26,7 @@ told_kind : (c : Call) → kind_told (shape_of c).answer (shape_of c).size ≡ S
 told_kind (call.Lookup ctx parent name) = refl
 told_kind _ = refl
 
-init_options : (told : CallData) (offered : ℕ) (answer : Answer) → told.count ≡ offered
+init_options : (told : CallData) (offered : ℕ) (answer : Answer) → told.length ≡ offered
     → options_told told Agreements answer ≡ options_after (call.Init offered) answer told.options
 init_options told offered (Options want) e = ap (λ n. agreed n want) e
 init_options told offered _ e = refl

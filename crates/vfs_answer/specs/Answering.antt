@@ -28,7 +28,7 @@ echo_told call = record {
 
 -- the options after an answer to a call of this kind: INIT's are those agreed, and DESTROY leaves none
 abbrev pub options_told : CallData → Kind → Answer → ℕ
-options_told call Agreements (Options want) = agreed call.count want
+options_told call Agreements (Options want) = agreed call.length want
 options_told call Quiet answer = if call.call == number.DESTROY then 0 else call.options
 options_told call kind answer = call.options
 

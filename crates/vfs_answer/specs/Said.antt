@@ -42,7 +42,7 @@ IsValue a text room Openings (Opened handle options) =
 IsValue a text room Creations (Created entry handle options) =
     (entry_out_of entry ≡ entry_out_for a.entry)
     × (handle ≡ handle_of a) × (options ≡ bit_and a.open_flags known_open_options)
-IsValue a text room Capacities (Statistics statistics) = statistics ≡ statistics_of a.statistics
+IsValue a text room Capacities (Statistics statistics) = statistics ≡ statistics_of a.statfs
 IsValue a text room Texts (Text bytes) = bytes ≡ text
 IsValue a text room TextsOrCounts (Text bytes) = (a.has_count ≡ 0) × (bytes ≡ text)
 IsValue a text room TextsOrCounts (Count n) = (a.has_count ≢ 0) × (n ≡ a.count)

@@ -29,7 +29,7 @@ pub record TellsEcho (told : CallData) (echo : Echo) : Type 0 where
 
 -- the options that INIT offers
 abbrev pub TellsOffer : CallData → Call → Type 0
-TellsOffer told (Init offered) = told.count ≡ offered
+TellsOffer told (Init offered) = told.length ≡ offered
 TellsOffer told call = ⊤
 
 -- The data tell this call. Of its numbers an answer wants these alone: which call it is, its kind, the size

@@ -77,7 +77,7 @@ pub(crate) fn put_agreed(
     requires { AreLimits limits }
     ensures { Comes limits call.now Agreements (init_answer want) w.old result w.new }
 {
-    let offered = FsOptions::from_bits_retain(call.count);
+    let offered = FsOptions::from_bits_retain(call.length);
     let options = agreed_options(&want, offered, FsOptions::from_bits_retain(call.options));
     let outcome = reply_init(want, options, limits, call.readahead, call.unique, w);
     Answered {

@@ -117,7 +117,7 @@ pub(crate) fn statistics(answer: &AnswerData) -> Result<Statvfs64, Fault>
         IsSaid answer.now text room Capacities (statistics_answer result) }
 {
     done(answer)?;
-    Ok(answer.statistics.statistics())
+    Ok(answer.statfs.statistics())
 }
 
 /// The place in a file, or the fault.

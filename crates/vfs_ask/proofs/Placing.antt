@@ -302,8 +302,8 @@ module _ (q : List ℕ) (h : InHeader) (head : size_of in_header ≤ length q) (
 
   -- with a value of this length
   sized : (c : CallData) (m n : ℕ) → m ≡ n
-      → record c { value = record { at = 0; len = m } } ≡ record c { value = record { at = 0; len = n } }
-  sized c m n e = ap (λ k. record c { value = record { at = 0; len = k } }) e
+      → record c { «data» = record { at = 0; len = m } } ≡ record c { «data» = record { at = 0; len = n } }
+  sized c m n e = ap (λ k. record c { «data» = record { at = 0; len = k } }) e
 
   abbrev write_of : WriteIn → Call
   write_of r =

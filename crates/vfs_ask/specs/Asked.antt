@@ -26,17 +26,17 @@ use Rattle.vfs_ask.specs.declared.asked.Asked.TheVariants as asked
 
 -- ---- a call as data
 
--- the count of a call: of a READ how many bytes of data there is room for
-abbrev pub count_of : Call → ℕ
-count_of (Read ctx inode handle room size offset lock_owner flags) = room
-count_of call = (shape_of call).count
+-- the length of a call: of a READ how many bytes of data there is room for
+abbrev pub length_of_call : Call → ℕ
+length_of_call (Read ctx inode handle room size offset lock_owner flags) = room
+length_of_call call = (shape_of call).length
 
--- the value of a call by its length: of a WRITE its data, of a BATCH_FORGET its pairs
-abbrev pub value_of_call : Call → Range
-value_of_call (Write ctx inode handle bytes size offset lock_owner delayed kill_priv flags) =
+-- the data of a call by their length: of a BATCH_FORGET its pairs
+abbrev pub data_of_call : Call → Range
+data_of_call (Write ctx inode handle bytes size offset lock_owner delayed kill_priv flags) =
     unplaced bytes
-value_of_call (BatchForget ctx pairs) = record { at = 0; len = length pairs * pair_size }
-value_of_call call = (shape_of call).value
+data_of_call (BatchForget ctx pairs) = record { at = 0; len = length pairs * pair_size }
+data_of_call call = (shape_of call).data
 
 -- a call as data, without the places of its names and values: what of it stands in the request with this
 -- echo, the options that were agreed on when it was asked, and the room for its reply
@@ -46,8 +46,8 @@ told_of options room echo call = record (shape_of call) {
   readahead = echo.max_readahead;
   options = options;
   room = room;
-  count = count_of call;
-  value = value_of_call call;
+  length = length_of_call call;
+  «data» = data_of_call call;
 }
 
 -- the same of a directory that is to be read
@@ -66,7 +66,7 @@ abbrev pub without_places : CallData → CallData
 without_places told = record told {
   name = long_range told.name;
   other_name = long_range told.other_name;
-  value = long_range told.value;
+  «data» = long_range told.data;
   context_name = long_range told.context_name;
   context = long_range told.context;
 }
@@ -116,14 +116,14 @@ ArePlaced q (Rename ctx olddir oldname newdir newname flags) told =
     IsNameIn q told.name oldname × IsNameIn q told.other_name newname
 ArePlaced q (Link ctx inode newparent newname) told = IsNameIn q told.name newname
 ArePlaced q (Write ctx inode handle bytes size offset lock_owner delayed kill_priv flags) told =
-    Stand q told.value bytes
+    Stand q told.data bytes
 ArePlaced q (Setxattr ctx inode name value flags extra) told =
-    IsNameIn q told.name name × Stand q told.value value
+    IsNameIn q told.name name × Stand q told.data value
 ArePlaced q (Getxattr ctx inode name size) told = IsNameIn q told.name name
 ArePlaced q (Removexattr ctx inode name) told = IsNameIn q told.name name
 ArePlaced q (Create ctx parent name mode kill_priv flags umask ext) told =
     IsNameIn q told.name name × IsContextPlaced q ext.context told
-ArePlaced q (BatchForget ctx pairs) told = Spell q told.value pairs
+ArePlaced q (BatchForget ctx pairs) told = Spell q told.data pairs
 ArePlaced q call told = ⊤
 
 -- ---- what is told

@@ -12,14 +12,14 @@ cleared_places c = record c {
   node = 0;
   handle = 0;
   offset = 0;
-  count = 0;
+  length = 0;
   lock_owner = 0;
   other_node = 0;
   other_handle = 0;
   other_offset = 0;
   name = no_range;
   other_name = no_range;
-  value = no_range;
+  «data» = no_range;
   context_name = no_range;
   context = no_range;
 }

@@ -50,13 +50,13 @@ with_parts length room (Names at) c = record c {
 }
 with_parts length room (NameAndValue at) c = record c {
   name = placed_at at c.name;
-  value = placed_at (place_behind at c.name) c.value;
+  «data» = placed_at (place_behind at c.name) c.data;
 }
 with_parts length room (Pairs at) c = record c {
-  value = record { at = at; len = min (c.count * pair_size) (2 ^ 64 - 1) };
+  «data» = record { at = at; len = min (c.length * pair_size) (2 ^ 64 - 1) };
 }
-with_parts length room (Rest at) c = record c { value = record { at = at; len = length - at } }
-with_parts length room Room c = record c { count = room - size_of out_header }
+with_parts length room (Rest at) c = record c { «data» = record { at = at; len = length - at } }
+with_parts length room Room c = record c { length = room - size_of out_header }
 
 -- a noted call with what is told besides
 abbrev pub told_with : (unique options room length : ℕ) → Opcode → CallData → CallData

@@ -52,7 +52,7 @@ pub record ReadsThree (options room : ℕ) (asked : Asked) (told : CallData) : T
     room = room;
     node = 1;
     size = 3;
-    count = 4;
+    length = 4;
     call = number.READ;
     answer = kind.DATA;
   }

@@ -18,14 +18,14 @@ pub fn clear_places(call: &mut CallData)
     call.node = 0;
     call.handle = 0;
     call.offset = 0;
-    call.count = 0;
+    call.length = 0;
     call.lock_owner = 0;
     call.other_node = 0;
     call.other_handle = 0;
     call.other_offset = 0;
     call.name = Range::NONE;
     call.other_name = Range::NONE;
-    call.value = Range::NONE;
+    call.data = Range::NONE;
     call.context_name = Range::NONE;
     call.context = Range::NONE;
 }

@@ -67,6 +67,6 @@ fn ask_of_version(
     call.readahead = init_in.max_readahead;
     call.options = options.bits();
     call.room = room as u64;
-    call.count = offered_options(init_in.flags, flags2).bits();
+    call.length = offered_options(init_in.flags, flags2).bits();
     Asked::Call
 }

@@ -82,17 +82,17 @@ impl Parts {
             }
             Parts::NameAndValue(at) => {
                 call.name.at = at;
-                call.value.at = place_behind(call.name);
+                call.data.at = place_behind(call.name);
             }
             Parts::Pairs(at) => {
-                let len = call.count.saturating_mul(ForgetOne::SIZE as u64);
-                call.value = Range { at, len };
+                let len = call.length.saturating_mul(ForgetOne::SIZE as u64);
+                call.data = Range { at, len };
             }
             Parts::Rest(at) => {
                 let len = len.saturating_sub(at);
-                call.value = Range { at, len };
+                call.data = Range { at, len };
             }
-            Parts::Room => call.count = room.saturating_sub(OutHeader::SIZE as u64),
+            Parts::Room => call.length = room.saturating_sub(OutHeader::SIZE as u64),
         }
     }
 }

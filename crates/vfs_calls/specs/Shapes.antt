@@ -49,14 +49,14 @@ nothing = record {
   node = 0;
   handle = 0;
   offset = 0;
-  count = 0;
+  length = 0;
   lock_owner = 0;
   other_node = 0;
   other_handle = 0;
   other_offset = 0;
   name = no_range;
   other_name = no_range;
-  value = no_range;
+  «data» = no_range;
   context_name = no_range;
   context = no_range;
   attr = no_setattr;
@@ -142,7 +142,7 @@ abbrev pub shape_over : CallData → Call → CallData
 shape_over c (call.Lookup ctx parent name) =
     record (made_by ctx (asks number.LOOKUP kind.ENTRY c)) { node = parent; name = unplaced name }
 shape_over c (call.Forget ctx inode count) =
-    record (made_by ctx (asks number.FORGET kind.QUIET c)) { node = inode; count = count }
+    record (made_by ctx (asks number.FORGET kind.QUIET c)) { node = inode; length = count }
 shape_over c (call.Getattr ctx inode handle) =
     record (made_by ctx (asks number.GETATTR kind.ATTR c)) {
       node = inode;
@@ -249,7 +249,7 @@ shape_over c (call.Setxattr ctx inode name value flags extra) =
     record (made_by ctx (asks number.SETXATTR kind.DONE c)) {
       node = inode;
       name = unplaced name;
-      value = unplaced value;
+      «data» = unplaced value;
       flags = flags;
       more = extra;
     }
@@ -269,7 +269,7 @@ shape_over c (call.Flush ctx inode handle lock_owner) =
       handle = handle;
       lock_owner = lock_owner;
     }
-shape_over c (call.Init capable) = record (asks number.INIT kind.WANT c) { count = capable }
+shape_over c (call.Init capable) = record (asks number.INIT kind.WANT c) { length = capable }
 shape_over c (call.Opendir ctx inode flags) =
     record (made_by ctx (asks number.OPENDIR kind.OPENED c)) { node = inode; flags = flags }
 shape_over c (call.Readdir ctx inode handle size offset) =
@@ -307,14 +307,14 @@ shape_over c call.Ioctl = asks number.IOCTL kind.FAULT_OR_SILENCE c
 shape_over c call.Poll = asks number.POLL kind.FAULT_OR_SILENCE c
 shape_over c call.NotifyReply = asks number.NOTIFY_REPLY kind.FAULT_OR_SILENCE c
 shape_over c (call.BatchForget ctx requests) =
-    record (made_by ctx (asks number.BATCH_FORGET kind.QUIET c)) { count = length requests }
+    record (made_by ctx (asks number.BATCH_FORGET kind.QUIET c)) { length = length requests }
 shape_over c (call.Fallocate ctx inode handle mode offset length) =
     record (made_by ctx (asks number.FALLOCATE kind.DONE c)) {
       node = inode;
       handle = handle;
       mode = mode;
       offset = offset;
-      count = length;
+      length = length;
     }
 shape_over c (call.Lseek ctx inode handle offset whence) =
     record (made_by ctx (asks number.LSEEK kind.OFFSET c)) {
@@ -331,7 +331,7 @@ shape_over c (call.Copyfilerange ctx inode_in handle_in offset_in inode_out hand
       other_node = inode_out;
       other_handle = handle_out;
       other_offset = offset_out;
-      count = len;
+      length = len;
       lock_owner = flags;
     }
 shape_over c (call.Syncfs ctx inode) = record (made_by ctx (asks number.SYNCFS kind.DONE c)) { node = inode }

@@ -147,7 +147,7 @@ impl FileSystem for Asking<'_> {
     fn forget(&mut self, ctx: Context, inode: u64, count: u64) {
         self.note(number::FORGET, kind::QUIET, ctx);
         self.call.node = inode;
-        self.call.count = count;
+        self.call.length = count;
     }
 
     fn getattr(
@@ -409,7 +409,7 @@ impl FileSystem for Asking<'_> {
         self.note(number::SETXATTR, kind::DONE, ctx);
         self.call.node = inode;
         self.call.name = Range::long(name.to_bytes());
-        self.call.value = Range::long(value);
+        self.call.data = Range::long(value);
         self.call.flags = flags;
         self.call.more = extra.bits();
         Err(HELD_BACK)
@@ -459,7 +459,7 @@ impl FileSystem for Asking<'_> {
 
     fn init(&mut self, capable: FsOptions) -> Result<FsOptions, Fault> {
         self.note_untold(number::INIT, kind::WANT);
-        self.call.count = capable.bits();
+        self.call.length = capable.bits();
         Err(HELD_BACK)
     }
 
@@ -591,7 +591,7 @@ impl FileSystem for Asking<'_> {
         ensures { Notes self.old (BatchForget ctx requests.items) (Plain Done) self.new }
     {
         self.note(number::BATCH_FORGET, kind::QUIET, ctx);
-        self.call.count = requests.len() as u64;
+        self.call.length = requests.len() as u64;
     }
 
     fn fallocate(
@@ -608,7 +608,7 @@ impl FileSystem for Asking<'_> {
         self.call.handle = handle;
         self.call.mode = mode;
         self.call.offset = offset;
-        self.call.count = length;
+        self.call.length = length;
         Err(HELD_BACK)
     }
 
@@ -647,7 +647,7 @@ impl FileSystem for Asking<'_> {
         self.call.other_node = inode_out;
         self.call.other_handle = handle_out;
         self.call.other_offset = offset_out;
-        self.call.count = len;
+        self.call.length = len;
         self.call.lock_owner = flags;
         Err(HELD_BACK)
     }

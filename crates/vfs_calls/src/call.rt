@@ -239,7 +239,7 @@ pub struct CallData {
     pub offset: u64,
     /// Of a FORGET the lookups that are taken back, of a READ the room for data, of an INIT the
     /// options that are offered, of a BATCH_FORGET its pairs, of a FALLOCATE or a COPY its bytes.
-    pub count: u64,
+    pub length: u64,
     /// The owner of locks, of a READ, a WRITE or a RELEASE where `has` has `OWNER`; of a COPY its
     /// flags.
     pub lock_owner: u64,
@@ -253,8 +253,8 @@ pub struct CallData {
     pub name: Range,
     /// Of a RENAME the new name, of a SYMLINK the text.
     pub other_name: Range,
-    /// Of a SETXATTR the value, of a WRITE the data, of a BATCH_FORGET its pairs of 16 bytes.
-    pub value: Range,
+    /// Of a WRITE the data, of a SETXATTR the value, of a BATCH_FORGET its pairs of 16 bytes.
+    pub data: Range,
     /// The name of the security context where `has` has `CONTEXT`.
     pub context_name: Range,
     /// The value of that context.
@@ -300,14 +300,14 @@ impl CallData {
         node: 0,
         handle: 0,
         offset: 0,
-        count: 0,
+        length: 0,
         lock_owner: 0,
         other_node: 0,
         other_handle: 0,
         other_offset: 0,
         name: Range::NONE,
         other_name: Range::NONE,
-        value: Range::NONE,
+        data: Range::NONE,
         context_name: Range::NONE,
         context: Range::NONE,
         attr: SetattrData::NONE,

@@ -112,7 +112,7 @@ pub struct AnswerData {
     /// The entry. Of GETATTR and SETATTR its attributes, and how long they hold, are the answer.
     pub entry: EntryData,
     /// What the file system holds.
-    pub statistics: StatisticsData,
+    pub statfs: StatisticsData,
 }
 
 /// An item of a directory, and what its lookup answered.

@@ -20,7 +20,7 @@ use Rattle.vfs_calls.specs.declared.data.ItemData.{ItemData}
 use Rattle.vfs_answer.specs.Listing.{listing_told}
 use Rattle.vfs_answer.specs.Told.{TellsEcho, TellsOffer, TellsCall, CallIsAnswered, AnswersEachCall, ListingIsAnswered, AnswersEachListing}
 use Rattle.vfs_answer.specs.declared.answered.Answered.{Answered}
-use Rattle.vfs_ask.specs.Asked.{IsAsked, IsTold, Tells, told_of_listing, count_of}
+use Rattle.vfs_ask.specs.Asked.{IsAsked, IsTold, Tells, told_of_listing, length_of_call}
 use Rattle.vfs_ask.specs.declared.asked.Asked.TheVariants as asked
 use Rattle.vfs_in_flight.specs.OneTurn.{Happened, IsAnsweredTurn, AreOneTurn}
 use Rattle.vfs_in_flight.proofs.Asking.{IsUsual, is_usual}
@@ -101,7 +101,7 @@ module _ (limits : Limits) (options : ℕ) (request : List ℕ) (a : AnswerData)
   }
 
 -- what INIT offers is told by the count
-offers : (told : CallData) (call : Call) → told.count ≡ count_of call → TellsOffer told call
+offers : (told : CallData) (call : Call) → told.length ≡ length_of_call call → TellsOffer told call
 offers told (Init offered) is = is
 offers told call is = tt
 
@@ -111,7 +111,7 @@ tells_call request options space echo call told is = record {
   number = ap (λ (c : CallData). c.call) is.numbers;
   kind = ap (λ (c : CallData). c.answer) is.numbers;
   size = ap (λ (c : CallData). c.size) is.numbers;
-  offer = offers told call (ap (λ (c : CallData). c.count) is.numbers);
+  offer = offers told call (ap (λ (c : CallData). c.length) is.numbers);
 }
 
 tells_echo : (request : List ℕ) (options space : ℕ) (echo : Echo) (call : Call) (told : CallData)

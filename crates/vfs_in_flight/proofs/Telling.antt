@@ -187,7 +187,7 @@ told_is_call q options room echo (call.Rename ctx olddir oldname newdir newname 
     ∙ ap (λ (b : List ℕ). Some (call.Rename ctx olddir oldname newdir b flags)) is.places.1.bytes_are
 told_is_call q options room echo (call.Setxattr ctx inode name value flags extra) told known is =
     by_numbers told (told_of options room echo (call.Setxattr ctx inode name value flags extra)) (parts_in q told) is.numbers ∙ is_done (told_of options room echo (call.Setxattr ctx inode name value flags extra)) (parts_in q told)
-    ∙ ap (λ (b : List ℕ). Some (call.Setxattr ctx inode b (bytes_in q told.value) flags (bit_and extra known_setxattr_flags))) is.places.0.bytes_are
+    ∙ ap (λ (b : List ℕ). Some (call.Setxattr ctx inode b (bytes_in q told.data) flags (bit_and extra known_setxattr_flags))) is.places.0.bytes_are
     ∙ ap (λ (b : List ℕ). Some (call.Setxattr ctx inode name b flags (bit_and extra known_setxattr_flags))) is.places.1.bytes_are
     ∙ ap (λ (n : ℕ). Some (call.Setxattr ctx inode name value flags n)) known
 told_is_call q options room echo (call.Getattr ctx inode None) told known is =

@@ -28,7 +28,7 @@ abbrev pub parts_in : (request : List ℕ) → CallData → Parts
 parts_in request told = record {
   name = bytes_in request told.name;
   other_name = bytes_in request told.other_name;
-  value = bytes_in request told.value;
+  value = bytes_in request told.data;
   context_name = bytes_in request told.context_name;
   context = bytes_in request told.context;
 }
@@ -80,10 +80,10 @@ setattr_in_of r = record {
 -- ---- each call
 
 abbrev pub forget_of : CallData → Call
-forget_of told = call.Forget (caller told) told.node told.count
+forget_of told = call.Forget (caller told) told.node told.length
 
 abbrev pub batch_forget_of : CallData → Parts → Call
-batch_forget_of told parts = call.BatchForget (caller told) (pairs_of told.count parts.value)
+batch_forget_of told parts = call.BatchForget (caller told) (pairs_of told.length parts.value)
 
 abbrev pub unlink_of : CallData → Parts → Call
 unlink_of told parts = call.Unlink (caller told) told.node parts.name
@@ -124,13 +124,13 @@ abbrev pub access_of : CallData → Call
 access_of told = call.Access (caller told) told.node told.more
 
 abbrev pub fallocate_of : CallData → Call
-fallocate_of told = call.Fallocate (caller told) told.node told.handle told.mode told.offset told.count
+fallocate_of told = call.Fallocate (caller told) told.node told.handle told.mode told.offset told.length
 
 abbrev pub syncfs_of : CallData → Call
 syncfs_of told = call.Syncfs (caller told) told.node
 
 abbrev pub init_of : CallData → Call
-init_of told = call.Init (bit_and told.count known_fs_options)
+init_of told = call.Init (bit_and told.length known_fs_options)
 
 abbrev pub lookup_of : CallData → Parts → Call
 lookup_of told parts = call.Lookup (caller told) told.node parts.name
@@ -192,11 +192,11 @@ write_of told parts =
 abbrev pub copyfilerange_of : CallData → Call
 copyfilerange_of told =
     call.Copyfilerange (caller told) told.node told.handle told.offset told.other_node told.other_handle
-    told.other_offset told.count told.lock_owner
+    told.other_offset told.length told.lock_owner
 
 abbrev pub read_of : CallData → Call
 read_of told =
-    call.Read (caller told) told.node told.handle told.count told.size told.offset (owner_in told) told.flags
+    call.Read (caller told) told.node told.handle told.length told.size told.offset (owner_in told) told.flags
 
 -- ---- the calls of a kind of answer, by their numbers
 
