@@ -1,2 +1,3 @@
 pub mod PlainOutcomes
 pub mod Noted
+pub mod Playing

@@ -1,8 +1,8 @@
 -- What the tests' file system may do.
 use Rattle.std.specs.Prelude.{◌≡◌, ◌==◌, ◌≤◌, ◌<◌, ◌+◌, ◌-◌, ◌^◌, ◌⊎◌, ℕ, List, length, min, replicate, Option, Some, None, Result, Ok, Err, Bool, true, false, if◌then◌else◌}
 use Rattle.vfs_views.specs.declared.file.WritevFlags.{WritevFlags}
-use Rattle.vfs_files.specs.Answers.{Answer, Done, Failed, Text, Handed, Plain, Iterator, init_answer, entry_answer, attr_answer, done_answer, opened_answer, created_answer, statistics_answer, text_answer, getxattr_answer, listxattr_answer, offset_answer, written_answer, read_answer}
-use Rattle.vfs_files.specs.Calls.{Call, Lookup, Forget, Getattr, Setattr, Readlink, Symlink, Mknod, Mkdir, Link, Open, Read, Write, Statfs, Getxattr, Listxattr, Init, Opendir, Readdir, Create, Destroy, BatchForget, Lseek, Copyfilerange, Tmpfile, no_such_call, out_of_memory}
+use Rattle.vfs_files.specs.Answers.{Answer, Done, Failed, Text, Handed, Plain, Iterator, Kind, Quiet, Agreements, Entries, TimedAttributes, Openings, Creations, Capacities, Texts, TextsOrCounts, Offsets, Writes, Faults, init_answer, entry_answer, attr_answer, done_answer, opened_answer, created_answer, statistics_answer, text_answer, getxattr_answer, listxattr_answer, offset_answer, written_answer, read_answer}
+use Rattle.vfs_files.specs.Calls.{Call, Read, Write, Readdir, Listxattr, kind_of, no_such_call, out_of_memory}
 use Rattle.vfs_files.specs.Transfers.{Transfers, reads_of, writes_of}
 use Rattle.vfs_mock.specs.Directories.{Reading}
 use Rattle.vfs_mock.specs.declared.file.ScriptFile.{ScriptFile}
@@ -43,41 +43,42 @@ pub record WritesScript
   pub answered : answer ≡ script_answer old (length bytes)
   pub counted : new ≡ called old
 
--- what the maker of a script set for a call that moves no bytes and reads no directory: one answer
--- for all that say only whether they were done
+-- what the maker of a script set for the answers of a kind, of calls that move no bytes and read no
+-- directory: one for all that say only whether they were done; of texts that may be lengths the
+-- names of extended attributes, where those are asked for, and else the value of one
+abbrev pub said_by : Script → Kind → (lists : Bool) → Answer
+said_by script Quiet _ = Done
+said_by script Agreements _ = init_answer script.options
+said_by script Entries _ = entry_answer script.entry
+said_by script TimedAttributes _ = attr_answer script.attributes
+said_by script Openings _ = opened_answer (λ handle. handle) script.opening
+said_by script Creations _ = created_answer (λ handle. handle) script.creation
+said_by script Capacities _ = statistics_answer script.statistics
+said_by script Texts _ = text_answer script.text
+said_by script TextsOrCounts true = listxattr_answer script.names
+said_by script TextsOrCounts false = getxattr_answer script.value
+said_by script Offsets _ = offset_answer script.offset
+said_by script Writes _ = written_answer script.written
+said_by script Faults _ = Failed script.tmpfile
+said_by script _ _ = done_answer script.done
+
+-- whether a call asks for the names of extended attributes
+abbrev pub lists_names : Call → Bool
+lists_names (Listxattr _ _ _) = true
+lists_names _ = false
+
+-- what was set for a call
 abbrev pub said : Script → Call → Answer
-said script (Lookup _ _ _) = entry_answer script.entry
-said script (Forget _ _ _) = Done
-said script (Getattr _ _ _) = attr_answer script.attributes
-said script (Setattr _ _ _ _ _) = attr_answer script.attributes
-said script (Readlink _ _) = text_answer script.text
-said script (Symlink _ _ _ _ _) = entry_answer script.entry
-said script (Mknod _ _ _ _ _ _ _) = entry_answer script.entry
-said script (Mkdir _ _ _ _ _ _) = entry_answer script.entry
-said script (Link _ _ _ _) = entry_answer script.entry
-said script (Open _ _ _ _) = opened_answer (λ handle. handle) script.opening
-said script (Statfs _ _) = statistics_answer script.statistics
-said script (Getxattr _ _ _ _) = getxattr_answer script.value
-said script (Listxattr _ _ _) = listxattr_answer script.names
-said script (Init _) = init_answer script.options
-said script (Opendir _ _ _) = opened_answer (λ handle. handle) script.opening
-said script (Create _ _ _ _ _ _ _ _) = created_answer (λ handle. handle) script.creation
-said script Destroy = Done
-said script (BatchForget _ _) = Done
-said script (Lseek _ _ _ _ _) = offset_answer script.offset
-said script (Copyfilerange _ _ _ _ _ _ _ _ _) = written_answer script.written
-said script Tmpfile = Failed script.tmpfile
-said script _ = done_answer script.done
+said script call = said_by script (kind_of call) (lists_names call)
 
 -- the fault of a text that is too long for a reply: ERANGE
 abbrev pub too_long : Option ℕ
 too_long = Some 34
 
--- whether a call answers a text, which is copied
-abbrev pub tells_text : Call → Bool
-tells_text (Readlink _ _) = true
-tells_text (Getxattr _ _ _ _) = true
-tells_text (Listxattr _ _ _) = true
+-- whether an answer of a kind is a text, which is copied
+abbrev pub tells_text : Kind → Bool
+tells_text Texts = true
+tells_text TextsOrCounts = true
 tells_text _ = false
 
 -- what may be handed back where this text was set: just that, or ENOMEM where there is no memory
@@ -132,4 +133,4 @@ Plays old (Read _ _ _ room size offset _ _) handed new =
 Plays old (Write _ _ _ bytes size offset _ _ _ _) handed new =
     WritesFile old.file bytes size offset handed new.file
     × (new ≡ record old { file = new.file })
-Plays old call handed new = MayTell (tells_text call) (said old call) handed × (new ≡ old)
+Plays old call handed new = MayTell (tells_text (kind_of call)) (said old call) handed × (new ≡ old)

@@ -3,15 +3,15 @@
 ghost use Rattle.std.specs.Prelude.{◌≡◌, ℕ, List, None, Some, Ok, Err, IfOk};
 ghost use Rattle.vfs_files.specs.Calls.{Options, Plain, kind_of, not_served, default_opening, default_statistics, init_answer, entry_answer, created_answer, opened_answer, text_answer, getxattr_answer, listxattr_answer, done_answer};
 ghost use Rattle.vfs_files.specs.Answers.{Text, FitsText, written_answer};
-ghost use Rattle.vfs_files.specs.Asked.{call_of, answer_of, IsEntry, IsCreation, IsText, IsTextOrCount, IsDone, IsOfKind};
-ghost use Rattle.vfs_mock.specs.Scripts.{Plays, MayCopy, WritesFile};
+ghost use Rattle.vfs_files.specs.Asked.{call_of, answer_of, kind_as, IsEntry, IsCreation, IsText, IsTextOrCount, IsDone, IsOfKind};
+ghost use Rattle.vfs_mock.specs.Scripts.{Plays, MayCopy, MayTell, WritesFile, said_by, tells_text, lists_names};
 
 use crate::directory::{ScriptDirectory, ScriptEntries};
 use crate::file::ScriptFile;
 use std::time::Duration;
 use vfs_files::{
-    Asked, Context, Entry, GetxattrReply, Given, ListxattrReply, PartialFileSystem, ZeroCopyReader,
-    ZeroCopyWriter, copy_of, defaults,
+    AnswerKind, Asked, Context, Entry, GetxattrReply, Given, ListxattrReply, PartialFileSystem,
+    ZeroCopyReader, ZeroCopyWriter, copy_of, defaults,
 };
 use vfs_flags::{Errno, Fault, FsOptions, MAX_REPLY_DATA, OpenOptions};
 use vfs_wire::{Attr, Statvfs64};
@@ -33,9 +33,9 @@ use vfs_wire::{Attr, Statvfs64};
 pub struct Script {
     /// The options that `init` wants.
     pub options: Result<FsOptions, Fault>,
-    /// What `lookup`, `symlink`, `mknod`, `mkdir` and `link` answer.
+    /// What each call answers that answers an entry, as `lookup`.
     pub entry: Result<Entry, Fault>,
-    /// What `getattr` and `setattr` answer: attributes, and how long they hold.
+    /// What each call answers that answers attributes and how long they hold, as `getattr`.
     pub attributes: Result<(Attr, Duration), Fault>,
     /// What `open` and `opendir` answer.
     pub opening: Result<(Option<u64>, OpenOptions), Fault>,
@@ -51,7 +51,7 @@ pub struct Script {
     /// What `listxattr` answers, whichever size is asked for. Names that are too long for a reply
     /// are answered as ERANGE.
     pub names: Result<ListxattrReply, Fault>,
-    /// What `lseek` answers.
+    /// What each call answers that answers a place in a file.
     pub offset: Result<u64, Fault>,
     /// The file that `read` and `write` move bytes of and into, whatever node they are about, or
     /// none: then they are not served.
@@ -59,7 +59,7 @@ pub struct Script {
     /// The directory that `readdir` answers a reading of, from its first item on whatever the
     /// offset.
     pub directory: Result<ScriptDirectory, Fault>,
-    /// What `copyfilerange` answers.
+    /// What each call answers that answers how many bytes were copied, as `copyfilerange`.
     pub written: Result<u32, Fault>,
     /// What each call answers that says only whether it was done, as `unlink`.
     pub done: Result<(), Fault>,
@@ -88,18 +88,18 @@ impl Script {
     {
         Script {
             options: defaults::init(),
-            entry: defaults::lookup(),
-            attributes: defaults::getattr(),
+            entry: defaults::no_such_call::<Entry>(),
+            attributes: defaults::no_such_call::<(Attr, Duration)>(),
             opening: defaults::open::<u64>(),
-            creation: defaults::create::<u64>(),
+            creation: defaults::no_such_call::<(Entry, Option<u64>, OpenOptions)>(),
             statistics: defaults::statfs(),
-            text: defaults::readlink(),
-            value: defaults::getxattr(),
-            names: defaults::listxattr(),
-            offset: defaults::lseek(),
+            text: defaults::no_such_call::<Vec<u8>>(),
+            value: defaults::no_such_call::<GetxattrReply>(),
+            names: defaults::no_such_call::<ListxattrReply>(),
+            offset: defaults::no_such_call::<u64>(),
             file: None,
-            directory: defaults::readdir::<ScriptDirectory>(),
-            written: defaults::copyfilerange(),
+            directory: defaults::no_such_call::<ScriptDirectory>(),
+            written: defaults::no_such_call::<u32>(),
             done: defaults::no_such_call::<()>(),
             tmpfile: defaults::tmpfile(),
         }
@@ -221,57 +221,62 @@ fn same_done(answer: &Result<(), Fault>) -> Result<Given, Fault>
 }
 
 impl Script {
+    // What was set for the answers of a kind; of texts that may be lengths the names of extended
+    // attributes, or the value of one.
+    #[inline(always)]
+    fn set_for(&self, kind: AnswerKind, lists: bool) -> Result<Given, Fault>
+        ensures told { MayTell (tells_text (kind_as kind))
+            (said_by self.now (kind_as kind) lists)
+            (Plain (answer_of result)) }
+        ensures kind { IsOfKind (kind_as kind) result }
+    {
+        match kind {
+            AnswerKind::Quiet => Ok(Given::Done),
+            AnswerKind::Told | AnswerKind::Untold => same_done(&self.done),
+            AnswerKind::Agreements => Ok(Given::Options(self.options?)),
+            AnswerKind::Entries => same_entry_answer(&self.entry),
+            AnswerKind::TimedAttributes => {
+                let (attr, timeout) = self.attributes?;
+                Ok(Given::Attributes(attr, timeout))
+            }
+            AnswerKind::Openings => {
+                let (handle, options) = self.opening?;
+                Ok(Given::Opened(handle, options))
+            }
+            AnswerKind::Creations => same_creation(&self.creation),
+            AnswerKind::Capacities => Ok(Given::Statistics(self.statistics?)),
+            AnswerKind::Texts => same_text(&self.text),
+            AnswerKind::TextsOrCounts => {
+                if lists {
+                    same_names(&self.names)
+                } else {
+                    same_value(&self.value)
+                }
+            }
+            AnswerKind::Offsets => Ok(Given::Offset(self.offset?)),
+            AnswerKind::Writes => Ok(Given::Wrote(self.written?)),
+            AnswerKind::Faults => Err(self.tmpfile),
+        }
+    }
+
     // What a call answers.
     #[inline(always)]
     fn given(&self, asked: &Asked<'_>) -> Result<Given, Fault>
         ensures answer { Plays self.now (call_of asked.now) (Plain (answer_of result)) self.now }
         ensures kind { IsOfKind (kind_of (call_of asked.now)) result }
     {
-        match asked {
-            Asked::Forget { .. } | Asked::BatchForget { .. } | Asked::Destroy => Ok(Given::Done),
-            Asked::Init { .. } => Ok(Given::Options(self.options?)),
-            Asked::Lookup { .. }
-            | Asked::Symlink { .. }
-            | Asked::Mknod { .. }
-            | Asked::Mkdir { .. }
-            | Asked::Link { .. } => same_entry_answer(&self.entry),
-            Asked::Getattr { .. } | Asked::Setattr { .. } => {
-                let (attr, timeout) = self.attributes?;
-                Ok(Given::Attributes(attr, timeout))
-            }
-            Asked::Open { .. } | Asked::Opendir { .. } => {
-                let (handle, options) = self.opening?;
-                Ok(Given::Opened(handle, options))
-            }
-            Asked::Create { .. } => same_creation(&self.creation),
-            Asked::Statfs { .. } => Ok(Given::Statistics(self.statistics?)),
-            Asked::Readlink { .. } => same_text(&self.text),
-            Asked::Getxattr { .. } => same_value(&self.value),
-            Asked::Listxattr { .. } => same_names(&self.names),
-            Asked::Lseek { .. } => Ok(Given::Offset(self.offset?)),
-            Asked::Copyfilerange { .. } => Ok(Given::Wrote(self.written?)),
-            Asked::Tmpfile => Err(self.tmpfile),
-            Asked::Unlink { .. }
-            | Asked::Rmdir { .. }
-            | Asked::Rename { .. }
-            | Asked::Release { .. }
-            | Asked::Fsync { .. }
-            | Asked::Setxattr { .. }
-            | Asked::Removexattr { .. }
-            | Asked::Flush { .. }
-            | Asked::Releasedir { .. }
-            | Asked::Fsyncdir { .. }
-            | Asked::Getlk
-            | Asked::Setlk
-            | Asked::Setlkw
-            | Asked::Access { .. }
-            | Asked::Bmap
-            | Asked::Ioctl
-            | Asked::Poll
-            | Asked::NotifyReply
-            | Asked::Fallocate { .. }
-            | Asked::Syncfs { .. } => same_done(&self.done),
-        }
+        self.set_for(asked.kind(), asks_names(asked))
+    }
+}
+
+/// Whether a call asks for the names of extended attributes.
+#[inline(always)]
+fn asks_names(asked: &Asked<'_>) -> bool
+    ensures { result ≡ lists_names (call_of asked.now) }
+{
+    match asked {
+        Asked::Listxattr { .. } => true,
+        _ => false,
     }
 }
 
@@ -298,7 +303,7 @@ impl PartialFileSystem for Script {
     ) -> Result<usize, Fault> {
         match &mut self.file {
             Some(file) => w.read_from_file_at(file, size.min(MAX_REPLY_DATA) as usize, offset),
-            None => defaults::read(),
+            None => defaults::no_such_call::<usize>(),
         }
     }
 
@@ -317,7 +322,7 @@ impl PartialFileSystem for Script {
     ) -> Result<u32, Fault> {
         match &mut self.file {
             Some(file) => write_file(file, r, size, offset),
-            None => defaults::write(),
+            None => defaults::no_such_call::<u32>(),
         }
     }
 

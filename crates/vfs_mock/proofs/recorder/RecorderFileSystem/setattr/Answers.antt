@@ -1,6 +1,0 @@
-use Rattle.std.proofs.Common.{rules}
-use Rattle.vfs_mock.proofs.PlainOutcomes.{plain_outcome-attr}
-use Rattle.vfs_mock.proofs.recorder.RecorderFileSystem.setattr.Goals as goal
-
-pub returns : goal.returns
-returns g c = (search rules, search (rules, plain_outcome-attr c.setattr-answer.result))
