@@ -5,8 +5,7 @@ ghost use Rattle.std.specs.Prelude.{◌≡◌, [], ◌∷◌, ◌++◌, pos, neg
 use vfs_wire::ByteValued;
 use vfs_wire_more::{IoctlOut, NotifyInvalInodeOut};
 
-mod defaults;
-mod layouts;
+mod records;
 
 /// What these bytes of a notification say: the attributes of node 1 alone are out of date, for its
 /// place is below 0.

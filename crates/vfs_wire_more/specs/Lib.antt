@@ -1,7 +1,5 @@
-pub mod Decoders
 pub mod Devices
 pub mod Extensions
-pub mod Layouts
 pub mod Listings
 pub mod Locks
 pub mod Mappings
