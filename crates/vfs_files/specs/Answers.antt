@@ -114,7 +114,7 @@ abbrev pub listxattr_answer : Result ListxattrReply (Option ℕ) → Answer
 listxattr_answer (Ok reply) = names_or_count reply
 listxattr_answer (Err fault) = Failed fault
 
--- the answer of `lseek`
+-- the answer of a call that answers a place in a file
 abbrev pub offset_answer : Result ℕ (Option ℕ) → Answer
 offset_answer (Ok offset) = Offset offset
 offset_answer (Err fault) = Failed fault

@@ -1,68 +1,12 @@
--- Calls and answers as values of the code: which call and which answer each is.
-use Rattle.std.specs.Prelude.{⊤, ℕ, map, Option, Result, Ok, Err}
-use Rattle.vfs_flags.specs.Flags.{fs_options_bits, open_options_bits, setattr_valid_bits, setxattr_flags_bits}
-use Rattle.vfs_files.specs.Values.{name_text, extension_values_of}
+-- Answers as values of the code: which answer each is, and of which kinds. Of calls by value Calls says it.
+use Rattle.std.specs.Prelude.{⊤, ℕ, Option, Result, Ok, Err}
+use Rattle.vfs_flags.specs.Flags.{fs_options_bits, open_options_bits}
 use Rattle.vfs_files.specs.Answers.{Answer, Done, Failed, Options, Found, Attributes, Opened, Created, Statistics, Text, Count, Offset, Wrote, FitsText, Kind, Quiet, Told, Untold, Data, Agreements, Entries, TimedAttributes, Openings, Creations, Capacities, Texts, TextsOrCounts, Offsets, Writes, Iterators, Faults}
-use Rattle.vfs_files.specs.Calls.{Call}
-use Rattle.vfs_files.specs.Calls as call
-use Rattle.vfs_files.specs.declared.asked.Asked.{Asked}
-use Rattle.vfs_files.specs.declared.asked.Asked.TheVariants as asked
+pub use Rattle.vfs_files.specs.Calls.{call_of}
+use Rattle.vfs_files.specs.declared.asked.AnswerKind.{AnswerKind}
+use Rattle.vfs_files.specs.declared.asked.AnswerKind.TheVariants as said
 use Rattle.vfs_files.specs.declared.asked.Given.{Given}
 use Rattle.vfs_files.specs.declared.asked.Given.TheVariants as given
-
--- the call that is asked
-abbrev pub call_of : Asked → Call
-call_of (asked.Lookup ctx parent name) = call.Lookup ctx parent (name_text name)
-call_of (asked.Forget ctx inode count) = call.Forget ctx inode count
-call_of (asked.Getattr ctx inode handle) = call.Getattr ctx inode handle
-call_of (asked.Setattr ctx inode attr handle valid) =
-    call.Setattr ctx inode attr handle (setattr_valid_bits valid)
-call_of (asked.Readlink ctx inode) = call.Readlink ctx inode
-call_of (asked.Symlink ctx linkname parent name ext) =
-    call.Symlink ctx (name_text linkname) parent (name_text name) (extension_values_of ext)
-call_of (asked.Mknod ctx inode name mode rdev umask ext) =
-    call.Mknod ctx inode (name_text name) mode rdev umask (extension_values_of ext)
-call_of (asked.Mkdir ctx parent name mode umask ext) =
-    call.Mkdir ctx parent (name_text name) mode umask (extension_values_of ext)
-call_of (asked.Unlink ctx parent name) = call.Unlink ctx parent (name_text name)
-call_of (asked.Rmdir ctx parent name) = call.Rmdir ctx parent (name_text name)
-call_of (asked.Rename ctx olddir oldname newdir newname flags) =
-    call.Rename ctx olddir (name_text oldname) newdir (name_text newname) flags
-call_of (asked.Link ctx inode newparent newname) = call.Link ctx inode newparent (name_text newname)
-call_of (asked.Open ctx inode kill_priv flags) = call.Open ctx inode kill_priv flags
-call_of (asked.Statfs ctx inode) = call.Statfs ctx inode
-call_of (asked.Release ctx inode flags handle flush flock_release lock_owner) =
-    call.Release ctx inode flags handle flush flock_release lock_owner
-call_of (asked.Fsync ctx inode datasync handle) = call.Fsync ctx inode datasync handle
-call_of (asked.Setxattr ctx inode name value flags extra) =
-    call.Setxattr ctx inode (name_text name) value.now flags (setxattr_flags_bits extra)
-call_of (asked.Getxattr ctx inode name size) = call.Getxattr ctx inode (name_text name) size
-call_of (asked.Listxattr ctx inode size) = call.Listxattr ctx inode size
-call_of (asked.Removexattr ctx inode name) = call.Removexattr ctx inode (name_text name)
-call_of (asked.Flush ctx inode handle lock_owner) = call.Flush ctx inode handle lock_owner
-call_of (asked.Init capable) = call.Init (fs_options_bits capable)
-call_of (asked.Opendir ctx inode flags) = call.Opendir ctx inode flags
-call_of (asked.Releasedir ctx inode flags handle) = call.Releasedir ctx inode flags handle
-call_of (asked.Fsyncdir ctx inode datasync handle) = call.Fsyncdir ctx inode datasync handle
-call_of asked.Getlk = call.Getlk
-call_of asked.Setlk = call.Setlk
-call_of asked.Setlkw = call.Setlkw
-call_of (asked.Access ctx inode mask) = call.Access ctx inode mask
-call_of (asked.Create ctx parent name mode kill_priv flags umask ext) =
-    call.Create ctx parent (name_text name) mode kill_priv flags umask (extension_values_of ext)
-call_of asked.Bmap = call.Bmap
-call_of asked.Destroy = call.Destroy
-call_of asked.Ioctl = call.Ioctl
-call_of asked.Poll = call.Poll
-call_of asked.NotifyReply = call.NotifyReply
-call_of (asked.BatchForget ctx requests) = call.BatchForget ctx (map (λ p. (p.0, p.1)) requests.items)
-call_of (asked.Fallocate ctx inode handle mode offset length) =
-    call.Fallocate ctx inode handle mode offset length
-call_of (asked.Lseek ctx inode handle offset whence) = call.Lseek ctx inode handle offset whence
-call_of (asked.Copyfilerange ctx inode_in handle_in offset_in inode_out handle_out offset_out len flags) =
-    call.Copyfilerange ctx inode_in handle_in offset_in inode_out handle_out offset_out len flags
-call_of (asked.Syncfs ctx inode) = call.Syncfs ctx inode
-call_of asked.Tmpfile = call.Tmpfile
 
 -- the answer that is given
 abbrev pub answer_of : Result Given (Option ℕ) → Answer
@@ -175,3 +119,20 @@ IsOfKind Offsets = IsOffset
 IsOfKind Writes = IsWrote
 IsOfKind Iterators = IsRefused
 IsOfKind Faults = IsRefused
+
+-- the kind that is said
+abbrev pub kind_as : AnswerKind → Kind
+kind_as said.Quiet = Quiet
+kind_as said.Told = Told
+kind_as said.Untold = Untold
+kind_as said.Agreements = Agreements
+kind_as said.Entries = Entries
+kind_as said.TimedAttributes = TimedAttributes
+kind_as said.Openings = Openings
+kind_as said.Creations = Creations
+kind_as said.Capacities = Capacities
+kind_as said.Texts = Texts
+kind_as said.TextsOrCounts = TextsOrCounts
+kind_as said.Offsets = Offsets
+kind_as said.Writes = Writes
+kind_as said.Faults = Faults

@@ -137,7 +137,7 @@ pub fn names(answer: Result<Given, Fault>) -> Result<ListxattrReply, Fault>
     }
 }
 
-/// That of `lseek`.
+/// That of a call that answers a place in a file.
 #[inline(always)]
 pub fn offset(answer: Result<Given, Fault>) -> Result<u64, Fault>
     requires { IsOffset answer }
@@ -149,7 +149,7 @@ pub fn offset(answer: Result<Given, Fault>) -> Result<u64, Fault>
     }
 }
 
-/// That of `copyfilerange`.
+/// That of a call that answers how many bytes were copied.
 #[inline(always)]
 pub fn count(answer: Result<Given, Fault>) -> Result<u32, Fault>
     requires { IsWrote answer }

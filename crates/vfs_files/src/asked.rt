@@ -1,10 +1,15 @@
 //! Calls and answers as values.
 
+ghost use Rattle.std.specs.Prelude.{◌≡◌};
+ghost use Rattle.vfs_flags.specs.Numbers.{number_of};
+ghost use Rattle.vfs_files.specs.Calls.{kind_of, opcode_number_of, first_node_of};
+ghost use Rattle.vfs_files.specs.Asked.{call_of, kind_as};
+
 use crate::entry::{Context, Entry};
 use crate::extensions::Extensions;
 use crate::name::CStr;
 use std::time::Duration;
-use vfs_flags::{FsOptions, OpenOptions, SetattrValid, SetxattrFlags};
+use vfs_flags::{FsOptions, Opcode, OpenOptions, SetattrValid, SetxattrFlags};
 use vfs_wire::{Attr, SetattrIn, Statvfs64};
 
 /// A call of a [`FileSystem`](crate::FileSystem), with its arguments: nodes and handles by number.
@@ -260,6 +265,161 @@ pub enum Asked<'a> {
     },
     /// TMPFILE.
     Tmpfile,
+}
+
+impl Asked<'_> {
+    /// The opcode that asks for such a call; of two the first, as RENAME of RENAME and RENAME2.
+    pub fn opcode(&self) -> Opcode
+        ensures { number_of result ≡ opcode_number_of (call_of self.now) }
+    {
+        match self {
+            Asked::Lookup { .. } => Opcode::Lookup,
+            Asked::Forget { .. } => Opcode::Forget,
+            Asked::Getattr { .. } => Opcode::Getattr,
+            Asked::Setattr { .. } => Opcode::Setattr,
+            Asked::Readlink { .. } => Opcode::Readlink,
+            Asked::Symlink { .. } => Opcode::Symlink,
+            Asked::Mknod { .. } => Opcode::Mknod,
+            Asked::Mkdir { .. } => Opcode::Mkdir,
+            Asked::Unlink { .. } => Opcode::Unlink,
+            Asked::Rmdir { .. } => Opcode::Rmdir,
+            Asked::Rename { .. } => Opcode::Rename,
+            Asked::Link { .. } => Opcode::Link,
+            Asked::Open { .. } => Opcode::Open,
+            Asked::Statfs { .. } => Opcode::Statfs,
+            Asked::Release { .. } => Opcode::Release,
+            Asked::Fsync { .. } => Opcode::Fsync,
+            Asked::Setxattr { .. } => Opcode::Setxattr,
+            Asked::Getxattr { .. } => Opcode::Getxattr,
+            Asked::Listxattr { .. } => Opcode::Listxattr,
+            Asked::Removexattr { .. } => Opcode::Removexattr,
+            Asked::Flush { .. } => Opcode::Flush,
+            Asked::Init { .. } => Opcode::Init,
+            Asked::Opendir { .. } => Opcode::Opendir,
+            Asked::Releasedir { .. } => Opcode::Releasedir,
+            Asked::Fsyncdir { .. } => Opcode::Fsyncdir,
+            Asked::Getlk => Opcode::Getlk,
+            Asked::Setlk => Opcode::Setlk,
+            Asked::Setlkw => Opcode::Setlkw,
+            Asked::Access { .. } => Opcode::Access,
+            Asked::Create { .. } => Opcode::Create,
+            Asked::Bmap => Opcode::Bmap,
+            Asked::Destroy => Opcode::Destroy,
+            Asked::Ioctl => Opcode::Ioctl,
+            Asked::Poll => Opcode::Poll,
+            Asked::NotifyReply => Opcode::NotifyReply,
+            Asked::BatchForget { .. } => Opcode::BatchForget,
+            Asked::Fallocate { .. } => Opcode::Fallocate,
+            Asked::Lseek { .. } => Opcode::Lseek,
+            Asked::Copyfilerange { .. } => Opcode::CopyFileRange,
+            Asked::Syncfs { .. } => Opcode::Syncfs,
+            Asked::Tmpfile => Opcode::TmpFile,
+        }
+    }
+
+    /// The node that it is about, the first where there are two, and 0 where there is none.
+    pub fn node(&self) -> u64
+        ensures { result ≡ first_node_of (call_of self.now) }
+    {
+        match self {
+            Asked::Lookup { parent, .. } => *parent,
+            Asked::Symlink { parent, .. } => *parent,
+            Asked::Mkdir { parent, .. } => *parent,
+            Asked::Unlink { parent, .. } => *parent,
+            Asked::Rmdir { parent, .. } => *parent,
+            Asked::Create { parent, .. } => *parent,
+            Asked::Forget { inode, .. } => *inode,
+            Asked::Getattr { inode, .. } => *inode,
+            Asked::Setattr { inode, .. } => *inode,
+            Asked::Readlink { inode, .. } => *inode,
+            Asked::Mknod { inode, .. } => *inode,
+            Asked::Link { inode, .. } => *inode,
+            Asked::Open { inode, .. } => *inode,
+            Asked::Statfs { inode, .. } => *inode,
+            Asked::Release { inode, .. } => *inode,
+            Asked::Fsync { inode, .. } => *inode,
+            Asked::Setxattr { inode, .. } => *inode,
+            Asked::Getxattr { inode, .. } => *inode,
+            Asked::Listxattr { inode, .. } => *inode,
+            Asked::Removexattr { inode, .. } => *inode,
+            Asked::Flush { inode, .. } => *inode,
+            Asked::Opendir { inode, .. } => *inode,
+            Asked::Releasedir { inode, .. } => *inode,
+            Asked::Fsyncdir { inode, .. } => *inode,
+            Asked::Access { inode, .. } => *inode,
+            Asked::Fallocate { inode, .. } => *inode,
+            Asked::Lseek { inode, .. } => *inode,
+            Asked::Syncfs { inode, .. } => *inode,
+            Asked::Rename { olddir, .. } => *olddir,
+            Asked::Copyfilerange { inode_in, .. } => *inode_in,
+            _ => 0,
+        }
+    }
+
+    /// What its answer is, unless it is a fault.
+    pub fn kind(&self) -> AnswerKind
+        ensures { kind_as result ≡ kind_of (call_of self.now) }
+    {
+        match self {
+            Asked::Forget { .. } | Asked::Destroy | Asked::BatchForget { .. } => AnswerKind::Quiet,
+            Asked::Getlk
+            | Asked::Setlk
+            | Asked::Setlkw
+            | Asked::Bmap
+            | Asked::Ioctl
+            | Asked::Poll
+            | Asked::NotifyReply => AnswerKind::Untold,
+            Asked::Init { .. } => AnswerKind::Agreements,
+            Asked::Lookup { .. }
+            | Asked::Symlink { .. }
+            | Asked::Mknod { .. }
+            | Asked::Mkdir { .. }
+            | Asked::Link { .. } => AnswerKind::Entries,
+            Asked::Getattr { .. } | Asked::Setattr { .. } => AnswerKind::TimedAttributes,
+            Asked::Open { .. } | Asked::Opendir { .. } => AnswerKind::Openings,
+            Asked::Create { .. } => AnswerKind::Creations,
+            Asked::Statfs { .. } => AnswerKind::Capacities,
+            Asked::Readlink { .. } => AnswerKind::Texts,
+            Asked::Getxattr { .. } | Asked::Listxattr { .. } => AnswerKind::TextsOrCounts,
+            Asked::Lseek { .. } => AnswerKind::Offsets,
+            Asked::Copyfilerange { .. } => AnswerKind::Writes,
+            Asked::Tmpfile => AnswerKind::Faults,
+            _ => AnswerKind::Told,
+        }
+    }
+}
+
+/// What such a call answers, beside a fault.
+#[derive(Clone, Copy, Debug)]
+pub enum AnswerKind {
+    /// Nothing at all, and no fault either: there is no reply.
+    Quiet,
+    /// That it was done.
+    Told,
+    /// That it was done, which is not replied.
+    Untold,
+    /// The options that are wanted.
+    Agreements,
+    /// An entry.
+    Entries,
+    /// Attributes with their timeout.
+    TimedAttributes,
+    /// A handle, if there is one, and how to use it.
+    Openings,
+    /// An entry, and a handle as above.
+    Creations,
+    /// What the file system holds.
+    Capacities,
+    /// A text.
+    Texts,
+    /// A text, or how long it is.
+    TextsOrCounts,
+    /// A place in a file.
+    Offsets,
+    /// How many bytes were copied.
+    Writes,
+    /// Nothing but a fault.
+    Faults,
 }
 
 /// An answer to such a call. A fault stands beside it, as the `Err` of a result.

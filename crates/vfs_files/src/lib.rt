@@ -26,7 +26,7 @@ mod transfer;
 mod uses;
 mod xattr;
 
-pub use asked::{Asked, Given};
+pub use asked::{AnswerKind, Asked, Given};
 pub use bytes::{Bytes, read_bytes};
 pub use bytes_mut::{BytesMut, lengthen, write_bytes};
 pub use directory::{DirEntry, DirectoryIterator};

@@ -49,7 +49,7 @@ impl PartialFileSystem for Unserved {
         lock_owner: Option<u64>,
         flags: u32,
     ) -> Result<usize, Fault> {
-        defaults::read()
+        defaults::no_such_call::<usize>()
     }
 
     fn write_data<R: ZeroCopyReader>(
@@ -65,7 +65,7 @@ impl PartialFileSystem for Unserved {
         kill_priv: bool,
         flags: u32,
     ) -> Result<u32, Fault> {
-        defaults::write()
+        defaults::no_such_call::<u32>()
     }
 
     fn read_directory(
@@ -76,7 +76,7 @@ impl PartialFileSystem for Unserved {
         size: u32,
         offset: u64,
     ) -> Result<NoEntries, Fault> {
-        defaults::readdir::<NoEntries>()
+        defaults::no_such_call::<NoEntries>()
     }
 }
 
