@@ -2,17 +2,16 @@
 
 ghost use Rattle.std.specs.Prelude.{◌≡◌, ◌<◌, OnOk, codes, length};
 
-use crate::directory::{print_entries, print_items};
 use crate::fields::print_alone;
-use crate::reply_fields::options_of;
+use crate::opcodes::print_answer;
+use crate::records::options_of;
 use crate::stop::{Stop, print_end};
 use crate::take::take_record;
-use crate::text::{Data, Quoted};
 use bitflags::Flags;
 use std::fmt::{self, Write};
 use vfs_flags::{Errno, FsOptions, KERNEL_VERSION, Opcode};
-use vfs_wire::{AttrOut, EntryOut, InHeader, InitInCompat, InitOut, Kstatfs, OutHeader};
-use vfs_wire_more::{GetxattrIn, GetxattrOut, LseekOut, OpenOut, WriteOut};
+use vfs_wire::{EntryOut, InHeader, InitInCompat, InitOut, OutHeader};
+use vfs_wire_more::{GetxattrIn, OpenOut};
 
 /// Prints the reply to a request as a line without its newline: `->`, the fields of its header and of
 /// its record by name, or its data. The request's bytes say of which form the reply is, by its opcode;
@@ -73,58 +72,18 @@ fn print_body<'a, W: Write>(w: &mut W, request: &[u8], body: &'a [u8]) -> Result
     }
 }
 
-/// Prints what stands behind the header of a reply to a request of this opcode, with this behind its
-/// header; what is left behind that.
-fn print_answer<'a, W: Write>(
-    w: &mut W,
-    opcode: Opcode,
-    record: &[u8],
-    body: &'a [u8],
-) -> Result<&'a [u8], Stop> {
-    match opcode {
-        Opcode::Lookup | Opcode::Symlink | Opcode::Mknod | Opcode::Mkdir | Opcode::Link => {
-            print_alone::<EntryOut, W>(w, body)
-        }
-        Opcode::Create => print_created(w, body),
-        Opcode::Getattr | Opcode::Setattr => print_alone::<AttrOut, W>(w, body),
-        Opcode::Open | Opcode::Opendir => print_alone::<OpenOut, W>(w, body),
-        Opcode::Write | Opcode::CopyFileRange => print_alone::<WriteOut, W>(w, body),
-        Opcode::Statfs => print_alone::<Kstatfs, W>(w, body),
-        Opcode::Init => print_alone::<InitOut, W>(w, body),
-        Opcode::Lseek => print_alone::<LseekOut, W>(w, body),
-        Opcode::Getxattr | Opcode::Listxattr if asks_length(record) => {
-            print_alone::<GetxattrOut, W>(w, body)
-        }
-        _ => print_bytes(w, opcode, body),
-    }
-}
-
 /// Prints the two records of the reply to CREATE.
-fn print_created<'a, W: Write>(w: &mut W, body: &'a [u8]) -> Result<&'a [u8], Stop> {
+pub fn print_created<'a, W: Write>(w: &mut W, body: &'a [u8]) -> Result<&'a [u8], Stop> {
     let behind = print_alone::<EntryOut, W>(w, body)?;
     print_alone::<OpenOut, W>(w, behind)
 }
 
 /// Whether a GETXATTR or a LISTXATTR asks for the length alone.
-fn asks_length(record: &[u8]) -> bool {
+pub fn asks_length(record: &[u8]) -> bool {
     match take_record::<GetxattrIn>(record) {
         Ok((asked, _)) => asked.size == 0,
         Err(_) => false,
     }
-}
-
-/// Prints the body of a reply that is no record, to its end, if there is one.
-fn print_bytes<'a, W: Write>(w: &mut W, opcode: Opcode, body: &'a [u8]) -> Result<&'a [u8], Stop> {
-    match opcode {
-        Opcode::Read => write!(w, " data{}", Data(body))?,
-        Opcode::Getxattr => write!(w, " value{}", Data(body))?,
-        Opcode::Readlink => write!(w, " text={}", Quoted(body))?,
-        Opcode::Listxattr => write!(w, " names={}", Quoted(body))?,
-        Opcode::Readdir => print_items(w, body)?,
-        Opcode::Readdirplus => print_entries(w, body)?,
-        _ => return Ok(body),
-    }
-    Ok(&[])
 }
 
 /// The options that are agreed on after a request that was answered by this reply, if these were before

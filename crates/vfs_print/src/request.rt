@@ -3,9 +3,9 @@
 ghost use Rattle.std.specs.Prelude.{◌<◌, ◌≤◌, OnOk, codes, length};
 
 use crate::extensions::print_extensions;
-use crate::fields::{Fields, print_alone, print_if_whole, print_record};
+use crate::fields::{Fields, print_record};
 use crate::flags::Set;
-use crate::names::opcode_name;
+use crate::opcodes::{opcode_name, print_parts};
 use crate::stop::{Stop, print_end};
 use crate::take::{take_bytes, take_name, take_record, whole_name};
 use crate::text::{Data, Quoted};
@@ -13,15 +13,8 @@ use bitflags::Flags;
 use std::fmt::{self, Write};
 use vfs_flags::{FsOptions, KERNEL_VERSION, MIN_KERNEL_MINOR_VERSION, Opcode};
 use vfs_grammar::Error;
-use vfs_wire::{
-    BatchForgetIn, ByteValued, ForgetIn, ForgetOne, GetattrIn, InHeader, InitInCompat, InitInExt,
-    SetattrIn,
-};
-use vfs_wire_more::{
-    AccessIn, BmapIn, CopyfilerangeIn, CreateIn, FallocateIn, FlushIn, FsyncIn, GetxattrIn,
-    InterruptIn, IoctlIn, LinkIn, LkIn, LseekIn, MkdirIn, MknodIn, NotifyRetrieveIn, OpenIn,
-    PollIn, ReadIn, ReleaseIn, Rename2In, RenameIn, SetxattrIn, SetxattrInCompat, WriteIn,
-};
+use vfs_wire::{BatchForgetIn, ByteValued, ForgetOne, InHeader, InitInCompat, InitInExt};
+use vfs_wire_more::{SetxattrIn, SetxattrInCompat, WriteIn};
 
 /// Prints a request as a line without its newline: its opcode, the fields of its header and of its
 /// record by name, and what follows them. `options` are those that are agreed on: they say whether a
@@ -67,55 +60,6 @@ fn print_header<W: Write>(w: &mut W, header: &InHeader, count: usize) -> fmt::Re
     Ok(())
 }
 
-/// Prints what stands behind the header of a request; what is left behind that.
-fn print_parts<'a, W: Write>(
-    w: &mut W,
-    opcode: Opcode,
-    header: &InHeader,
-    options: FsOptions,
-    bytes: &'a [u8],
-) -> Result<&'a [u8], Stop> {
-    match opcode {
-        Opcode::Lookup | Opcode::Unlink | Opcode::Rmdir | Opcode::Removexattr => {
-            print_name(w, header, 0, bytes)
-        }
-        Opcode::Forget => print_alone::<ForgetIn, W>(w, bytes),
-        Opcode::Getattr => print_alone::<GetattrIn, W>(w, bytes),
-        Opcode::Setattr => print_alone::<SetattrIn, W>(w, bytes),
-        Opcode::Symlink => print_link(w, header, options, bytes),
-        Opcode::Mknod => print_named::<MknodIn, W>(w, header, options, bytes),
-        Opcode::Mkdir => print_named::<MkdirIn, W>(w, header, options, bytes),
-        Opcode::Create => print_named::<CreateIn, W>(w, header, options, bytes),
-        Opcode::Rename => print_two_names::<RenameIn, W>(w, header, bytes),
-        Opcode::Rename2 => print_two_names::<Rename2In, W>(w, header, bytes),
-        Opcode::Link => print_record_and_name::<LinkIn, W>(w, header, bytes),
-        Opcode::Getxattr => print_record_and_name::<GetxattrIn, W>(w, header, bytes),
-        Opcode::Open | Opcode::Opendir => print_alone::<OpenIn, W>(w, bytes),
-        Opcode::Read | Opcode::Readdir | Opcode::Readdirplus => print_alone::<ReadIn, W>(w, bytes),
-        Opcode::Write => print_write(w, bytes),
-        Opcode::Release | Opcode::Releasedir => print_alone::<ReleaseIn, W>(w, bytes),
-        Opcode::Fsync | Opcode::Fsyncdir => print_alone::<FsyncIn, W>(w, bytes),
-        Opcode::Setxattr => print_setxattr(w, header, options, bytes),
-        Opcode::Listxattr => print_alone::<GetxattrIn, W>(w, bytes),
-        Opcode::Flush => print_alone::<FlushIn, W>(w, bytes),
-        Opcode::Init => print_init(w, bytes),
-        Opcode::Access => print_alone::<AccessIn, W>(w, bytes),
-        Opcode::BatchForget => print_pairs(w, bytes),
-        Opcode::Fallocate => print_alone::<FallocateIn, W>(w, bytes),
-        Opcode::Lseek => print_alone::<LseekIn, W>(w, bytes),
-        Opcode::CopyFileRange => print_alone::<CopyfilerangeIn, W>(w, bytes),
-        Opcode::Getlk | Opcode::Setlk | Opcode::Setlkw => print_if_whole::<LkIn, W>(w, bytes),
-        Opcode::Interrupt => print_if_whole::<InterruptIn, W>(w, bytes),
-        Opcode::Bmap => print_if_whole::<BmapIn, W>(w, bytes),
-        Opcode::Ioctl => print_if_whole::<IoctlIn, W>(w, bytes),
-        Opcode::Poll => print_if_whole::<PollIn, W>(w, bytes),
-        Opcode::NotifyReply => print_if_whole::<NotifyRetrieveIn, W>(w, bytes),
-        Opcode::TmpFile => print_if_whole::<CreateIn, W>(w, bytes),
-        Opcode::SetupMapping | Opcode::RemoveMapping => Err(Stop::NotServed),
-        Opcode::Readlink | Opcode::Statfs | Opcode::Destroy | Opcode::Syncfs => Ok(bytes),
-    }
-}
-
 /// The tail of a request behind its header and a record of `size` bytes, as long as the header's
 /// `len` says, and what is left behind it.
 fn take_tail<'a>(
@@ -133,7 +77,7 @@ fn take_tail<'a>(
 }
 
 /// A tail that is a name, behind a record of `size` bytes.
-fn print_name<'a, W: Write>(
+pub fn print_name<'a, W: Write>(
     w: &mut W,
     header: &InHeader,
     size: usize,
@@ -148,7 +92,7 @@ fn print_name<'a, W: Write>(
 }
 
 /// A record and a name.
-fn print_record_and_name<'a, T: Fields, W: Write>(
+pub fn print_record_and_name<'a, T: Fields, W: Write>(
     w: &mut W,
     header: &InHeader,
     bytes: &'a [u8],
@@ -158,7 +102,7 @@ fn print_record_and_name<'a, T: Fields, W: Write>(
 }
 
 /// A record and two names: the first ends at its first 0, and the second is the rest of the tail.
-fn print_two_names<'a, T: Fields, W: Write>(
+pub fn print_two_names<'a, T: Fields, W: Write>(
     w: &mut W,
     header: &InHeader,
     bytes: &'a [u8],
@@ -175,7 +119,7 @@ fn print_two_names<'a, T: Fields, W: Write>(
 }
 
 /// A record, a name and extensions.
-fn print_named<'a, T: Fields, W: Write>(
+pub fn print_named<'a, T: Fields, W: Write>(
     w: &mut W,
     header: &InHeader,
     options: FsOptions,
@@ -188,7 +132,7 @@ fn print_named<'a, T: Fields, W: Write>(
 }
 
 /// The name of a symbolic link, its text and extensions.
-fn print_link<'a, W: Write>(
+pub fn print_link<'a, W: Write>(
     w: &mut W,
     header: &InHeader,
     options: FsOptions,
@@ -227,14 +171,14 @@ fn print_extended<W: Write>(
 }
 
 /// The record of WRITE, and its data: all bytes behind it.
-fn print_write<'a, W: Write>(w: &mut W, bytes: &'a [u8]) -> Result<&'a [u8], Stop> {
+pub fn print_write<'a, W: Write>(w: &mut W, bytes: &'a [u8]) -> Result<&'a [u8], Stop> {
     let (_, data) = print_record::<WriteIn, W>(w, bytes)?;
     write!(w, " data{}", Data(data))?;
     Ok(&[])
 }
 
 /// The record of SETXATTR, whose form the options say, a name and a value.
-fn print_setxattr<'a, W: Write>(
+pub fn print_setxattr<'a, W: Write>(
     w: &mut W,
     header: &InHeader,
     options: FsOptions,
@@ -265,7 +209,7 @@ fn print_value<W: Write>(w: &mut W, size: u32, tail: &[u8]) -> Result<(), Stop> 
 }
 
 /// The records of INIT: the second one is there if the first one's flags say so.
-fn print_init<'a, W: Write>(w: &mut W, bytes: &'a [u8]) -> Result<&'a [u8], Stop> {
+pub fn print_init<'a, W: Write>(w: &mut W, bytes: &'a [u8]) -> Result<&'a [u8], Stop> {
     let (first, behind) = take_record::<InitInCompat>(bytes)?;
     write!(w, " major={} minor={}", first.major, first.minor)?;
     write!(w, " max_readahead={}", first.max_readahead)?;
@@ -295,7 +239,7 @@ fn judge_version(record: &InitInCompat) -> Result<(), Stop> {
 }
 
 /// The record of BATCH_FORGET, and as many pairs as it says.
-fn print_pairs<'a, W: Write>(w: &mut W, bytes: &'a [u8]) -> Result<&'a [u8], Stop> {
+pub fn print_pairs<'a, W: Write>(w: &mut W, bytes: &'a [u8]) -> Result<&'a [u8], Stop> {
     let (record, behind) = print_record::<BatchForgetIn, W>(w, bytes)?;
     let mut left = behind;
     for _ in 0..record.count {

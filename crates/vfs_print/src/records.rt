@@ -1,4 +1,4 @@
-//! The records of requests, field by field. What a sender leaves 0 isn't printed.
+//! The records of requests and replies, field by field. What a sender leaves 0 isn't printed.
 
 use crate::fields::Fields;
 use crate::flags::{Name, Set, Word};
@@ -6,15 +6,20 @@ use crate::text::{Octal, Time};
 use bitflags::Flags;
 use std::fmt::{self, Write};
 use vfs_flags::{
-    FATTR_FH, FATTR_LOCKOWNER, FSYNC_FDATASYNC, GETATTR_FH, IoctlFlags, LK_FLOCK,
-    OPEN_KILL_SUIDGID, POLL_SCHEDULE_NOTIFY, READ_LOCKOWNER, RELEASE_FLOCK_UNLOCK, RELEASE_FLUSH,
-    SetattrValid, SetxattrFlags, WRITE_CACHE, WRITE_KILL_PRIV, WRITE_LOCKOWNER,
+    ATTR_DAX, ATTR_SUBMOUNT, FATTR_FH, FATTR_LOCKOWNER, FSYNC_FDATASYNC, FsOptions, GETATTR_FH,
+    IoctlFlags, LK_FLOCK, OPEN_KILL_SUIDGID, OpenOptions, POLL_SCHEDULE_NOTIFY, READ_LOCKOWNER,
+    RELEASE_FLOCK_UNLOCK, RELEASE_FLUSH, SetattrValid, SetxattrFlags, WRITE_CACHE, WRITE_KILL_PRIV,
+    WRITE_LOCKOWNER,
 };
-use vfs_wire::{BatchForgetIn, ForgetIn, ForgetOne, GetattrIn, SetattrIn};
+use vfs_wire::{
+    Attr, AttrOut, BatchForgetIn, EntryOut, ForgetIn, ForgetOne, GetattrIn, InitOut, Kstatfs,
+    SetattrIn,
+};
 use vfs_wire_more::{
     AccessIn, BmapIn, CopyfilerangeIn, CreateIn, FallocateIn, FileLock, FlushIn, FsyncIn,
-    GetxattrIn, InterruptIn, IoctlIn, LinkIn, LkIn, LseekIn, MkdirIn, MknodIn, NotifyRetrieveIn,
-    OpenIn, PollIn, ReadIn, ReleaseIn, Rename2In, RenameIn, SetxattrIn, SetxattrInCompat, WriteIn,
+    GetxattrIn, GetxattrOut, InterruptIn, IoctlIn, LinkIn, LkIn, LseekIn, LseekOut, MkdirIn,
+    MknodIn, NotifyRetrieveIn, OpenIn, OpenOut, PollIn, ReadIn, ReleaseIn, Rename2In, RenameIn,
+    SetxattrIn, SetxattrInCompat, WriteIn, WriteOut,
 };
 
 /// Bits of `flags` of GETATTR.
@@ -56,6 +61,9 @@ const LOCK_FLAGS: &[Name] = &[("FLOCK", LK_FLOCK)];
 
 /// Bits of `flags` of POLL.
 const POLL_FLAGS: &[Name] = &[("SCHEDULE_NOTIFY", POLL_SCHEDULE_NOTIFY)];
+
+/// Bits of `flags` of attributes.
+const ATTR_FLAGS: &[Name] = &[("SUBMOUNT", ATTR_SUBMOUNT), ("DAX", ATTR_DAX)];
 
 impl Fields for ForgetIn {
     fn print<W: Write>(&self, w: &mut W) -> fmt::Result {
@@ -289,4 +297,107 @@ impl Fields for NotifyRetrieveIn {
     fn print<W: Write>(&self, w: &mut W) -> fmt::Result {
         write!(w, " offset={} size={}", self.offset, self.size)
     }
+}
+
+// The records of replies.
+
+impl Fields for Attr {
+    fn print<W: Write>(&self, w: &mut W) -> fmt::Result {
+        write!(w, " ino={} size={}", self.ino, self.size)?;
+        write!(w, " blocks={}", self.blocks)?;
+        write!(w, " atime={}", Time(self.atime, self.atimensec))?;
+        write!(w, " mtime={}", Time(self.mtime, self.mtimensec))?;
+        write!(w, " ctime={}", Time(self.ctime, self.ctimensec))?;
+        write!(w, " mode={} nlink={}", Octal(self.mode), self.nlink)?;
+        write!(w, " uid={}", self.uid.into_inner())?;
+        write!(w, " gid={} rdev={}", self.gid.into_inner(), self.rdev)?;
+        let flags = Word(self.flags, ATTR_FLAGS);
+        write!(w, " blksize={} attr_flags={flags}", self.blksize)
+    }
+}
+
+impl Fields for EntryOut {
+    fn print<W: Write>(&self, w: &mut W) -> fmt::Result {
+        write!(w, " entry node={}", self.nodeid)?;
+        write!(w, " generation={}", self.generation)?;
+        write!(
+            w,
+            " entry_valid={}.{:09}",
+            self.entry_valid, self.entry_valid_nsec
+        )?;
+        write!(
+            w,
+            " attr_valid={}.{:09}",
+            self.attr_valid, self.attr_valid_nsec
+        )?;
+        self.attr.print(w)
+    }
+}
+
+impl Fields for AttrOut {
+    fn print<W: Write>(&self, w: &mut W) -> fmt::Result {
+        write!(
+            w,
+            " attr_valid={}.{:09}",
+            self.attr_valid, self.attr_valid_nsec
+        )?;
+        self.attr.print(w)
+    }
+}
+
+impl Fields for OpenOut {
+    fn print<W: Write>(&self, w: &mut W) -> fmt::Result {
+        let open_flags = Set(OpenOptions::from_bits_retain(self.open_flags), &[]);
+        write!(w, " fh={} open_flags={open_flags}", self.fh)
+    }
+}
+
+impl Fields for WriteOut {
+    fn print<W: Write>(&self, w: &mut W) -> fmt::Result {
+        write!(w, " size={}", self.size)
+    }
+}
+
+impl Fields for GetxattrOut {
+    fn print<W: Write>(&self, w: &mut W) -> fmt::Result {
+        write!(w, " size={}", self.size)
+    }
+}
+
+impl Fields for LseekOut {
+    fn print<W: Write>(&self, w: &mut W) -> fmt::Result {
+        write!(w, " offset={}", self.offset)
+    }
+}
+
+impl Fields for Kstatfs {
+    fn print<W: Write>(&self, w: &mut W) -> fmt::Result {
+        write!(w, " blocks={} bfree={}", self.blocks, self.bfree)?;
+        write!(w, " bavail={} files={}", self.bavail, self.files)?;
+        write!(w, " ffree={} bsize={}", self.ffree, self.bsize)?;
+        write!(w, " namelen={} frsize={}", self.namelen, self.frsize)
+    }
+}
+
+impl Fields for InitOut {
+    fn print<W: Write>(&self, w: &mut W) -> fmt::Result {
+        let options = Set(options_of(self), &[]);
+        write!(w, " major={} minor={}", self.major, self.minor)?;
+        write!(w, " max_readahead={} flags={options}", self.max_readahead)?;
+        write!(w, " max_background={}", self.max_background)?;
+        write!(w, " congestion_threshold={}", self.congestion_threshold)?;
+        write!(
+            w,
+            " max_write={} time_gran={}",
+            self.max_write, self.time_gran
+        )?;
+        write!(w, " max_pages={}", self.max_pages)?;
+        write!(w, " map_alignment={}", self.map_alignment)
+    }
+}
+
+/// The options that the reply to an INIT has, of both of its words.
+pub fn options_of(record: &InitOut) -> FsOptions {
+    let bits = u64::from(record.flags) | (u64::from(record.flags2) << 32);
+    FsOptions::from_bits_retain(bits)
 }
