@@ -374,10 +374,6 @@ module _ (q : List ℕ) (h : InHeader) (head : size_of in_header ≤ length q) (
 
   table : (o : Opcode) → o ≢ opcode.Init → o ≢ opcode.Readdir → o ≢ opcode.Readdirplus → may_have_context options o ≡ false → Shown q h head (CallIs o) (ListingIs o) (form_of limits options space h o)
   table opcode.Lookup not_init not_readdir not_plus lacks = λ r name s. record { numbers = refl; places = s }
-  table opcode.Forget not_init not_readdir not_plus lacks = λ r. record { numbers = refl; places = tt {0} }
-  table opcode.Getattr not_init not_readdir not_plus lacks = λ r. record { numbers = refl; places = tt {0} }
-  table opcode.Setattr not_init not_readdir not_plus lacks = λ r. record { numbers = refl; places = tt {0} }
-  table opcode.Readlink not_init not_readdir not_plus lacks = λ r. record { numbers = refl; places = tt {0} }
   table opcode.Symlink not_init not_readdir not_plus lacks = λ r name text ext tail whole s within says. record {
     numbers = extended_numbers (symlink_of name text ext) ext refl refl;
     places = (s.front, second_name 40 name text s, none_placed ext.context _ (no_contexts options _ ext lacks says));
@@ -394,46 +390,23 @@ module _ (q : List ℕ) (h : InHeader) (head : size_of in_header ≤ length q) (
   table opcode.Rmdir not_init not_readdir not_plus lacks = λ r name s. record { numbers = refl; places = s }
   table opcode.Rename not_init not_readdir not_plus lacks = λ r old new s. record { numbers = refl; places = (s.front, second_name _ old new s) }
   table opcode.Link not_init not_readdir not_plus lacks = λ r name s. record { numbers = refl; places = s }
-  table opcode.Open not_init not_readdir not_plus lacks = λ r. record { numbers = refl; places = tt {0} }
-  table opcode.Read not_init not_readdir not_plus lacks = λ r. record { numbers = refl; places = tt {0} }
   table opcode.Write not_init not_readdir not_plus lacks = λ r end. write_told r end
-  table opcode.Statfs not_init not_readdir not_plus lacks = λ r. record { numbers = refl; places = tt {0} }
-  table opcode.Release not_init not_readdir not_plus lacks = λ r. record { numbers = refl; places = tt {0} }
-  table opcode.Fsync not_init not_readdir not_plus lacks = λ r. record { numbers = refl; places = tt {0} }
   table opcode.Setxattr not_init not_readdir not_plus lacks = λ r name value s. record { numbers = refl; places = (s.front, second _ name value s) }
   table opcode.Getxattr not_init not_readdir not_plus lacks = λ r name s. record { numbers = refl; places = s }
-  table opcode.Listxattr not_init not_readdir not_plus lacks = λ r. record { numbers = refl; places = tt {0} }
   table opcode.Removexattr not_init not_readdir not_plus lacks = λ r name s. record { numbers = refl; places = s }
-  table opcode.Flush not_init not_readdir not_plus lacks = λ r. record { numbers = refl; places = tt {0} }
   table opcode.Init not_init not_readdir not_plus lacks = absurd (not_init refl)
-  table opcode.Opendir not_init not_readdir not_plus lacks = λ r. record { numbers = refl; places = tt {0} }
   table opcode.Readdir not_init not_readdir not_plus lacks = absurd (not_readdir refl)
-  table opcode.Releasedir not_init not_readdir not_plus lacks = λ r. record { numbers = refl; places = tt {0} }
-  table opcode.Fsyncdir not_init not_readdir not_plus lacks = λ r. record { numbers = refl; places = tt {0} }
-  table opcode.Getlk not_init not_readdir not_plus lacks = λ r. record { numbers = refl; places = tt {0} }
-  table opcode.Setlk not_init not_readdir not_plus lacks = λ r. record { numbers = refl; places = tt {0} }
-  table opcode.Setlkw not_init not_readdir not_plus lacks = λ r. record { numbers = refl; places = tt {0} }
-  table opcode.Access not_init not_readdir not_plus lacks = λ r. record { numbers = refl; places = tt {0} }
   table opcode.Create not_init not_readdir not_plus lacks = λ r name ext tail whole s within says. record {
     numbers = extended_numbers (create_of r name ext) ext refl refl;
     places = (s, none_placed ext.context _ (no_contexts options _ ext lacks says));
   }
   table opcode.Interrupt not_init not_readdir not_plus lacks = tt {0}
-  table opcode.Bmap not_init not_readdir not_plus lacks = λ r. record { numbers = refl; places = tt {0} }
-  table opcode.Destroy not_init not_readdir not_plus lacks = λ r. record { numbers = refl; places = tt {0} }
-  table opcode.Ioctl not_init not_readdir not_plus lacks = λ r. record { numbers = refl; places = tt {0} }
-  table opcode.Poll not_init not_readdir not_plus lacks = λ r. record { numbers = refl; places = tt {0} }
-  table opcode.NotifyReply not_init not_readdir not_plus lacks = λ r. record { numbers = refl; places = tt {0} }
   table opcode.BatchForget not_init not_readdir not_plus lacks = λ r pairs s. pairs_told r.count pairs s
-  table opcode.Fallocate not_init not_readdir not_plus lacks = λ r. record { numbers = refl; places = tt {0} }
   table opcode.Readdirplus not_init not_readdir not_plus lacks = absurd (not_plus refl)
   table opcode.Rename2 not_init not_readdir not_plus lacks = λ r old new s. record { numbers = refl; places = (s.front, second_name _ old new s) }
-  table opcode.Lseek not_init not_readdir not_plus lacks = λ r. record { numbers = refl; places = tt {0} }
-  table opcode.CopyFileRange not_init not_readdir not_plus lacks = λ r. record { numbers = refl; places = tt {0} }
   table opcode.SetupMapping not_init not_readdir not_plus lacks = tt {0}
   table opcode.RemoveMapping not_init not_readdir not_plus lacks = tt {0}
-  table opcode.Syncfs not_init not_readdir not_plus lacks = λ r. record { numbers = refl; places = tt {0} }
-  table opcode.TmpFile not_init not_readdir not_plus lacks = λ r. record { numbers = refl; places = tt {0} }
+  table _ not_init not_readdir not_plus lacks = λ r. record { numbers = refl; places = tt {0} }
 
   -- the call or the listing that the bytes behind a header ask for is told
   pub told_by_opcode : (o : Opcode) → o ≢ opcode.Init → o ≢ opcode.Readdir → o ≢ opcode.Readdirplus → may_have_context options o ≡ false

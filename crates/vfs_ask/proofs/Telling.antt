@@ -19,49 +19,7 @@ use Rattle.vfs_ask.proofs.Placing.{CallIsTold, ListingIsTold, OfCall, told}
 -- no call has the number 0
 is_some_call : (c : Call) → ((shape_of c).call == 0) ≡ false
 is_some_call (call.Lookup ctx parent name) = refl
-is_some_call (call.Forget ctx inode count) = refl
-is_some_call (call.Getattr ctx inode handle) = refl
-is_some_call (call.Setattr ctx inode attr handle valid) = refl
-is_some_call (call.Readlink ctx inode) = refl
-is_some_call (call.Symlink ctx linkname parent name ext) = refl
-is_some_call (call.Mknod ctx inode name mode rdev umask ext) = refl
-is_some_call (call.Mkdir ctx parent name mode umask ext) = refl
-is_some_call (call.Unlink ctx parent name) = refl
-is_some_call (call.Rmdir ctx parent name) = refl
-is_some_call (call.Rename ctx olddir oldname newdir newname flags) = refl
-is_some_call (call.Link ctx inode newparent newname) = refl
-is_some_call (call.Open ctx inode kill_priv flags) = refl
-is_some_call (call.Read ctx inode handle room size offset lock_owner flags) = refl
-is_some_call (call.Write ctx inode handle bytes size offset lock_owner delayed kill_priv flags) = refl
-is_some_call (call.Statfs ctx inode) = refl
-is_some_call (call.Release ctx inode flags handle flush flock_release lock_owner) = refl
-is_some_call (call.Fsync ctx inode datasync handle) = refl
-is_some_call (call.Setxattr ctx inode name value flags extra) = refl
-is_some_call (call.Getxattr ctx inode name size) = refl
-is_some_call (call.Listxattr ctx inode size) = refl
-is_some_call (call.Removexattr ctx inode name) = refl
-is_some_call (call.Flush ctx inode handle lock_owner) = refl
-is_some_call (call.Init capable) = refl
-is_some_call (call.Opendir ctx inode flags) = refl
-is_some_call (call.Readdir ctx inode handle size offset) = refl
-is_some_call (call.Releasedir ctx inode flags handle) = refl
-is_some_call (call.Fsyncdir ctx inode datasync handle) = refl
-is_some_call call.Getlk = refl
-is_some_call call.Setlk = refl
-is_some_call call.Setlkw = refl
-is_some_call (call.Access ctx inode mask) = refl
-is_some_call (call.Create ctx parent name mode kill_priv flags umask ext) = refl
-is_some_call call.Bmap = refl
-is_some_call call.Destroy = refl
-is_some_call call.Ioctl = refl
-is_some_call call.Poll = refl
-is_some_call call.NotifyReply = refl
-is_some_call (call.BatchForget ctx requests) = refl
-is_some_call (call.Fallocate ctx inode handle mode offset length) = refl
-is_some_call (call.Lseek ctx inode handle offset whence) = refl
-is_some_call (call.Copyfilerange ctx inode_in handle_in offset_in inode_out handle_out offset_out len flags) = refl
-is_some_call (call.Syncfs ctx inode) = refl
-is_some_call call.Tmpfile = refl
+is_some_call _ = refl
 
 -- so the record of one that was noted has none
 not_none : (c : CallData) → (c.call == 0) ≡ false → c.call ≡ 0 → ⊥

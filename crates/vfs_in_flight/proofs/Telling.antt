@@ -9,7 +9,7 @@ use Rattle.vfs_grammar.specs.Ask.{if_set, has_flag}
 use Rattle.vfs_calls.specs.Shapes.{bit, bit_of, context_bit}
 use Rattle.vfs_calls.specs.declared.call.CallData.{CallData}
 use Rattle.vfs_ask.specs.Asked.{IsContextPlaced, bytes_in, told_of, without_places}
-use Rattle.vfs_in_flight.specs.ToldCall.{Parts, parts_in, extensions_of, call_by_kind, data_call, quiet_call, done_call, untold_call, want_call, entry_call, attr_call, open_call, create_call, statistics_call, text_call, text_or_count_call, offset_call, written_call, fault_call, ToldIsCall}
+use Rattle.vfs_in_flight.specs.ToldCall.{Parts, parts_in, extensions_of, call_by_kind, data_call, quiet_call, done_call, want_call, entry_call, attr_call, open_call, create_call, text_or_count_call, written_call, ToldIsCall}
 
 -- the places are not looked at
 places_aside : (told : CallData) (parts : Parts)
@@ -31,10 +31,6 @@ pub is_done : (told : CallData) (parts : Parts) → call_by_kind 1 told parts �
 unfolding call_by_kind
 is_done told parts = refl
 
-pub is_untold : (told : CallData) (parts : Parts) → call_by_kind 2 told parts ≡ untold_call told.call told
-unfolding call_by_kind
-is_untold told parts = refl
-
 pub is_want : (told : CallData) (parts : Parts) → call_by_kind 4 told parts ≡ want_call told.call told
 unfolding call_by_kind
 is_want told parts = refl
@@ -55,37 +51,17 @@ pub is_create : (told : CallData) (parts : Parts) → call_by_kind 8 told parts 
 unfolding call_by_kind
 is_create told parts = refl
 
-pub is_statistics : (told : CallData) (parts : Parts) → call_by_kind 9 told parts ≡ statistics_call told.call told
-unfolding call_by_kind
-is_statistics told parts = refl
-
-pub is_text : (told : CallData) (parts : Parts) → call_by_kind 10 told parts ≡ text_call told.call told
-unfolding call_by_kind
-is_text told parts = refl
-
 pub is_text_or_count : (told : CallData) (parts : Parts) → call_by_kind 11 told parts ≡ text_or_count_call told.call told parts
 unfolding call_by_kind
 is_text_or_count told parts = refl
-
-pub is_offset : (told : CallData) (parts : Parts) → call_by_kind 12 told parts ≡ offset_call told.call told
-unfolding call_by_kind
-is_offset told parts = refl
 
 pub is_written : (told : CallData) (parts : Parts) → call_by_kind 13 told parts ≡ written_call told.call told parts
 unfolding call_by_kind
 is_written told parts = refl
 
-pub is_fault : (told : CallData) (parts : Parts) → call_by_kind 15 told parts ≡ fault_call told.call told
-unfolding call_by_kind
-is_fault told parts = refl
-
 pub is_data : (told : CallData) (parts : Parts) → call_by_kind 3 told parts ≡ data_call told.call told
 unfolding call_by_kind
 is_data told parts = refl
-
-pub is_directory : (told : CallData) (parts : Parts) → call_by_kind 14 told parts ≡ None
-unfolding call_by_kind
-is_directory told parts = refl
 
 -- ---- extensions
 
@@ -143,6 +119,7 @@ told_so false (Some c) (Some g) q told placed =
 -- ---- each call
 
 pub told_is_call : ToldIsCall
+unfolding call_by_kind
 told_is_call q options room echo (call.Lookup ctx parent name) told known is =
     by_numbers told (told_of options room echo (call.Lookup ctx parent name)) (parts_in q told) is.numbers ∙ is_entry (told_of options room echo (call.Lookup ctx parent name)) (parts_in q told)
     ∙ ap (λ (b : List ℕ). Some (call.Lookup ctx parent b)) is.places.bytes_are
@@ -179,8 +156,6 @@ told_is_call q options room echo (call.Removexattr ctx inode name) told known is
 told_is_call q options room echo (call.Getxattr ctx inode name size) told known is =
     by_numbers told (told_of options room echo (call.Getxattr ctx inode name size)) (parts_in q told) is.numbers ∙ is_text_or_count (told_of options room echo (call.Getxattr ctx inode name size)) (parts_in q told)
     ∙ ap (λ (b : List ℕ). Some (call.Getxattr ctx inode b size)) is.places.bytes_are
-told_is_call q options room echo (call.Listxattr ctx inode size) told known is =
-    by_numbers told (told_of options room echo (call.Listxattr ctx inode size)) (parts_in q told) is.numbers ∙ is_text_or_count (told_of options room echo (call.Listxattr ctx inode size)) (parts_in q told)
 told_is_call q options room echo (call.Rename ctx olddir oldname newdir newname flags) told known is =
     by_numbers told (told_of options room echo (call.Rename ctx olddir oldname newdir newname flags)) (parts_in q told) is.numbers ∙ is_done (told_of options room echo (call.Rename ctx olddir oldname newdir newname flags)) (parts_in q told)
     ∙ ap (λ (b : List ℕ). Some (call.Rename ctx olddir b newdir (bytes_in q told.other_name) flags)) is.places.0.bytes_are
@@ -258,49 +233,9 @@ told_is_call q options room echo (call.Init capable) told known is =
 told_is_call q options room echo (call.BatchForget ctx pairs) told known is =
     by_numbers told (told_of options room echo (call.BatchForget ctx pairs)) (parts_in q told) is.numbers ∙ is_quiet (told_of options room echo (call.BatchForget ctx pairs)) (parts_in q told)
     ∙ ap (λ (ps : List (ℕ × ℕ)). Some (call.BatchForget ctx ps)) is.places.pairs_are
-told_is_call q options room echo (call.Forget ctx inode count) told known is =
-    by_numbers told (told_of options room echo (call.Forget ctx inode count)) (parts_in q told) is.numbers ∙ is_quiet (told_of options room echo (call.Forget ctx inode count)) (parts_in q told)
-told_is_call q options room echo call.Destroy told known is =
-    by_numbers told (told_of options room echo call.Destroy) (parts_in q told) is.numbers ∙ is_quiet (told_of options room echo call.Destroy) (parts_in q told)
-told_is_call q options room echo (call.Readlink ctx inode) told known is =
-    by_numbers told (told_of options room echo (call.Readlink ctx inode)) (parts_in q told) is.numbers ∙ is_text (told_of options room echo (call.Readlink ctx inode)) (parts_in q told)
-told_is_call q options room echo (call.Statfs ctx inode) told known is =
-    by_numbers told (told_of options room echo (call.Statfs ctx inode)) (parts_in q told) is.numbers ∙ is_statistics (told_of options room echo (call.Statfs ctx inode)) (parts_in q told)
-told_is_call q options room echo (call.Flush ctx inode handle owner) told known is =
-    by_numbers told (told_of options room echo (call.Flush ctx inode handle owner)) (parts_in q told) is.numbers ∙ is_done (told_of options room echo (call.Flush ctx inode handle owner)) (parts_in q told)
-told_is_call q options room echo (call.Releasedir ctx inode flags handle) told known is =
-    by_numbers told (told_of options room echo (call.Releasedir ctx inode flags handle)) (parts_in q told) is.numbers ∙ is_done (told_of options room echo (call.Releasedir ctx inode flags handle)) (parts_in q told)
-told_is_call q options room echo (call.Access ctx inode mask) told known is =
-    by_numbers told (told_of options room echo (call.Access ctx inode mask)) (parts_in q told) is.numbers ∙ is_done (told_of options room echo (call.Access ctx inode mask)) (parts_in q told)
-told_is_call q options room echo (call.Fallocate ctx inode handle mode offset len) told known is =
-    by_numbers told (told_of options room echo (call.Fallocate ctx inode handle mode offset len)) (parts_in q told) is.numbers ∙ is_done (told_of options room echo (call.Fallocate ctx inode handle mode offset len)) (parts_in q told)
-told_is_call q options room echo (call.Syncfs ctx inode) told known is =
-    by_numbers told (told_of options room echo (call.Syncfs ctx inode)) (parts_in q told) is.numbers ∙ is_done (told_of options room echo (call.Syncfs ctx inode)) (parts_in q told)
-told_is_call q options room echo (call.Opendir ctx inode flags) told known is =
-    by_numbers told (told_of options room echo (call.Opendir ctx inode flags)) (parts_in q told) is.numbers ∙ is_open (told_of options room echo (call.Opendir ctx inode flags)) (parts_in q told)
-told_is_call q options room echo call.Getlk told known is =
-    by_numbers told (told_of options room echo call.Getlk) (parts_in q told) is.numbers ∙ is_untold (told_of options room echo call.Getlk) (parts_in q told)
-told_is_call q options room echo call.Setlk told known is =
-    by_numbers told (told_of options room echo call.Setlk) (parts_in q told) is.numbers ∙ is_untold (told_of options room echo call.Setlk) (parts_in q told)
-told_is_call q options room echo call.Setlkw told known is =
-    by_numbers told (told_of options room echo call.Setlkw) (parts_in q told) is.numbers ∙ is_untold (told_of options room echo call.Setlkw) (parts_in q told)
-told_is_call q options room echo call.Bmap told known is =
-    by_numbers told (told_of options room echo call.Bmap) (parts_in q told) is.numbers ∙ is_untold (told_of options room echo call.Bmap) (parts_in q told)
-told_is_call q options room echo call.Ioctl told known is =
-    by_numbers told (told_of options room echo call.Ioctl) (parts_in q told) is.numbers ∙ is_untold (told_of options room echo call.Ioctl) (parts_in q told)
-told_is_call q options room echo call.Poll told known is =
-    by_numbers told (told_of options room echo call.Poll) (parts_in q told) is.numbers ∙ is_untold (told_of options room echo call.Poll) (parts_in q told)
-told_is_call q options room echo call.NotifyReply told known is =
-    by_numbers told (told_of options room echo call.NotifyReply) (parts_in q told) is.numbers ∙ is_untold (told_of options room echo call.NotifyReply) (parts_in q told)
-told_is_call q options room echo (call.Lseek ctx inode handle offset whence) told known is =
-    by_numbers told (told_of options room echo (call.Lseek ctx inode handle offset whence)) (parts_in q told) is.numbers ∙ is_offset (told_of options room echo (call.Lseek ctx inode handle offset whence)) (parts_in q told)
-told_is_call q options room echo (call.Copyfilerange ctx inode_in handle_in offset_in inode_out handle_out offset_out len flags) told known is =
-    by_numbers told (told_of options room echo (call.Copyfilerange ctx inode_in handle_in offset_in inode_out handle_out offset_out len flags)) (parts_in q told) is.numbers ∙ is_written (told_of options room echo (call.Copyfilerange ctx inode_in handle_in offset_in inode_out handle_out offset_out len flags)) (parts_in q told)
-told_is_call q options room echo call.Tmpfile told known is =
-    by_numbers told (told_of options room echo call.Tmpfile) (parts_in q told) is.numbers ∙ is_fault (told_of options room echo call.Tmpfile) (parts_in q told)
 told_is_call q options room echo (call.Read ctx inode handle space size offset None flags) told known is =
     by_numbers told (told_of options room echo (call.Read ctx inode handle space size offset None flags)) (parts_in q told) is.numbers ∙ is_data (told_of options room echo (call.Read ctx inode handle space size offset None flags)) (parts_in q told)
 told_is_call q options room echo (call.Read ctx inode handle space size offset (Some o) flags) told known is =
     by_numbers told (told_of options room echo (call.Read ctx inode handle space size offset (Some o) flags)) (parts_in q told) is.numbers ∙ is_data (told_of options room echo (call.Read ctx inode handle space size offset (Some o) flags)) (parts_in q told)
-told_is_call q options room echo (call.Readdir ctx inode handle size offset) told known is =
-    by_numbers told (told_of options room echo (call.Readdir ctx inode handle size offset)) (parts_in q told) is.numbers ∙ is_directory (told_of options room echo (call.Readdir ctx inode handle size offset)) (parts_in q told)
+told_is_call q options room echo c told known is =
+    by_numbers told (told_of options room echo c) (parts_in q told) is.numbers

@@ -6,7 +6,7 @@ use Rattle.vfs_wire.specs.Fields.{bytes_of}
 use Rattle.vfs_wire.specs.Records.{out_header, attr_out, entry_out, kstatfs, init_out, kstatfs_of}
 use Rattle.vfs_wire.specs.declared.headers.OutHeader.{OutHeader}
 use Rattle.vfs_wire.specs.FieldLaws.{length-little, length-bytes_of}
-use Rattle.vfs_wire_more.specs.Records.{open_out, write_out, lseek_out, getxattr_out}
+use Rattle.vfs_wire_more.specs.Records.{open_out, write_out, getxattr_out}
 use Rattle.vfs_wire.specs.declared.init.InitOut.{InitOut}
 use Rattle.vfs_files.specs.Answers.{Kind, Quiet, Told, Untold, Data, Agreements, Entries, TimedAttributes, Openings, Creations, Capacities, Texts, TextsOrCounts, Offsets, Writes, Iterators, Faults, IsAnswer, Answer, Done, Failed, Options, Found, Put, Attributes, Opened, Created, Statistics, Text, Count, Offset, Wrote}
 use Rattle.vfs_files.specs.Values.{entry_out_of}
@@ -29,8 +29,8 @@ init_out_is_short r = omega (arith, length-init_out r)
 length-getxattr_out : (n : ℕ) → length (bytes_of getxattr_out (getxattr_out_of n)) ≡ 8
 length-getxattr_out n = simp (length-append, length-little)
 
-length-lseek_out : (n : ℕ) → length (bytes_of lseek_out (record { offset = n })) ≡ 8
-length-lseek_out n = simp (length-append, length-little)
+length-offset : (n : ℕ) → length (body_of (Offset n)) ≡ 8
+length-offset n = simp (length-append, length-little)
 
 length-write_out : (n : ℕ) → length (bytes_of write_out (write_out_of n)) ≡ 8
 length-write_out n = simp (length-append, length-little)
@@ -59,7 +59,7 @@ bodies_are_short Capacities (Statistics statistics) a = omega (arith, length-byt
 bodies_are_short Texts (Text bytes) a = a
 bodies_are_short TextsOrCounts (Text bytes) a = a
 bodies_are_short TextsOrCounts (Count n) a = omega (arith, length-getxattr_out n)
-bodies_are_short Offsets (Offset offset) a = omega (arith, length-lseek_out offset)
+bodies_are_short Offsets (Offset offset) a = omega (arith, length-offset offset)
 bodies_are_short Writes (Wrote count) a = omega (arith, length-write_out count)
 bodies_are_short _ _ a = absurd a
 

@@ -4,7 +4,7 @@ use Rattle.vfs_views.specs.Segments.{with_bytes_at}
 use Rattle.vfs_flags.specs.Numbers.{enoent, eperm, eexist, eisdir, einval, enodata, enospc, enosys, enotdir, enotempty, eopnotsupp, eoverflow, erange, efbig, enodev, enxio}
 use Rattle.vfs_files.specs.Bytes.{part_of, most_put, fitting, written, lengthened}
 use Rattle.vfs_files.specs.Values.{Item}
-use Rattle.vfs_files.specs.Calls.{Call, Lookup, Forget, BatchForget, Getattr, Setattr, Symlink, Readlink, Open, Unlink, Rmdir, Rename, Link, Mknod, Mkdir, Create, Read, Write, Fallocate, Setxattr, Getxattr, Listxattr, Removexattr, Statfs, Release, Fsync, Flush, Init, Opendir, Readdir, Releasedir, Fsyncdir, Getlk, Setlk, Setlkw, Access, Bmap, Destroy, Ioctl, Poll, NotifyReply, Lseek, Copyfilerange, Syncfs, Tmpfile, Answer, Done, Failed, Options, Found, Attributes, Created, Text, Count, Put, Wrote, Statistics, Opened, Offset, Handed, Plain, Iterator, default_answer}
+use Rattle.vfs_files.specs.Calls.{Call, Lookup, Forget, BatchForget, Getattr, Setattr, Symlink, Readlink, Open, Unlink, Rmdir, Rename, Link, Mknod, Mkdir, Create, Read, Write, Fallocate, Setxattr, Getxattr, Listxattr, Removexattr, Statfs, Release, Fsync, Init, Opendir, Readdir, Releasedir, Fsyncdir, Destroy, Lseek, Answer, Done, Failed, Options, Found, Attributes, Created, Text, Count, Put, Wrote, Statistics, Opened, Offset, Handed, Plain, Iterator, default_answer}
 use Rattle.vfs_files.specs.declared.entry.Context.{Context}
 use Rattle.vfs_files.specs.declared.entry.Entry.{Entry}
 use Rattle.vfs_wire.specs.declared.stat.Statvfs64.{Statvfs64}
@@ -740,8 +740,6 @@ module _ (old : State) (P : List (ℕ × ℕ) → Handed (List Item) → State �
       (refl, q.same (Plain Done) refl)
   covered (Fsync c n x h) =
       (refl, q.same (Plain Done) refl)
-  covered (Flush c n h o) =
-      (refl, q.same (Plain (default_answer (Flush c n h o))) refl)
   covered (Releasedir c n f h) =
       (refl, q.same (Plain Done) refl)
   covered (Fsyncdir c n x h) =
@@ -752,24 +750,8 @@ module _ (old : State) (P : List (ℕ × ℕ) → Handed (List Item) → State �
       each-if (Fails old call) (Leaves call) fails (bit_and old.offered 0x1000000 == 0x1000000)
       (Refused enosys) (Answered (Plain (Opened None 10)) old) (λ none. fails)
       (λ some. (refl, q.same (Plain (Opened None 10)) refl))
-  covered Getlk =
-      (refl, q.same (Plain (default_answer Getlk)) refl)
-  covered Setlk =
-      (refl, q.same (Plain (default_answer Setlk)) refl)
-  covered Setlkw =
-      (refl, q.same (Plain (default_answer Setlkw)) refl)
-  covered (Access c n m) =
-      (refl, q.same (Plain (default_answer (Access c n m))) refl)
-  covered Bmap =
-      (refl, q.same (Plain (default_answer Bmap)) refl)
   covered Destroy =
       (refl, q.forgot (held_of old.nodes) (Plain Done) refl)
-  covered Ioctl =
-      (refl, q.same (Plain (default_answer Ioctl)) refl)
-  covered Poll =
-      (refl, q.same (Plain (default_answer Poll)) refl)
-  covered NotifyReply =
-      (refl, q.same (Plain (default_answer NotifyReply)) refl)
   covered (Lseek c n h off w) =
       let call = (Lseek c n h off w) in
       let fails : Fails old call = (refl, λ e. refl) in
@@ -785,12 +767,8 @@ module _ (old : State) (P : List (ℕ × ℕ) → Handed (List Item) → State �
       (λ may. each-some (Fails old call) (Leaves call) fails enoent (node_at old n) last
       (λ node is. each-unless (Fails old call) (Leaves call) fails (none node) (Answered (reply node) old)
       (λ free. (refl, q.same (reply node) refl))))
-  covered (Copyfilerange c n h o m i p l f) =
-      (refl, q.same (Plain (default_answer (Copyfilerange c n h o m i p l f))) refl)
-  covered (Syncfs c n) =
-      (refl, q.same (Plain (default_answer (Syncfs c n))) refl)
-  covered Tmpfile =
-      (refl, q.same (Plain (default_answer Tmpfile)) refl)
+  covered call =
+      (refl, q.same (Plain (default_answer call)) refl)
 
 -- ---- what a call leaves
 

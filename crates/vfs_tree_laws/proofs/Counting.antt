@@ -2,7 +2,7 @@
 use Rattle.std.proofs.Common.{◌≡◌, ◌≤◌, ◌<◌, ◌+◌, ◌||◌, ⊎_elim, ℕ, zero, suc, Bool, true, false, List, [], ◌∷◌, take, Option, Some, None, IsSome, IfSome, refl, sym, ap, subst, arith, if◌then◌else◌}
 use Rattle.std.specs.List.{list_any}
 use Rattle.vfs_files.specs.Values.{Item}
-use Rattle.vfs_files.specs.Calls.{Call, Lookup, Forget, BatchForget, Getattr, Setattr, Symlink, Readlink, Open, Unlink, Rmdir, Rename, Link, Mknod, Mkdir, Create, Read, Write, Fallocate, Setxattr, Getxattr, Listxattr, Removexattr, Statfs, Release, Fsync, Flush, Init, Opendir, Readdir, Releasedir, Fsyncdir, Getlk, Setlk, Setlkw, Access, Bmap, Destroy, Ioctl, Poll, NotifyReply, Lseek, Copyfilerange, Syncfs, Tmpfile, Answer, Plain}
+use Rattle.vfs_files.specs.Calls.{Call, Forget, BatchForget, Answer, Plain}
 use Rattle.vfs_files.specs.Runs.{Event, Called, OpenedDirectory, Taken, IsRun}
 use Rattle.vfs_grammar.specs.Books.{answered, sent, answered_by, sent_by, answered_nodes, forgets_of, times, forgotten, KeepsBooks}
 use Rattle.vfs_grammar.specs.Turn.{Turn, events_in}
@@ -22,50 +22,9 @@ use Rattle.std.proofs.lemmas.List.Sums.{sum_by-append}
 takes_alone : (n held : ℕ) (call : Call) (answer : Answer)
     → forgotten n (forgets_of call) ≤ held + times n (answered_nodes call answer)
     → forgotten n (forgets_of call) ≤ held
-takes_alone n held (Lookup _ _ _) answer within = omega arith
 takes_alone n held (Forget _ _ _) answer within = omega (arith, within)
-takes_alone n held (Getattr _ _ _) answer within = omega arith
-takes_alone n held (Setattr _ _ _ _ _) answer within = omega arith
-takes_alone n held (Readlink _ _) answer within = omega arith
-takes_alone n held (Symlink _ _ _ _ _) answer within = omega arith
-takes_alone n held (Mknod _ _ _ _ _ _ _) answer within = omega arith
-takes_alone n held (Mkdir _ _ _ _ _ _) answer within = omega arith
-takes_alone n held (Unlink _ _ _) answer within = omega arith
-takes_alone n held (Rmdir _ _ _) answer within = omega arith
-takes_alone n held (Rename _ _ _ _ _ _) answer within = omega arith
-takes_alone n held (Link _ _ _ _) answer within = omega arith
-takes_alone n held (Open _ _ _ _) answer within = omega arith
-takes_alone n held (Read _ _ _ _ _ _ _ _) answer within = omega arith
-takes_alone n held (Write _ _ _ _ _ _ _ _ _ _) answer within = omega arith
-takes_alone n held (Statfs _ _) answer within = omega arith
-takes_alone n held (Release _ _ _ _ _ _ _) answer within = omega arith
-takes_alone n held (Fsync _ _ _ _) answer within = omega arith
-takes_alone n held (Setxattr _ _ _ _ _ _) answer within = omega arith
-takes_alone n held (Getxattr _ _ _ _) answer within = omega arith
-takes_alone n held (Listxattr _ _ _) answer within = omega arith
-takes_alone n held (Removexattr _ _ _) answer within = omega arith
-takes_alone n held (Flush _ _ _ _) answer within = omega arith
-takes_alone n held (Init _) answer within = omega arith
-takes_alone n held (Opendir _ _ _) answer within = omega arith
-takes_alone n held (Readdir _ _ _ _ _) answer within = omega arith
-takes_alone n held (Releasedir _ _ _ _) answer within = omega arith
-takes_alone n held (Fsyncdir _ _ _ _) answer within = omega arith
-takes_alone n held Getlk answer within = omega arith
-takes_alone n held Setlk answer within = omega arith
-takes_alone n held Setlkw answer within = omega arith
-takes_alone n held (Access _ _ _) answer within = omega arith
-takes_alone n held (Create _ _ _ _ _ _ _ _) answer within = omega arith
-takes_alone n held Bmap answer within = omega arith
-takes_alone n held Destroy answer within = omega arith
-takes_alone n held Ioctl answer within = omega arith
-takes_alone n held Poll answer within = omega arith
-takes_alone n held NotifyReply answer within = omega arith
 takes_alone n held (BatchForget _ _) answer within = omega (arith, within)
-takes_alone n held (Fallocate _ _ _ _ _ _) answer within = omega arith
-takes_alone n held (Lseek _ _ _ _ _) answer within = omega arith
-takes_alone n held (Copyfilerange _ _ _ _ _ _ _ _ _) answer within = omega arith
-takes_alone n held (Syncfs _ _) answer within = omega arith
-takes_alone n held Tmpfile answer within = omega arith
+takes_alone n held _ answer within = omega arith
 
 -- ---- events one by one
 
