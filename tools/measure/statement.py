@@ -96,6 +96,11 @@ def start_of(specs, word):
     return at
 
 
+def is_decoder(it):
+    """Whether a definition makes a record of its fields."""
+    return it[0].startswith("vfs_wire") and it[1].startswith("made_")
+
+
 def main():
     words = sys.argv[1:]
     show = words.pop(0) if words and words[0].startswith("--") else ""
@@ -104,8 +109,8 @@ def main():
     specs = Specs()
     by = specs.reach([start_of(specs, it) for it in words or ["vfs_server/Session.IsSession"]])
     all_reached = [it for it in by if it[0] != "declared"]
-    reached = [it for it in all_reached if not it[0].endswith(".Decoders")]
-    followed = [it for it in all_reached if it[0].endswith(".Decoders")]
+    reached = [it for it in all_reached if not is_decoder(it)]
+    followed = [it for it in all_reached if is_decoder(it)]
     at = lambda it: specs.of[it[0]][it[1]]
     files = collections.Counter(at(it).path for it in reached)
     lines = collections.Counter()
