@@ -1,12 +1,14 @@
 //! A tree in memory, by requests and replies: what a person does with it, a session as data.
 
+mod asks;
 mod session;
 
 use crate::support::{Message, handle, none_is_wrong};
+use crate::tree::asks::message_of;
 use crate::tree::session::memory::steps;
 use crate::tree::session::rest::{fifth, fourth, sixth, special};
-use crate::tree::session::{Asks, Step, first, long, second, third};
-use std::alloc::{AllocError, Global};
+use crate::tree::session::{Step, first, long, second, third};
+use std::alloc::Global;
 use std::test::Fail;
 use vfs_flags::{GuestGid, GuestUid};
 use vfs_server::server::Server;
@@ -50,48 +52,6 @@ fn reply(
     let (len, mut reply) = handle(alloc, server, message, &[4112], 0)?;
     reply.truncate(len);
     Ok(reply)
-}
-
-/// Numbers of eight bytes each, and bytes after them.
-fn joined(alloc: Global, numbers: &[u64], data: &[u8]) -> Result<Vec<u8>, AllocError> {
-    let mut all = Vec::new(alloc);
-    for number in numbers {
-        all.extend_from_slice(&number.to_le_bytes())?;
-    }
-    all.extend_from_slice(data)?;
-    Ok(all)
-}
-
-/// The opcode, the node, and the bytes after the header of what is asked.
-fn message_of(alloc: Global, asks: Asks) -> Result<(u8, u8, Vec<u8>), AllocError> {
-    match asks {
-        Asks::Message(opcode, node, bytes) => Ok((opcode, node, joined(alloc, &[], bytes)?)),
-        Asks::Getattr(node) => Ok((3, node, joined(alloc, &[0, 0], b"")?)),
-        Asks::Size(node, size) => {
-            let record = [8, 0, size, 0, 0, 0, 0, 0, 0, 0, 0];
-            Ok((4, node, joined(alloc, &record, b"")?))
-        }
-        Asks::Mtime(node, seconds) => {
-            let record = [32, 0, 0, 0, 0, seconds, 0, 0, 0, 0, 0];
-            Ok((4, node, joined(alloc, &record, b"")?))
-        }
-        Asks::Read(node, offset, size) => {
-            Ok((15, node, joined(alloc, &[0, offset, size, 0, 0], b"")?))
-        }
-        Asks::Write(node, offset, data) => {
-            let record = [0, offset, data.len() as u64, 0, 0];
-            Ok((16, node, joined(alloc, &record, data)?))
-        }
-        Asks::Readdir(node, offset) => {
-            Ok((28, node, joined(alloc, &[0, offset, 4096, 0, 0], b"")?))
-        }
-        Asks::Fallocate(node, mode, offset, length) => {
-            Ok((43, node, joined(alloc, &[0, offset, length, mode], b"")?))
-        }
-        Asks::Lseek(node, offset, whence) => {
-            Ok((46, node, joined(alloc, &[0, offset, whence], b"")?))
-        }
-    }
 }
 
 /// Whether a reply has these bytes at a place.

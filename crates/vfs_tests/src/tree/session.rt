@@ -6,28 +6,7 @@ pub mod long;
 pub mod memory;
 pub mod rest;
 
-/// What a step asks of a node, whose number comes first but in a message.
-#[derive(Clone, Copy)]
-pub enum Asks {
-    /// An opcode, a node, and the bytes after the header.
-    Message(u8, u8, &'static [u8]),
-    /// GETATTR.
-    Getattr(u8),
-    /// SETATTR of the size.
-    Size(u8, u64),
-    /// SETATTR of the time of change, in seconds.
-    Mtime(u8, u64),
-    /// READ: the offset, and how many bytes.
-    Read(u8, u64, u64),
-    /// WRITE: the offset, and the bytes.
-    Write(u8, u64, &'static [u8]),
-    /// READDIR of 4096 bytes: the offset.
-    Readdir(u8, u64),
-    /// FALLOCATE: the mode, the offset and the length.
-    Fallocate(u8, u64, u64, u64),
-    /// LSEEK: the offset, and from where it counts.
-    Lseek(u8, u64, u64),
-}
+use crate::tree::asks::Asks;
 
 /// What is asked, and what is replied.
 pub struct Step {

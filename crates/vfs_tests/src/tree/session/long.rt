@@ -1,6 +1,7 @@
 //! A file that is longer than memory, in a new tree.
 
-use crate::tree::session::{Asks, Step};
+use crate::tree::asks::Asks;
+use crate::tree::session::Step;
 
 /// Holes take no memory, and pages that are written do.
 static STEPS: [Step; 12] = [

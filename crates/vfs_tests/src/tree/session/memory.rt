@@ -1,6 +1,7 @@
 //! What needs no more memory than there is, in a new tree.
 
-use crate::tree::session::{Asks, Step};
+use crate::tree::asks::Asks;
+use crate::tree::session::Step;
 
 /// Room of a file from its first byte on, and an attribute without a value.
 static STEPS: [Step; 10] = [

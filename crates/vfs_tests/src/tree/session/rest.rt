@@ -1,6 +1,7 @@
 //! The session's later parts.
 
-use crate::tree::session::{Asks, Step};
+use crate::tree::asks::Asks;
+use crate::tree::session::Step;
 
 /// Names that are exchanged, and directories that move.
 static FOURTH: [Step; 15] = [
