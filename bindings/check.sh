@@ -51,7 +51,7 @@ check_hello() {
         step "$1, mounted" use_mount "$2" "$folder/mount"
         check_aborted "$1" "$2" "$folder/mount"
     else
-        echo "$1 is not mounted: this needs root, /dev/fuse and mountpoint." >&2
+        skip 2 "$1 is not mounted: this needs root, /dev/fuse and mountpoint."
     fi
 }
 
@@ -69,6 +69,7 @@ follow_readme() {
     fi
 }
 
+steps=13
 make_shared
 export LD_LIBRARY_PATH=$built${LD_LIBRARY_PATH:+:$LD_LIBRARY_PATH}
 if command -v python3 > /dev/null; then
@@ -78,9 +79,11 @@ if command -v python3 > /dev/null; then
         LD_PRELOAD=$sanitizer PYTHONMALLOC=malloc ASAN_OPTIONS=detect_leaks=0 \
             step "hello.py with the address sanitizer" \
             ask_hello "$here/bindings/python/hello.py"
+    else
+        skip 1 "The compiler has no address sanitizer, so it is skipped."
     fi
 else
-    echo "python3 is not installed, so Python is skipped: apt-get install python3." >&2
+    skip 4 "python3 is not installed, so Python is skipped: apt-get install python3."
 fi
 if command -v go > /dev/null; then
     export GOCACHE=$built/go-cache GOFLAGS=-mod=mod GOPROXY=off
@@ -99,11 +102,11 @@ if command -v go > /dev/null; then
         if go build $sanitizer -o "$built/hello$sanitizer" "$here/bindings/go/hello.go" 2> "$folder/said"; then
             step "hello.go with $sanitizer" ask_hello "$built/hello$sanitizer"
         else
-            echo "go has no $sanitizer here, so it is skipped." >&2
+            skip 1 "go has no $sanitizer here, so it is skipped."
         fi
     done
 else
-    echo "go is not installed, so Go is skipped: apt-get install golang-go." >&2
+    skip 9 "go is not installed, so Go is skipped: apt-get install golang-go."
 fi
 if command -v cargo > /dev/null; then
     "$here/bindings/rust/check.sh" "$@"

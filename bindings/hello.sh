@@ -1,18 +1,27 @@
 # Sourced by check.sh and rust/check.sh: tests of programs that serve the file `hello` as examples/c/hello.c
-# does. `folder` is a temporary folder.
+# does. `folder` is a temporary folder, and `steps` how many there are.
 # shellcheck shell=bash
+step_number=0
 
 # Runs a command, and prints its output only if it fails: step "NAME" COMMAND..
 step() {
     local name=$1
     shift
-    echo "$name .." >&2
+    step_number=$((step_number + 1))
+    # shellcheck disable=SC2154
+    echo "$step_number of $steps: $name" >&2
     # shellcheck disable=SC2154
     if ! "$@" > "$folder/said" 2>&1; then
         tail -n 100 "$folder/said" >&2
         echo "FAILED: $name" >&2
         exit 1
     fi
+}
+
+# Tells why this many steps are left out: skip COUNT "WHY"
+skip() {
+    step_number=$((step_number + $1))
+    echo "$2" >&2
 }
 
 # Tests a program with tests/c/hello.c, which runs it as `PROGRAM --fd N`.
@@ -46,7 +55,7 @@ check_aborted() {
     if command -v strace > /dev/null; then
         step "$1, mounted, and requests are aborted" use_mount "${abort[@]}" "${@:2}"
     else
-        echo "strace is not installed, so no request is aborted: apt-get install strace." >&2
+        skip 1 "strace is not installed, so no request is aborted: apt-get install strace."
     fi
 }
 

@@ -149,15 +149,16 @@ count_of() {
 if [[ " ${parts[*]} " =~ \ (door|crate)\  ]] && [ -z "$(missing_of door)" ]; then
     (find_library vfs_door && find_library vfs_c) > "$folder/libraries" 2>&1 &
 fi
-failed=() skipped=() times=()
+failed=() skipped=() times=() number=0
 for part in "${parts[@]}"; do
+    number=$((number + 1))
     read -ra missing < <(missing_of "$part" | paste -sd ' ')
     if [ ${#missing[@]} != 0 ]; then
-        echo "$part: skipped, for want of ${missing[*]}"
+        echo "$number of ${#parts[@]}: $part, skipped for want of ${missing[*]}"
         skipped+=("$part")
         continue
     fi
-    echo "$part: $(count_of "$part") .."
+    echo "$number of ${#parts[@]}: $part, $(count_of "$part") .."
     begun=$SECONDS
     case $part in door | crate) wait ;; esac
     if ! "check_$part" > "$folder/said" 2>&1 < /dev/null; then

@@ -29,12 +29,12 @@ set -euo pipefail
 # shellcheck disable=SC2154
 session=$crate library=()
 
-check=
+check='' part_count=2
 demo=yes
 out=
 while [ $# -gt 0 ]; do
     case $1 in
-        --check) check=yes ;;
+        --check) check=yes part_count=4 ;;
         --no-demo) demo= ;;
         --out)
             [ $# -ge 2 ] || { echo "--out wants a folder." >&2 && exit 2; }
@@ -88,7 +88,7 @@ find_parts() {
     for name in vfs_door vfs_c; do
         find_library "$name"
         [[ ${library[0]} != "$here/out/unproved/"* ]] || proved=
-        parts+=("${library[0]}")
+        packed+=("${library[0]}")
     done
     heap=${library[1]}
     if [ -n "$demo" ]; then
@@ -124,8 +124,8 @@ functions() {
 make_libraries() {
     local folder=$1 others needed
     mkdir -p "$folder"
-    join_library "${parts[0]}" "$work/door.o"
-    join_library "${parts[1]}" "$work/tree.o"
+    join_library "${packed[0]}" "$work/door.o"
+    join_library "${packed[1]}" "$work/tree.o"
     rm -f "$folder/libnizwarf.a"
     ar rcsD "$folder/libnizwarf.a" "$work/door.o" "$work/tree.o"
     cc -shared -o "$folder/$soname.${release#*.}" -Wl,-soname,"$soname" \
@@ -405,18 +405,22 @@ make_all() {
     fi
 }
 
-parts=()
+packed=()
+part "the libraries"
 find_parts
 debs=yes
 if ! command -v dpkg-deb > /dev/null; then
     debs=
     echo "Missing: the command \`dpkg-deb\`, so the tarball alone is made." >&2
 fi
+part "programs, pages and packages"
 make_all "$work/out"
 if [ -n "$check" ]; then
+    part "the same again, to be compared"
     make_all "$work/again"
     diff -r "$work/out" "$work/again" || wrong "what was made twice differs."
     echo "Made twice, and the same."
+    part "lintian and mandoc"
     if [ -n "$debs" ] && command -v lintian > /dev/null; then
         lintian --allow-root --tag-display-limit 0 --fail-on error "$work"/out/*.deb || wrong "lintian."
         echo "lintian finds no error."

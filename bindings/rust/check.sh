@@ -26,6 +26,7 @@ if [ $# -gt 1 ] || [ "${1:---msrv}" != --msrv ]; then
     echo "Usage: bindings/rust/check.sh [--msrv]" >&2
     exit 2
 fi
+steps=$((14 + $#))
 need cargo "Install it: apt-get install cargo."
 need cc "Install a C compiler: apt-get install gcc libc6-dev."
 if [ -z "${NIZWARF_LIB_DIR:-}" ]; then
@@ -96,15 +97,19 @@ sanitize() {
             return
         fi
     done
-    echo "The compiler has no $name sanitizer, so it is skipped." >&2
+    skip 1 "The compiler has no $name sanitizer, so it is skipped."
 }
 
 if command -v rustfmt > /dev/null; then
     step "Format" cargo fmt --check
+else
+    skip 1 "rustfmt is not installed, so the format is not looked at: apt-get install rustfmt."
 fi
 step "Build without a network" cargo build --offline --all-targets
 if command -v cargo-clippy > /dev/null; then
     step "Clippy, pedantic" cargo clippy --offline --all-targets -- -D warnings -W clippy::pedantic
+else
+    skip 1 "clippy is not installed, and is skipped: apt-get install rust-clippy."
 fi
 RUSTDOCFLAGS="-D warnings" step "Documentation" cargo doc --offline --no-deps
 step "Tests and doctests" cargo test --offline
@@ -124,10 +129,10 @@ if may_mount; then
     if command -v fusermount3 > /dev/null && command -v setpriv > /dev/null; then
         step "hello.rs, mounted by another user" mount_as_other
     else
-        echo "No other user mounts: this needs fusermount3 and setpriv." >&2
+        skip 1 "No other user mounts: this needs fusermount3 and setpriv."
     fi
 else
-    echo "Nothing is mounted: this needs root, /dev/fuse and mountpoint." >&2
+    skip 4 "Nothing is mounted: this needs root, /dev/fuse and mountpoint."
 fi
 sanitize address "${tests[@]}"
 sanitize leak "${tests[@]}"
@@ -140,7 +145,7 @@ if command -v valgrind > /dev/null; then
         step "Tests under valgrind" \
         cargo test --offline --target "$target" --test answers --test calls --test hostile --test threads
 else
-    echo "valgrind is not installed, and is skipped: apt-get install valgrind." >&2
+    skip 1 "valgrind is not installed, and is skipped: apt-get install valgrind."
 fi
 if [ $# = 1 ]; then
     debian=$built/debian

@@ -203,6 +203,7 @@ with open("crates/vfs_demo/stdout") as file:
 header = next(it[1] for it in (re.match(rb"(144 2a00000001[0-9a-f]*)61\+00\n", it) for it in lines) if it)
 lookups = [header + b"+6100\n", header + b"61+00\n"]
 
+print("1 of 2: each call of vfs_sessions, by itself ..", flush=True)
 tried = Refusals(script, lines + lookups)
 with ThreadPoolExecutor(os.cpu_count()) as pool:
     endings = list(pool.map(tried.endings, range(len(tried.parts))))
@@ -212,5 +213,6 @@ if endings[-2:] != [[], ["the server"]]:
 wanting = sum(len(it) > 0 for it in endings)
 print(f"vfs_sessions: {len(endings)} calls, of which {wanting} want memory")
 tell("vfs_sessions", sum(endings, []))
+print("2 of 2: a whole session of vfs_demo ..", flush=True)
 tell("vfs_demo", try_demo(demo, lines, stored))
 sys.exit(1 if faults else 0)

@@ -25,7 +25,7 @@ case $# in
     *) false ;;
 esac || { echo "Usage: tests/c/check.sh [--prove | --quick]" >&2 && exit 2; }
 quick=
-[ "${1:-}" != --quick ] || quick=yes
+[ "${1:-}" != --quick ] || quick=yes part_count=2
 
 folder=$(mktemp -d)
 trap 'rm -rf "$folder"' EXIT
@@ -106,7 +106,9 @@ run_all() {
 # Those that kernels were recorded to ask.
 sed -n '/^# What kernels asked/,/^# The corpus/p' "$here/crates/vfs_sessions/stdin" > "$folder/recorded"
 
+part "the examples and the programs that hold the libraries against the headers"
 run_all -O2
+part "the headers by themselves, and names"
 for headers in include tests/c/version-0.2; do
     cc -std=c11 -pedantic -Wall -Wextra -Werror -I "$here/$headers" -fsyntax-only "$here/tests/c/layout.c"
 done
@@ -116,7 +118,16 @@ if command -v c++ > /dev/null; then
     echo '#include "nizwarf_ops.h"' \
         | c++ -std=c++11 -Wall -Wextra -Werror -I "$here/include" -fsyntax-only -x c++ -
 fi
-if [ -z "$quick" ] && has_flags "${sanitized[@]}"; then
+other_names=$(nm --defined-only --extern-only "${library[@]:0:2}" | awk 'NF == 3 && $3 !~ /^nizwarf_/ { print $3 }')
+if [ -n "$other_names" ]; then
+    echo "Names of the libraries that do not begin with nizwarf_: $(paste -sd ' ' <<< "$other_names")" >&2
+    exit 1
+fi
+
+[ -z "$quick" ] || exit 0
+
+part "the same programs under sanitizers"
+if has_flags "${sanitized[@]}"; then
     run_all "${sanitized[@]}" > /dev/null
     if has_flags "${threaded[@]}"; then
         for name in door-threads ops-threads; do
@@ -126,14 +137,6 @@ if [ -z "$quick" ] && has_flags "${sanitized[@]}"; then
     fi
     echo "The sanitizers found nothing."
 fi
-
-other_names=$(nm --defined-only --extern-only "${library[@]:0:2}" | awk 'NF == 3 && $3 !~ /^nizwarf_/ { print $3 }')
-if [ -n "$other_names" ]; then
-    echo "Names of the libraries that do not begin with nizwarf_: $(paste -sd ' ' <<< "$other_names")" >&2
-    exit 1
-fi
-
-[ -z "$quick" ] || exit 0
 
 # Builds the examples serve and hello by pkg-config alone, with words for make, and runs them.
 run_installed() {
@@ -158,6 +161,7 @@ if ! command -v pkg-config > /dev/null; then
     echo "Missing: the command \`pkg-config\`, so nothing is packed: apt-get install pkg-config." >&2
     exit
 fi
+part "what is packed, and installed"
 compile tests/c/hello.c
 "$here/tools/package.sh" --no-demo --out "$folder/packages" > "$folder/said" 2>&1 || { cat "$folder/said" >&2 && exit 1; }
 grep '^Missing' "$folder/said" >&2 || true

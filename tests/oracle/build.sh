@@ -17,6 +17,7 @@
 # half a minute.
 set -euo pipefail
 . "$(dirname "${BASH_SOURCE[0]}")/../../tools/lib/usage.sh"
+. "$(dirname "${BASH_SOURCE[0]}")/../../tools/lib/debian.sh"
 here=$(cd "$(dirname "${BASH_SOURCE[0]}")" && pwd)
 out=$here/../../out/oracle
 mkdir -p "$out"
@@ -25,56 +26,33 @@ out=$(cd "$out" && pwd)
 package=librust-virtiofsd-dev
 stand_ins=(libc bitflags vm_memory virtio_queue vhost_user_backend)
 
-# Stops where a command is not there.
-need() {
-    if ! command -v "$1" > /dev/null; then
-        echo "Missing: the command \`$1\`, $2." >&2
-        exit 2
-    fi
-}
-
-# Where the machine's own apt gets Debian from.
-debian_archive() {
-    cat /etc/apt/sources.list /etc/apt/sources.list.d/*.list /etc/apt/sources.list.d/*.sources 2> /dev/null |
-        sed -nE '/^ *#/d; s,.*[ =]([a-z+]+:/[^ ]*/debian(\.list)?/?)( .*)?$,\1,p' | sed -n 1p
-}
-
-# Downloads the package into a folder, by apt with lists of its own, which are removed again.
+# Downloads the package into a folder, from the machine's own suite or else from trixie, by lists that are removed again.
 download() {
-    local folder=$1 archive options
-    (cd "$folder" && apt-get download "$package" > /dev/null 2>&1) &&
-        [ -n "$(find "$folder" -name "${package}_1.13.2-*.deb")" ] && return 0
-    rm -f "$folder"/*.deb
-    archive=$(debian_archive || true)
-    [ -n "$archive" ] || return 0
-    mkdir -p "$folder/apt/lists/partial" "$folder/apt/cache/archives/partial" "$folder/apt/sources"
-    : > "$folder/apt/status"
-    printf 'Types: deb\nURIs: %s\nSuites: trixie\nComponents: main\nSigned-By: %s\n' \
-        "$archive" /usr/share/keyrings/debian-archive-keyring.gpg > "$folder/apt/sources/debian.sources"
-    options=(-qq -o Dir::Etc::sourcelist=/dev/null -o "Dir::Etc::sourceparts=$folder/apt/sources"
-        -o "Dir::State::lists=$folder/apt/lists" -o "Dir::State::status=$folder/apt/status"
-        -o "Dir::Cache=$folder/apt/cache" -o Acquire::Languages=none -o APT::Sandbox::User=root)
-    (cd "$folder" && apt-get "${options[@]}" update && apt-get "${options[@]}" download "$package") || true
+    local folder=$1
+    cd "$folder"
+    use_suite "" ""
+    apt-get "${apt[@]}" download "$package" || true
+    if ! compgen -G "${package}_1.13.2-*.deb" > /dev/null; then
+        rm -f ./*.deb
+        use_suite trixie "$folder/apt"
+        apt-get "${apt[@]}" download "$package"
+    fi
 }
 
 # Puts the package's source into out/oracle/source, where it isn't there yet.
 fetch() {
     [ ! -e "$out/source/src/fuse.rs" ] || return 0
-    local folder packages
+    local folder
     if command -v apt-get > /dev/null && command -v dpkg-deb > /dev/null; then
         folder=$(mktemp -d)
         # shellcheck disable=SC2064
         trap "rm -rf '$folder'" EXIT
         echo "Downloading $package .." >&2
-        download "$folder" > "$folder/said" 2>&1
-        packages=("$folder/$package"_*.deb)
-        if [ -e "${packages[0]}" ]; then
-            dpkg-deb -x "${packages[0]}" "$folder/unpacked"
+        # (in a shell of its own, since it goes elsewhere)
+        if (quietly "$folder/said" download "$folder"); then
+            dpkg-deb -x "$folder/$package"_*.deb "$folder/unpacked"
             rm -rf "$out/source"
             mv "$folder"/unpacked/usr/share/cargo/registry/virtiofsd-* "$out/source"
-        else
-            # Without the names of the places that it asked.
-            sed -E 's,https?://[^ ]*,(an archive),g' "$folder/said" >&2
         fi
         rm -rf "$folder"
     fi
@@ -143,8 +121,8 @@ while [ $# -gt 0 ]; do
             ;;
     esac
 done
-need rustc "the Rust compiler"
-need python3 "Python 3.8 or later"
+need rustc "Install a Rust compiler: apt-get install rustc."
+need python3 "Install it: apt-get install python3."
 
 [ -n "$given" ] || fetch
 source=${given:-$out/source}
@@ -164,7 +142,9 @@ rm -rf "$out/build" "$out/fast" "$built"
 
 # With overflow checks and debug assertions off, as virtiofsd is shipped.
 flags=(--edition 2021 -O --cap-lints allow)
+part "the crates that stand in"
 compile_stand_ins "$out/build/stand_ins" "${flags[@]}"
+part "the programs raw, mended and later"
 jobs=()
 for mode in raw mended later; do
     build "$mode" &
@@ -173,10 +153,12 @@ done
 for job in "${jobs[@]}"; do
     wait "$job"
 done
+part "their tests"
 run_own_tests
 python3 -B "$here/differences.py" "$out"
 
 # What is measured: the mended one, with flags of its own.
+part "what is measured"
 flags=(--edition 2021 -C opt-level=3 -C target-cpu=x86-64-v2 --cap-lints allow)
 compile_stand_ins "$out/fast" "${flags[@]}"
 rustc "${flags[@]}" "${externs[@]}" --crate-type rlib --crate-name oracle -o "$out/fast/liboracle.rlib" \

@@ -77,10 +77,16 @@ start() {
     set +m
 }
 
+# Tells that a step begins, and how many there are.
+begin_step() {
+    number=$((number + 1))
+    echo "$number of $total: $1" >&2
+}
+
 # Does a step, and tells its time, or what it said where it fails: step WORDS COMMAND..
 step() {
     local began=$EPOCHREALTIME
-    [ ! -t 2 ] || printf '%9s  %s\r' .. "$1" >&2
+    begin_step "$1"
     start "${@:2}"
     if wait "$job"; then
         tell_time "$began" "$1"
@@ -234,8 +240,16 @@ has_no_toolchain() {
 # Nothing of the Debian is there that was made in another way, or for other tools.
 way=${unpack:+unpack}
 way=${way:-debootstrap}
+number=0 total=11
+[ ! -e "$rust/examples/hello.rs" ] || total=$((total + 2))
+[ "$way" = unpack ] || total=$((total + 1))
 if [ "$(cat "$root.made" 2> /dev/null)" != "$way ${build_tools[*]}" ]; then
     rm -rf "$root" "$root.made"
+fi
+if [ ! -e "$root.made" ] && [ "$way" = unpack ]; then
+    total=$((total + 1))
+elif [ ! -e "$root.made" ]; then
+    total=$((total + 3))
 fi
 mkdir -p "$root" "$packages"
 rm -f "$packages"/*.deb
@@ -248,7 +262,7 @@ fi
 
 if [ ! -e "$root.made" ] && [ "$way" = debootstrap ]; then
     step "debootstrap is there" install_debootstrap
-    echo "Making a Debian in out/debian, which takes a minute or two .." >&2
+    begin_step "a Debian is made in out/debian, which takes a minute or two"
     began=$EPOCHREALTIME
     start bootstrap
     if wait "$job"; then
@@ -258,6 +272,7 @@ if [ ! -e "$root.made" ] && [ "$way" = debootstrap ]; then
         echo "debootstrap made no Debian, so packages are unpacked." >&2
         way=unpack
         unpack=yes
+        total=$((total - 1))
     fi
 fi
 if [ ! -e "$root.made" ] && [ "$way" = unpack ]; then

@@ -24,8 +24,10 @@ if cc -include seccomp.h -fsyntax-only -x c - < /dev/null 2> /dev/null; then
 fi
 shopt -s nullglob
 sources=("$here"/programs/*/*.c)
+part "clang-tidy over ${#sources[@]} files"
 clang-tidy --quiet --warnings-as-errors='*' "--checks=$(tr -s ' \n' , <<< "$checks")" "${sources[@]}" \
     -- "${flags[@]}" 2> >(grep -v 'warnings generated' >&2)
+part "cppcheck"
 cppcheck --std=c11 --quiet --error-exitcode=1 --inline-suppr --enable=warning,performance,portability \
     -I "$here/include" -I "$here/programs/transport" -DWITH_SECCOMP "${sources[@]}"
 echo "clang-tidy and cppcheck find nothing in ${#sources[@]} files."

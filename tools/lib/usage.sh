@@ -31,8 +31,11 @@ take_none() {
     fi
 }
 
-# Tells that a part of the script begins, and how many there are: `part "what it does"`, at the beginning of a line.
+# Tells that a part of the script begins, and how many there are: part "what it does". That is how often the script has
+# this word at the beginning of a command, if `part_count` does not say another number.
+part_number=0
+part_script=$(realpath "$0")
 part() {
-    part_number=$((${part_number:-0} + 1))
-    echo "$part_number of $(grep -c '^part ' "$0"): $1" >&2
+    part_number=$((part_number + 1))
+    echo "$part_number of ${part_count:=$(grep -cE '^ *part "' "$part_script")}: $1" >&2
 }
