@@ -89,9 +89,10 @@ def main():
     every = {it for paths in stands.values() for it in paths}
     faults += [f"{PAGE}:{number}: {pattern}: none of these opcodes stands there" for pattern, number in patterns
                if not fnmatch.filter(every, pattern)]
-    said = re.search(r"LSEEK stands in (\d+) files", read(PAGE))
-    if not said or int(said[1]) != len(counted["LSEEK"]):
-        faults.append(f"{PAGE}: it does not say that LSEEK stands in {len(counted['LSEEK'])} files")
+    for opcode, paths in counted.items():
+        said = re.search(rf"\b{opcode} (?:stands )?in (\d+)", read(PAGE))
+        if not said or int(said[1]) != len(paths):
+            faults.append(f"{PAGE}: it does not say {opcode} in {len(paths)}")
     print(*faults, f"Files: {counts}; {len(faults)} faults", sep="\n")
     return 1 if faults else 0
 

@@ -348,7 +348,7 @@ impl RawAnswer {
         self.count = options;
     }
 
-    /// Answers an LSEEK with a place in the file.
+    /// Answers with a place in the file.
     pub fn set_offset(&mut self, offset: u64) {
         self.count = offset;
     }
