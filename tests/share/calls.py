@@ -1,5 +1,5 @@
 """Asks a mount of a share what it asks a plain folder beside it, of what a mirror of random calls doesn't come to: files
-that are appended to, access control lists, bits that a write takes, whiteouts. For tools/share.sh --check.
+that are appended to, access control lists, bits that a write takes, whiteouts. For check.sh.
 
     calls.py SHARE ASK WORK [WORDS]: the programs, an empty folder on a file system with access control lists, and
     further words of the share

@@ -1,6 +1,6 @@
-"""Ends of a share, for tools/share.sh: a request that waits, for a lease or a file system that does not answer, or
+"""Ends of a share, for check.sh: a request that waits, for a lease or a file system that does not answer, or
 an event that is full, keeps nobody: neither the next front end, nor a signal. And what is unmounted is what was
-mounted. Usage: ends.py SHARE WORK [WORDS]; and for tools/mount.sh ends.py --tree MOUNT VHOST WORK. It
+mounted. Usage: ends.py SHARE WORK [WORDS]; and for tests/mount/check.sh ends.py --tree MOUNT VHOST WORK. It
 wants root, in a namespace of mounts of its own."""
 
 import atexit, ctypes, fcntl, mmap, os, select, signal, socket, struct, subprocess, sys, time

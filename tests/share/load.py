@@ -1,4 +1,4 @@
-"""Load and faults for nizwarf-share, for share.sh: `--load` there.
+"""Load and faults for nizwarf-share, for load.sh.
 
 Usage: load.py SHARE REFUSING ASK WORK MINUTES
 SHARE is the program, REFUSING the same one linked with refuse_some.c, ASK tests/beside/ask.c, WORK an empty

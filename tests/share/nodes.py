@@ -1,4 +1,4 @@
-"""What a client of nizwarf-share knows of files, for share.sh: `--check` there.
+"""What a client of nizwarf-share knows of files, for check.sh.
 
 Usage: nodes.py SHARE ASK WORK
 SHARE is the program, ASK tests/beside/ask.c, WORK an empty folder. It wants root.

@@ -1,4 +1,4 @@
-/* Inode numbers of passthrough_numbers.c, also those that no file system has that a check can make: for share.sh.
+/* Inode numbers of passthrough_numbers.c, also those that no file system has that a check can make: for check.sh.
  * Status 0: no two files have one number, as far as is said there, and a number stays. */
 #include <stdio.h>
 #include <stdlib.h>

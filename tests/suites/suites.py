@@ -699,7 +699,9 @@ def main():
         columns = [Column(line.rstrip("\n"), number, options.work) for number, line in enumerate(lines)]
     known = reasons(options.reasons)
     rows = {}
-    for suite in options.suites.split():
+    suites = options.suites.split()
+    for number, suite in enumerate(suites, 1):
+        print(f"{number} of {len(suites)}: {suite}", file=sys.stderr, flush=True)
         with ThreadPoolExecutor(options.jobs) as pool:
             came = list(pool.map(lambda column: run_one(column, suite, options), columns))
         rows[suite] = {column.name: cases for column, (cases, _) in zip(columns, came)}
