@@ -4,6 +4,7 @@ import os
 import struct
 
 import requests
+from opcodes import Op
 
 ROOT = 1
 # How many requests a session begins with, by which it gets its first nodes and handles.
@@ -96,16 +97,16 @@ class Client:
             return bytes(reply)
         if opcode in ENTRIES:
             self.entry(reply, 16)
-        if opcode in (3, 4):
+        if opcode in (Op.GETATTR, Op.SETATTR):
             hide(reply, 32)
-        if opcode == 17:
+        if opcode == Op.STATFS:
             reply[FULLNESS[0]:FULLNESS[1]] = bytes(FULLNESS[1] - FULLNESS[0])
         if opcode in LISTINGS:
-            self.listing(reply, opcode == 44)
-        if opcode in (14, 27, 35):
-            at = 16 + 128 * (opcode == 35)
-            kind = "directory" if opcode == 27 else "file"
-            node = struct.unpack_from("<Q", reply, 16)[0] - 1 if opcode == 35 else None
+            self.listing(reply, opcode == Op.READDIRPLUS)
+        if opcode in (Op.OPEN, Op.OPENDIR, Op.CREATE):
+            at = 16 + 128 * (opcode == Op.CREATE)
+            kind = "directory" if opcode == Op.OPENDIR else "file"
+            node = struct.unpack_from("<Q", reply, 16)[0] - 1 if opcode == Op.CREATE else None
             self.had[kind].append(struct.unpack_from("<Q", reply, at)[0])
             self.had[kind + "'s node"].append(self.number(request.node) if node is None else self.had["node"][node])
             struct.pack_into("<Q", reply, at, 1)
@@ -186,7 +187,7 @@ class Maker:
     def make(self):
         opcode = self.rng.choices(list(OPCODES), OPCODES.values())[0]
         node, parts, room = self.body(opcode)
-        extensions = self.extensions() if opcode in (6, 8, 9, 35) else b""
+        extensions = self.extensions() if opcode in (Op.SYMLINK, Op.MKNOD, Op.MKDIR, Op.CREATE) else b""
         if self.rng.random() < .03 and opcode not in (2, 42):
             room += self.some(8, 100)
         uid = self.some(0, 0, 0, 1000)
@@ -228,50 +229,51 @@ class Maker:
     def of_names(self, opcode):
         node, name = self.folder(), self.name()
         pack = struct.pack
-        if opcode == 1:
+        if opcode == Op.LOOKUP:
             return node, [name], 144
-        if opcode == 6:
+        if opcode == Op.SYMLINK:
             return node, [name, self.some(b"to", b"d1/f3", b"x" * 200), b"\0"], 144
-        if opcode == 8:
+        if opcode == Op.MKNOD:
             mode, rdev = self.some(0o100644, 0o010600, 0o020600, 0), self.some(0, 0x105)
             return node, [pack("<IIII", mode, rdev, 0o22, 0), name], 144
-        if opcode == 9:
+        if opcode == Op.MKDIR:
             return node, [pack("<II", self.some(0o755, 0o1777), 0o22), name], 144
-        if opcode in (10, 11):
+        if opcode in (Op.UNLINK, Op.RMDIR):
             return node, [name], 16
-        if opcode in (12, 45):
-            flags = [pack("<II", self.some(0, 1, 2, 4, 0xFFFF), 0)] if opcode == 45 else []
+        if opcode in (Op.RENAME, Op.RENAME2):
+            flags = [pack("<II", self.some(0, 1, 2, 4, 0xFFFF), 0)] if opcode == Op.RENAME2 else []
             return node, [self.folder(), *flags, name, self.name()], 16
-        if opcode == 13:
+        if opcode == Op.LINK:
             return node, [self.node(), name], 144
-        if opcode == 35:
+        if opcode == Op.CREATE:
             flags, mode = self.some(0, 2, 1, 0o200 | 2, 0o1000 | 2), self.some(0o644, 0o4755)
             return node, [pack("<IIII", flags, mode, 0o22, self.some(0, 1)), name], 160
         return None
 
     def of_files(self, opcode):
-        node, handle = self.opened("directory" if opcode in (28, 29, 30, 44) else "file")
+        of_directories = Op.READDIR, Op.RELEASEDIR, Op.FSYNCDIR, Op.READDIRPLUS
+        node, handle = self.opened("directory" if opcode in of_directories else "file")
         pack = struct.pack
-        if opcode in (15, 28, 44):
-            size = self.some(0, 1, 100, 4096, 65536) if opcode == 15 else self.some(0, 40, 200, 1000, 4096, 32768)
-            place = self.some(0, 10, 2000, 2**63 - 1) if opcode == 15 else self.some(0, 0, 0, 3, 2**62)
+        if opcode in (Op.READ, Op.READDIR, Op.READDIRPLUS):
+            size = self.some(0, 1, 100, 4096, 65536) if opcode == Op.READ else self.some(0, 40, 200, 1000, 4096, 32768)
+            place = self.some(0, 10, 2000, 2**63 - 1) if opcode == Op.READ else self.some(0, 0, 0, 3, 2**62)
             return node, [handle, place, pack("<IIQII", size, self.some(0, 2), 7, 0, 0)], 16 + size
-        if opcode == 16:
+        if opcode == Op.WRITE:
             data = self.rng.randbytes(self.some(0, 1, 100, 4096, 70000))
             flags = pack("<IIQII", len(data), self.some(0, 1, 2, 4), 7, self.some(0, 0, 0o2000), 0)
             return node, [handle, self.some(0, 10, 2000), flags, data], 24
-        if opcode in (18, 29):
-            return node, [handle, pack("<IIQ", 0, self.some(0, 1, 2) if opcode == 18 else 0, 0)], 16
-        if opcode in (20, 30):
+        if opcode in (Op.RELEASE, Op.RELEASEDIR):
+            return node, [handle, pack("<IIQ", 0, self.some(0, 1, 2) if opcode == Op.RELEASE else 0, 0)], 16
+        if opcode in (Op.FSYNC, Op.FSYNCDIR):
             return node, [handle, pack("<II", self.some(0, 1), 0)], 16
-        if opcode == 25:
+        if opcode == Op.FLUSH:
             return node, [handle, bytes(16)], 16
-        if opcode == 43:
+        if opcode == Op.FALLOCATE:
             mode = pack("<II", self.some(0, 1, 3), 0)
             return node, [handle, self.some(0, 10), self.some(0, 100, 5000), mode], 16
-        if opcode == 46:
+        if opcode == Op.LSEEK:
             return node, [handle, self.some(0, 5), pack("<II", self.some(0, 1, 2, 3, 4, 9), 0)], 24
-        if opcode == 47:
+        if opcode == Op.COPY_FILE_RANGE:
             other, to = self.opened("file")
             return node, [handle, 0, other, to, self.some(0, 10000), self.some(1, 500), 0], 24
         return None
@@ -279,40 +281,40 @@ class Maker:
     def of_nodes(self, opcode):
         node, pack = self.node(), struct.pack
         names = b"user.one\0", b"user.two\0", b"trusted.x\0", b"bad\0"
-        if opcode == 2:
+        if opcode == Op.FORGET:
             return node, [self.some(0, 1, 2)], self.some(0, 16)
-        if opcode == 42:
+        if opcode == Op.BATCH_FORGET:
             return 0, [pack("<II", 2, 0), node, self.some(0, 1), self.node(), 1], 0
-        if opcode in (3, 4):
+        if opcode in (Op.GETATTR, Op.SETATTR):
             owner, handle = self.opened("file")
             has = self.some(0, 0, 1)
-            if opcode == 3:
+            if opcode == Op.GETATTR:
                 return owner if has else node, [pack("<II", has, 0), handle], 120
             valid = self.some(1, 2, 4, 8, 16 + 32, 0x80 + 0x100 + 16 + 32, 8 + 64, 0x400, 6, 1 << 11, 0)
             size, mode = self.some(0, 10, 5000, 2**40), self.some(0o644, 0o4755, 0o100600)
             rest = pack("<QQQQQIIIIIIII", size, 0, 100, 200, 300, 1, 2, 3, mode, 0, self.some(0, 5), self.some(0, 6), 0)
             return owner if valid & 64 else node, [pack("<II", valid, 0), handle, rest], 120
-        if opcode == 5:
+        if opcode == Op.READLINK:
             return node, [], 16 + 4096
-        if opcode in (14, 27):
-            flags = self.some(0, 2, 1, 2, 0o1000 | 2, 0o2000 | 2) if opcode == 14 else 0
-            return self.folder() if opcode == 27 else node, [pack("<II", flags, self.some(0, 1))], 32
-        if opcode == 17:
+        if opcode in (Op.OPEN, Op.OPENDIR):
+            flags = self.some(0, 2, 1, 2, 0o1000 | 2, 0o2000 | 2) if opcode == Op.OPEN else 0
+            return self.folder() if opcode == Op.OPENDIR else node, [pack("<II", flags, self.some(0, 1))], 32
+        if opcode == Op.STATFS:
             return node, [], 96
-        if opcode == 21:
+        if opcode == Op.SETXATTR:
             value = self.rng.randbytes(self.some(0, 3, 300))
             record = pack("<IIII", len(value), self.some(0, 1, 2), self.some(0, 1), 0)
             return node, [record[:16 if self.long_setxattr else 8], self.some(*names), value], 16
-        if opcode in (22, 23):
+        if opcode in (Op.GETXATTR, Op.LISTXATTR):
             size = self.some(0, 1, 3, 100, 65536)
-            name = [self.some(*names)] if opcode == 22 else []
+            name = [self.some(*names)] if opcode == Op.GETXATTR else []
             return node, [pack("<II", size, 0), *name], 16 + max(size, 8)
-        if opcode == 24:
+        if opcode == Op.REMOVEXATTR:
             return node, [self.some(*names)], 16
-        if opcode == 34:
+        if opcode == Op.ACCESS:
             return node, [pack("<II", self.some(0, 1, 2, 4, 7), 0)], 16
-        if opcode == 36:
+        if opcode == Op.INTERRUPT:
             return node, [bytes(8)], 16
-        if opcode == 50:
+        if opcode == Op.SYNCFS:
             return node, [bytes(8)], 16
         return None

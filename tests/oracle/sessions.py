@@ -31,6 +31,8 @@ import struct
 import sys
 
 HERE = pathlib.Path(__file__).resolve().parent
+sys.path.append(str(HERE.parents[1] / "tools/lib"))
+from opcodes import Op  # noqa: E402
 
 KINDS = ["valid", "mixed", "truncated", "lengths", "rooms", "cuts", "extensions", "directories", "transfers",
          "entries", "limits", "hostile", "mutated", "full", "told", "badline"]
@@ -46,15 +48,20 @@ KNOWN = 0x117fbffffff
 SUPPORTED = 0x10448449829
 EVERY_BIT = (1 << 64) - 1
 # The lengths of replies that have a record and no more.
-REPLIES = {1: 144, 3: 120, 4: 120, 6: 144, 8: 144, 9: 144, 13: 144, 14: 32, 16: 24, 17: 96, 26: 80,
-           27: 32, 35: 160, 46: 24, 47: 24}
-OPCODES = [it for it in range(1, 52) if it not in (7, 19)]
-NAMING = [1, 6, 8, 9, 10, 11, 12, 13, 21, 22, 24, 35, 45]
-ANSWERING_ENTRIES = [1, 6, 8, 9, 13, 35]
-EXTENDED = [6, 8, 9, 35]
-DIRECTORY = [28, 44]
+REPLIES = {Op.LOOKUP: 144, Op.GETATTR: 120, Op.SETATTR: 120, Op.SYMLINK: 144, Op.MKNOD: 144, Op.MKDIR: 144,
+           Op.LINK: 144, Op.OPEN: 32, Op.WRITE: 24, Op.STATFS: 96, Op.INIT: 80, Op.OPENDIR: 32, Op.CREATE: 160,
+           Op.LSEEK: 24, Op.COPY_FILE_RANGE: 24}
+OPCODES = list(Op)
+NAMING = [Op.LOOKUP, Op.SYMLINK, Op.MKNOD, Op.MKDIR, Op.UNLINK, Op.RMDIR, Op.RENAME, Op.LINK, Op.SETXATTR,
+          Op.GETXATTR, Op.REMOVEXATTR, Op.CREATE, Op.RENAME2]
+ANSWERING_ENTRIES = [Op.LOOKUP, Op.SYMLINK, Op.MKNOD, Op.MKDIR, Op.LINK, Op.CREATE]
+EXTENDED = [Op.SYMLINK, Op.MKNOD, Op.MKDIR, Op.CREATE]
+DIRECTORY = [Op.READDIR, Op.READDIRPLUS]
+# Whose record no server here reads.
+NEVER_READ = [Op.GETLK, Op.SETLK, Op.SETLKW, Op.BMAP, Op.IOCTL, Op.POLL, Op.NOTIFY_REPLY, Op.SETUPMAPPING,
+              Op.REMOVEMAPPING, Op.TMPFILE]
 # What makes no call that is answered.
-UNANSWERED = [2, 36, 38, 42]
+UNANSWERED = [Op.FORGET, Op.INTERRUPT, Op.DESTROY, Op.BATCH_FORGET]
 NO_OPCODES = [0, 7, 19, 52, 0xffffffff]
 
 
@@ -196,80 +203,80 @@ class Session:
         r, z = self.rng, self.name
         reply = REPLIES.get(opcode, 16)
         word = self.process >> 3
-        if opcode in (1, 10, 11, 24):
+        if opcode in (Op.LOOKUP, Op.UNLINK, Op.RMDIR, Op.REMOVEXATTR):
             return z() + b"\0", reply
-        if opcode == 2:
+        if opcode == Op.FORGET:
             return u64(self.odd64()), 0
-        if opcode == 3:
+        if opcode == Op.GETATTR:
             return u32(self.odd32()) + u32(0) + u64(self.odd64()), reply
-        if opcode == 4:
+        if opcode == Op.SETATTR:
             return u32(r.choice([0, 0x40, 0xdbf, 0xffffffff, self.odd32()])) + r.randbytes(84), reply
-        if opcode == 5:
+        if opcode == Op.READLINK:
             return b"", 16 + word % 300
-        if opcode == 6:
+        if opcode == Op.SYMLINK:
             return z() + b"\0" + z() + b"\0" + self.extensions(), reply
-        if opcode == 8:
+        if opcode == Op.MKNOD:
             return r.randbytes(16) + z() + b"\0" + self.extensions(), reply
-        if opcode == 9:
+        if opcode == Op.MKDIR:
             return r.randbytes(8) + z() + b"\0" + self.extensions(), reply
-        if opcode == 12:
+        if opcode == Op.RENAME:
             return u64(self.node()) + z() + b"\0" + z() + b"\0", reply
-        if opcode == 13:
+        if opcode == Op.LINK:
             return u64(self.node()) + z() + b"\0", reply
-        if opcode in (14, 27):
+        if opcode in (Op.OPEN, Op.OPENDIR):
             return u32(self.odd32()) + u32(self.odd32()), reply
-        if opcode in (15, 16):
+        if opcode in (Op.READ, Op.WRITE):
             return self.transfer(opcode)
-        if opcode in (18, 29):
+        if opcode in (Op.RELEASE, Op.RELEASEDIR):
             flags = r.choice([0, 1, 2, 3, self.odd32()])
             return u64(self.odd64()) + u32(self.odd32()) + u32(flags) + u64(self.odd64()), reply
-        if opcode in (20, 30):
+        if opcode in (Op.FSYNC, Op.FSYNCDIR):
             return u64(self.odd64()) + u32(self.odd32()) + u32(0), reply
-        if opcode == 21:
+        if opcode == Op.SETXATTR:
             value = r.randbytes(r.choice([0, 1, 5, 300]))
             size = len(value) if r.random() < 0.9 else self.odd32()
             flags = u32(self.odd32())
             if self.options & SETXATTR_EXT:
                 flags += u32(self.odd32()) + u32(0)
             return u32(size) + flags + z() + b"\0" + value, reply
-        if opcode in (22, 23):
+        if opcode in (Op.GETXATTR, Op.LISTXATTR):
             size = r.choice([0, 1, 100, 1 << 20, (1 << 20) + 1, 0xffffffff])
-            name = z() + b"\0" if opcode == 22 else b""
+            name = z() + b"\0" if opcode == Op.GETXATTR else b""
             return u32(size) + u32(0) + name, 24 if word % 3 == 0 else 16 + word // 3 % 500
-        if opcode == 25:
+        if opcode == Op.FLUSH:
             return u64(self.odd64()) + r.randbytes(8) + u64(self.odd64()), reply
-        if opcode == 26:
+        if opcode == Op.INIT:
             return self.init_body(), reply
         if opcode in DIRECTORY:
             size = r.choice([0, 8, 23, 24, 31, 32, 96, 151, 152, 160, 319, 320, 480, 512, 1000, 4096])
             offset = r.choice([0, 0, 0, 1, 2, 3, 7, 22, self.odd64()])
             return u64(self.odd64()) + u64(offset) + u32(size) + bytes(20), 16 + size
-        if opcode == 34:
+        if opcode == Op.ACCESS:
             return u32(self.odd32()) + u32(0), reply
-        if opcode == 35:
+        if opcode == Op.CREATE:
             record = u32(self.odd32()) + u32(self.odd32()) + u32(0o22) + u32(self.odd32())
             return record + z() + b"\0" + self.extensions(), reply
-        if opcode == 36:
+        if opcode == Op.INTERRUPT:
             return r.choice([b"", u64(self.odd64())]), 0
-        if opcode in (31, 32, 33, 37, 39, 40, 41, 48, 49, 51):
+        if opcode in NEVER_READ:
             return r.choice([b"", r.randbytes(r.randrange(60))]), reply
-        if opcode == 38:
+        if opcode == Op.DESTROY:
             return b"", 0
-        if opcode == 42:
+        if opcode == Op.BATCH_FORGET:
             pairs = r.choice([0, 1, 2, 3, 20])
             count = pairs if r.random() < 0.85 else r.choice([pairs + 1, 65536, 65537, 0xffffffff, 0x10000000])
             return u32(count) + u32(0) + b"".join(u64(self.node()) + u64(self.odd64()) for _ in range(pairs)), 16
-        if opcode == 43:
+        if opcode == Op.FALLOCATE:
             return u64(self.odd64()) + u64(self.odd64()) + u64(self.odd64()) + u32(self.odd32()) + u32(0), reply
-        if opcode == 45:
+        if opcode == Op.RENAME2:
             return u64(self.node()) + u32(self.odd32()) + u32(0) + z() + b"\0" + z() + b"\0", reply
-        if opcode == 46:
+        if opcode == Op.LSEEK:
             return u64(self.odd64()) + u64(self.odd64()) + u32(self.odd32()) + u32(0), reply
-        if opcode == 47:
+        if opcode == Op.COPY_FILE_RANGE:
             return b"".join(u64(self.odd64()) for _ in range(7)), reply
-        if opcode == 50:
+        if opcode == Op.SYNCFS:
             return r.choice([b"", u64(0)]), reply
-        return r.randbytes(r.randrange(40)) if opcode != 17 else b"", reply
+        return r.randbytes(r.randrange(40)) if opcode != Op.STATFS else b"", reply
 
     def transfer(self, opcode):
         r = self.rng
@@ -277,7 +284,7 @@ class Session:
         offset = r.choice([0, 0, 0, 1, 2, 3, 5, 60, self.odd64()])
         record = u64(self.odd64()) + u64(offset) + u32(size) + u32(self.odd32()) + u64(self.odd64())
         record += u32(self.odd32()) + u32(0)
-        if opcode == 15:
+        if opcode == Op.READ:
             return record, 16 + size
         return record + r.randbytes(r.choice([size, size, size, 0, max(0, size - 1), size + 1, size + 7])), 24
 
@@ -331,7 +338,7 @@ class Session:
         room, length = sum(rooms), sum(len(it) for it in segments)
         cost = 2 * room + 20 if self.size > 1000 else 3 * room + 4 * length + 300
         if self.answered + cost > MOST_ANSWERED:
-            rooms, segments, cost = [96], [self.header(17, 40, 1, 0)], 500
+            rooms, segments, cost = [96], [self.header(Op.STATFS, 40, 1, 0)], 500
         self.answered += cost
         self.lines.append("+".join(map(str, rooms)) + " " + "+".join(it.hex() for it in segments))
 
@@ -361,7 +368,7 @@ class Session:
                               ALL_EXTENSIONS | SETXATTR_EXT])
         wanted = 1 << 13
         if self.files == "script":
-            self.line(self.header(3, 56, 1, q * 8) + bytes(16), 120, 0)
+            self.line(self.header(Op.GETATTR, 56, 1, q * 8) + bytes(16), 120, 0)
             wanted = [0, KNOWN, SECURITY_CTX, SETXATTR_EXT, SECURITY_CTX | SETXATTR_EXT,
                       1 << 13 | 1 << 17 | 1 << 28 | SETXATTR_EXT | SECURITY_CTX][q % 6]
         body = u32(7) + u32(38) + u32(131072) + u32(flags)
@@ -369,21 +376,21 @@ class Session:
             body += u32(flags >> 32) + bytes(44)
         capable = flags & KNOWN if flags & INIT_EXT else flags & KNOWN & 0xffffffff
         self.options = capable & (wanted | SUPPORTED)
-        self.line(self.header(26, 40 + len(body), 0, 0) + body, 80, 0)
+        self.line(self.header(Op.INIT, 40 + len(body), 0, 0) + body, 80, 0)
 
     # The kinds. Each adds some lines, and is asked again while there are too few.
 
     def valid(self):
         self.agree()
-        opcodes = OPCODES * 3 + NAMING * 2 + [28, 44, 15, 16] * 3
+        opcodes = OPCODES * 3 + NAMING * 2 + [*DIRECTORY, Op.READ, Op.WRITE] * 3
         if self.files == "memory":
-            opcodes += [1, 3, 35, 10, 15, 16, 28, 44] * 6
+            opcodes += [Op.LOOKUP, Op.GETATTR, Op.CREATE, Op.UNLINK, Op.READ, Op.WRITE, *DIRECTORY] * 6
         self.rng.shuffle(opcodes)
         for opcode in opcodes:
-            if opcode in (26, 38) and self.rng.random() < 0.7:
+            if opcode in (Op.INIT, Op.DESTROY) and self.rng.random() < 0.7:
                 continue
             self.good(opcode)
-            if opcode == 38:
+            if opcode == Op.DESTROY:
                 self.options = 0
                 self.agree()
 
@@ -460,7 +467,7 @@ class Session:
 
     def create(self, name, extensions=b""):
         body = bytes(16) + name + b"\0" + extensions
-        self.line(self.header(35, 40 + len(body), 1, 0) + body, 160, 0)
+        self.line(self.header(Op.CREATE, 40 + len(body), 1, 0) + body, 160, 0)
 
     def directories(self):
         r = self.rng
@@ -488,12 +495,12 @@ class Session:
         r = self.rng
         self.agree()
         for _ in range(120):
-            opcode = r.choice([15, 16])
+            opcode = r.choice([Op.READ, Op.WRITE])
             size = r.choice([r.randrange(0, 30), r.randrange(0, 300), 0, 1, 65536, 70000, 0xffffffff])
             offset = r.choice([0, 0, r.randrange(0, 80), 65530 + r.randrange(10), EVERY_BIT - r.randrange(40), 1 << 63,
                                self.odd64()])
             data = b""
-            if opcode == 16:
+            if opcode == Op.WRITE:
                 data = r.randbytes(r.choice([size if size < 1000 else 50, r.randrange(0, 60), 0]))
                 if r.random() < 0.005:
                     data = r.randbytes(70000)
@@ -502,7 +509,7 @@ class Session:
             process = r.choice([8 * r.randrange(1 << 12), self.a_process()])
             node = r.choice([2, 2, 2, 3, 1]) if self.files == "memory" else self.node()
             message = self.header(opcode, 40 + len(body), node, process) + body
-            reply = 24 if opcode == 16 else 16 + min(size, 400)
+            reply = 24 if opcode == Op.WRITE else 16 + min(size, 400)
             self.line(message, reply if r.random() < 0.8 else self.room(reply), 0.6)
 
     def entries(self):
@@ -513,7 +520,7 @@ class Session:
             message, reply = self.message(opcode)
             self.line(message, r.choice([reply, r.randrange(0, 17), r.randrange(0, reply + 1), reply - 1]))
             if r.random() < 0.1:
-                self.good(2)
+                self.good(Op.FORGET)
 
     def limits(self):
         r = self.rng
@@ -535,7 +542,7 @@ class Session:
                 message = u32(r.choice(about)) + message[4:]
             elif what < 0.8 and len(message) >= 60:
                 at = {22: 40, 23: 40, 42: 40, 28: 56, 44: 56, 15: 56, 16: 56}.get(opcode, 40)
-                value = r.choice(about) // (16 if opcode == 42 else 1) + r.choice([0, 0, 1])
+                value = r.choice(about) // (16 if opcode == Op.BATCH_FORGET else 1) + r.choice([0, 0, 1])
                 message = message[:at] + u32(value) + message[at + 4:]
             self.line(message, self.room(reply))
 
@@ -603,7 +610,7 @@ class Session:
                 size = r.choice([300, 2000, 2000, 12_000])
                 self.read_directory(opcode, size, size + 16, r.randrange(most + 4))
             else:
-                body = (bytes(16) if opcode == 35 else b"") + name + b"\0"
+                body = (bytes(16) if opcode == Op.CREATE else b"") + name + b"\0"
                 self.line(self.header(opcode, 40 + len(body), 1, 0) + body, 160, 0)
 
     def tell(self, answer):
@@ -637,8 +644,8 @@ class Session:
         opcode = r.choice(DIRECTORY)
         answer, names = self.told_items(long)
         self.tell(answer)
-        fits = sum(24 + len(name) + -len(name) % 8 + (128 if opcode == 44 else 0) for name in names)
-        if opcode == 44:
+        fits = sum(24 + len(name) + -len(name) % 8 + (128 if opcode == Op.READDIRPLUS else 0) for name in names)
+        if opcode == Op.READDIRPLUS:
             for _ in range(r.choice([0, 1, len(names)])):
                 self.tell(self.told_value())
         size = fits if long else r.choice([fits, fits, fits - 1, fits + 100, max(0, fits - r.randrange(200))])
@@ -649,21 +656,22 @@ class Session:
             self.mixed()
             return
         self.agree()
-        opcodes = [it for it in OPCODES if it not in UNANSWERED + DIRECTORY] + ANSWERING_ENTRIES * 2 + [14, 27, 26] * 2
+        opcodes = [it for it in OPCODES if it not in UNANSWERED + DIRECTORY]
+        opcodes += ANSWERING_ENTRIES * 2 + [Op.OPEN, Op.OPENDIR, Op.INIT] * 2
         for at in range(40):
             self.told_directory(long=at == 0 and self.answered < MOST_ANSWERED // 4)
             opcode = self.rng.choice(opcodes)
             message, reply = self.message(opcode)
             self.tell(self.told_value())
             self.line(message, reply if opcode not in (5, 22, 23) else 600)
-            self.options = 0 if opcode == 26 else self.options
+            self.options = 0 if opcode == Op.INIT else self.options
 
     def badline(self):
         r = self.rng
         for _ in range(self.size - 1):
             self.good(r.choice(OPCODES))
         self.lines = self.lines[:self.size - 1]
-        good = self.header(17, 40, 1, 0).hex()
+        good = self.header(Op.STATFS, 40, 1, 0).hex()
         self.lines.append(r.choice([
             "16", "", " ", "16  " + good, "16 " + good + " ", "16 " + good[:-1], "16 " + good + "g0", "1a " + good,
             "+16 " + good, "16+ " + good, "16++1 " + good, "00000016 " + good, "2097153 " + good, "2097152+1 " + good,

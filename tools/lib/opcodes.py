@@ -1,4 +1,5 @@
-"""The names of opcodes by number: those of the table of docs/PROTOCOL.md, and two that are refused there."""
+"""Opcodes by name: those of the table of docs/PROTOCOL.md, and two that are refused there."""
+import enum
 import pathlib
 import re
 
@@ -10,3 +11,6 @@ def names():
     named = {int(number): name for numbers, names in rows
              for number, name in zip(numbers.split(", "), names.split(", "))}
     return {**named, 48: "SETUPMAPPING", 49: "REMOVEMAPPING"}
+
+
+Op = enum.IntEnum("Op", {name: number for number, name in sorted(names().items())})
