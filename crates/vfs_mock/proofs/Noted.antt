@@ -57,3 +57,7 @@ noted_so old new call answer number node count kind is_number is_node is_count i
     (subst (λ (n : ℕ). IsNoted old (note_with (opcode_number_of call) (first_node_of call) n kind answer) new) is_count
     (subst (λ (n : ℕ). IsNoted old (note_with (opcode_number_of call) n count kind answer) new) is_node
     (subst (λ (n : ℕ). IsNoted old (note_with n node count kind answer) new) is_number noted)))
+
+-- a note is added to a recorder that is the same
+pub noted_at : {S : Type 0} (was old new : Recorded S) (note : Note) → was ≡ old → IsNoted was note new → IsNoted old note new
+noted_at was old new note same noted = subst (λ (r : Recorded S). IsNoted r note new) same noted
