@@ -51,30 +51,14 @@ passed() {
 tests=(--lib --test answers --test calls --test hostile --test mount --test refusals --test serve --test server
     --test threads)
 
-# Mounts hello.rs as another user, who needs fusermount3, and may open the device only in a namespace of mounts.
+# Mounts hello.rs as another user.
 mount_as_other() {
     mkdir -p "$folder/other/dev" "$folder/other/mount"
     cp "$built/debug/examples/hello" "$folder/other/hello"
     chmod -R 755 "$folder"
     chown 65534:65534 "$folder/other/mount"
-    # shellcheck disable=SC2016
-    timeout 60 unshare -m bash -euc '
-        cd "$1"
-        shift
-        mount -t tmpfs none dev
-        mknod -m 666 dev/fuse c 10 229
-        mount --bind dev/fuse /dev/fuse
-        "$@" ./hello mount &
-        server=$!
-        trap "kill $server 2> /dev/null || true" EXIT
-        for _ in $(seq 200); do
-            ! grep -q "$PWD/mount " /proc/self/mountinfo || break
-            sleep 0.05
-        done
-        [ "$("$@" cat mount/hello)" = "Hello, world!" ]
-        "$@" fusermount3 -u mount
-        wait "$server"
-    ' bash "$folder/other" setpriv --reuid=65534 --regid=65534 --clear-groups
+    timeout 60 unshare -m "$here/bindings/mount_hello.sh" "$folder/other" \
+        setpriv --reuid=65534 --regid=65534 --clear-groups
 }
 
 # Whether a program that is compiled with these flags runs.

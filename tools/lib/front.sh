@@ -1,5 +1,5 @@
-# For virtiofsd.sh and virtiofsd-speed.sh, which ask daemons over vhost-user; they source usage.sh and transport.sh
-# first, and have a function `refuse`, which stops with a message.
+# For the scripts that ask daemons over vhost-user: they source usage.sh and transport.sh first, and have a function
+# `refuse`, which stops with a message.
 # shellcheck shell=bash
 
 # Sets `folder` to the only word that is no option: take_folder WORD.
