@@ -15,8 +15,8 @@ need valgrind "Install it: apt-get install valgrind."
 find_library vfs_door
 folder=$(mktemp -d)
 trap 'rm -rf "$folder"' EXIT
-program=$folder/c-door-speed
-cc -std=c11 -O2 -Wall -Wextra -Werror -I "$here/include" -o "$program" "$here/tools/measure/c-door-speed.c" "${library[@]}"
+program=$folder/door_speed
+cc -std=c11 -O2 -Wall -Wextra -Werror -I "$here/include" -o "$program" "$here/tools/measure/door_speed.c" "${library[@]}"
 
 # How many instructions a run takes: counted WORD.. Valgrind counts `rep movsb`, by which glibc copies some KiB and
 # more, once for each byte, so glibc copies by vectors here.

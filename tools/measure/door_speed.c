@@ -1,6 +1,6 @@
 /* Asks and answers one request again and again, for tools/measure/door-speed.sh.
  *
- * Usage: c-door-speed CLASS TIMES [ask]
+ * Usage: door_speed CLASS TIMES [ask]
  *
  * With `ask` it is only asked. Standard output gets the nanoseconds of one: the least of 500 runs of TIMES
  * each, or of one run where TIMES is at most 1000. Without a CLASS the classes are listed. Status 2: the
