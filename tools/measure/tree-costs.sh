@@ -1,6 +1,6 @@
 #!/usr/bin/env bash
 # Measures what the tree does with much at once, over the library for C: milliseconds of processor time of a
-# WRITE of 64 KiB in n segments, and of INIT and DESTROY over n files of which one lookup is held.
+# WRITE of 64 KiB in n segments, and of INIT and DESTROY over n files of which none, one or all are held.
 #
 # Usage: tools/measure/tree-costs.sh
 # A line for each, with tabs. It links the proved library where that is built and no source is newer; otherwise

@@ -79,18 +79,31 @@ static void write_in(size_t count)
 	       ask(FUSE_WRITE, make(0), &body, sizeof(body), 1 + count));
 }
 
-static void hold(unsigned count)
+static void fill(unsigned count)
 {
 	const struct fuse_forget_in body = { .nlookup = 1 };
 
-	for (unsigned i = 0; i < count; i++) {
-		const uint64_t node = make(i);
+	for (unsigned i = 0; i < count; i++)
+		ask(FUSE_FORGET, make(i), &body, sizeof(body), 1);
+}
 
-		if (i)
-			ask(FUSE_FORGET, node, &body, sizeof(body), 1);
+/* Looks up the last of the files. */
+static void hold(unsigned count, unsigned held)
+{
+	char name[16];
+
+	for (unsigned i = count - held; i < count; i++) {
+		snprintf(name, sizeof(name), "name%u", i);
+		ask(FUSE_LOOKUP, 1, name, strlen(name) + 1, 1);
 	}
-	printf("INIT\t%u nodes\t%.2f\n", count, init());
-	printf("DESTROY\t%u nodes\t%.2f\n", count, ask(FUSE_DESTROY, 0, "", 0, 1));
+}
+
+static void release(unsigned count, unsigned held)
+{
+	hold(count, held);
+	printf("INIT\t%u nodes, %u held\t%.2f\n", count, held, init());
+	hold(count, held);
+	printf("DESTROY\t%u nodes, %u held\t%.2f\n", count, held, ask(FUSE_DESTROY, 0, "", 0, 1));
 }
 
 static void anew(void)
@@ -112,7 +125,10 @@ int main(void)
 	}
 	for (size_t i = 0; i < sizeof(nodes) / sizeof(*nodes); i++) {
 		anew();
-		hold(nodes[i]);
+		fill(nodes[i]);
+		release(nodes[i], 0);
+		release(nodes[i], 1);
+		release(nodes[i], nodes[i]);
 	}
 	nizwarf_end(&server);
 	return 0;

@@ -1,4 +1,5 @@
 pub mod Children
+pub mod Held
 pub mod Index
 pub mod Listing
 pub mod Node

@@ -6,6 +6,7 @@
 #![tactic(auto)]
 
 mod children;
+mod held;
 mod kind;
 mod listing;
 mod node;
@@ -13,6 +14,7 @@ mod text;
 mod xattrs;
 
 pub use children::{Child, Children};
+pub use held::Held;
 pub use kind::Kind;
 pub use listing::entries_behind;
 pub use node::{Node, Time, is_other};

@@ -1,6 +1,7 @@
 //! A tree in memory, by requests and replies: what a person does with it, a session as data.
 
 mod asks;
+mod released;
 mod session;
 
 use crate::support::{Message, handle, none_is_wrong};

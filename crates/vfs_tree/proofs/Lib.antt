@@ -1,6 +1,8 @@
 mod Answering
 mod Below
+mod Emptying
 mod Forgetting
+pub mod Noting
 mod Pairs
 mod Releasing
 mod Renaming

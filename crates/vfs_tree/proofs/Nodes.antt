@@ -29,7 +29,7 @@ equal n m Greater is e = cc
 pub is_at_same : (n m : ℕ) → is_at (nat_cmp n) m ≡ true → n ≡ m
 is_at_same n m e = equal n m (nat_cmp n m) refl e
 
-tests_apart : (n m : ℕ) → n ≢ m → (k : ℕ) → is_at (nat_cmp m) k ≡ true
+pub tests_apart : (n m : ℕ) → n ≢ m → (k : ℕ) → is_at (nat_cmp m) k ≡ true
     → is_at (nat_cmp n) k ≡ false
 tests_apart n m apart k is = is_at_other n k (λ e. apart (e ∙ sym (is_at_same m k is)))
 

@@ -224,7 +224,7 @@ done_more first s next at n count node left counted is step =
 
 -- ---- idle nodes
 
-at_itself : (n : ℕ) → is_at (nat_cmp n) n ≡ true
+pub at_itself : (n : ℕ) → is_at (nat_cmp n) n ≡ true
 at_itself n = ap is_eq (tied_itself nat_cmp_total n)
 
 found_head : (e : ℕ × Node) (es : List (ℕ × Node)) (k : ℕ) (x : Node) → e.0 ≡ k → e.1 ≡ x
@@ -256,7 +256,7 @@ found_behind (e ∷ es) (Some n) k x rest is =
     ∙ found_behind es (Some n) k x rest later)
     (cases_Bool (nat_lt n e.0))
 
-both : (a b : Bool) → (a && not b) ≡ true → (a ≡ true) × (b ≡ false)
+pub both : (a b : Bool) → (a && not b) ≡ true → (a ≡ true) × (b ≡ false)
 both true true is = cc is
 both true false is = (refl, refl)
 both false b is = cc is

@@ -66,6 +66,7 @@ impl FileSystem for TreeFs {
         if node.lookups == u64::MAX {
             return Err(Some(Errno::EOVERFLOW));
         }
+        self.held.note(child.node, node.lookups == 0);
         let entry = node.entry(child.node);
         node.lookups += 1;
         Ok(entry)
@@ -90,7 +91,7 @@ impl FileSystem for TreeFs {
         }
     }
 
-    #[tactic(auto, using(std::proofs::lemmas::Map::Steps::set_value_same))]
+    #[tactic(auto, using(std::proofs::lemmas::Map::Steps::set_value_same, crate::proofs::Noting::rests_same))]
     fn setattr(
         &mut self,
         ctx: Context,
@@ -125,6 +126,7 @@ impl FileSystem for TreeFs {
         Ok((attr, timeout))
     }
 
+    #[tactic(auto, using(crate::proofs::Noting::rests_same))]
     fn readlink(&mut self, _ctx: Context, inode: u64) -> Result<Vec<u8>, Fault> {
         let (alloc, now) = (self.alloc, self.now);
         let Some(node) = self.nodes.get_mut(&inode) else {
@@ -248,6 +250,7 @@ impl FileSystem for TreeFs {
         Ok(self.count_link(inode))
     }
 
+    #[tactic(auto, using(crate::proofs::Noting::rests_same))]
     fn open(
         &mut self,
         ctx: Context,
@@ -274,6 +277,7 @@ impl FileSystem for TreeFs {
         Ok((None, options))
     }
 
+    #[tactic(auto, using(crate::proofs::Noting::rests_same))]
     fn read<W: ZeroCopyWriter>(
         &mut self,
         _ctx: Context,
@@ -296,7 +300,7 @@ impl FileSystem for TreeFs {
         node.contents.read_into(w, size, offset)
     }
 
-    #[tactic(auto, using(std::proofs::lemmas::Map::Steps::set_value_same))]
+    #[tactic(auto, using(std::proofs::lemmas::Map::Steps::set_value_same, crate::proofs::Noting::rests_same))]
     fn write<R: ZeroCopyReader>(
         &mut self,
         _ctx: Context,
@@ -368,7 +372,7 @@ impl FileSystem for TreeFs {
         Ok(())
     }
 
-    #[tactic(auto, using(std::proofs::lemmas::Map::Steps::set_value_same))]
+    #[tactic(auto, using(std::proofs::lemmas::Map::Steps::set_value_same, crate::proofs::Noting::rests_same))]
     fn setxattr(
         &mut self,
         _ctx: Context,
@@ -445,7 +449,7 @@ impl FileSystem for TreeFs {
         Ok(ListxattrReply::Names(node.xattrs.names(self.alloc, to_other)?))
     }
 
-    #[tactic(auto, using(std::proofs::lemmas::Map::Steps::set_value_same))]
+    #[tactic(auto, using(std::proofs::lemmas::Map::Steps::set_value_same, crate::proofs::Noting::rests_same))]
     fn removexattr(&mut self, _ctx: Context, inode: u64, name: CStr<'_>) -> Result<(), Fault> {
         let now = self.now;
         let Some(node) = self.nodes.get_mut(&inode) else {
@@ -505,6 +509,7 @@ impl FileSystem for TreeFs {
         Ok((None, OpenOptions::CACHE_DIR | OpenOptions::KEEP_CACHE))
     }
 
+    #[tactic(auto, using(crate::proofs::Noting::rests_same))]
     fn readdir(
         &mut self,
         _ctx: Context,
@@ -605,6 +610,7 @@ impl FileSystem for TreeFs {
         self.take_back_all(&requests);
     }
 
+    #[tactic(auto, using(crate::proofs::Noting::rests_same))]
     fn fallocate(
         &mut self,
         _ctx: Context,

@@ -1,33 +1,35 @@
 //! The file system: its nodes by number.
 
-ghost use Rattle.std.specs.Prelude.{◌≡◌, ◌≤◌, ◌<◌, ◌^◌, ◌+◌, ◌-◌, ◌==◌, ◌||◌, ◌∷◌, [], ℕ, List, false, not, bit_and, bit_or, option_and_then, IsTrue, IsSome, IfSome, Some, None, is_some, IfErr, OnOk, MatchOption, MatchResult, if◌then◌else◌};
+ghost use Rattle.std.specs.Prelude.{◌≡◌, ◌≤◌, ◌<◌, ◌^◌, ◌+◌, ◌-◌, ◌==◌, ◌||◌, ◌∷◌, [], ℕ, List, true, false, not, nat_eq, option_map, bit_and, bit_or, option_and_then, IsTrue, IsSome, IfSome, Some, None, is_some, IfErr, OnOk, MatchOption, MatchResult, if◌then◌else◌};
 ghost use Rattle.std.specs.Option.{option_map_or};
 ghost use Rattle.std.specs.Ordering.{nat_cmp};
 ghost use Rattle.std.specs.BTreeMap.{is_at};
+ghost use Rattle.std.specs.List.{list_any};
 ghost use Rattle.std.specs.Map.{keys_of, remove_entry};
 ghost use Rattle.std.specs.List.Sorted.{IsStrictlySortedBy};
 ghost use Rattle.vfs_flags.specs.Numbers.{enomem};
 ghost use Rattle.vfs_files.specs.Values.{name_text};
 ghost use Rattle.vfs_files.specs.Calls.{Plain, Found, entry_answer};
+ghost use Rattle.vfs_nodes.specs.Held.{may_hold};
 ghost use Rattle.vfs_nodes.specs.Node.{weight};
 ghost use Rattle.vfs_tree.specs.Naming.{has_no_number, is_crowded, new_in};
 ghost use Rattle.vfs_tree.specs.Outcome.{Ends};
 ghost use Rattle.vfs_nodes.specs.declared.node.Node.{Node};
-ghost use Rattle.vfs_tree.specs.Holding.{first_held};
+ghost use Rattle.vfs_tree.specs.Holding.{first_held, is_idle, rests};
 ghost use Rattle.vfs_tree.specs.State.{behind, child_at, lead, node_at, room_of, with_new};
 ghost use Rattle.vfs_tree.specs.Tree.{makes, make_refusal, first_state, forgotten, all_forgotten, released};
 
 use crate::naming::add_name;
 use bitflags::Flags;
 use std::alloc::Global;
-use std::collections::BTreeMap;
 use std::collections::btree_map::Range;
+use std::collections::{BTreeMap, HashSet};
 use std::fmt::{self, Debug, Formatter};
 use std::marker::Model;
 use std::ops::Bound;
 use vfs_files::{CStr, Context, Entry};
 use vfs_flags::{Errno, Fault, FsOptions, GuestGid, GuestUid, ROOT_ID};
-use vfs_nodes::{Child, Kind, Node, Time};
+use vfs_nodes::{Child, Held, Kind, Node, Time};
 
 /// How much a file system holds at most.
 #[derive(Clone, Copy, Debug, PartialEq, Eq)]
@@ -52,6 +54,8 @@ const SET_GROUP_ID: u32 = 0o2000;
 pub struct TreeFs {
     pub(crate) alloc: Global,
     pub(crate) nodes: BTreeMap<u64, Node>,
+    // (the numbers of those that are not idle)
+    pub(crate) held: Held,
     pub(crate) next: u64,
     pub(crate) used: u64,
     pub(crate) inodes: u64,
@@ -62,10 +66,8 @@ pub struct TreeFs {
 }
 
 impl Model for TreeFs {
-    ghost use Rattle.std.specs.Prelude.{◌≡◌, ◌≤◌, ℕ, None};
-    ghost use Rattle.std.specs.Ordering.{nat_cmp};
-    ghost use Rattle.std.specs.BTreeMap.{get};
     ghost use Rattle.vfs_flags.specs.Flags.{fs_options_bits};
+    ghost use Rattle.vfs_tree.specs.Holding.{IsSound};
     ghost use Rattle.vfs_tree.specs.State.{State};
 
     ghost Value = { State };
@@ -81,7 +83,7 @@ impl Model for TreeFs {
       now = fs.now;
     } };
 
-    ghost invariant = { λ fs. (n : ℕ) → fs.next ≤ n → get nat_cmp fs.nodes n ≡ None };
+    ghost invariant = { λ fs. IsSound fs.next fs.held fs.nodes.entries };
 }
 
 /// Shows its limits, and how many nodes it holds.
@@ -119,6 +121,7 @@ impl TreeFs {
             Ok(_) => Ok(TreeFs {
                 alloc,
                 nodes,
+                held: Held::new(alloc),
                 next: ROOT_ID + 1,
                 used: 0,
                 inodes: 1,
@@ -244,7 +247,7 @@ impl TreeFs {
         ensures err { IfErr result (λ fault. (fault ≡ Some enomem) × (self.new ≡ self.old)) }
     {
         let number = self.next;
-        let weight = node.weight();
+        let (weight, is_held) = (node.weight(), !is_idle(&node));
         if self.nodes.insert(number, node).is_err() {
             return Err(Some(Errno::ENOMEM));
         }
@@ -252,6 +255,7 @@ impl TreeFs {
             self.nodes.remove(&number);
             return Err(fault);
         }
+        self.held.note(number, is_held);
         self.next += 1;
         self.used += weight;
         self.inodes += 1;
@@ -266,10 +270,11 @@ impl TreeFs {
         ensures ok { OnOk result (self.new ≡ with_new self.old node) }
         ensures err { IfErr result (λ fault. (fault ≡ Some enomem) × (self.new ≡ self.old)) }
     {
-        let weight = node.weight();
+        let (weight, is_held) = (node.weight(), !is_idle(&node));
         if self.nodes.insert(self.next, node).is_err() {
             return Err(Some(Errno::ENOMEM));
         }
+        self.held.note(self.next, is_held);
         self.next += 1;
         self.used += weight;
         self.inodes += 1;
@@ -325,6 +330,7 @@ impl TreeFs {
             self.drop_node(number, weight);
             return;
         }
+        self.held.pass(number, left == 0);
         if let Some(node) = self.nodes.get_mut(&number) {
             node.lookups = left;
         }
@@ -339,6 +345,7 @@ impl TreeFs {
         } }
     {
         self.nodes.remove(&number);
+        self.held.pass(number, true);
         self.used = self.used.saturating_sub(weight);
         self.inodes = self.inodes.saturating_sub(1);
     }
@@ -369,6 +376,54 @@ impl TreeFs {
 
     /// Takes back every lookup: of a client that has gone away, or before a new one.
     pub(crate) fn release(&mut self)
+        ensures { self.new ≡ released self.old }
+    {
+        let numbers = self.held.take();
+        self.release_all(numbers);
+        self.held = Held::new(self.alloc);
+    }
+
+    // Takes back every lookup, where all that are not idle are of these numbers; or of any, where none are
+    // given.
+    fn release_all(&mut self, numbers: Option<HashSet<u64>>)
+        requires { (n : ℕ) → may_hold (option_map (λ s. s.keys) numbers) n ≡ false
+            → rests (node_at self.old n) ≡ true }
+        ensures released { self.new ≡ released self.old }
+        ensures idle { (n : ℕ) → rests (node_at self.new n) ≡ true }
+    {
+        let count = self.nodes.len();
+        match numbers {
+            Some(numbers) if numbers.len() < count => self.release_noted(&numbers),
+            _ => self.release_each(),
+        }
+    }
+
+    // Takes back every lookup, where all nodes that are not idle are of these numbers.
+    fn release_noted(&mut self, numbers: &HashSet<u64>)
+        requires noted { (n : ℕ) → list_any (nat_eq n) numbers.now.keys ≡ false
+            → rests (node_at self.old n) ≡ true }
+        requires ordered { IsStrictlySortedBy nat_cmp (keys_of self.old.nodes) }
+        ensures { self.new ≡ released self.old }
+    {
+        for number in numbers {
+            self.take_back_each(*number);
+        }
+    }
+
+    // Takes back every lookup of a node.
+    fn take_back_each(&mut self, number: u64)
+        ensures { self.new ≡ forgotten self.old number
+            (option_map_or (λ node. node.lookups) (node_at self.old number) 0) }
+    {
+        let Some(node) = self.nodes.get(&number) else {
+            return;
+        };
+        let lookups = node.lookups;
+        self.take_back(number, lookups);
+    }
+
+    // Takes back every lookup, of one node after another.
+    fn release_each(&mut self)
         ensures { self.new ≡ released self.old }
     {
         let mut done = None;
@@ -413,9 +468,16 @@ fn first_held(nodes: Range<'_, u64, Node>) -> Option<(u64, u64)>
     ensures { result ≡ first_held nodes.entry }
 {
     for (number, node) in nodes {
-        if node.lookups != 0 || node.names == 0 {
+        if !is_idle(node) {
             return Some((*number, node.lookups));
         }
     }
     None
+}
+
+// Whether no lookup of a node is held, and a name leads to it: a release leaves it as it is.
+fn is_idle(node: &Node) -> bool
+    ensures { result ≡ is_idle node.now }
+{
+    node.lookups == 0 && node.names != 0
 }

@@ -8,6 +8,7 @@ ghost use Rattle.vfs_flags.specs.Numbers.{enomem};
 ghost use Rattle.vfs_files.specs.Values.{name_text};
 ghost use Rattle.vfs_nodes.specs.Children.{child_named, leading};
 ghost use Rattle.vfs_nodes.specs.Node.{entry_of};
+ghost use Rattle.vfs_tree.specs.Holding.{rests};
 ghost use Rattle.vfs_tree.specs.Naming.{directory_refusal, is_directory_at, is_improper, is_crowded, name_refusal};
 ghost use Rattle.vfs_tree.specs.Outcome.{refusal_of};
 ghost use Rattle.vfs_tree.specs.Rename.{moved_into};
@@ -58,7 +59,7 @@ pub(crate) fn is_improper(name: &[u8]) -> bool
 }
 
 /// Adds a name to a directory that is there. ENOMEM where there is no memory for it, and all stays.
-#[tactic(auto, using(std::proofs::lemmas::Map::Steps::set_value_same, crate::proofs::Nodes::still_free))]
+#[tactic(auto, using(std::proofs::lemmas::Map::Steps::set_value_same, crate::proofs::Nodes::still_free, crate::proofs::Noting::rests_same))]
 pub(crate) fn add_name(
     alloc: Global,
     nodes: &mut BTreeMap<u64, Node>,
@@ -80,6 +81,7 @@ pub(crate) fn add_name(
     ensures err { IfErr result (λ fault.
         (fault ≡ Some enomem) × (nodes.new.entries ≡ nodes.old.entries)) }
     ensures free { (n : ℕ) → get nat_cmp nodes.old n ≡ None → get nat_cmp nodes.new n ≡ None }
+    ensures idle { (n : ℕ) → rests (get nat_cmp nodes.new n) ≡ rests (get nat_cmp nodes.old n) }
 {
     let Some(node) = nodes.get_mut(&number) else {
         unreachable!()
@@ -109,6 +111,7 @@ impl TreeFs {
     }
 
     /// Lets a name of a directory that is there lead elsewhere, or nowhere.
+    #[tactic(auto, using(crate::proofs::Noting::rests_same))]
     pub(crate) fn lead_name(&mut self, number: u64, name: &[u8], child: Option<Child>)
         ensures { self.new ≡ lead self.old number name.now true child }
     {
@@ -143,6 +146,7 @@ impl TreeFs {
     }
 
     /// Says in which directory a node lies.
+    #[tactic(auto, using(crate::proofs::Noting::rests_same))]
     pub(crate) fn move_into(&mut self, number: u64, directory: u64)
         ensures { self.new ≡ moved_into self.old number directory }
     {
@@ -231,6 +235,7 @@ impl TreeFs {
         let Some(node) = self.nodes.get_mut(&number) else {
             unreachable!()
         };
+        self.held.note(number, node.lookups == 0);
         node.names += 1;
         node.lookups += 1;
         node.ctime = now;

@@ -1,4 +1,4 @@
-use Rattle.std.proofs.Common.{◌≡◌, [], Some, arith, rules, sym, ◌∙◌}
+use Rattle.std.proofs.Common.{◌≡◌, ℕ, Bool, true, List, [], ◌∷◌, Some, arith, rules, sym, ap, ◌∙◌}
 use Rattle.std.proofs.lemmas.Grind.{common_steps}
 use Rattle.vfs_flags.specs.Numbers.{enospc}
 use Rattle.vfs_tree.specs.State.{node_at}
@@ -7,7 +7,25 @@ use Rattle.std.proofs.lemmas.Option.{same_Some}
 use Rattle.std.proofs.lemmas.Map.Steps.{set_value_same}
 use Rattle.vfs_tree.specs.contracts.fs.TreeFs.{the_view}
 use Rattle.vfs_tree.proofs.Weights.{overwritten_fits}
+use Rattle.vfs_nodes.specs.Node.{overwritten}
+use Rattle.vfs_nodes.specs.declared.node.Node.{Node}
+use Rattle.vfs_nodes.specs.declared.node.Time.{Time}
+use Rattle.vfs_tree.specs.Holding.{is_idle}
+use Rattle.vfs_tree.proofs.Noting.{sound_same}
 use Rattle.vfs_tree.proofs.calls.TreeFsFileSystem.write.Goals as goal
+
+stays_idle : (now : Time) (delayed kill : Bool) (node new : Node) (off : ℕ) (bytes : List ℕ)
+    → new ≡ overwritten now delayed kill node off bytes → is_idle node ≡ true → is_idle new ≡ true
+stays_idle now delayed kill node new off [] is idle = ap is_idle is ∙ idle
+stays_idle now delayed kill node new off (b ∷ bs) is idle = ap is_idle is ∙ idle
+
+pub invariant_of-self-2 : goal.invariant_of-self-2
+invariant_of-self-2 g c =
+    let node = c.in-Some-get_mut.node.now in
+    sound_same c.self.inside.next c.args.inode c.self.inside.held c.self.inside.nodes.entries
+    (c.get_mut.follows.lender c.write_from.new.self).entries node c.write_from.new.self
+    c.self.invariant (sym c.in-Some-get_mut.ensures.value) (search rules)
+    (stays_idle _ _ _ node _ _ _ c.in_ok-count.ensures.2.1)
 
 pub reweigh-requires : goal.reweigh-requires
 reweigh-requires g c =

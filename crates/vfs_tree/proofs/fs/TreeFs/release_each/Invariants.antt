@@ -1,7 +1,7 @@
 use Rattle.std.proofs.Common.{◌≤◌, ◌+◌, length}
 use Rattle.vfs_tree.specs.State.{behind}
 use Rattle.vfs_tree.proofs.Releasing.{IsLeft}
-use Rattle.vfs_tree.proofs.fs.TreeFs.release.Given as goal
+use Rattle.vfs_tree.proofs.fs.TreeFs.release_each.Given as goal
 
 abbrev pub invariant-loop-i : goal.invariant-loop-i
 invariant-loop-i l = record {

@@ -1,6 +1,6 @@
 use Rattle.std.proofs.Common.{arith}
 use Rattle.vfs_tree.proofs.Releasing.{held_more, all_idle}
-use Rattle.vfs_tree.proofs.fs.TreeFs.release.Goals as goal
+use Rattle.vfs_tree.proofs.fs.TreeFs.release_each.Goals as goal
 
 pub loop-i-preserved : goal.loop-i-preserved
 loop-i-preserved c =
