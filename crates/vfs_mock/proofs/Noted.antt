@@ -60,4 +60,4 @@ noted_so old new call answer number node count kind is_number is_node is_count i
 
 -- a note is added to a recorder that is the same
 pub noted_at : {S : Type 0} (was old new : Recorded S) (note : Note) → was ≡ old → IsNoted was note new → IsNoted old note new
-noted_at was old new note same noted = subst (λ (r : Recorded S). IsNoted r note new) same noted
+noted_at {S = S} was old new note same noted = subst (λ (r : Recorded S). IsNoted r note new) same noted
