@@ -37,12 +37,6 @@ fn has_left(w: &Writer, len: usize) -> bool {
     }
 }
 
-/// Whether so many bytes are left, and the first segment has them all. No promise stands on it either.
-#[inline(always)]
-pub(crate) fn fits_in_one(w: &Writer, len: usize) -> bool {
-    len <= w.available_bytes() && has_left(w, len)
-}
-
 /// The `Dirent` of an item.
 #[inline(always)]
 fn dirent(offered: &ItemData<'_>, name: CStr<'_>) -> Dirent
