@@ -40,9 +40,14 @@ def rows():
             yield files.split(", "), command, takes
 
 
+def crates_used():
+    """Each crate that is there, and what it stands on."""
+    return {name: set(used.split()) for name, used in re.findall(r"^(\w+).*: (.*)", read("crates.txt"), re.M)}
+
+
 def crates_above(crates):
     """How many crates stand on these."""
-    uses = {name: set(used.split()) for name, used in re.findall(r"^(\w+).*: (.*)", read("crates.txt"), re.M)}
+    uses = crates_used()
     above = set(crates)
     while True:
         more = {name for name, used in uses.items() if used & above} - above
@@ -64,9 +69,10 @@ def main():
         files = {path for path in left if any(fnmatch.fnmatchcase(path, it) for it in patterns)}
         left -= files
         if files and "CRATE" in command:
-            crates = sorted({path.split("/")[1] for path in files if os.path.isdir(os.path.join(HERE, path.split("/")[0]))})
+            crates = sorted({path.split("/")[1] for path in files} & set(crates_used()))
             command = command.replace("CRATE", " ".join(crates))
             takes = takes.replace("ABOVE", f"the {crates_above(crates)} crates above")
+            files = crates
         if files and not command.startswith("nothing"):
             told.append((command, takes))
     print("Besides, these judge what is changed:" if told else "What is changed wants no other check.")
