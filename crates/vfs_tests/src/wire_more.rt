@@ -9,7 +9,7 @@ use vfs_wire::{
 use vfs_wire_more::*;
 
 /// The size of each record, and what it is to be.
-static SIZES: [(usize, usize); 66] = [
+static SIZES: [(usize, usize); 68] = [
     (AccessIn::SIZE, 8),
     (Attr::SIZE, 88),
     (AttrOut::SIZE, 104),
@@ -51,6 +51,7 @@ static SIZES: [(usize, usize); 66] = [
     (NotifyInvalEntryOut::SIZE, 16),
     (NotifyInvalInodeOut::SIZE, 24),
     (NotifyPollWakeupOut::SIZE, 8),
+    (NotifyPruneOut::SIZE, 16),
     (NotifyRetrieveIn::SIZE, 40),
     (NotifyStoreOut::SIZE, 24),
     (Notify_Retrieve_Out::SIZE, 32),
@@ -73,6 +74,7 @@ static SIZES: [(usize, usize); 66] = [
     (SetxattrInCompat::SIZE, 8),
     (StatfsOut::SIZE, 80),
     (SuppGroups::SIZE, 4),
+    (StatxIn::SIZE, 24),
     (SyncfsIn::SIZE, 8),
     (WriteIn::SIZE, 40),
     (WriteOut::SIZE, 8),

@@ -1,4 +1,4 @@
--- The requests BMAP, IOCTL and POLL.
+-- The requests BMAP, IOCTL, POLL and STATX.
 use Rattle.std.specs.Int.{w32, cast_unsigned, cast_signed}
 use Rattle.std.specs.Prelude.{pos, ℕ, List, slice_index, [], ◌∷◌}
 use Rattle.vfs_wire.specs.Fields.{Table, table}
@@ -11,6 +11,7 @@ use Rattle.vfs_wire_more.specs.declared.devices.IoctlOut.{IoctlOut}
 use Rattle.vfs_wire_more.specs.declared.devices.PollIn.{PollIn}
 use Rattle.vfs_wire_more.specs.declared.devices.PollOut.{PollOut}
 use Rattle.vfs_wire_more.specs.declared.devices.SyncfsIn.{SyncfsIn}
+use Rattle.vfs_wire_more.specs.declared.devices.StatxIn.{StatxIn}
 
 -- the BmapIn of its fields
 abbrev pub made_bmap_in : List ℕ → BmapIn
@@ -172,6 +173,31 @@ SyncfsInLies = LiesAs syncfs_in 8 (record {
   padding = 0x0807060504030201;
 })
 
+-- the StatxIn of its fields
+abbrev pub made_statx_in : List ℕ → StatxIn
+made_statx_in xs = record {
+  getattr_flags = slice_index xs 0;
+  reserved = slice_index xs 1;
+  fh = slice_index xs 2;
+  sx_flags = slice_index xs 3;
+  sx_mask = slice_index xs 4;
+}
+
+-- StatxIn: 24 bytes
+abbrev pub statx_in : Table StatxIn
+statx_in = table (4 ∷ 4 ∷ 8 ∷ 4 ∷ 4 ∷ [])
+    (λ r. r.getattr_flags ∷ r.reserved ∷ r.fh ∷ r.sx_flags ∷ r.sx_mask ∷ []) made_statx_in
+
+-- the bytes 1, 2, 3, .. of it
+abbrev pub StatxInLies : Type 0
+StatxInLies = LiesAs statx_in 24 (record {
+  getattr_flags = 0x04030201;
+  reserved = 0x08070605;
+  fh = 0x100f0e0d0c0b0a09;
+  sx_flags = 0x14131211;
+  sx_mask = 0x18171615;
+})
+
 -- the records of requests to devices lie so
 pub record DevicesLie : Type 0 where
   pub bmap_in : BmapInLies
@@ -182,3 +208,4 @@ pub record DevicesLie : Type 0 where
   pub poll_in : PollInLies
   pub poll_out : PollOutLies
   pub syncfs_in : SyncfsInLies
+  pub statx_in : StatxInLies

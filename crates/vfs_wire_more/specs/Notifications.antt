@@ -8,6 +8,7 @@ use Rattle.vfs_wire_more.specs.declared.notifications.NotifyInvalEntryOut.{Notif
 use Rattle.vfs_wire_more.specs.declared.notifications.NotifyInvalInodeOut.{NotifyInvalInodeOut}
 use Rattle.vfs_wire_more.specs.declared.notifications.NotifyPollWakeupOut.{NotifyPollWakeupOut}
 use Rattle.vfs_wire_more.specs.declared.notifications.NotifyRetrieveIn.{NotifyRetrieveIn}
+use Rattle.vfs_wire_more.specs.declared.notifications.NotifyPruneOut.{NotifyPruneOut}
 use Rattle.vfs_wire_more.specs.declared.notifications.NotifyStoreOut.{NotifyStoreOut}
 use Rattle.vfs_wire_more.specs.declared.notifications.Notify_Retrieve_Out.{Notify_Retrieve_Out}
 
@@ -169,6 +170,26 @@ NotifyRetrieveInLies = LiesAs notify_retrieve_in 40 (record {
   dummy4 = 0x2827262524232221;
 })
 
+-- the NotifyPruneOut of its fields
+abbrev pub made_notify_prune_out : List ℕ → NotifyPruneOut
+made_notify_prune_out xs = record {
+  count = slice_index xs 0;
+  padding = slice_index xs 1;
+  spare = slice_index xs 2;
+}
+
+-- NotifyPruneOut: 16 bytes
+abbrev pub notify_prune_out : Table NotifyPruneOut
+notify_prune_out = table (4 ∷ 4 ∷ 8 ∷ []) (λ r. r.count ∷ r.padding ∷ r.spare ∷ []) made_notify_prune_out
+
+-- the bytes 1, 2, 3, .. of it
+abbrev pub NotifyPruneOutLies : Type 0
+NotifyPruneOutLies = LiesAs notify_prune_out 16 (record {
+  count = 0x04030201;
+  padding = 0x08070605;
+  spare = 0x100f0e0d0c0b0a09;
+})
+
 -- the records of notifications lie so
 pub record NotificationsLie : Type 0 where
   pub notify_poll_wakeup_out : NotifyPollWakeupOutLies
@@ -178,3 +199,4 @@ pub record NotificationsLie : Type 0 where
   pub notify_store_out : NotifyStoreOutLies
   pub notify_retrieve_out : NotifyRetrieveOutLies
   pub notify_retrieve_in : NotifyRetrieveInLies
+  pub notify_prune_out : NotifyPruneOutLies

@@ -1,4 +1,4 @@
-//! The records of requests that pass device commands on: BMAP, IOCTL and POLL.
+//! The records of requests that pass a system call on as it is: BMAP, IOCTL, POLL and STATX.
 
 ghost use Rattle.std.specs.Prelude.{refl, FitsSigned};
 ghost use Rattle.std.specs.Int.{w32};
@@ -6,7 +6,7 @@ ghost use Rattle.std.proofs.Common.{ap, lit≤};
 ghost use Rattle.std.proofs.lemmas.Int.{of_z-to_z, to_z-of_z};
 ghost use Rattle.vfs_wire.specs.Fields.{number};
 ghost use Rattle.vfs_wire.specs.FieldLaws.{number-lt};
-ghost use Rattle.vfs_wire_more.specs.Devices.{bmap_in, bmap_out, ioctl_in, ioctl_iovec, ioctl_out, poll_in, poll_out, syncfs_in};
+ghost use Rattle.vfs_wire_more.specs.Devices.{bmap_in, bmap_out, ioctl_in, ioctl_iovec, ioctl_out, poll_in, poll_out, syncfs_in, statx_in};
 
 use vfs_wire::ByteValued;
 use vfs_wire::bytes::Field::{Eight, Four};
@@ -341,6 +341,60 @@ impl ByteValued for SyncfsIn {
     fn take(b: &[u8]) -> SyncfsIn {
         SyncfsIn {
             padding: u64_at(b, 0),
+        }
+    }
+
+    ghost size_is = { refl };
+
+    ghost size_small = { lit≤ tt };
+
+    ghost made_fields = { λ x h. refl };
+
+    ghost fields_made = { λ b h. refl };
+}
+
+/// The record of STATX (`struct fuse_statx_in`, 24 bytes).
+#[derive(Clone, Copy, Debug, Default)]
+pub struct StatxIn {
+    /// Bit 0 (`GETATTR_FH`): `fh` is an open file.
+    pub getattr_flags: u32,
+    /// Not used; a sender writes 0.
+    pub reserved: u32,
+    /// Handle of the open file, as the reply to OPEN or CREATE gave it.
+    pub fh: u64,
+    /// Flags of `statx`.
+    pub sx_flags: u32,
+    /// What is asked for, as the mask of `statx`.
+    pub sx_mask: u32,
+}
+
+impl ByteValued for StatxIn {
+    const SIZE: usize = 24;
+
+    ghost SIZE = { 24 };
+
+    ghost table = { statx_in };
+
+    fn put(&self, out: &mut [u8]) {
+        put_fields(
+            out,
+            &[
+                Four(self.getattr_flags),
+                Four(self.reserved),
+                Eight(self.fh),
+                Four(self.sx_flags),
+                Four(self.sx_mask),
+            ],
+        );
+    }
+
+    fn take(b: &[u8]) -> StatxIn {
+        StatxIn {
+            getattr_flags: u32_at(b, 0),
+            reserved: u32_at(b, 4),
+            fh: u64_at(b, 8),
+            sx_flags: u32_at(b, 16),
+            sx_mask: u32_at(b, 20),
         }
     }
 

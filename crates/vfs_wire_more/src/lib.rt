@@ -16,7 +16,9 @@ mod notifications;
 mod ranges;
 mod xattrs;
 
-pub use devices::{BmapIn, BmapOut, IoctlIn, IoctlIovec, IoctlOut, PollIn, PollOut, SyncfsIn};
+pub use devices::{
+    BmapIn, BmapOut, IoctlIn, IoctlIovec, IoctlOut, PollIn, PollOut, StatxIn, SyncfsIn,
+};
 pub use extensions::SecctxHeader;
 pub use files::{FlushIn, FsyncIn, OpenIn, OpenOut, ReadIn, ReleaseIn, WriteIn, WriteOut};
 pub use listings::StatfsOut;
@@ -25,7 +27,7 @@ pub use mappings::{RemovemappingIn, RemovemappingOne, SetupmappingIn};
 pub use names::{AccessIn, CreateIn, LinkIn, MkdirIn, MknodIn, Rename2In, RenameIn};
 pub use notifications::{
     Notify_Retrieve_Out, NotifyDeleteOut, NotifyInvalEntryOut, NotifyInvalInodeOut,
-    NotifyPollWakeupOut, NotifyRetrieveIn, NotifyStoreOut,
+    NotifyPollWakeupOut, NotifyPruneOut, NotifyRetrieveIn, NotifyStoreOut,
 };
 pub use ranges::{CopyfilerangeIn, FallocateIn, LseekIn, LseekOut};
 pub use xattrs::{GetxattrIn, GetxattrOut, SetxattrIn, SetxattrInCompat};

@@ -6,7 +6,7 @@ ghost use Rattle.std.proofs.Common.{ap, lit≤, ◌∙◌};
 ghost use Rattle.std.proofs.lemmas.Int.{of_z-to_z, to_z-of_z};
 ghost use Rattle.vfs_wire.specs.Fields.{number};
 ghost use Rattle.vfs_wire.specs.FieldLaws.{AreBytes-drop, number-lt};
-ghost use Rattle.vfs_wire_more.specs.Notifications.{notify_delete_out, notify_inval_entry_out, notify_inval_inode_out, notify_poll_wakeup_out, notify_retrieve_in, notify_retrieve_out, notify_store_out};
+ghost use Rattle.vfs_wire_more.specs.Notifications.{notify_delete_out, notify_inval_entry_out, notify_inval_inode_out, notify_poll_wakeup_out, notify_retrieve_in, notify_retrieve_out, notify_store_out, notify_prune_out};
 
 use vfs_wire::ByteValued;
 use vfs_wire::bytes::Field::{Eight, Four};
@@ -345,6 +345,49 @@ impl ByteValued for NotifyRetrieveIn {
             dummy2: u32_at(b, 20),
             dummy3: u64_at(b, 24),
             dummy4: u64_at(b, 32),
+        }
+    }
+
+    ghost size_is = { refl };
+
+    ghost size_small = { lit≤ tt };
+
+    ghost made_fields = { λ x h. refl };
+
+    ghost fields_made = { λ b h. refl };
+}
+
+/// The record of a notification that nodes may be forgotten (`struct fuse_notify_prune_out`, 16 bytes);
+/// their numbers follow, in 8 bytes each.
+#[derive(Clone, Copy, Debug, Default)]
+pub struct NotifyPruneOut {
+    /// How many nodes.
+    pub count: u32,
+    /// Not used; a sender writes 0.
+    pub padding: u32,
+    /// Not used; a sender writes 0.
+    pub spare: u64,
+}
+
+impl ByteValued for NotifyPruneOut {
+    const SIZE: usize = 16;
+
+    ghost SIZE = { 16 };
+
+    ghost table = { notify_prune_out };
+
+    fn put(&self, out: &mut [u8]) {
+        put_fields(
+            out,
+            &[Four(self.count), Four(self.padding), Eight(self.spare)],
+        );
+    }
+
+    fn take(b: &[u8]) -> NotifyPruneOut {
+        NotifyPruneOut {
+            count: u32_at(b, 0),
+            padding: u32_at(b, 4),
+            spare: u64_at(b, 8),
         }
     }
 

@@ -9,18 +9,18 @@ ghost use Rattle.vfs_wire_more.specs.Records.{mknod_in, mkdir_in, rename_in, ren
 ghost use Rattle.vfs_wire_more.specs.Listings.{statfs_out};
 ghost use Rattle.vfs_wire_more.specs.Extensions.{secctx_header};
 ghost use Rattle.vfs_wire_more.specs.Locks.{file_lock, lk_in, lk_out, interrupt_in};
-ghost use Rattle.vfs_wire_more.specs.Devices.{bmap_in, bmap_out, ioctl_in, ioctl_iovec, ioctl_out, poll_in, poll_out, syncfs_in};
+ghost use Rattle.vfs_wire_more.specs.Devices.{bmap_in, bmap_out, ioctl_in, ioctl_iovec, ioctl_out, poll_in, poll_out, syncfs_in, statx_in};
 ghost use Rattle.vfs_wire_more.specs.Mappings.{setupmapping_in, removemapping_in, removemapping_one};
-ghost use Rattle.vfs_wire_more.specs.Notifications.{notify_poll_wakeup_out, notify_inval_inode_out, notify_inval_entry_out, notify_delete_out, notify_store_out, notify_retrieve_out, notify_retrieve_in};
+ghost use Rattle.vfs_wire_more.specs.Notifications.{notify_poll_wakeup_out, notify_inval_inode_out, notify_inval_entry_out, notify_delete_out, notify_store_out, notify_retrieve_out, notify_retrieve_in, notify_prune_out};
 
 use vfs_wire_more::{
     AccessIn, BmapIn, BmapOut, CopyfilerangeIn, CreateIn, FallocateIn, FileLock, FlushIn, FsyncIn,
     GetxattrIn, GetxattrOut, InterruptIn, IoctlIn, IoctlIovec, IoctlOut, LinkIn, LkIn, LkOut,
     LseekIn, LseekOut, MkdirIn, MknodIn, Notify_Retrieve_Out, NotifyDeleteOut, NotifyInvalEntryOut,
-    NotifyInvalInodeOut, NotifyPollWakeupOut, NotifyRetrieveIn, NotifyStoreOut, OpenIn, OpenOut,
-    PollIn, PollOut, ReadIn, ReleaseIn, RemovemappingIn, RemovemappingOne, Rename2In, RenameIn,
-    SecctxHeader, SetupmappingIn, SetxattrIn, SetxattrInCompat, StatfsOut, SyncfsIn, WriteIn,
-    WriteOut, layouts,
+    NotifyInvalInodeOut, NotifyPollWakeupOut, NotifyPruneOut, NotifyRetrieveIn, NotifyStoreOut,
+    OpenIn, OpenOut, PollIn, PollOut, ReadIn, ReleaseIn, RemovemappingIn, RemovemappingOne,
+    Rename2In, RenameIn, SecctxHeader, SetupmappingIn, SetxattrIn, SetxattrInCompat, StatfsOut,
+    StatxIn, SyncfsIn, WriteIn, WriteOut, layouts,
 };
 
 /// The records of requests on names, with nothing set.
@@ -161,6 +161,7 @@ fn devices_unset() -> (
     PollIn,
     PollOut,
     SyncfsIn,
+    StatxIn,
 )
     ensures bmap_in { bytes_of bmap_in result.0 ≡ replicate 16 0 }
     ensures bmap_out { bytes_of bmap_out result.1 ≡ replicate 8 0 }
@@ -170,6 +171,7 @@ fn devices_unset() -> (
     ensures poll_in { bytes_of poll_in result.5 ≡ replicate 24 0 }
     ensures poll_out { bytes_of poll_out result.6 ≡ replicate 8 0 }
     ensures syncfs_in { bytes_of syncfs_in result.7 ≡ replicate 8 0 }
+    ensures statx_in { bytes_of statx_in result.8 ≡ replicate 24 0 }
 {
     (
         BmapIn::default(),
@@ -180,6 +182,7 @@ fn devices_unset() -> (
         PollIn::default(),
         PollOut::default(),
         SyncfsIn::default(),
+        StatxIn::default(),
     )
 }
 
@@ -207,6 +210,7 @@ fn notifications_unset() -> (
     NotifyStoreOut,
     Notify_Retrieve_Out,
     NotifyRetrieveIn,
+    NotifyPruneOut,
 )
     ensures notify_poll_wakeup_out { bytes_of notify_poll_wakeup_out result.0 ≡ replicate 8 0 }
     ensures notify_inval_inode_out { bytes_of notify_inval_inode_out result.1 ≡ replicate 24 0 }
@@ -215,6 +219,7 @@ fn notifications_unset() -> (
     ensures notify_store_out { bytes_of notify_store_out result.4 ≡ replicate 24 0 }
     ensures notify_retrieve_out { bytes_of notify_retrieve_out result.5 ≡ replicate 32 0 }
     ensures notify_retrieve_in { bytes_of notify_retrieve_in result.6 ≡ replicate 40 0 }
+    ensures notify_prune_out { bytes_of notify_prune_out result.7 ≡ replicate 16 0 }
 {
     (
         NotifyPollWakeupOut::default(),
@@ -224,6 +229,7 @@ fn notifications_unset() -> (
         NotifyStoreOut::default(),
         Notify_Retrieve_Out::default(),
         NotifyRetrieveIn::default(),
+        NotifyPruneOut::default(),
     )
 }
 
@@ -309,6 +315,7 @@ fn last_of_devices()
     ensures poll_in { (value_of poll_in (counting 1 24)).events ≡ 0x18171615 }
     ensures poll_out { (value_of poll_out (counting 1 8)).padding ≡ 0x08070605 }
     ensures syncfs_in { (value_of syncfs_in (counting 1 8)).padding ≡ 0x0807060504030201 }
+    ensures statx_in { (value_of statx_in (counting 1 24)).sx_mask ≡ 0x18171615 }
 {
     layouts::devices();
 }
@@ -338,6 +345,8 @@ fn last_of_notifications()
         ≡ 0x201f1e1d }
     ensures notify_retrieve_in { (value_of notify_retrieve_in (counting 1 40)).dummy4
         ≡ 0x2827262524232221 }
+    ensures notify_prune_out { (value_of notify_prune_out (counting 1 16)).spare
+        ≡ 0x100f0e0d0c0b0a09 }
 {
     layouts::notifications();
 }
