@@ -95,8 +95,8 @@ struct device {
 	/* Is told by each worker that ends. */
 	int over;
 	atomic_int stop, failed;
-	/* How many workers were started: the first one counts the others. */
-	atomic_uint started;
+	/* How many workers the first one has started, each counted once its thread is there. */
+	atomic_uint others;
 	/* Those over io_uring, which the first one starts in place of others; NULL: there are none. */
 	struct fuse_rings *rings;
 	/* How many read now, and how many requests were taken. */
@@ -591,14 +591,14 @@ static enum outcome serve_one(struct worker *w, uint32_t *opcode)
 
 static void *run(void *given);
 
-/* Starts the next worker over a descriptor, which is its own then. */
-static int start(struct device *d, int fd)
+/* Starts a worker over a descriptor, which is its own then. */
+static int start(struct device *d, unsigned number, int fd)
 {
-	struct worker *w = &d->worker[d->started];
+	struct worker *w = &d->worker[number];
 	unsigned char *memory = aligned_alloc(PAGE, 2 * LONGEST + 4 * PAGE);
 
 	w->of = d;
-	w->number = d->started;
+	w->number = number;
 	w->fd = fd;
 	w->pipe[0] = w->pipe[1] = -1;
 	if (d->by->splices && is_device(fd))
@@ -608,13 +608,10 @@ static int start(struct device *d, int fd)
 		w->request = memory + PAGE - BEFORE_WRITE;
 		w->room = memory + (size_t)(LONGEST + 3 * PAGE - BEFORE_READ);
 	}
-	/* (the first one counts on from here, as soon as it runs) */
-	d->started++;
 	atomic_fetch_add(&d->active, 1);
 	errno = ENOMEM;
 	if (memory && fd >= 0 && !(errno = pthread_create(&w->thread, NULL, run, w)))
 		return 0;
-	d->started--;
 	atomic_fetch_sub(&d->active, 1);
 	say(d->by, "a worker");
 	close_pipe(w);
@@ -640,7 +637,7 @@ static void start_others(struct device *d)
 {
 	const uint32_t first = (uint32_t)d->worker[0].fd;
 
-	while (d->started < d->by->workers) {
+	for (unsigned number = 1; number < d->by->workers; number++) {
 		int fd = open_anew(d->by, d->worker[0].fd);
 
 		if (fd < 0 || ioctl(fd, FUSE_DEV_IOC_CLONE, &first)) {
@@ -648,8 +645,9 @@ static void start_others(struct device *d)
 				close(fd);
 			fd = fcntl((int)first, F_DUPFD_CLOEXEC, 0);
 		}
-		if (start(d, fd))
+		if (start(d, number, fd))
 			return;
+		atomic_store(&d->others, number);
 	}
 }
 
@@ -939,9 +937,9 @@ static int end_all(struct device *d)
 	atomic_store(&d->stop, 1);
 	pthread_cond_broadcast(&d->call);
 	pthread_mutex_unlock(&d->lock);
-	/* The first one has started the others. */
+	/* One that doesn't come back may still start others: those it counted have a thread. */
 	left = end(&d->worker[0], until);
-	for (unsigned i = 1; i < d->started; i++)
+	for (unsigned i = 1; i <= atomic_load(&d->others); i++)
 		left |= end(&d->worker[i], until);
 	while (d->is_unmounting && pthread_tryjoin_np(d->unmounts, NULL) == EBUSY) {
 		if (now() > until)
@@ -954,7 +952,7 @@ static int end_all(struct device *d)
 /* Serves by workers, until they have ended. Answers whether they failed. */
 static int serve(struct device *d, int device, int signals)
 {
-	if (start(d, device))
+	if (start(d, 0, device))
 		return 1;
 	wait_for_end(d, signals);
 	if (end_all(d))
