@@ -19,8 +19,8 @@
 #               the pages
 #   --no-demo   leaves out nizwarf-demo and nizwarf-decode
 #
-# It wants a C compiler with binutils, and the Rattle toolchain. Without dpkg-deb it makes the tarball alone, and
-# says so.
+# It wants a C compiler with binutils, Python, and the Rattle toolchain. Without dpkg-deb it makes the tarball
+# alone, and says so.
 # Status 0: all is made, and as it should be; 1: not so; 2: it could not start.
 set -euo pipefail
 . "$(dirname "$0")/lib/usage.sh"
@@ -59,6 +59,7 @@ done
 need cc "Install a C compiler: apt-get install gcc libc6-dev."
 need make "Install it: apt-get install make."
 need gzip "Install it: apt-get install gzip."
+need python3 "Install it: apt-get install python3."
 
 packaging=$here/packaging
 programs=$(make -s -f "$here/programs/Makefile" list)
@@ -247,7 +248,7 @@ page_missing() {
 
 # The prototypes that pages of functions have, as C.
 prototypes() {
-    awk -f "$packaging/prototypes.awk" "$packaging"/man/*.3
+    awk -f "$packaging/prototypes.awk" "$work"/man/*.3
 }
 
 # The tree of the tarball, into a folder. The programs stand alone.
@@ -262,11 +263,12 @@ make_tree() {
     [ -z "$missing" ] || wrong "programs that do not say their own names and the version: $missing"
     put_demo "$tree"
     put_examples "$tree/share/doc/nizwarf/examples"
-    for page in "$packaging"/man/*.[1-8]; do
+    "$packaging/man.py" "$work/man"
+    for page in "$work"/man/*.[1-8]; do
         put_page "$page" "$tree/share/man"
     done
     missing=$(functions | while read -r name; do
-        { [ -e "$tree/share/man/man3/$name.3" ] && grep -qx "\.Ss $name" "$packaging"/man/*.3; } || echo "$name"
+        { [ -e "$tree/share/man/man3/$name.3" ] && grep -qx "\.Ss $name" "$work"/man/*.3; } || echo "$name"
     done)
     [ -z "$missing" ] || wrong "functions of the headers without a page: $missing"
     prototypes | cc -fsyntax-only -Werror -I "$here/include" -include nizwarf_ops.h -x c - \
@@ -428,7 +430,7 @@ if [ -n "$check" ]; then
         echo "Missing: the command \`lintian\`, or the packages that it looks at: apt-get install lintian." >&2
     fi
     if command -v mandoc > /dev/null; then
-        mandoc -T lint -W warning "$packaging"/man/*.[1-8] || wrong "mandoc."
+        mandoc -T lint -W warning "$work"/man/*.[1-8] || wrong "mandoc."
         echo "mandoc finds nothing in the pages."
     else
         echo "Missing: the command \`mandoc\`: apt-get install mandoc." >&2

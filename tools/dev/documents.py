@@ -283,7 +283,7 @@ HEADERS = "".join(text for path, text in sources.items() if path.startswith("inc
 FIELDS = {name or short: set(re.findall(r"(\w+)(?=[,;]|\)\()", body)) for name, body, short in re.findall(
     r"^(?:typedef )?struct (?:nizwarf_(\w+) )?\{\n(.*?)\n\}(?: nizwarf_(\w+))?;", HEADERS, re.M | re.S)}
 NAMES = set().union(*FIELDS.values(), re.findall(r"[ *](\w+)(?=[,)])", HEADERS))
-for page in sorted(glob.glob("packaging/man/*.3")):
+for page in sorted(glob.glob("packaging/man/*.3*")):
     for number, line in enumerate(read(page).splitlines(), 1):
         said = re.match(r"\.Fa ([^\"]*)$", line)
         for name in re.findall(r"\w+(?:->\w+)*", said[1] if said else ""):
