@@ -10,7 +10,6 @@
 
 pub mod descriptor_utils;
 pub mod filesystem;
-pub mod fuse;
 pub mod handlers;
 pub mod laws;
 pub mod server;
@@ -18,3 +17,4 @@ mod transfers;
 pub mod transport;
 
 pub use vfs_grammar::{Error, Result};
+pub use vfs_wire_more as fuse;

@@ -10,7 +10,7 @@ use Rattle.vfs_wire_more.specs.declared.devices.IoctlIovec.{IoctlIovec}
 use Rattle.vfs_wire_more.specs.declared.devices.IoctlOut.{IoctlOut}
 use Rattle.vfs_wire_more.specs.declared.devices.PollIn.{PollIn}
 use Rattle.vfs_wire_more.specs.declared.devices.PollOut.{PollOut}
-use Rattle.vfs_wire_more.specs.declared.devices.SyncfsIn.{SyncfsIn}
+use Rattle.vfs_wire_more.specs.declared.SyncfsIn.{SyncfsIn}
 use Rattle.vfs_wire_more.specs.declared.devices.StatxIn.{StatxIn}
 
 -- the BmapIn of its fields

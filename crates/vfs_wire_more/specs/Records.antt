@@ -19,10 +19,10 @@ use Rattle.vfs_wire_more.specs.declared.names.MkdirIn.{MkdirIn}
 use Rattle.vfs_wire_more.specs.declared.names.MknodIn.{MknodIn}
 use Rattle.vfs_wire_more.specs.declared.names.Rename2In.{Rename2In}
 use Rattle.vfs_wire_more.specs.declared.names.RenameIn.{RenameIn}
-use Rattle.vfs_wire_more.specs.declared.ranges.CopyfilerangeIn.{CopyfilerangeIn}
-use Rattle.vfs_wire_more.specs.declared.ranges.FallocateIn.{FallocateIn}
-use Rattle.vfs_wire_more.specs.declared.ranges.LseekIn.{LseekIn}
-use Rattle.vfs_wire_more.specs.declared.ranges.LseekOut.{LseekOut}
+use Rattle.vfs_wire_more.specs.declared.CopyfilerangeIn.{CopyfilerangeIn}
+use Rattle.vfs_wire_more.specs.declared.FallocateIn.{FallocateIn}
+use Rattle.vfs_wire_more.specs.declared.LseekIn.{LseekIn}
+use Rattle.vfs_wire_more.specs.declared.LseekOut.{LseekOut}
 use Rattle.vfs_wire_more.specs.declared.xattrs.GetxattrIn.{GetxattrIn}
 use Rattle.vfs_wire_more.specs.declared.xattrs.GetxattrOut.{GetxattrOut}
 use Rattle.vfs_wire_more.specs.declared.xattrs.SetxattrIn.{SetxattrIn}

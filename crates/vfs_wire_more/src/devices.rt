@@ -6,7 +6,7 @@ ghost use Rattle.std.proofs.Common.{ap, lit≤};
 ghost use Rattle.std.proofs.lemmas.Int.{of_z-to_z, to_z-of_z};
 ghost use Rattle.vfs_wire.specs.Fields.{number};
 ghost use Rattle.vfs_wire.specs.FieldLaws.{number-lt};
-ghost use Rattle.vfs_wire_more.specs.Devices.{bmap_in, bmap_out, ioctl_in, ioctl_iovec, ioctl_out, poll_in, poll_out, syncfs_in, statx_in};
+ghost use Rattle.vfs_wire_more.specs.Devices.{bmap_in, bmap_out, ioctl_in, ioctl_iovec, ioctl_out, poll_in, poll_out, statx_in};
 
 use vfs_wire::ByteValued;
 use vfs_wire::bytes::Field::{Eight, Four};
@@ -308,39 +308,6 @@ impl ByteValued for PollOut {
         PollOut {
             revents: u32_at(b, 0),
             padding: u32_at(b, 4),
-        }
-    }
-
-    ghost size_is = { refl };
-
-    ghost size_small = { lit≤ tt };
-
-    ghost made_fields = { λ x h. refl };
-
-    ghost fields_made = { λ b h. refl };
-}
-
-/// The record of SYNCFS (`struct fuse_syncfs_in`, 8 bytes).
-#[derive(Clone, Copy, Debug, Default)]
-pub struct SyncfsIn {
-    /// Not used; a sender writes 0.
-    pub padding: u64,
-}
-
-impl ByteValued for SyncfsIn {
-    const SIZE: usize = 8;
-
-    ghost SIZE = { 8 };
-
-    ghost table = { syncfs_in };
-
-    fn put(&self, out: &mut [u8]) {
-        put_fields(out, &[Eight(self.padding)]);
-    }
-
-    fn take(b: &[u8]) -> SyncfsIn {
-        SyncfsIn {
-            padding: u64_at(b, 0),
         }
     }
 

@@ -1,26 +1,26 @@
 //! Records by default, where each field is 0, and so each byte is; and the last field of each, as the
 //! bytes 1, 2, 3, .. are read there: what the laws of `layouts` give to a caller. A function of the
-//! latter does nothing.
+//! latter does nothing. Those in the root of the crate are called there.
 
 ghost use Rattle.std.specs.Prelude.{◌≡◌, replicate, slice_index, pos};
 ghost use Rattle.vfs_wire.specs.Fields.{bytes_of, value_of};
 ghost use Rattle.vfs_wire.specs.Layouts.{counting};
-ghost use Rattle.vfs_wire_more.specs.Records.{mknod_in, mkdir_in, rename_in, rename2_in, link_in, create_in, access_in, open_in, open_out, release_in, flush_in, read_in, write_in, write_out, fsync_in, lseek_in, lseek_out, copyfilerange_in, fallocate_in, setxattr_in, setxattr_in_compat, getxattr_in, getxattr_out};
+ghost use Rattle.vfs_wire_more.specs.Records.{mknod_in, mkdir_in, rename_in, rename2_in, link_in, create_in, access_in, open_in, open_out, release_in, flush_in, read_in, write_in, write_out, fsync_in, setxattr_in, setxattr_in_compat, getxattr_in, getxattr_out};
 ghost use Rattle.vfs_wire_more.specs.Listings.{statfs_out};
 ghost use Rattle.vfs_wire_more.specs.Extensions.{secctx_header};
 ghost use Rattle.vfs_wire_more.specs.Locks.{file_lock, lk_in, lk_out, interrupt_in};
-ghost use Rattle.vfs_wire_more.specs.Devices.{bmap_in, bmap_out, ioctl_in, ioctl_iovec, ioctl_out, poll_in, poll_out, syncfs_in, statx_in};
+ghost use Rattle.vfs_wire_more.specs.Devices.{bmap_in, bmap_out, ioctl_in, ioctl_iovec, ioctl_out, poll_in, poll_out, statx_in};
 ghost use Rattle.vfs_wire_more.specs.Mappings.{setupmapping_in, removemapping_in, removemapping_one};
 ghost use Rattle.vfs_wire_more.specs.Notifications.{notify_poll_wakeup_out, notify_inval_inode_out, notify_inval_entry_out, notify_delete_out, notify_store_out, notify_retrieve_out, notify_retrieve_in, notify_prune_out};
 
 use vfs_wire_more::{
-    AccessIn, BmapIn, BmapOut, CopyfilerangeIn, CreateIn, FallocateIn, FileLock, FlushIn, FsyncIn,
-    GetxattrIn, GetxattrOut, InterruptIn, IoctlIn, IoctlIovec, IoctlOut, LinkIn, LkIn, LkOut,
-    LseekIn, LseekOut, MkdirIn, MknodIn, Notify_Retrieve_Out, NotifyDeleteOut, NotifyInvalEntryOut,
-    NotifyInvalInodeOut, NotifyPollWakeupOut, NotifyPruneOut, NotifyRetrieveIn, NotifyStoreOut,
-    OpenIn, OpenOut, PollIn, PollOut, ReadIn, ReleaseIn, RemovemappingIn, RemovemappingOne,
-    Rename2In, RenameIn, SecctxHeader, SetupmappingIn, SetxattrIn, SetxattrInCompat, StatfsOut,
-    StatxIn, SyncfsIn, WriteIn, WriteOut, layouts,
+    AccessIn, BmapIn, BmapOut, CreateIn, FileLock, FlushIn, FsyncIn, GetxattrIn, GetxattrOut,
+    InterruptIn, IoctlIn, IoctlIovec, IoctlOut, LinkIn, LkIn, LkOut, MkdirIn, MknodIn,
+    Notify_Retrieve_Out, NotifyDeleteOut, NotifyInvalEntryOut, NotifyInvalInodeOut,
+    NotifyPollWakeupOut, NotifyPruneOut, NotifyRetrieveIn, NotifyStoreOut, OpenIn, OpenOut, PollIn,
+    PollOut, ReadIn, ReleaseIn, RemovemappingIn, RemovemappingOne, Rename2In, RenameIn,
+    SecctxHeader, SetupmappingIn, SetxattrIn, SetxattrInCompat, StatfsOut, StatxIn, WriteIn,
+    WriteOut, layouts,
 };
 
 /// The records of requests on names, with nothing set.
@@ -86,22 +86,6 @@ fn files_unset() -> (
     )
 }
 
-/// The records of ranges of a file, with nothing set.
-#[tactic(auto, unfolding(vfs_wire::specs::Fields::little))]
-fn ranges_unset() -> (LseekIn, LseekOut, CopyfilerangeIn, FallocateIn)
-    ensures lseek_in { bytes_of lseek_in result.0 ≡ replicate 24 0 }
-    ensures lseek_out { bytes_of lseek_out result.1 ≡ replicate 8 0 }
-    ensures copyfilerange_in { bytes_of copyfilerange_in result.2 ≡ replicate 56 0 }
-    ensures fallocate_in { bytes_of fallocate_in result.3 ≡ replicate 32 0 }
-{
-    (
-        LseekIn::default(),
-        LseekOut::default(),
-        CopyfilerangeIn::default(),
-        FallocateIn::default(),
-    )
-}
-
 /// The records of extended attributes, with nothing set.
 #[tactic(auto, unfolding(vfs_wire::specs::Fields::little))]
 fn xattrs_unset() -> (SetxattrIn, SetxattrInCompat, GetxattrIn, GetxattrOut)
@@ -160,7 +144,6 @@ fn devices_unset() -> (
     IoctlOut,
     PollIn,
     PollOut,
-    SyncfsIn,
     StatxIn,
 )
     ensures bmap_in { bytes_of bmap_in result.0 ≡ replicate 16 0 }
@@ -170,8 +153,7 @@ fn devices_unset() -> (
     ensures ioctl_out { bytes_of ioctl_out result.4 ≡ replicate 16 0 }
     ensures poll_in { bytes_of poll_in result.5 ≡ replicate 24 0 }
     ensures poll_out { bytes_of poll_out result.6 ≡ replicate 8 0 }
-    ensures syncfs_in { bytes_of syncfs_in result.7 ≡ replicate 8 0 }
-    ensures statx_in { bytes_of statx_in result.8 ≡ replicate 24 0 }
+    ensures statx_in { bytes_of statx_in result.7 ≡ replicate 24 0 }
 {
     (
         BmapIn::default(),
@@ -181,7 +163,6 @@ fn devices_unset() -> (
         IoctlOut::default(),
         PollIn::default(),
         PollOut::default(),
-        SyncfsIn::default(),
         StatxIn::default(),
     )
 }
@@ -260,17 +241,6 @@ fn last_of_files()
     layouts::files();
 }
 
-/// The records of ranges of a file: what is read last.
-fn last_of_ranges()
-    ensures lseek_in { (value_of lseek_in (counting 1 24)).padding ≡ 0x18171615 }
-    ensures lseek_out { (value_of lseek_out (counting 1 8)).offset ≡ 0x0807060504030201 }
-    ensures copyfilerange_in { (value_of copyfilerange_in (counting 1 56)).flags
-        ≡ 0x3837363534333231 }
-    ensures fallocate_in { (value_of fallocate_in (counting 1 32)).padding ≡ 0x201f1e1d }
-{
-    layouts::ranges();
-}
-
 /// The records of extended attributes: what is read last.
 fn last_of_xattrs()
     ensures setxattr_in { (value_of setxattr_in (counting 1 16)).padding ≡ 0x100f0e0d }
@@ -314,7 +284,6 @@ fn last_of_devices()
     ensures ioctl_out { (value_of ioctl_out (counting 1 16)).out_iovs ≡ 0x100f0e0d }
     ensures poll_in { (value_of poll_in (counting 1 24)).events ≡ 0x18171615 }
     ensures poll_out { (value_of poll_out (counting 1 8)).padding ≡ 0x08070605 }
-    ensures syncfs_in { (value_of syncfs_in (counting 1 8)).padding ≡ 0x0807060504030201 }
     ensures statx_in { (value_of statx_in (counting 1 24)).sx_mask ≡ 0x18171615 }
 {
     layouts::devices();
