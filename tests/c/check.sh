@@ -6,6 +6,7 @@
 # what the headers say; as root mounted.c mounts a table of wrong answers. All that runs under the sanitizers of the
 # compiler too, if it has them. The structs are laid out as in version 0.2, and a program of that version runs with
 # what is built and what is packed: tests/c/version-0.2. All names that the libraries define begin with `nizwarf_`.
+# Records and numbers of crates are those of the kernel's header, by tests/c/kernel.py.
 # Last, tools/package.sh packs the libraries, and the examples are built by pkg-config against what is installed of
 # that, shared and static, and do the same.
 #
@@ -25,7 +26,7 @@ case $# in
     *) false ;;
 esac || { echo "Usage: tests/c/check.sh [--prove | --quick]" >&2 && exit 2; }
 quick=
-[ "${1:-}" != --quick ] || quick=yes part_count=2
+[ "${1:-}" != --quick ] || quick=yes part_count=3
 
 folder=$(mktemp -d)
 trap 'rm -rf "$folder"' EXIT
@@ -123,6 +124,8 @@ if [ -n "$other_names" ]; then
     echo "Names of the libraries that do not begin with nizwarf_: $(paste -sd ' ' <<< "$other_names")" >&2
     exit 1
 fi
+part "the records and numbers of crates against the kernel's header"
+"$here/tests/c/kernel.py"
 
 [ -z "$quick" ] || exit 0
 

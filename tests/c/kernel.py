@@ -1,0 +1,172 @@
+#!/usr/bin/env python3
+"""Holds the records, opcodes, notices, flags and constants of crates against the kernel's <linux/fuse.h>.
+
+Usage: tests/c/kernel.py [--print]
+It makes a C program of static assertions, and compiles it: of each record the place and the size of each field of its
+table in specs, and its size, by the struct that its comment names; of each number its value, by the name that its
+comment names, or by its own. The comment of a record says its size too. What this header has not yet is told, and so is how much there was to hold.
+--print writes out the program instead.
+Status 0: all is as the header has it; 1: not so; 2: there is no compiler, or no header.
+"""
+import glob
+import os
+import re
+import subprocess
+import sys
+
+os.chdir(os.path.join(os.path.dirname(os.path.abspath(__file__)), "../.."))
+if sys.argv[1:] not in ([], ["--print"]):
+    print(__doc__.strip())
+    sys.exit(0 if sys.argv[1:] == ["--help"] else 2)
+
+
+def read(pattern):
+    text = ""
+    for path in sorted(glob.glob(pattern)):
+        with open(path, encoding="utf-8") as file:
+            text += file.read() + "\n"
+    return text
+
+
+def compiled(words, text):
+    try:
+        return subprocess.run(["cc", "-x", "c", *words, "-"], input=text, text=True, capture_output=True, check=False)
+    except FileNotFoundError:
+        print("Missing: the command `cc`: apt-get install gcc libc6-dev.", file=sys.stderr)
+        sys.exit(2)
+
+
+WIRE, SPECS = read("crates/vfs_wire*/src/*.rt"), read("crates/vfs_wire*/specs/*.antt")
+FLAGS, NUMBERS = read("crates/vfs_flags/src/*.rt"), read("crates/vfs_flags/specs/Numbers.antt")
+HEADER = compiled(["-E", "-dD"], "#include <linux/fuse.h>\n")
+if HEADER.returncode:
+    print("Missing: <linux/fuse.h>: apt-get install linux-libc-dev.", file=sys.stderr)
+    sys.exit(2)
+STRUCTS = {name: re.findall(r"(\w+)(?:\[\w*\])?;", body)
+           for name, body in re.findall(r"struct (fuse_\w+) \{(.*?)\n\}", HEADER.stdout, re.S)}
+NAMES = {it for them in re.findall(r"^#define (\w+) |^\s*(FUSE_\w+) = ", HEADER.stdout, re.M) for it in them if it}
+lines, absent, held = ["#include <stddef.h>", "#include <linux/fuse.h>"], [], {"records": 0, "fields": 0, "numbers": 0}
+faults = []
+
+
+def hold(fact, what):
+    lines.append(f'_Static_assert({fact}, "{what}");')
+
+
+# ---- records
+
+TABLES = {name: (record, widths, fields) for name, record, widths, fields in re.findall(
+    r"^abbrev pub (\w+) : Table (\w+)\n\1 =\s+table \(([^λ]*)\)\s+\(λ r\. (.*?)\)\s+made_\1$", SPECS, re.M | re.S)}
+
+
+def items(text):
+    return [it.strip(" ()\n") for it in re.split(r"∷|\+\+", text) if it.strip(" ()\n[]")]
+
+
+def laid_out(name):
+    """The fields of a table with the bytes that each has, in order: those of a part with the part's name."""
+    _, widths, fields = TABLES[name]
+    for width, field in zip(items(widths), items(fields), strict=True):
+        part = re.fullmatch(r"(\w+)\.fields r\.(\w+)", field)
+        if part:
+            assert width == f"{part[1]}.widths", (name, width, field)
+            for inner, bytes_of in laid_out(part[1]):
+                yield f"{part[2]}.{inner}", bytes_of
+        else:
+            cell = re.fullmatch(r"(?:cast_unsigned w\d+ )?(?:slice_index )?r\.(\w+)(?: (\d+))?", field)
+            yield cell[1].rstrip("_") + (f"[{cell[2]}]" if cell[2] else ""), int(width)
+
+
+def comment_of(record):
+    found = re.search(rf"((?:^///.*\n)+)#\[derive.*\]\npub struct {record} \{{", WIRE, re.M)
+    return re.sub(r"\s*\n/// ?", " ", found[1]) if found else ""
+
+
+def first(field):
+    return re.split(r"[.\[]", field)[0]
+
+
+def renamed(fields, struct):
+    """Fields that the header names otherwise, with their names there, where it lacks none."""
+    ours = list(dict.fromkeys(it for it in fields if it not in STRUCTS[struct]))
+    theirs = [it for it in STRUCTS[struct] if it not in fields]
+    return dict(zip(ours, theirs)) if len(ours) == len(theirs) else {}
+
+
+def hold_record(name):
+    comment = comment_of(TABLES[name][0])
+    told = re.search(r"(?:the (beginning|rest) of )?`struct (fuse_\w+)`, (\d+) bytes", comment)
+    fields = list(laid_out(name))
+    size = sum(width for _, width in fields)
+    if not told or int(told[3]) != size:
+        faults.append(f"{TABLES[name][0]}: its comment names no struct, or not its {size} bytes")
+        return
+    part, struct = told[1], told[2]
+    if struct not in STRUCTS:
+        absent.append(struct)
+        return
+    begin = f"sizeof(struct {struct}) - {size}" if part == "rest" else "0"
+    if not part:
+        hold(f"sizeof(struct {struct}) == {size}", f"{struct}: its size is {size}")
+    held["records"] += 1
+    names, place = renamed([first(it) for it, _ in fields], struct), 0
+    for field, width in fields:
+        there = names.get(first(field), first(field)) + field[len(first(field)):]
+        if first(there) in STRUCTS[struct]:
+            hold(f"offsetof(struct {struct}, {there}) == {begin} + {place} && "
+                 f"sizeof(((struct {struct} *)0)->{there}) == {width}", f"{struct}: {there}")
+            held["fields"] += 1
+        else:
+            absent.append(f"{struct}.{field}")
+        place += width
+
+
+for table in TABLES:
+    hold_record(table)
+implemented = re.findall(r"^impl ByteValued for ([A-Z]\w+)", WIRE, re.M)
+faults += [f"{it}: it has no table that can be read" for it in implemented if it not in {it[0] for it in TABLES.values()}]
+
+# ---- numbers
+
+
+def hold_number(names, text, needed=True):
+    number, _, bits = text.replace("_", "").partition("<<")
+    value = int(number) << int(bits or 0)
+    name = next((it for it in names if it in NAMES), None)
+    if name:
+        hold(f"(unsigned long long)(unsigned{' long long' * (value >= 1 << 32)})({name}) == {value}", f"{name}: {value}")
+        held["numbers"] += 1
+    elif needed:
+        absent.append(names[0])
+
+
+def plain(prefix, name):
+    """The names of the header that are this one, however its words are joined."""
+    own = prefix + re.sub(r"(?<=[a-z0-9])(?=[A-Z])", "_", name).upper()
+    return [it for it in sorted(NAMES) if it.replace("_", "") == own.replace("_", "")] or [own]
+
+
+for opcode, number in re.findall(r"^number_of (\w+) = (\d+)$", NUMBERS, re.M):
+    hold_number(plain("FUSE_", opcode), number)
+notices = re.search(r"pub enum NotifyOpcode \{(.*?)\n\}", FLAGS, re.S)[1]
+for notice, number in re.findall(r"^    (?!CodeMax)(\w+) = (\d+),", notices, re.M):
+    hold_number(plain("FUSE_NOTIFY_", notice), number)
+for comment, flag in re.findall(r"((?:^    ///.*\n)+)    pub const \w+: (?:\w+) = \w+\((1 << \d+)\);", FLAGS, re.M):
+    told = re.search(r"`(F(?:USE|OPEN|ATTR)_\w+)`", comment)
+    if told:
+        hold_number([told[1]], flag)
+    else:
+        faults.append(f"a flag of {flag}: its comment names none of the kernel's")
+# (the minor version is the header's own)
+for name, value in re.findall(r"^pub const (?!\w*MINOR_VERSION)(\w+): u\d+ = ([\d_ <]+);", FLAGS, re.M):
+    hold_number([f"FUSE_{name}", name], value, False)
+
+if sys.argv[1:]:
+    print(*lines, sep="\n")
+    sys.exit()
+result = compiled(["-std=c11", "-Wall", "-Wextra", "-Werror", "-fsyntax-only"], "\n".join(lines))
+faults += [it for it in result.stderr.split("\n") if "error" in it]
+print(*faults, sep="\n", end="\n" if faults else "")
+print(", ".join(f"{number} {what}" for what, number in held.items())
+      + " are as <linux/fuse.h> has them; not there yet: " + ", ".join(dict.fromkeys(absent or ["none"])))
+sys.exit(1 if faults else 0)
