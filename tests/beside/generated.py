@@ -1,10 +1,14 @@
 """Well-formed requests by a seed, for replaced.py, and what of their replies does not depend on the folder."""
 import collections
 import os
+import pathlib
 import struct
+import sys
 
 import requests
-from opcodes import Op
+
+sys.path.append(str(pathlib.Path(__file__).resolve().parents[1] / "lib"))
+from shapes import SHAPES, Op  # noqa: E402
 
 ROOT = 1
 # How many requests a session begins with, by which it gets its first nodes and handles.
@@ -23,11 +27,9 @@ Request = collections.namedtuple("Request", "opcode node parts room cuts owner e
 OF_FOLDER = (0, 8), (24, 48), (48, 60)
 # How many bytes of a reply's statistics say how full the file system is.
 FULLNESS = 16, 56
-# How often each opcode is asked.
-OPCODES = {1: 14, 2: 1, 3: 6, 4: 8, 5: 2, 6: 3, 8: 3, 9: 3, 10: 3, 11: 1, 12: 3, 13: 3, 14: 8, 15: 10, 16: 10, 17: 2,
-           18: 1, 20: 2, 21: 5, 22: 6, 23: 4, 24: 2, 25: 2, 27: 3, 28: 7, 29: .5, 30: 1, 31: .3, 32: .3, 33: .3, 34: 3,
-           35: 6, 36: .3, 37: .3, 39: .3, 40: .3, 41: .3, 42: .5, 43: 4, 44: 7, 45: 3, 46: 5, 47: 4, 50: 1, 51: .3,
-           52: .3, 99: .3}
+ATTRIBUTES = b"user.one", b"user.two", b"trusted.x", b"bad"
+# How often each opcode is asked, and two numbers that are none.
+OPCODES = {**{opcode: shape.often for opcode, shape in SHAPES.items() if shape.often}, 52: .3, 99: .3}
 
 
 def fill(folder):
@@ -187,7 +189,7 @@ class Maker:
     def make(self):
         opcode = self.rng.choices(list(OPCODES), OPCODES.values())[0]
         node, parts, room = self.body(opcode)
-        extensions = self.extensions() if opcode in (Op.SYMLINK, Op.MKNOD, Op.MKDIR, Op.CREATE) else b""
+        extensions = self.extensions() if opcode in SHAPES and "extensions" in SHAPES[opcode].parts else b""
         if self.rng.random() < .03 and opcode not in (2, 42):
             room += self.some(8, 100)
         uid = self.some(0, 0, 0, 1000)
@@ -220,101 +222,58 @@ class Maker:
 
     def body(self, opcode):
         """The node, the parts of the body, and the room for the reply."""
-        for of in (self.of_names, self.of_files, self.of_nodes):
-            made = of(opcode)
-            if made:
-                return made
-        return self.node(), [bytes(64)], 16 + 40
-
-    def of_names(self, opcode):
-        node, name = self.folder(), self.name()
-        pack = struct.pack
-        if opcode == Op.LOOKUP:
-            return node, [name], 144
-        if opcode == Op.SYMLINK:
-            return node, [name, self.some(b"to", b"d1/f3", b"x" * 200), b"\0"], 144
-        if opcode == Op.MKNOD:
-            mode, rdev = self.some(0o100644, 0o010600, 0o020600, 0), self.some(0, 0x105)
-            return node, [pack("<IIII", mode, rdev, 0o22, 0), name], 144
-        if opcode == Op.MKDIR:
-            return node, [pack("<II", self.some(0o755, 0o1777), 0o22), name], 144
-        if opcode in (Op.UNLINK, Op.RMDIR):
-            return node, [name], 16
-        if opcode in (Op.RENAME, Op.RENAME2):
-            flags = [pack("<II", self.some(0, 1, 2, 4, 0xFFFF), 0)] if opcode == Op.RENAME2 else []
-            return node, [self.folder(), *flags, name, self.name()], 16
-        if opcode == Op.LINK:
-            return node, [self.node(), name], 144
-        if opcode == Op.CREATE:
-            flags, mode = self.some(0, 2, 1, 0o200 | 2, 0o1000 | 2), self.some(0o644, 0o4755)
-            return node, [pack("<IIII", flags, mode, 0o22, self.some(0, 1)), name], 160
-        return None
-
-    def of_files(self, opcode):
-        of_directories = Op.READDIR, Op.RELEASEDIR, Op.FSYNCDIR, Op.READDIRPLUS
-        node, handle = self.opened("directory" if opcode in of_directories else "file")
-        pack = struct.pack
-        if opcode in (Op.READ, Op.READDIR, Op.READDIRPLUS):
-            size = self.some(0, 1, 100, 4096, 65536) if opcode == Op.READ else self.some(0, 40, 200, 1000, 4096, 32768)
-            place = self.some(0, 10, 2000, 2**63 - 1) if opcode == Op.READ else self.some(0, 0, 0, 3, 2**62)
-            return node, [handle, place, pack("<IIQII", size, self.some(0, 2), 7, 0, 0)], 16 + size
-        if opcode == Op.WRITE:
-            data = self.rng.randbytes(self.some(0, 1, 100, 4096, 70000))
-            flags = pack("<IIQII", len(data), self.some(0, 1, 2, 4), 7, self.some(0, 0, 0o2000), 0)
-            return node, [handle, self.some(0, 10, 2000), flags, data], 24
-        if opcode in (Op.RELEASE, Op.RELEASEDIR):
-            return node, [handle, pack("<IIQ", 0, self.some(0, 1, 2) if opcode == Op.RELEASE else 0, 0)], 16
-        if opcode in (Op.FSYNC, Op.FSYNCDIR):
-            return node, [handle, pack("<II", self.some(0, 1), 0)], 16
-        if opcode == Op.FLUSH:
-            return node, [handle, bytes(16)], 16
-        if opcode == Op.FALLOCATE:
-            mode = pack("<II", self.some(0, 1, 3), 0)
-            return node, [handle, self.some(0, 10), self.some(0, 100, 5000), mode], 16
-        if opcode == Op.LSEEK:
-            return node, [handle, self.some(0, 5), pack("<II", self.some(0, 1, 2, 3, 4, 9), 0)], 24
-        if opcode == Op.COPY_FILE_RANGE:
-            other, to = self.opened("file")
-            return node, [handle, 0, other, to, self.some(0, 10000), self.some(1, 500), 0], 24
-        return None
-
-    def of_nodes(self, opcode):
-        node, pack = self.node(), struct.pack
-        names = b"user.one\0", b"user.two\0", b"trusted.x\0", b"bad\0"
-        if opcode == Op.FORGET:
-            return node, [self.some(0, 1, 2)], self.some(0, 16)
+        shape = SHAPES.get(opcode)
+        if not shape or shape.about == "unread":
+            return self.node(), [bytes(64)], 16 + 40
         if opcode == Op.BATCH_FORGET:
-            return 0, [pack("<II", 2, 0), node, self.some(0, 1), self.node(), 1], 0
+            return 0, [struct.pack("<II", 2, 0), self.node(), self.some(0, 1), self.node(), 1], 0
         if opcode in (Op.GETATTR, Op.SETATTR):
-            owner, handle = self.opened("file")
-            has = self.some(0, 0, 1)
-            if opcode == Op.GETATTR:
-                return owner if has else node, [pack("<II", has, 0), handle], 120
-            valid = self.some(1, 2, 4, 8, 16 + 32, 0x80 + 0x100 + 16 + 32, 8 + 64, 0x400, 6, 1 << 11, 0)
-            size, mode = self.some(0, 10, 5000, 2**40), self.some(0o644, 0o4755, 0o100600)
-            rest = pack("<QQQQQIIIIIIII", size, 0, 100, 200, 300, 1, 2, 3, mode, 0, self.some(0, 5), self.some(0, 6), 0)
-            return owner if valid & 64 else node, [pack("<II", valid, 0), handle, rest], 120
-        if opcode == Op.READLINK:
-            return node, [], 16 + 4096
-        if opcode in (Op.OPEN, Op.OPENDIR):
-            flags = self.some(0, 2, 1, 2, 0o1000 | 2, 0o2000 | 2) if opcode == Op.OPEN else 0
-            return self.folder() if opcode == Op.OPENDIR else node, [pack("<II", flags, self.some(0, 1))], 32
-        if opcode == Op.STATFS:
-            return node, [], 96
-        if opcode == Op.SETXATTR:
-            value = self.rng.randbytes(self.some(0, 3, 300))
-            record = pack("<IIII", len(value), self.some(0, 1, 2), self.some(0, 1), 0)
-            return node, [record[:16 if self.long_setxattr else 8], self.some(*names), value], 16
-        if opcode in (Op.GETXATTR, Op.LISTXATTR):
-            size = self.some(0, 1, 3, 100, 65536)
-            name = [self.some(*names)] if opcode == Op.GETXATTR else []
-            return node, [pack("<II", size, 0), *name], 16 + max(size, 8)
-        if opcode == Op.REMOVEXATTR:
-            return node, [self.some(*names)], 16
-        if opcode == Op.ACCESS:
-            return node, [pack("<II", self.some(0, 1, 2, 4, 7), 0)], 16
-        if opcode == Op.INTERRUPT:
-            return node, [bytes(8)], 16
-        if opcode == Op.SYNCFS:
-            return node, [bytes(8)], 16
-        return None
+            return self.attributes(opcode)
+        values = {it.name: self.some(*it.values or [0]) for it in shape.fields}
+        node = self.refer(shape.about, values)
+        after = [self.part(it) for it in shape.parts if it != "extensions"]
+        if opcode in (Op.WRITE, Op.SETXATTR):
+            values["size"] = len(after[-1])
+        record = [values[it.name] if it.size == 8 else struct.pack("<I", values[it.name]) for it in shape.fields]
+        if opcode == Op.SETXATTR and self.long_setxattr:
+            record.append(struct.pack("<II", self.some(0, 1), 0))
+        return node, [*record, *after], self.room(shape, values)
+
+    def refer(self, about, values):
+        """The node that a request is about; the fields that are nodes and handles are filled in."""
+        if "to_folder" in values:
+            values["to_folder"] = self.folder()
+        if "of_node" in values:
+            values["of_node"] = self.node()
+        if "to_node" in values:
+            values["to_node"], values["to_handle"] = self.opened("file")
+        if about not in ("file", "directory"):
+            return self.folder() if about == "folder" else self.node()
+        node, values["handle"] = self.opened(about)
+        return node
+
+    def part(self, what):
+        if what == "name":
+            return self.name()
+        if what == "attribute":
+            return self.some(*ATTRIBUTES) + b"\0"
+        if what == "text":
+            return self.some(b"to", b"d1/f3", b"x" * 200) + b"\0"
+        return self.rng.randbytes(self.some(0, 3, 300) if what == "value" else self.some(0, 1, 100, 4096, 70000))
+
+    def room(self, shape, values):
+        """For the reply: for the length of an attribute too, and for the longest link."""
+        if shape.reply is None:
+            return 16 + max(values.get("size", 4096), 8 if shape.about == "node" else 0)
+        return shape.reply or self.some(0, 16)
+
+    def attributes(self, opcode):
+        node, pack = self.node(), struct.pack
+        owner, handle = self.opened("file")
+        has = self.some(0, 0, 1)
+        if opcode == Op.GETATTR:
+            return owner if has else node, [pack("<II", has, 0), handle], 120
+        valid = self.some(1, 2, 4, 8, 16 + 32, 0x80 + 0x100 + 16 + 32, 8 + 64, 0x400, 6, 1 << 11, 0)
+        size, mode = self.some(0, 10, 5000, 2**40), self.some(0o644, 0o4755, 0o100600)
+        rest = pack("<QQQQQIIIIIIII", size, 0, 100, 200, 300, 1, 2, 3, mode, 0, self.some(0, 5), self.some(0, 6), 0)
+        return owner if valid & 64 else node, [pack("<II", valid, 0), handle, rest], 120

@@ -27,6 +27,7 @@ import tempfile
 import beside
 import generated
 import requests
+from shapes import Op, record
 
 DAEMON = ["--socket-path", "SOCKET", "--shared-dir", "SHARE", "--sandbox", "none", "--seccomp", "none",
           "--no-announce-submounts", "--xattr"]
@@ -212,19 +213,20 @@ def reply_to(daemon, line):
 
 def give_back():
     """Requests for entries and handles, each in a room that is too short for its reply, and what was kept."""
-    asked = [("LOOKUP", 1, b"l\0", "143"), ("MKDIR", 9, struct.pack("<II", 0o755, 0) + b"a\0", "16+127"),
-             ("MKNOD", 8, struct.pack("<IIII", 0o100644, 0, 0, 0) + b"b\0", "16"), ("SYMLINK", 6, b"c\0d\0", "40"),
-             ("LINK", 13, struct.pack("<Q", 2) + b"e\0", "100"), ("OPEN", 14, bytes(8), "16+15"),
-             ("OPENDIR", 27, bytes(8), "31"), ("CREATE", 35, struct.pack("<IIII", 2, 0o644, 0, 0) + b"f\0", "16+128+15"),
-             ("CREATE", 35, struct.pack("<IIII", 2, 0o644, 0, 0) + b"g\0", "16")]
+    create = record(Op.CREATE, flags=2, mode=0o644)
+    asked = [(Op.LOOKUP, b"l\0", "143"), (Op.MKDIR, record(Op.MKDIR, mode=0o755) + b"a\0", "16+127"),
+             (Op.MKNOD, record(Op.MKNOD, mode=0o100644) + b"b\0", "16"), (Op.SYMLINK, b"c\0d\0", "40"),
+             (Op.LINK, record(Op.LINK, of_node=2) + b"e\0", "100"), (Op.OPEN, record(Op.OPEN), "16+15"),
+             (Op.OPENDIR, record(Op.OPENDIR), "31"), (Op.CREATE, create + b"f\0", "16+128+15"),
+             (Op.CREATE, create + b"g\0", "16")]
     with tempfile.TemporaryDirectory(dir=beside.folder) as at, Daemon([replaced], at, []) as here:
         here.ask(INIT)
         here.ask(requests.line("16+128", requests.request(1, b"h2\0")))
         before, faults = here.descriptors(), []
-        for name, opcode, body, room in asked:
+        for opcode, body, room in asked:
             answer = here.ask(requests.line(room, requests.request(opcode, body)))
             if not answer.startswith("0 ") or here.descriptors() != before:
-                faults.append(f"{name} in a room of {room}: {answer}; {before} descriptors before it, "
+                faults.append(f"{opcode.name} in a room of {room}: {answer}; {before} descriptors before it, "
                               f"{here.descriptors()} after it")
         # An item that does not fit, whose node the client does not know: it is looked up.
         handle = struct.unpack_from("<Q", reply_to(here, requests.line("32", requests.request(27, bytes(8)))))[0]

@@ -4,13 +4,18 @@ one too."""
 import ctypes
 import errno
 import os
+import pathlib
 import shutil
 import stat
 import struct
+import sys
 import time
 import zlib
 
 import calls
+
+sys.path.append(str(pathlib.Path(__file__).resolve().parents[1] / "lib"))
+from shapes import Op, record  # noqa: E402
 
 LIBC = calls.LIBC
 ROOM = 1 << 17
@@ -102,7 +107,7 @@ class Library:
         if self.of.nizwarf_new_at(ctypes.byref(self.server), 4096, 1 << 20, ctypes.byref(settings)):
             raise RuntimeError("there is no server")
         self.unique, self.group = 0, 0
-        self.ask(26, 0, struct.pack("<IIII", 7, 31, 131072, 0x3BFFFFFB & ~(1 << 26)))
+        self.ask(Op.INIT, 0, record(Op.INIT, major=7, minor=31, readahead=131072, flags=0x3BFFFFFB & ~(1 << 26)))
 
     def end(self):
         self.of.nizwarf_end_at(ctypes.byref(self.server))
@@ -143,7 +148,7 @@ class Library:
         return struct.unpack_from("<Q", bytes_)[0], self.attributes(bytes_, 40)
 
     def getattr(self, node):
-        return self.attributes(self.ask(3, node, bytes(16)), 16)
+        return self.attributes(self.ask(Op.GETATTR, node, record(Op.GETATTR)), 16)
 
 
 def way(file):
@@ -296,7 +301,7 @@ class Session:
 
     def lookup(self, of, name):
         parent = self.pick(of)
-        if answers := self.both(lambda: self.library.entry(1, parent, name + b"\0"),
+        if answers := self.both(lambda: self.library.entry(Op.LOOKUP, parent, name + b"\0"),
                                 lambda: look(self.file(parent), name), (parent,)):
             self.learn(answers)
 
@@ -313,20 +318,21 @@ class Session:
 
     def create(self, of, name, mode):
         flags = os.O_CREAT | os.O_WRONLY | os.O_EXCL
-        self.make(of, name, 35, struct.pack("<IIII", flags, 0o100000 | mode, 0, 0) + name + b"\0",
+        self.make(of, name, Op.CREATE, record(Op.CREATE, flags=flags, mode=0o100000 | mode) + name + b"\0",
                   lambda directory: os.close(os.open(name, flags, mode, dir_fd=directory)))
 
     def mknod(self, of, name, kind, mode):
         bits, device = SPECIAL.get(kind, (stat.S_IFREG, 0))
-        self.make(of, name, 8, struct.pack("<IIII", bits | mode, device, 0, 0) + name + b"\0",
+        self.make(of, name, Op.MKNOD, record(Op.MKNOD, mode=bits | mode, rdev=device) + name + b"\0",
                   lambda directory: os.mknod(name, bits | mode, device, dir_fd=directory))
 
     def mkdir(self, of, name, mode):
-        self.make(of, name, 9, struct.pack("<II", mode, 0) + name + b"\0",
+        self.make(of, name, Op.MKDIR, record(Op.MKDIR, mode=mode) + name + b"\0",
                   lambda directory: os.mkdir(name, mode, dir_fd=directory))
 
     def symlink(self, of, name, text):
-        self.make(of, name, 6, name + b"\0" + text + b"\0", lambda directory: os.symlink(text, name, dir_fd=directory))
+        self.make(of, name, Op.SYMLINK, name + b"\0" + text + b"\0",
+                  lambda directory: os.symlink(text, name, dir_fd=directory))
 
     def link(self, of, into, name):
         node, parent = self.pick(of), self.pick(into)
@@ -335,8 +341,8 @@ class Session:
             calls.check(LIBC.linkat(self.file(node), b"", self.file(parent), name, AT_EMPTY_PATH))
             return look(self.file(parent), name)
 
-        body = struct.pack("<Q", node) + name + b"\0"
-        if answers := self.both(lambda: self.library.entry(13, parent, body), call, (node, parent)):
+        body = record(Op.LINK, of_node=node) + name + b"\0"
+        if answers := self.both(lambda: self.library.entry(Op.LINK, parent, body), call, (node, parent)):
             self.learn(answers)
             self.compare(node)
 
@@ -350,10 +356,10 @@ class Session:
                 self.compare(node)
 
     def unlink(self, of, name):
-        self.remove(of, name, 10, os.unlink)
+        self.remove(of, name, Op.UNLINK, os.unlink)
 
     def rmdir(self, of, name):
-        self.remove(of, name, 11, os.rmdir)
+        self.remove(of, name, Op.RMDIR, os.rmdir)
 
     def rename(self, of, name, into, new, flags):
         old_parent, new_parent = self.pick(of), self.pick(into)
@@ -362,8 +368,9 @@ class Session:
 
         def request():
             if flags:
-                return self.library.ask(45, old_parent, struct.pack("<QII", new_parent, flags, 0) + names)
-            return self.library.ask(12, old_parent, struct.pack("<Q", new_parent) + names)
+                body = record(Op.RENAME2, to_folder=new_parent, flags=flags) + names
+                return self.library.ask(Op.RENAME2, old_parent, body)
+            return self.library.ask(Op.RENAME, old_parent, record(Op.RENAME, to_folder=new_parent) + names)
 
         def call():
             calls.check(LIBC.renameat2(self.file(old_parent), name, self.file(new_parent), new, flags))
@@ -378,12 +385,11 @@ class Session:
         file, kind = self.file(node), self.nodes[node].kind
         if what == "mode" and kind == "l":
             return
-        # (the words of fuse_setattr_in: which hold, and then each)
         # (a kernel that leaves privileges to the tree asks for them by 0x800)
         valid = {"mode": 1, "owner": 6 if kind == "d" else 0x806, "size": 8, "times": 0x30, "now": 0x1B0}[what]
         seconds, nanoseconds = when if what == "times" else (0, 0)
-        body = struct.pack("<IIQQQQQQIIIIIIII", valid, 0, 0, size, 0, seconds, seconds, 0, nanoseconds, nanoseconds, 0,
-                           mode, 0, *owner, 0)
+        body = record(Op.SETATTR, valid=valid, size=size, atime=seconds, mtime=seconds, atimensec=nanoseconds,
+                      mtimensec=nanoseconds, mode=mode, uid=owner[0], gid=owner[1])
         same = what == "size" and kind == "f" and os.fstat(file).st_size == size
 
         def call():
@@ -400,16 +406,18 @@ class Session:
                 calls.check(LIBC.utimensat(file, b"", times, AT_EMPTY_PATH))
 
         self.operation = "SETATTR of the size that it has" if same else f"SETATTR of {what}"
-        if answers := self.both(lambda: self.library.attributes(self.library.ask(4, node, body), 16), call, (node,)):
+        ask = lambda: self.library.attributes(self.library.ask(Op.SETATTR, node, body), 16)
+        if answers := self.both(ask, call, (node,)):
             self.compare(node, answers[0])
             if what == "times" and answers[0]["mtime"] != when:
                 self.note("another time")
 
     def write(self, of, at, length, byte):
         node = self.pick(of)
-        body = struct.pack("<QQIIQII", 0, at, length, 0, 0, 0, 0) + bytes([byte]) * length
+        body = record(Op.WRITE, offset=at, size=length) + bytes([byte]) * length
         call = self.on_file(node, os.O_WRONLY, lambda file: os.pwrite(file, bytes([byte]) * length, at))
-        if answers := self.both(lambda: struct.unpack_from("<I", self.library.ask(16, node, body))[0], call, (node,)):
+        ask = lambda: struct.unpack_from("<I", self.library.ask(Op.WRITE, node, body))[0]
+        if answers := self.both(ask, call, (node,)):
             if answers[0] != answers[1]:
                 self.note("another count")
             self.compare(node)
@@ -423,17 +431,17 @@ class Session:
 
     def read(self, of, at, length):
         node = self.pick(of)
-        body = struct.pack("<QQIIQII", 0, at, length, 0, 0, 0, 0)
+        body = record(Op.READ, offset=at, size=length)
         call = self.on_file(node, os.O_RDONLY, lambda file: os.pread(file, length, at))
         self.operation += "" if length else " of no byte"
-        answers = self.both(lambda: self.library.ask(15, node, body, 16 + length), call, (node,))
+        answers = self.both(lambda: self.library.ask(Op.READ, node, body, 16 + length), call, (node,))
         if answers and answers[0] != answers[1]:
             self.note("other bytes")
 
     def open(self, of, flags):
         node = self.pick(of)
         if self.nodes[node].kind == "f":
-            if self.both(lambda: self.library.ask(14, node, struct.pack("<II", flags, 0)),
+            if self.both(lambda: self.library.ask(Op.OPEN, node, record(Op.OPEN, flags=flags)),
                          lambda: opened(self.file(node), flags, lambda file: None), (node,)):
                 self.compare(node)
 
@@ -445,7 +453,8 @@ class Session:
                 raise OSError(errno.EINVAL, "")
             return os.readlink(b"", dir_fd=self.file(node))
 
-        if (answers := self.both(lambda: self.library.ask(5, node), call, (node,))) and answers[0] != answers[1]:
+        answers = self.both(lambda: self.library.ask(Op.READLINK, node), call, (node,))
+        if answers and answers[0] != answers[1]:
             self.note("another text")
 
     def may_have(self, node, key):
@@ -456,19 +465,23 @@ class Session:
         node = self.pick(of)
         if self.may_have(node, key):
             value = bytes([byte]) * length
-            self.both(lambda: self.library.ask(21, node, struct.pack("<II", length, flags) + key + b"\0" + value),
+            body = record(Op.SETXATTR, size=length, flags=flags) + key + b"\0" + value
+            self.both(lambda: self.library.ask(Op.SETXATTR, node, body),
                       lambda: os.setxattr(way(self.file(node)), key, value, flags), (node,))
 
     def getxattr(self, of, key):
         node = self.pick(of)
         if self.may_have(node, key):
-            if answers := self.both(lambda: self.library.ask(22, node, struct.pack("<II", 1000, 0) + key + b"\0"),
+            if answers := self.both(lambda: self.value(node, key, 1000),
                                     lambda: os.getxattr(way(self.file(node)), key), (node,)):
                 if answers[0] != answers[1]:
                     self.note("another value")
 
+    def value(self, node, key, size):
+        return self.library.ask(Op.GETXATTR, node, record(Op.GETXATTR, size=size) + key + b"\0")
+
     def keys(self, node):
-        return sorted(self.library.ask(23, node, struct.pack("<II", 60000, 0)).split(b"\0")[:-1])
+        return sorted(self.library.ask(Op.LISTXATTR, node, record(Op.LISTXATTR, size=60000)).split(b"\0")[:-1])
 
     def listxattr(self, of):
         node = self.pick(of)
@@ -480,7 +493,7 @@ class Session:
     def removexattr(self, of, key):
         node = self.pick(of)
         if self.may_have(node, key):
-            self.both(lambda: self.library.ask(24, node, key + b"\0"),
+            self.both(lambda: self.library.ask(Op.REMOVEXATTR, node, key + b"\0"),
                       lambda: os.removexattr(way(self.file(node)), key), (node,))
 
     def fallocate(self, of, at, length, mode):
@@ -493,7 +506,8 @@ class Session:
             self.held.add(self.nodes[node].inode)
         before = opened(self.file(node), os.O_RDONLY, lambda file: os.pread(file, 1 << 20, 0))
         call = lambda: opened(self.file(node), os.O_RDWR, lambda file: calls.allocate(file, mode, at, length))
-        if self.both(lambda: self.library.ask(43, node, struct.pack("<QQQII", 0, at, length, mode, 0)), call, (node,)):
+        body = record(Op.FALLOCATE, offset=at, length=length, mode=mode)
+        if self.both(lambda: self.library.ask(Op.FALLOCATE, node, body), call, (node,)):
             self.compare(node)
         elif self.found:
             # Of the two one alone has it: the bytes are as they were.
@@ -506,9 +520,9 @@ class Session:
             return
         if self.nodes[node].inode in self.held:
             self.operation += " after FALLOCATE"
-        body = struct.pack("<QQII", 0, at, whence, 0)
+        body = record(Op.LSEEK, offset=at, whence=whence)
         call = self.on_file(node, os.O_RDONLY, lambda file: os.lseek(file, at, whence))
-        answers = self.both(lambda: struct.unpack("<Q", self.library.ask(46, node, body))[0], call, (node,))
+        answers = self.both(lambda: struct.unpack("<Q", self.library.ask(Op.LSEEK, node, body))[0], call, (node,))
         if answers and answers[0] != answers[1]:
             self.note("another place")
 
@@ -522,9 +536,9 @@ class Session:
             return
         count = given if part < 0.5 else max(1, int(given * part))
         if batch:
-            self.library.ask(42, 0, struct.pack("<IIQQ", 1, 0, node, count))
+            self.library.ask(Op.BATCH_FORGET, 0, record(Op.BATCH_FORGET, count=1) + struct.pack("<QQ", node, count))
         else:
-            self.library.ask(2, node, struct.pack("<Q", count))
+            self.library.ask(Op.FORGET, node, record(Op.FORGET, lookups=count))
         self.nodes[node].given -= count
         if not self.nodes[node].given:
             os.close(self.nodes.pop(node).file)
@@ -565,8 +579,8 @@ class Session:
 
     def pieces(self, node, plus, size):
         at, names = 0, []
-        opcode = 44 if plus else 28
-        while bytes_ := self.library.ask(opcode, node, struct.pack("<QQIIQII", 0, at, size, 0, 0, 0, 0), 16 + size):
+        opcode = Op.READDIRPLUS if plus else Op.READDIR
+        while bytes_ := self.library.ask(opcode, node, record(opcode, offset=at, size=size), 16 + size):
             place = 0
             while place < len(bytes_):
                 entry = bytes_[place:place + 128] if plus else None
@@ -587,7 +601,7 @@ class Session:
         for node, of in list(self.nodes.items()):
             given = of.given - before.get(node, 0)
             if given and node != 1:
-                self.library.ask(2, node, struct.pack("<Q", given))
+                self.library.ask(Op.FORGET, node, record(Op.FORGET, lookups=given))
             of.given -= given
             if node not in before:
                 os.close(self.nodes.pop(node).file)
@@ -599,23 +613,23 @@ class Session:
         if of.kind == "f":
             theirs = opened(of.file, os.O_RDONLY, lambda file: os.pread(file, 1 << 20, 0))
             ours = b""
-            while piece := self.library.ask(15, node, struct.pack("<QQIIQII", 0, len(ours), 60000, 0, 0, 0, 0)):
+            while piece := self.library.ask(Op.READ, node, record(Op.READ, offset=len(ours), size=60000)):
                 ours += piece
             if ours != theirs:
                 self.note("contents")
-        elif of.kind == "l" and self.library.ask(5, node) != os.readlink(b"", dir_fd=of.file):
+        elif of.kind == "l" and self.library.ask(Op.READLINK, node) != os.readlink(b"", dir_fd=of.file):
             self.note("text of a symbolic link")
         if of.kind != "l":
-            keys, most = self.keys(node), struct.pack("<II", 60000, 0)
+            keys = self.keys(node)
             if keys != keys_of(of.file):
                 self.note("attributes")
             for key in keys if keys == keys_of(of.file) else []:
-                if self.library.ask(22, node, most + key + b"\0") != os.getxattr(way(of.file), key):
+                if self.value(node, key, 60000) != os.getxattr(way(of.file), key):
                     self.note("value of an attribute")
         if of.kind == "d" and depth < 40:
             for name, _ in self.listing(node, depth % 2 == 0):
                 if name not in (b".", b".."):
-                    child = self.library.entry(1, node, name + b"\0")
+                    child = self.library.entry(Op.LOOKUP, node, name + b"\0")
                     self.learn((child, look(of.file, name)))
                     self.walk(child[0], depth + 1)
 
@@ -625,10 +639,10 @@ class Session:
         self.empty(1)
         for node, of in self.nodes.items():
             if of.given and node != 1:
-                self.library.ask(2, node, struct.pack("<Q", of.given))
+                self.library.ask(Op.FORGET, node, record(Op.FORGET, lookups=of.given))
         for key in os.listxattr(way(self.file(1))):
-            self.library.ask(24, 1, os.fsencode(key) + b"\0")
-        blocks, free, _, files, left = struct.unpack_from("<QQQQQ", self.library.ask(17, 1))
+            self.library.ask(Op.REMOVEXATTR, 1, os.fsencode(key) + b"\0")
+        blocks, free, _, files, left = struct.unpack_from("<QQQQQ", self.library.ask(Op.STATFS, 1))
         if free != blocks or left != files - 1:
             self.note("something is left once all is given back")
         return self.found
@@ -643,7 +657,7 @@ class Session:
         for name, kind in self.pieces(node, False, 60000):
             if name not in (b".", b".."):
                 if kind == 4:
-                    child = self.library.entry(1, node, name + b"\0")
+                    child = self.library.entry(Op.LOOKUP, node, name + b"\0")
                     self.learn((child, look(self.file(node), name)))
                     self.empty(child[0])
-                self.library.ask(11 if kind == 4 else 10, node, name + b"\0")
+                self.library.ask(Op.RMDIR if kind == 4 else Op.UNLINK, node, name + b"\0")

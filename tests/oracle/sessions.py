@@ -31,8 +31,9 @@ import struct
 import sys
 
 HERE = pathlib.Path(__file__).resolve().parent
-sys.path.append(str(HERE.parents[1] / "tools/lib"))
-from opcodes import Op  # noqa: E402
+sys.path.append(str(HERE.parent / "lib"))
+import shapes  # noqa: E402
+from shapes import SHAPES, Op  # noqa: E402
 
 KINDS = ["valid", "mixed", "truncated", "lengths", "rooms", "cuts", "extensions", "directories", "transfers",
          "entries", "limits", "hostile", "mutated", "full", "told", "badline"]
@@ -47,19 +48,11 @@ ALL_EXTENSIONS = INIT_EXT | SECURITY_CTX | CREATE_SUPP_GROUP
 KNOWN = 0x117fbffffff
 SUPPORTED = 0x10448449829
 EVERY_BIT = (1 << 64) - 1
-# The lengths of replies that have a record and no more.
-REPLIES = {Op.LOOKUP: 144, Op.GETATTR: 120, Op.SETATTR: 120, Op.SYMLINK: 144, Op.MKNOD: 144, Op.MKDIR: 144,
-           Op.LINK: 144, Op.OPEN: 32, Op.WRITE: 24, Op.STATFS: 96, Op.INIT: 80, Op.OPENDIR: 32, Op.CREATE: 160,
-           Op.LSEEK: 24, Op.COPY_FILE_RANGE: 24}
 OPCODES = list(Op)
-NAMING = [Op.LOOKUP, Op.SYMLINK, Op.MKNOD, Op.MKDIR, Op.UNLINK, Op.RMDIR, Op.RENAME, Op.LINK, Op.SETXATTR,
-          Op.GETXATTR, Op.REMOVEXATTR, Op.CREATE, Op.RENAME2]
-ANSWERING_ENTRIES = [Op.LOOKUP, Op.SYMLINK, Op.MKNOD, Op.MKDIR, Op.LINK, Op.CREATE]
-EXTENDED = [Op.SYMLINK, Op.MKNOD, Op.MKDIR, Op.CREATE]
+NAMING = shapes.having(lambda it: {"name", "attribute"} & set(it.parts))
+ANSWERING_ENTRIES = shapes.having(lambda it: it.reply in (144, 160))
+EXTENDED = shapes.having(lambda it: "extensions" in it.parts)
 DIRECTORY = [Op.READDIR, Op.READDIRPLUS]
-# Whose record no server here reads.
-NEVER_READ = [Op.GETLK, Op.SETLK, Op.SETLKW, Op.BMAP, Op.IOCTL, Op.POLL, Op.NOTIFY_REPLY, Op.SETUPMAPPING,
-              Op.REMOVEMAPPING, Op.TMPFILE]
 # What makes no call that is answered.
 UNANSWERED = [Op.FORGET, Op.INTERRUPT, Op.DESTROY, Op.BATCH_FORGET]
 NO_OPCODES = [0, 7, 19, 52, 0xffffffff]
@@ -198,85 +191,80 @@ class Session:
             changed[r.randrange(len(changed))] = r.choice([0, 1, 7, 8, 255, r.getrandbits(8)])
             blocks[i] = bytes(changed)
 
-    def body(self, opcode):
-        """What follows the header, and how long the reply is at most, as far as it can be known."""
-        r, z = self.rng, self.name
-        reply = REPLIES.get(opcode, 16)
-        word = self.process >> 3
-        if opcode in (Op.LOOKUP, Op.UNLINK, Op.RMDIR, Op.REMOVEXATTR):
-            return z() + b"\0", reply
-        if opcode == Op.FORGET:
-            return u64(self.odd64()), 0
-        if opcode == Op.GETATTR:
-            return u32(self.odd32()) + u32(0) + u64(self.odd64()), reply
+    def field(self, it):
+        if it.name == "-":
+            return bytes(it.size)
+        if it.name == "umask":
+            return u32(0o22)
+        if it.name in ("to_folder", "of_node"):
+            return u64(self.node())
+        return u64(self.odd64()) if it.size == 8 else u32(self.odd32())
+
+    def part(self, what):
+        return self.extensions() if what == "extensions" else self.name() + b"\0"
+
+    def record(self, opcode):
+        r = self.rng
         if opcode == Op.SETATTR:
-            return u32(r.choice([0, 0x40, 0xdbf, 0xffffffff, self.odd32()])) + r.randbytes(84), reply
-        if opcode == Op.READLINK:
-            return b"", 16 + word % 300
-        if opcode == Op.SYMLINK:
-            return z() + b"\0" + z() + b"\0" + self.extensions(), reply
-        if opcode == Op.MKNOD:
-            return r.randbytes(16) + z() + b"\0" + self.extensions(), reply
-        if opcode == Op.MKDIR:
-            return r.randbytes(8) + z() + b"\0" + self.extensions(), reply
-        if opcode == Op.RENAME:
-            return u64(self.node()) + z() + b"\0" + z() + b"\0", reply
-        if opcode == Op.LINK:
-            return u64(self.node()) + z() + b"\0", reply
-        if opcode in (Op.OPEN, Op.OPENDIR):
-            return u32(self.odd32()) + u32(self.odd32()), reply
-        if opcode in (Op.READ, Op.WRITE):
-            return self.transfer(opcode)
+            return u32(r.choice([0, 0x40, 0xdbf, 0xffffffff, self.odd32()])) + r.randbytes(84)
+        if opcode in (Op.MKNOD, Op.MKDIR):
+            return r.randbytes(shapes.size(opcode))
         if opcode in (Op.RELEASE, Op.RELEASEDIR):
             flags = r.choice([0, 1, 2, 3, self.odd32()])
-            return u64(self.odd64()) + u32(self.odd32()) + u32(flags) + u64(self.odd64()), reply
-        if opcode in (Op.FSYNC, Op.FSYNCDIR):
-            return u64(self.odd64()) + u32(self.odd32()) + u32(0), reply
-        if opcode == Op.SETXATTR:
-            value = r.randbytes(r.choice([0, 1, 5, 300]))
-            size = len(value) if r.random() < 0.9 else self.odd32()
-            flags = u32(self.odd32())
-            if self.options & SETXATTR_EXT:
-                flags += u32(self.odd32()) + u32(0)
-            return u32(size) + flags + z() + b"\0" + value, reply
+            return u64(self.odd64()) + u32(self.odd32()) + u32(flags) + u64(self.odd64())
         if opcode in (Op.GETXATTR, Op.LISTXATTR):
-            size = r.choice([0, 1, 100, 1 << 20, (1 << 20) + 1, 0xffffffff])
-            name = z() + b"\0" if opcode == Op.GETXATTR else b""
-            return u32(size) + u32(0) + name, 24 if word % 3 == 0 else 16 + word // 3 % 500
+            return u32(r.choice([0, 1, 100, 1 << 20, (1 << 20) + 1, 0xffffffff])) + u32(0)
         if opcode == Op.FLUSH:
-            return u64(self.odd64()) + r.randbytes(8) + u64(self.odd64()), reply
-        if opcode == Op.INIT:
-            return self.init_body(), reply
+            return u64(self.odd64()) + r.randbytes(8) + u64(self.odd64())
+        return b"".join(map(self.field, SHAPES[opcode].fields))
+
+    def reply(self, opcode):
+        """How long the scripted files make a reply whose length depends."""
+        word = self.process >> 3
+        if opcode == Op.READLINK:
+            return 16 + word % 300
+        return 24 if word % 3 == 0 else 16 + word // 3 % 500
+
+    def body(self, opcode):
+        """What follows the header, and how long the reply is at most, as far as it can be known."""
+        r, shape = self.rng, SHAPES.get(opcode)
+        if not shape:
+            return r.randbytes(r.randrange(40)), 16
+        if shape.about == "unread":
+            return r.choice([b"", r.randbytes(r.randrange(60))]), shape.reply
+        if opcode in (Op.READ, Op.WRITE):
+            return self.transfer(opcode)
         if opcode in DIRECTORY:
             size = r.choice([0, 8, 23, 24, 31, 32, 96, 151, 152, 160, 319, 320, 480, 512, 1000, 4096])
             offset = r.choice([0, 0, 0, 1, 2, 3, 7, 22, self.odd64()])
-            return u64(self.odd64()) + u64(offset) + u32(size) + bytes(20), 16 + size
-        if opcode == Op.ACCESS:
-            return u32(self.odd32()) + u32(0), reply
-        if opcode == Op.CREATE:
-            record = u32(self.odd32()) + u32(self.odd32()) + u32(0o22) + u32(self.odd32())
-            return record + z() + b"\0" + self.extensions(), reply
+            return shapes.record(opcode, handle=self.odd64(), offset=offset, size=size), 16 + size
+        if opcode == Op.SETXATTR:
+            return self.setxattr_body(), shape.reply
+        if opcode == Op.INIT:
+            return self.init_body(), shape.reply
         if opcode == Op.INTERRUPT:
-            return r.choice([b"", u64(self.odd64())]), 0
-        if opcode in NEVER_READ:
-            return r.choice([b"", r.randbytes(r.randrange(60))]), reply
-        if opcode == Op.DESTROY:
-            return b"", 0
+            return r.choice([b"", u64(self.odd64())]), shape.reply
         if opcode == Op.BATCH_FORGET:
-            pairs = r.choice([0, 1, 2, 3, 20])
-            count = pairs if r.random() < 0.85 else r.choice([pairs + 1, 65536, 65537, 0xffffffff, 0x10000000])
-            return u32(count) + u32(0) + b"".join(u64(self.node()) + u64(self.odd64()) for _ in range(pairs)), 16
-        if opcode == Op.FALLOCATE:
-            return u64(self.odd64()) + u64(self.odd64()) + u64(self.odd64()) + u32(self.odd32()) + u32(0), reply
-        if opcode == Op.RENAME2:
-            return u64(self.node()) + u32(self.odd32()) + u32(0) + z() + b"\0" + z() + b"\0", reply
-        if opcode == Op.LSEEK:
-            return u64(self.odd64()) + u64(self.odd64()) + u32(self.odd32()) + u32(0), reply
-        if opcode == Op.COPY_FILE_RANGE:
-            return b"".join(u64(self.odd64()) for _ in range(7)), reply
-        if opcode == Op.SYNCFS:
-            return r.choice([b"", u64(0)]), reply
-        return r.randbytes(r.randrange(40)) if opcode != Op.STATFS else b"", reply
+            return self.pairs(), 16
+        if shape.fields and all(it.name == "-" for it in shape.fields):
+            return r.choice([b"", bytes(shapes.size(opcode))]), shape.reply
+        made = self.record(opcode) + b"".join(map(self.part, shape.parts))
+        return made, self.reply(opcode) if shape.reply is None else shape.reply
+
+    def setxattr_body(self):
+        r = self.rng
+        value = r.randbytes(r.choice([0, 1, 5, 300]))
+        size = len(value) if r.random() < 0.9 else self.odd32()
+        flags = u32(self.odd32())
+        if self.options & SETXATTR_EXT:
+            flags += u32(self.odd32()) + u32(0)
+        return u32(size) + flags + self.name() + b"\0" + value
+
+    def pairs(self):
+        r = self.rng
+        pairs = r.choice([0, 1, 2, 3, 20])
+        count = pairs if r.random() < 0.85 else r.choice([pairs + 1, 65536, 65537, 0xffffffff, 0x10000000])
+        return u32(count) + u32(0) + b"".join(u64(self.node()) + u64(self.odd64()) for _ in range(pairs))
 
     def transfer(self, opcode):
         r = self.rng

@@ -16,10 +16,12 @@ import subprocess
 import sys
 import time
 
-sys.path.insert(0, os.path.dirname(os.path.abspath(__file__)) + "/../beside")
+sys.path[:0] = [f"{os.path.dirname(os.path.abspath(__file__))}/../{it}" for it in ("beside", "lib")]
 import generate
 import requests
+import shapes
 from requests import line, request, transfer
+from shapes import SHAPES, Op, record
 
 ENOENT, ENXIO, EBADF, ENOTDIR, EINVAL, EFBIG, ELOOP, ESTALE = 2, 6, 9, 20, 22, 27, 40, 116
 ENOSYS = "16 10000000daffffff0700000000000000"
@@ -164,27 +166,28 @@ def sessions_of_a_number(server):
     return count
 
 
+def filled(opcode, **numbers):
+    """What follows a header: these numbers, where the record has a place for them, and names and data."""
+    fields = {it.name for it in SHAPES[opcode].fields}
+    made = record(opcode, **{name: number for name, number in numbers.items() if name in fields})
+    return made + b"".join({"name": b"a\0", "text": b"b\0", "data": bytes(8)}.get(it, b"") for it in SHAPES[opcode].parts)
+
+
 def numbers_made_up(one):
     """Nodes and handles that are none."""
+    others = {Op.FORGET, Op.LINK, Op.ACCESS, *shapes.having(lambda it: "attribute" in it.parts), Op.LISTXATTR}
+    of_nodes = [it for it in shapes.having(lambda it: it.about in ("folder", "node")) if it not in others]
     for node in (0, 2**32 + 1, 12345, 2**63, 2**64 - 1):
-        for opcode, body in ((1, b"a\0"), (3, bytes(16)), (4, struct.pack("<I", 1) + bytes(84)), (5, b""),
-                             (6, b"a\0b\0"), (8, bytes(16) + b"a\0"), (9, bytes(8) + b"a\0"), (10, b"a\0"),
-                             (11, b"a\0"), (12, struct.pack("<Q", 1) + b"a\0b\0"), (14, bytes(8)), (17, b""),
-                             (27, bytes(8)), (35, bytes(16) + b"a\0"), (45, struct.pack("<QQ", 1, 0) + b"a\0b\0"),
-                             (50, bytes(8))):
-            one.hold(f"{requests.NAMES[opcode]} of node {node}", line("16+144", request(opcode, body, node=node)),
-                     ESTALE)
-        one.hold(f"RENAME to node {node}", line("16", request(12, struct.pack("<Q", node) + b"a\0b\0")), ESTALE)
-        one.hold(f"LINK of node {node}", line("16+128", request(13, struct.pack("<Q", node) + b"a\0")), ESTALE)
+        for opcode in of_nodes:
+            body = filled(opcode, to_folder=1, valid=1)
+            one.hold(f"{opcode.name} of node {node}", line("16+144", request(opcode, body, node=node)), ESTALE)
+        for opcode in (Op.RENAME, Op.LINK):
+            body = filled(opcode, to_folder=node, of_node=node)
+            one.hold(f"{opcode.name} to or of node {node}", line("16+128", request(opcode, body)), ESTALE)
     for handle in (0, 1, 2**32 + 1, 12345, 2**64 - 1):
-        for opcode in (15, 16, 28, 44):
-            one.hold(f"{requests.NAMES[opcode]} of handle {handle}",
-                     line("16+4096", transfer(opcode, 8, bytes(8) if opcode == 16 else b"", handle=handle)), EBADF)
-        for opcode, size in ((18, 24), (20, 16), (25, 24), (29, 24), (30, 16), (43, 32), (46, 24)):
-            one.hold(f"{requests.NAMES[opcode]} of handle {handle}",
-                     line("16+8", request(opcode, struct.pack("<Q", handle) + bytes(size - 8))), EBADF)
-        body = struct.pack("<QQQQQQQ", handle, 0, 1, handle, 0, 1, 0)
-        one.hold(f"COPY_FILE_RANGE of handle {handle}", line("16+8", request(47, body)), EBADF)
+        for opcode in shapes.having(lambda it: it.about in ("file", "directory")):
+            body = filled(opcode, handle=handle, size=8, to_node=1, to_handle=handle, length=1)
+            one.hold(f"{opcode.name} of handle {handle}", line("16+4096", request(opcode, body)), EBADF)
 
 
 def submounts(one):
@@ -199,11 +202,10 @@ def names_made_up(one):
     """Names that are none of something in a directory, and directories that are none."""
     names = b".", b"..", b"/", b"a/b", b"../x", b"directory/.."
     for name, error in ((b"", ENOENT), *((it, EINVAL) for it in names)):
-        for opcode, before in ((1, b""), (6, b""), (8, bytes(16)), (9, bytes(8)), (10, b""), (11, b""),
-                               (35, bytes(16))):
-            after = b"\0text\0" if opcode == 6 else b"\0"
-            one.hold(f"{requests.NAMES[opcode]} of {name}", line("16+144", request(opcode, before + name + after)),
-                     error)
+        for opcode in shapes.having(lambda it: it.about == "folder" and it.parts.count("name") == 1):
+            body = record(opcode) + name + (b"\0text\0" if opcode == Op.SYMLINK else b"\0")
+            if opcode != Op.LINK:
+                one.hold(f"{opcode.name} of {name}", line("16+144", request(opcode, body)), error)
     one.hold("LOOKUP in a symbolic link", line("16+128", request(1, b"passwd\0", node=one.look_up(b"link"))), ENOTDIR)
 
 
