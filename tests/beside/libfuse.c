@@ -6,6 +6,7 @@
  * the address sanitizer, and the bytes of the buffer behind a message are poisoned: a look at one of them
  * ends the program with a trace. Status 0: the other end was closed; 1: the session ended before that; 2:
  * it could not start. */
+#define _DEFAULT_SOURCE
 #define FUSE_USE_VERSION 317
 #include <errno.h>
 #include <fuse_lowlevel.h>
@@ -14,6 +15,7 @@
 #include <stdlib.h>
 #include <string.h>
 #include <sys/socket.h>
+#include <sys/stat.h>
 #include <sys/uio.h>
 
 static volatile unsigned seen;
@@ -211,9 +213,20 @@ static ssize_t give(int fd, struct iovec *pieces, int count, void *user)
 	return writev(fd, pieces, count);
 }
 
-int main(int count, char **words)
+/* Since 3.17 libfuse is told how large the table is. */
+static int use_descriptor(struct fuse_session *session, int fd)
 {
 	static const struct fuse_custom_io io = { .read = take, .writev = give };
+
+#if FUSE_VERSION >= FUSE_MAKE_VERSION(3, 17)
+	return fuse_session_custom_io(session, &io, sizeof(io), fd);
+#else
+	return fuse_session_custom_io(session, &io, fd);
+#endif
+}
+
+int main(int count, char **words)
+{
 	char *name[] = { "libfuse", NULL };
 	struct fuse_args args = FUSE_ARGS_INIT(1, name);
 	struct fuse_session *session;
@@ -222,7 +235,7 @@ int main(int count, char **words)
 	if (count != 2 || !strcmp(words[1], "--help"))
 		return fputs("Usage: libfuse DESCRIPTOR\n", count == 2 ? stdout : stderr), count == 2 ? 0 : 2;
 	session = fuse_session_new(&args, &ops, sizeof(ops), NULL);
-	if (!session || fuse_session_custom_io(session, &io, sizeof(io), atoi(words[1])))
+	if (!session || use_descriptor(session, atoi(words[1])))
 		return 2;
 	ended = fuse_session_loop(session);
 	fuse_session_destroy(session);
