@@ -7,15 +7,13 @@ use Rattle.std.specs.declared.time.Duration.{Duration}
 use Rattle.vfs_flags.specs.Flags.{supported_fs_options}
 use Rattle.vfs_wire.specs.Fields.{Table, Fit, little, number, row, numbers_at, bytes_of, value_of}
 use Rattle.vfs_wire.specs.FieldLaws.{length-little, number-little, length-bytes_of, value_of-bytes_of-then}
-use Rattle.vfs_wire.specs.Records.{attr_out, entry_out, out_header, init_out, kstatfs, kstatfs_of}
-use Rattle.vfs_wire_more.specs.Records.{open_out, write_out, lseek_out, getxattr_out}
+use Rattle.vfs_wire.specs.Records.{attr_out, entry_out, out_header, init_out}
+use Rattle.vfs_wire_more.specs.Records.{open_out, write_out, getxattr_out}
 use Rattle.vfs_wire.specs.declared.attributes.Attr.{Attr}
 use Rattle.vfs_wire_more.specs.declared.files.WriteOut.{WriteOut}
 use Rattle.vfs_wire.specs.declared.headers.OutHeader.{OutHeader}
-use Rattle.vfs_wire_more.specs.declared.LseekOut.{LseekOut}
-use Rattle.vfs_wire.specs.declared.stat.Statvfs64.{Statvfs64}
 use Rattle.vfs_wire_more.specs.declared.xattrs.GetxattrOut.{GetxattrOut}
-use Rattle.vfs_files.specs.Answers.{Kind, Agreements, Data, Entries, TimedAttributes, Openings, Creations, Capacities, Texts, TextsOrCounts, Offsets, Writes, IsAnswer, Answer, Failed, Options, Found, Put, Attributes, Opened, Created, Statistics, Text, Count, Offset, Wrote, read_answer}
+use Rattle.vfs_files.specs.Answers.{Kind, Agreements, Data, Entries, TimedAttributes, Openings, Creations, Capacities, Texts, TextsOrCounts, Offsets, Writes, IsAnswer, Answer, Failed, Options, Found, Put, Attributes, Opened, Created, Statistics, Text, Count, Offset, Wrote, Done, read_answer}
 use Rattle.vfs_files.specs.Calls.{Call, Init, kind_of}
 use Rattle.vfs_files.specs.Values.{entry_out_of}
 use Rattle.vfs_files.specs.Runs.{Event, Called}
@@ -25,7 +23,7 @@ use Rattle.vfs_grammar.specs.Forms.{Listing, Ask, Ends, Asks, Lists, WithMemory}
 use Rattle.vfs_laws.specs.Turns.{AnswersWhole, body_in}
 use Rattle.vfs_grammar.specs.Limits.{AreLimits, max_pages}
 use Rattle.vfs_grammar.specs.Options.{agreed, options_after}
-use Rattle.vfs_grammar.specs.Reply.{Bytes, OpenBehind, Echo, reply_of, body_reply, init_out_of, attr_out_of, open_out_of, getxattr_out_of, write_out_of}
+use Rattle.vfs_grammar.specs.Reply.{Bytes, OpenBehind, Echo, reply_of, body_of, body_reply, init_out_of, attr_out_of, open_out_of, getxattr_out_of, write_out_of}
 use Rattle.vfs_grammar.specs.Room.{IsReplied}
 use Rattle.vfs_grammar.specs.Turn.{Turn, Follows, IsRead}
 use Rattle.vfs_grammar.specs.declared.limits.Limits.{Limits}
@@ -168,23 +166,11 @@ module _ (limits : Limits) (echo : Echo) (after : ℕ) (t : Turn) (len : ℕ) (f
       )
   creation_by _ entry handle how a b = absurd a
 
-  statistics_by : (kind : Kind) (statistics : Statvfs64) → IsAnswer kind (Statistics statistics) → SaidBy kind (Statistics statistics)
-      → value_of kstatfs (body_in t.room_after) ≡ kstatfs_of statistics
-  unfolding SaidBy
-  statistics_by Capacities statistics a b = decoded kstatfs (kstatfs_of statistics) t.room_after echo.unique a refl (said _ b)
-  statistics_by _ statistics a b = absurd a
-
   count_by : (kind : Kind) (size : ℕ) → IsAnswer kind (Count size) → SaidBy kind (Count size) → (value_of getxattr_out (body_in t.room_after)).size ≡ size
   unfolding SaidBy
   count_by TextsOrCounts size a b =
       ap (λ (r : GetxattrOut). r.size) (decoded getxattr_out (getxattr_out_of size) t.room_after echo.unique (a, (lit< tt, tt)) refl (said _ b))
   count_by _ size a b = absurd a
-
-  offset_by : (kind : Kind) (offset : ℕ) → IsAnswer kind (Offset offset) → SaidBy kind (Offset offset) → (value_of lseek_out (body_in t.room_after)).offset ≡ offset
-  unfolding SaidBy
-  offset_by Offsets offset a b =
-      ap (λ (r : LseekOut). r.offset) (decoded lseek_out (record { offset = offset }) t.room_after echo.unique (a, tt) refl (said _ b))
-  offset_by _ offset a b = absurd a
 
   written_by : (kind : Kind) (count : ℕ) → IsAnswer kind (Wrote count) → SaidBy kind (Wrote count) → (value_of write_out (body_in t.room_after)).size ≡ count
   unfolding SaidBy
@@ -195,16 +181,25 @@ module _ (limits : Limits) (echo : Echo) (after : ℕ) (t : Turn) (len : ℕ) (f
   bytes_by : (bytes : List ℕ) → Begins (body_reply bytes echo.unique) t.room_after → take (length bytes) (body_in t.room_after) ≡ bytes
   bytes_by bytes b = ap (take (length bytes)) (behind bytes t.room_after echo.unique b) ∙ take_at bytes b.rest (length bytes) refl
 
-  text_by : (kind : Kind) (bytes : List ℕ) → IsAnswer kind (Text bytes) → SaidBy kind (Text bytes) → take (length bytes) (body_in t.room_after) ≡ bytes
+  -- the body of an answer, by its kind; no other kind has a body
+  body_by : (kind : Kind) (answer : Answer) → IsAnswer kind answer → SaidBy kind answer
+      → take (length (body_of answer)) (body_in t.room_after) ≡ body_of answer
   unfolding SaidBy
-  text_by Texts bytes a b = bytes_by bytes (said bytes b)
-  text_by TextsOrCounts bytes a b = bytes_by bytes (said bytes b)
-  text_by _ bytes a b = absurd a
-
-  data_by : (kind : Kind) (bytes : List ℕ) → IsAnswer kind (Put bytes) → SaidBy kind (Put bytes) → take (length bytes) (body_in t.room_after) ≡ bytes
-  unfolding SaidBy
-  data_by (Data size) bytes a b = bytes_by bytes (said_openly bytes b)
-  data_by _ bytes a b = absurd a
+  body_by kind Done a b = refl
+  body_by kind (Failed fault) a b = refl
+  body_by kind (Options want) a b = refl
+  body_by (Data size) (Put bytes) a b = bytes_by bytes (said_openly bytes b)
+  body_by Entries (Found entry) a b = bytes_by _ (said _ b)
+  body_by TimedAttributes (Attributes attributes timeout) a b = bytes_by _ (said _ b)
+  body_by Openings (Opened handle how) a b = bytes_by _ (said _ b)
+  body_by Creations (Created entry handle how) a b = bytes_by _ (said _ b)
+  body_by Capacities (Statistics statistics) a b = bytes_by _ (said _ b)
+  body_by Texts (Text bytes) a b = bytes_by bytes (said bytes b)
+  body_by TextsOrCounts (Text bytes) a b = bytes_by bytes (said bytes b)
+  body_by TextsOrCounts (Count size) a b = bytes_by _ (said _ b)
+  body_by Offsets (Offset offset) a b = bytes_by _ (said _ b)
+  body_by Writes (Wrote count) a b = bytes_by _ (said _ b)
+  body_by _ _ a b = absurd a
 
   max_write_by : (kind : Kind) (want : ℕ) → IsAnswer kind (Options want) → SaidBy kind (Options want) → limits.max_buffer < 256 ^ 4
       → (value_of init_out (body_in t.room_after)).max_write ≡ limits.max_buffer
@@ -297,29 +292,14 @@ module _ (limits : Limits) (options after : ℕ) (t : Turn) where
       let s = answered_says limits options (Created entry handle how) t after a in
       creation_by limits s.echo after t a.len a.fits s.kind entry handle how s.of_kind s.replied
 
-  pub statistics_said : (statistics : Statvfs64) → AnswersWhole limits options (Statistics statistics) t after
-      → value_of kstatfs (body_in t.room_after) ≡ kstatfs_of statistics
-  unfolding SaidBy
-  statistics_said statistics a =
-      let s = answered_says limits options (Statistics statistics) t after a in
-      statistics_by limits s.echo after t a.len a.fits s.kind statistics s.of_kind s.replied
-
   pub count_said : (size : ℕ) → AnswersWhole limits options (Count size) t after → (value_of getxattr_out (body_in t.room_after)).size ≡ size
   unfolding SaidBy
   count_said size a = let s = answered_says limits options (Count size) t after a in count_by limits s.echo after t a.len a.fits s.kind size s.of_kind s.replied
-
-  pub offset_said : (offset : ℕ) → AnswersWhole limits options (Offset offset) t after → (value_of lseek_out (body_in t.room_after)).offset ≡ offset
-  unfolding SaidBy
-  offset_said offset a = let s = answered_says limits options (Offset offset) t after a in offset_by limits s.echo after t a.len a.fits s.kind offset s.of_kind s.replied
 
   pub written_said : (count : ℕ) → AnswersWhole limits options (Wrote count) t after → (value_of write_out (body_in t.room_after)).size ≡ count
   unfolding SaidBy
   written_said count a = let s = answered_says limits options (Wrote count) t after a in written_by limits s.echo after t a.len a.fits s.kind count s.of_kind s.replied
 
-  pub text_said : (bytes : List ℕ) → AnswersWhole limits options (Text bytes) t after → take (length bytes) (body_in t.room_after) ≡ bytes
+  pub body_said : (answer : Answer) → AnswersWhole limits options answer t after → take (length (body_of answer)) (body_in t.room_after) ≡ body_of answer
   unfolding SaidBy
-  text_said bytes a = let s = answered_says limits options (Text bytes) t after a in text_by limits s.echo after t a.len a.fits s.kind bytes s.of_kind s.replied
-
-  pub data_said : (bytes : List ℕ) → AnswersWhole limits options (Put bytes) t after → take (length bytes) (body_in t.room_after) ≡ bytes
-  unfolding SaidBy
-  data_said bytes a = let s = answered_says limits options (Put bytes) t after a in data_by limits s.echo after t a.len a.fits s.kind bytes s.of_kind s.replied
+  body_said answer a = let s = answered_says limits options answer t after a in body_by limits s.echo after t a.len a.fits s.kind answer s.of_kind s.replied

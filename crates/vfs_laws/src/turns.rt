@@ -3,12 +3,11 @@
 ghost use Rattle.std.specs.Prelude.{◌≡◌, ◌≢◌, ◌<◌, ◌≤◌, ◌+◌, ◌*◌, ◌-◌, ◌/◌, ◌^◌, ◌⊎◌, ℕ, length, take, drop, List, [], ◌∷◌, Option, Ok, Err, Some};
 ghost use Rattle.std.specs.declared.time.Duration.{Duration};
 ghost use Rattle.vfs_flags.specs.declared.opcode.Opcode.{Opcode};
-ghost use Rattle.vfs_wire.specs.Records.{attr_out, entry_out, init_out, kstatfs, kstatfs_of};
+ghost use Rattle.vfs_wire.specs.Records.{attr_out, entry_out, init_out};
 ghost use Rattle.vfs_wire.specs.Fields.{value_of};
-ghost use Rattle.vfs_wire_more.specs.Records.{open_out, write_out, lseek_out, getxattr_out};
+ghost use Rattle.vfs_wire_more.specs.Records.{open_out, write_out, getxattr_out};
 ghost use Rattle.vfs_wire.specs.declared.attributes.Attr.{Attr};
-ghost use Rattle.vfs_wire.specs.declared.stat.Statvfs64.{Statvfs64};
-ghost use Rattle.vfs_files.specs.Calls.{Found, Attributes, Opened, Created, Statistics, Count, Offset, Wrote, Text, Put, Call, Init, Destroy, BatchForget, Answer, Options, kind_of, IsAnswer};
+ghost use Rattle.vfs_files.specs.Calls.{Found, Attributes, Opened, Created, Count, Wrote, Call, Init, Destroy, BatchForget, Answer, Options, kind_of, IsAnswer};
 ghost use Rattle.vfs_files.specs.Values.{entry_out_of, context_of};
 ghost use Rattle.vfs_files.specs.Runs.{Event, Called};
 ghost use Rattle.vfs_files.specs.declared.entry.Entry.{Entry};
@@ -19,7 +18,7 @@ ghost use Rattle.vfs_grammar.specs.Books.{opcode_in};
 ghost use Rattle.vfs_grammar.specs.Limits.{default_limits, AreLimits, max_len};
 ghost use Rattle.vfs_grammar.specs.Options.{AreAgreed};
 ghost use Rattle.vfs_grammar.specs.Directories.{StopsForACause, ComesWhole, TakesFew};
-ghost use Rattle.vfs_grammar.specs.Reply.{Echo, echo_of, attr_out_of, open_out_of};
+ghost use Rattle.vfs_grammar.specs.Reply.{Echo, echo_of, attr_out_of, open_out_of, body_of};
 ghost use Rattle.vfs_grammar.specs.Turn.{Turn, IsTurn, Follows};
 ghost use Rattle.vfs_grammar.specs.Witnesses.{IsTurnWithMemory, FollowsFor, turn_tells};
 ghost use Rattle.vfs_grammar.specs.declared.error.Error.{Error};
@@ -203,8 +202,12 @@ pub fn answers_are_of_their_kind()
 {}
 
 /// What stands behind the header of a reply that fits is what the one call of the request answered:
-/// its numbers, where the tables of the records have them, or its bytes.
+/// the body of its answer, whatever it is. So each number that is in its width is read back from it,
+/// as it is from the records that several requests share.
 pub fn replies_say_what_was_answered()
+    ensures body { (limits : Limits) (options after : ℕ) (t : Turn) (answer : Answer) →
+        AnswersWhole limits options answer t after →
+        take (length (body_of answer)) (body_in t.room_after) ≡ body_of answer }
     ensures entry { (limits : Limits) (options after : ℕ) (t : Turn) (entry : Entry) →
         AnswersWhole limits options (Found entry) t after →
         value_of entry_out (body_in t.room_after) ≡ entry_out_of entry }
@@ -219,24 +222,12 @@ pub fn replies_say_what_was_answered()
         AnswersWhole limits options (Created entry handle how) t after →
         (value_of entry_out (body_in t.room_after) ≡ entry_out_of entry)
         × (value_of open_out (drop 128 (body_in t.room_after)) ≡ open_out_of handle how) }
-    ensures statistics { (limits : Limits) (options after : ℕ) (t : Turn)
-        (statistics : Statvfs64) → AnswersWhole limits options (Statistics statistics) t after →
-        value_of kstatfs (body_in t.room_after) ≡ kstatfs_of statistics }
     ensures count { (limits : Limits) (options after : ℕ) (t : Turn) (size : ℕ) →
         AnswersWhole limits options (Count size) t after →
         (value_of getxattr_out (body_in t.room_after)).size ≡ size }
-    ensures offset { (limits : Limits) (options after : ℕ) (t : Turn) (offset : ℕ) →
-        AnswersWhole limits options (Offset offset) t after →
-        (value_of lseek_out (body_in t.room_after)).offset ≡ offset }
     ensures written { (limits : Limits) (options after : ℕ) (t : Turn) (count : ℕ) →
         AnswersWhole limits options (Wrote count) t after →
         (value_of write_out (body_in t.room_after)).size ≡ count }
-    ensures text { (limits : Limits) (options after : ℕ) (t : Turn) (bytes : List ℕ) →
-        AnswersWhole limits options (Text bytes) t after →
-        take (length bytes) (body_in t.room_after) ≡ bytes }
-    ensures put { (limits : Limits) (options after : ℕ) (t : Turn) (bytes : List ℕ) →
-        AnswersWhole limits options (Put bytes) t after →
-        take (length bytes) (body_in t.room_after) ≡ bytes }
 {}
 
 /// Of every turn that reads a directory:

@@ -5,10 +5,11 @@ ghost use Rattle.std.specs.Int.{bit_at};
 ghost use Rattle.std.specs.declared.time.Duration.{Duration};
 ghost use Rattle.vfs_flags.specs.Numbers.{opcode_of};
 ghost use Rattle.vfs_flags.specs.declared.opcode.Opcode.{Opcode};
-ghost use Rattle.vfs_wire.specs.Records.{attr_out, entry_out};
+ghost use Rattle.vfs_wire.specs.Records.{attr_out, entry_out, kstatfs, kstatfs_of};
 ghost use Rattle.vfs_wire.specs.Fields.{little, value_of};
 ghost use Rattle.vfs_wire.specs.declared.attributes.Attr.{Attr};
-ghost use Rattle.vfs_files.specs.Calls.{Call, Lookup, Getattr, Access, Init, Failed, Options, Found, Attributes};
+ghost use Rattle.vfs_wire.specs.declared.stat.Statvfs64.{Statvfs64};
+ghost use Rattle.vfs_files.specs.Calls.{Call, Lookup, Getattr, Readlink, Statfs, Access, Init, Failed, Options, Found, Attributes, Statistics, Text};
 ghost use Rattle.vfs_files.specs.Values.{whole_seconds};
 ghost use Rattle.vfs_files.specs.Runs.{Event, Called};
 ghost use Rattle.vfs_files.specs.declared.entry.Context.{Context};
@@ -121,7 +122,8 @@ fn options_by_themselves()
 }
 
 /// A GETATTR that was answered by attributes: the reply of 120 bytes has the file's size and the
-/// whole seconds that the attributes hold, and a LOOKUP's of 144 the node.
+/// whole seconds that the attributes hold, a LOOKUP's of 144 the node, a STATFS's of 96 what the
+/// file system holds, as its own record has it, and a READLINK's of 19 the text.
 fn numbers_in_replies()
     ensures getattr { (limits : Limits) (options after inode : ℕ) (ctx : Context)
         (handle : Option ℕ) (attributes : Attr) (timeout : Duration) (t : Turn) →
@@ -134,8 +136,17 @@ fn numbers_in_replies()
         (entry : Entry) (t : Turn) → IsTurn limits options t after →
         t.events ≡ Called (Lookup ctx parent name) (Found entry) ∷ [] → t.outcome ≡ Ok 144 →
         (value_of entry_out (drop 16 t.room_after)).nodeid ≡ entry.inode }
+    ensures statfs { (limits : Limits) (options after inode : ℕ) (ctx : Context)
+        (statistics : Statvfs64) (t : Turn) → IsTurn limits options t after →
+        t.events ≡ Called (Statfs ctx inode) (Statistics statistics) ∷ [] → t.outcome ≡ Ok 96 →
+        value_of kstatfs (drop 16 t.room_after) ≡ kstatfs_of statistics }
+    ensures readlink { (limits : Limits) (options after inode : ℕ) (ctx : Context) (text : List ℕ)
+        (t : Turn) → IsTurn limits options t after →
+        t.events ≡ Called (Readlink ctx inode) (Text text) ∷ [] → t.outcome ≡ Ok 19 →
+        take (length text) (drop 16 t.room_after) ≡ text }
 {
     replies_say_what_was_answered();
+    answers_are_of_their_kind();
 }
 
 /// Numbers that calls answered are in the widths that replies have for them.

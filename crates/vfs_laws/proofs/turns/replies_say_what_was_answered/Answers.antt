@@ -1,5 +1,8 @@
-use Rattle.vfs_laws.proofs.Said.{entry_said, attributes_said, opening_said, creation_said, statistics_said, count_said, offset_said, written_said, text_said, data_said}
+use Rattle.vfs_laws.proofs.Said.{body_said, entry_said, attributes_said, opening_said, creation_said, count_said, written_said}
 use Rattle.vfs_laws.proofs.turns.replies_say_what_was_answered.Goals as goal
+
+pub returns-clause-body : goal.returns-clause-body
+returns-clause-body c = λ limits options after t answer answered. body_said limits options after t answer answered
 
 pub returns-clause-entry : goal.returns-clause-entry
 returns-clause-entry c = λ limits options after t entry answered. entry_said limits options after t entry answered
@@ -13,20 +16,8 @@ returns-clause-opening c = λ limits options after t handle how answered. openin
 pub returns-clause-creation : goal.returns-clause-creation
 returns-clause-creation c = λ limits options after t entry handle how answered. creation_said limits options after t entry handle how answered
 
-pub returns-clause-statistics : goal.returns-clause-statistics
-returns-clause-statistics c = λ limits options after t statistics answered. statistics_said limits options after t statistics answered
-
 pub returns-clause-count : goal.returns-clause-count
 returns-clause-count c = λ limits options after t size answered. count_said limits options after t size answered
 
-pub returns-clause-offset : goal.returns-clause-offset
-returns-clause-offset c = λ limits options after t offset answered. offset_said limits options after t offset answered
-
 pub returns-clause-written : goal.returns-clause-written
 returns-clause-written c = λ limits options after t count answered. written_said limits options after t count answered
-
-pub returns-clause-text : goal.returns-clause-text
-returns-clause-text c = λ limits options after t bytes answered. text_said limits options after t bytes answered
-
-pub returns-clause-put : goal.returns-clause-put
-returns-clause-put c = λ limits options after t bytes answered. data_said limits options after t bytes answered
