@@ -22,7 +22,7 @@ if len(sys.argv) > 1:
 OPCODES = "crates/vfs_flags/src/opcode.rt"
 CALLS, DATA = "crates/vfs_calls/src/call.rt", "crates/vfs_calls/src/data.rt"
 DOOR, CODES = "crates/vfs_door/src/data.rt", "crates/vfs_rooms/specs/Codes.antt"
-HEADER, RUST = "include/nizwarf.h", "bindings/rust/src/numbers.rs"
+HEADER, RUST, RUST_CALLS = "include/nizwarf.h", "bindings/rust/src/numbers.rs", "bindings/rust/src/call.rs"
 faults = []
 
 
@@ -129,7 +129,7 @@ hold(HEADER, enum_with("LOOKUP"), CALLS, CALL, "call")
 hold(HEADER, enum_with("QUIET"), CALLS, KIND, "kind")
 hold(HEADER, enum_with("PLUS"), CALLS, {in_header[it]: bit for it, bit in HAS.items()}, "bit")
 hold(HEADER, {**enum_with("OK"), **enum_with("ASKED")}, CODES, CODE, "code")
-hold(RUST, constants(RUST, "number", "u32"), HEADER, CALL, "call")
+hold(RUST_CALLS, numbers(r"^ +([A-Z_]+) = (\d+): \w+ {", part(RUST_CALLS, "\ncalls! {", r"\n}")), HEADER, CALL, "call")
 hold(RUST, constants(RUST, "has", "u32"), HEADER, HAS, "bit")
 hold(RUST, constants(RUST, "code", "i32"), HEADER, CODE, "code", False)
 

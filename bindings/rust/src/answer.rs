@@ -2,12 +2,13 @@
 #![forbid(unsafe_code)]
 
 use crate::attr::{Attr, Statvfs};
+use crate::call::number;
 use crate::door::{Refusal, Reply};
 use crate::errno::{answered, Errno};
 use crate::ffi::{Item, Pending, RawAnswer, RawCall, RawEntry, Slot};
 use crate::file_system::{Entry, GetxattrReply, ListxattrReply};
 use crate::flags::{FsOptions, OpenOptions};
-use crate::numbers::{has, number};
+use crate::numbers::has;
 use std::fmt;
 use std::io;
 use std::marker::PhantomData;
@@ -194,6 +195,11 @@ impl<K> To<K> {
         To { pending, kind: PhantomData }
     }
 
+    /// Returns what answers the same call with an error only.
+    pub(crate) fn into_fault(self) -> To<Fault> {
+        To::new(self.pending)
+    }
+
     /// Returns the number of the request.
     #[must_use]
     pub fn unique(&self) -> u64 {
@@ -314,7 +320,8 @@ impl To<Data> {
     /// Returns how many bytes of data fit: at most `size`, and what the buffer has after 16 bytes.
     #[must_use]
     pub fn most(&self) -> usize {
-        let room = usize::try_from(self.pending.call.read_room()).unwrap_or(usize::MAX);
+        // The length of a READ is the room for its data.
+        let room = usize::try_from(self.pending.call.length).unwrap_or(usize::MAX);
         room.min(self.pending.call.size as usize)
     }
 

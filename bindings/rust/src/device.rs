@@ -1,10 +1,10 @@
 //! Serves devices such as `/dev/fuse`.
 #![forbid(unsafe_code)]
 
+use crate::call::number;
 use crate::errno::Errno;
 use crate::ffi::Slot;
 use crate::file_system::FileSystem;
-use crate::numbers::number;
 use crate::server::Server;
 use std::fs::File;
 use std::io::{self, IoSlice, IoSliceMut, Read, Write};

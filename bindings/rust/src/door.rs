@@ -1,11 +1,11 @@
 //! Sessions, requests and replies.
 #![forbid(unsafe_code)]
 
-use crate::call::{call_of, context_of, Call, PendingCall};
+use crate::call::{call_of, context_of, number, Call, PendingCall};
 use crate::ffi::{RawSession, Slot};
 use crate::file_system::Context;
 use crate::flags::FsOptions;
-use crate::numbers::{code, number};
+use crate::numbers::code;
 use std::error::Error;
 use std::fmt;
 use std::io::{IoSlice, IoSliceMut};

@@ -8,7 +8,8 @@
 //!
 //! - [`Slot::ask`] returns a [`Call`] with its arguments and a [`To`], whose type determines what the call is
 //!   answered with.
-//! - [`Server`] does this for a [`FileSystem`], a trait with the methods of virtiofsd's.
+//! - [`Server`] does this for a [`FileSystem`], a trait with the methods of virtiofsd's. [`make_call`] is for other
+//!   traits that have them.
 //! - [`mount()`] mounts a [`FileSystem`], and serves it.
 //!
 //! ```
@@ -55,6 +56,7 @@ compile_error!("nizwarf is for Linux on x86-64");
 mod answer;
 mod attr;
 mod bytes;
+#[macro_use]
 mod call;
 mod device;
 mod door;

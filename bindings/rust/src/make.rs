@@ -1,7 +1,7 @@
-//! Making the calls that requests ask for.
+//! Makes the calls that requests ask for.
 #![forbid(unsafe_code)]
 
-use crate::answer::{Fault, FaultOrSilence, To, Told};
+use crate::answer::{Fault, FaultOrSilence, Opened, To, Told};
 use crate::call::{Call, PendingCall};
 use crate::errno::{no_number, Errno};
 use crate::ffi::Slot;
@@ -14,8 +14,7 @@ use std::io::{self, IoSliceMut};
 use std::sync::atomic::Ordering;
 
 impl<F: FileSystem> Server<F> {
-    /// Makes a call, and answers it: one that looks up, creates, renames or removes a name, or one of the groups
-    /// below.
+    /// Makes a call, and answers it.
     pub(crate) fn make<'s>(
         &self,
         slot: &'s mut Slot,
@@ -23,108 +22,13 @@ impl<F: FileSystem> Server<F> {
         room: &mut [IoSliceMut<'_>],
     ) -> Told<'s> {
         let ctx = pending.context;
-        match pending.call {
-            Call::Lookup { parent, name, to } => {
-                to.answer(slot, self.ask(|files| files.lookup(ctx, parent.into(), &name)))
-            }
-            Call::Symlink { linkname, parent, name, extensions, to } => to.answer(
-                slot,
-                self.ask(|files| files.symlink(ctx, &linkname, parent.into(), &name, extensions)),
-            ),
-            Call::Mknod { parent, name, mode, rdev, umask, extensions, to } => to.answer(
-                slot,
-                self.ask(|files| {
-                    files.mknod(ctx, parent.into(), &name, mode, rdev, umask, extensions)
-                }),
-            ),
-            Call::Mkdir { parent, name, mode, umask, extensions, to } => to.answer(
-                slot,
-                self.ask(|files| files.mkdir(ctx, parent.into(), &name, mode, umask, extensions)),
-            ),
-            Call::Unlink { parent, name, to } => {
-                to.answer(slot, self.ask(|files| files.unlink(ctx, parent.into(), &name)))
-            }
-            Call::Rmdir { parent, name, to } => {
-                to.answer(slot, self.ask(|files| files.rmdir(ctx, parent.into(), &name)))
-            }
-            Call::Rename { parent, name, new_parent, new_name, flags, to } => to.answer(
-                slot,
-                self.ask(|files| {
-                    let (old, new) = (parent.into(), new_parent.into());
-                    files.rename(ctx, old, &name, new, &new_name, flags)
-                }),
-            ),
-            Call::Link { node, new_parent, new_name, to } => to.answer(
-                slot,
-                self.ask(|files| files.link(ctx, node.into(), new_parent.into(), &new_name)),
-            ),
-            Call::Create { parent, name, mode, kill_priv, flags, umask, extensions, to } => {
-                let result = self.ask(|files| {
-                    let parent = parent.into();
-                    let (entry, handle, options) = files
-                        .create(ctx, parent, &name, mode, kill_priv, flags, umask, extensions)?;
-                    Ok((entry, handle.map(Into::into), options))
-                });
-                let told = to.answer(slot, result);
-                self.release_lost(&told, ctx, flags);
-                told
-            }
-            call => self.make_of_node(slot, ctx, call, room),
-        }
+        make_call!(pending.call, slot, self, ctx, call => self.make_of_file(slot, ctx, call, room))
     }
 
-    /// A call about a node or the nodes of a list, or one of the groups below.
+    /// A call that reads, writes, opens or creates a file, or another one whose answer is not the result of its
+    /// method.
     #[inline]
-    fn make_of_node<'s>(
-        &self,
-        slot: &'s mut Slot,
-        ctx: Context,
-        call: Call<'_>,
-        room: &mut [IoSliceMut<'_>],
-    ) -> Told<'s> {
-        match call {
-            Call::Forget { node, count, to } => {
-                self.quietly(|files| files.forget(ctx, node.into(), count));
-                to.done(slot)
-            }
-            Call::BatchForget { forgets, to } => {
-                let forgets = forgets.map(|(node, count)| (node.into(), count)).collect();
-                self.quietly(|files| files.batch_forget(ctx, forgets));
-                to.done(slot)
-            }
-            Call::Getattr { node, handle, to } => to.answer(
-                slot,
-                self.ask(|files| files.getattr(ctx, node.into(), handle.map(Into::into))),
-            ),
-            Call::Setattr { node, attr, handle, valid, to } => to.answer(
-                slot,
-                self.ask(|files| {
-                    files.setattr(ctx, node.into(), attr, handle.map(Into::into), valid)
-                }),
-            ),
-            Call::Readlink { node, to } => {
-                let text = self.ask(|files| files.readlink(ctx, node.into()));
-                match &text {
-                    Ok(text) => to.answer(slot, Ok(text)),
-                    Err(error) => to.fail(slot, error),
-                }
-            }
-            Call::Statfs { node, to } => {
-                to.answer(slot, self.ask(|files| files.statfs(ctx, node.into())))
-            }
-            Call::Access { node, mask, to } => {
-                to.answer(slot, self.ask(|files| files.access(ctx, node.into(), mask)))
-            }
-            Call::Syncfs { node, to } => {
-                to.answer(slot, self.ask(|files| files.syncfs(ctx, node.into())))
-            }
-            call => self.make_of_data(slot, ctx, call, room),
-        }
-    }
-
-    /// A call that reads or writes data, or one of the groups below.
-    #[inline]
-    fn make_of_data<'s>(
+    fn make_of_file<'s>(
         &self,
         slot: &'s mut Slot,
         ctx: Context,
@@ -172,14 +76,6 @@ impl<F: FileSystem> Server<F> {
                 });
                 to.answer(slot, written.and_then(|count| at_most(count, most)))
             }
-            call => self.make_of_file(slot, ctx, call),
-        }
-    }
-
-    /// Another call about a file, or one of the groups below.
-    #[inline]
-    fn make_of_file<'s>(&self, slot: &'s mut Slot, ctx: Context, call: Call<'_>) -> Told<'s> {
-        match call {
             Call::Open { node, kill_priv, flags, to } => {
                 let result =
                     self.ask(|files| files.open(ctx, node.into(), kill_priv, flags).map(opened));
@@ -187,114 +83,45 @@ impl<F: FileSystem> Server<F> {
                 self.release_lost(&told, ctx, flags);
                 told
             }
-            Call::Release { node, flags, handle, flush, flock_release, lock_owner, to } => to
-                .answer(
-                    slot,
-                    self.ask(|files| {
-                        let (node, handle) = (node.into(), handle.into());
-                        files.release(ctx, node, flags, handle, flush, flock_release, lock_owner)
-                    }),
-                ),
-            Call::Fsync { node, datasync, handle, to } => to.answer(
-                slot,
-                self.ask(|files| files.fsync(ctx, node.into(), datasync, handle.into())),
-            ),
-            Call::Flush { node, handle, lock_owner, to } => to.answer(
-                slot,
-                self.ask(|files| files.flush(ctx, node.into(), handle.into(), lock_owner)),
-            ),
-            Call::Fallocate { node, handle, mode, offset, length, to } => to.answer(
-                slot,
-                self.ask(|files| {
-                    files.fallocate(ctx, node.into(), handle.into(), mode, offset, length)
-                }),
-            ),
-            Call::Lseek { node, handle, offset, whence, to } => to.answer(
-                slot,
-                self.ask(|files| files.lseek(ctx, node.into(), handle.into(), offset, whence)),
-            ),
-            Call::CopyFileRange {
-                node_in,
-                handle_in,
-                offset_in,
-                node_out,
-                handle_out,
-                offset_out,
-                len,
-                flags,
-                to,
-            } => to.answer(
-                slot,
-                self.ask(|files| {
-                    let (node_in, handle_in) = (node_in.into(), handle_in.into());
-                    let (node_out, handle_out) = (node_out.into(), handle_out.into());
-                    files.copyfilerange(
-                        ctx, node_in, handle_in, offset_in, node_out, handle_out, offset_out, len,
-                        flags,
-                    )
-                }),
-            ),
-            call => self.make_of_directory(slot, ctx, call),
-        }
-    }
-
-    /// A call about an open directory, or one of the groups below.
-    #[inline]
-    fn make_of_directory<'s>(&self, slot: &'s mut Slot, ctx: Context, call: Call<'_>) -> Told<'s> {
-        match call {
-            Call::Opendir { node, flags, to } => {
-                let result = self.ask(|files| files.opendir(ctx, node.into(), flags).map(opened));
+            Call::Create { parent, name, mode, kill_priv, flags, umask, extensions, to } => {
+                let result = self.ask(|files| {
+                    let parent = parent.into();
+                    let (entry, handle, options) = files
+                        .create(ctx, parent, &name, mode, kill_priv, flags, umask, extensions)?;
+                    Ok((entry, handle.map(Into::into), options))
+                });
                 let told = to.answer(slot, result);
-                if let Some((node, handle)) = told.lost_handle() {
-                    // Nobody can be told of an error.
-                    let _ =
-                        self.ask(|files| files.releasedir(ctx, node.into(), flags, handle.into()));
-                }
+                self.release_lost(&told, ctx, flags);
                 told
-            }
-            Call::Readdir { node, handle, size, offset, plus, to } => {
-                let place = Place { ctx, node, handle, size, offset, plus };
-                self.read_directory(slot, &place, to)
-            }
-            Call::Releasedir { node, flags, handle, to } => to.answer(
-                slot,
-                self.ask(|files| files.releasedir(ctx, node.into(), flags, handle.into())),
-            ),
-            Call::Fsyncdir { node, datasync, handle, to } => to.answer(
-                slot,
-                self.ask(|files| files.fsyncdir(ctx, node.into(), datasync, handle.into())),
-            ),
-            call => self.make_of_xattr(slot, ctx, call),
-        }
-    }
-
-    /// A call about extended attributes, or one of the group below.
-    #[inline]
-    fn make_of_xattr<'s>(&self, slot: &'s mut Slot, ctx: Context, call: Call<'_>) -> Told<'s> {
-        match call {
-            Call::Setxattr { node, name, value, flags, extra_flags, to } => to.answer(
-                slot,
-                self.ask(|files| {
-                    files.setxattr(ctx, node.into(), &name, &value, flags, extra_flags)
-                }),
-            ),
-            Call::Getxattr { node, name, size, to } => {
-                to.answer(slot, self.ask(|files| files.getxattr(ctx, node.into(), &name, size)))
-            }
-            Call::Listxattr { node, size, to } => {
-                to.answer(slot, self.ask(|files| files.listxattr(ctx, node.into(), size)))
-            }
-            Call::Removexattr { node, name, to } => {
-                to.answer(slot, self.ask(|files| files.removexattr(ctx, node.into(), &name)))
             }
             call => self.make_other(slot, ctx, call),
         }
     }
 
-    /// A call about the session, without arguments, or unknown.
+    /// A call about a directory, about lookups or about the session, one without arguments, or an unknown one.
     #[inline]
     fn make_other<'s>(&self, slot: &'s mut Slot, ctx: Context, call: Call<'_>) -> Told<'s> {
         match call {
+            Call::Opendir { node, flags, to } => self.open_directory(slot, ctx, node, flags, to),
+            Call::Readdir { node, handle, size, offset, plus, to } => {
+                let place = Place { ctx, node, handle, size, offset, plus };
+                self.read_directory(slot, &place, to)
+            }
+            Call::Readlink { node, to } => {
+                match &self.ask(|files| files.readlink(ctx, node.into())) {
+                    Ok(text) => to.answer(slot, Ok(text)),
+                    Err(error) => to.fail(slot, error),
+                }
+            }
+            Call::Forget { node, count, to } => {
+                self.quietly(|files| files.forget(ctx, node.into(), count));
+                to.done(slot)
+            }
+            Call::BatchForget { forgets, to } => {
+                let forgets = forgets.map(|(node, count)| (node.into(), count)).collect();
+                self.quietly(|files| files.batch_forget(ctx, forgets));
+                to.done(slot)
+            }
             Call::Init { to, .. } => to.fail(slot, &no_number()), // `begin` makes it
             Call::Destroy { to } => {
                 self.begun.store(false, Ordering::Release);
@@ -311,6 +138,24 @@ impl<F: FileSystem> Server<F> {
             Call::Tmpfile { to } => self.make_tmpfile(slot, ctx, to),
             call => call.fail(slot, &Errno::ENOSYS.into()),
         }
+    }
+
+    /// Opens a directory. If its reply does not fit, the handle is released: the client does not know it.
+    fn open_directory<'s>(
+        &self,
+        slot: &'s mut Slot,
+        ctx: Context,
+        node: u64,
+        flags: u32,
+        to: To<Opened>,
+    ) -> Told<'s> {
+        let result = self.ask(|files| files.opendir(ctx, node.into(), flags).map(opened));
+        let told = to.answer(slot, result);
+        if let Some((node, handle)) = told.lost_handle() {
+            // Nobody can be told of an error.
+            let _ = self.ask(|files| files.releasedir(ctx, node.into(), flags, handle.into()));
+        }
+        told
     }
 
     /// Releases the handle of a file whose reply does not fit: the client does not know it.
