@@ -4,7 +4,8 @@
 //! The protocol layer of virtiofsd 1.13.2, over the crate `nizwarf`.
 //!
 //! It takes the place of virtiofsd's `src/server.rs`. The library decodes a request into a call, virtiofsd's file
-//! system makes the call, and the library encodes the answer as the reply. The data of a READ and of a WRITE go
+//! system makes the call, and the library encodes the answer as the reply. Most calls are made by the crate's
+//! `make_call`, and the types of virtiofsd are converted to those of the crate. The data of a READ and of a WRITE go
 //! between guest memory and the file directly.
 //!
 //! Nothing here ends the worker of a queue. A request that the library refuses is completed with no bytes, and
@@ -17,7 +18,7 @@ use crate::filesystem::{
 };
 use crate::fuse::{Attr, FsOptions, OpenOptions, SetattrIn, SetattrValid, SetxattrFlags};
 use crate::soft_idmap::Id;
-use nizwarf::{Call, Item, Refusal, Reply, Session, Slot, Told};
+use nizwarf::{make_call, Call, Item, Refusal, Reply, Session, Slot, Told};
 use std::cell::RefCell;
 use std::ffi::CStr;
 use std::fs::File;
@@ -145,167 +146,41 @@ impl<'f, F: FileSystem> Asker<'f, F> {
         Asker { fs, context }
     }
 
+    /// Makes a call of the file system, and returns its result in the types of the crate.
+    fn ask<T: Answer>(&self, call: impl FnOnce(&F) -> io::Result<T>) -> io::Result<T::Of> {
+        self.run(call).map(Answer::of)
+    }
+
     /// Makes a call of the file system. A panic is an error without a number, which is answered EIO.
-    fn ask<T>(&self, call: impl FnOnce(&F, Context) -> io::Result<T>) -> io::Result<T> {
-        catch_unwind(AssertUnwindSafe(|| call(self.fs, self.context)))
+    fn run<T>(&self, call: impl FnOnce(&F) -> io::Result<T>) -> io::Result<T> {
+        catch_unwind(AssertUnwindSafe(|| call(self.fs)))
             .unwrap_or_else(|_| Err(io::Error::other("the file system panicked")))
     }
 
     /// Makes a call that has no answer.
-    fn tell(&self, call: impl FnOnce(&F, Context)) {
-        let _ = self.ask(|fs, ctx| {
-            call(fs, ctx);
+    fn tell(&self, call: impl FnOnce(&F)) {
+        let _ = self.run(|fs| {
+            call(fs);
             Ok(())
         });
     }
 
     fn give_back(&self, node: u64) {
-        self.tell(|fs, ctx| fs.forget(ctx, node.into(), 1));
-    }
-
-    /// Releases the handle of a file whose reply does not fit: the client does not know it.
-    fn release_lost(&self, told: &Told, flags: u32) {
-        if let Some((node, handle)) = told.lost_handle() {
-            // Nobody can be told of an error.
-            let _ = self.ask(|fs, ctx| {
-                fs.release(ctx, node.into(), flags, handle.into(), false, false, None)
-            });
-        }
+        self.tell(|fs| fs.forget(self.context, node.into(), 1));
     }
 
     /// Makes the call that a request asks for, and answers it.
     fn make<'s>(&self, slot: &'s mut Slot, call: Call, request: Pieces, room: Pieces) -> Told<'s> {
-        match call {
-            Call::Lookup { .. }
-            | Call::Symlink { .. }
-            | Call::Mknod { .. }
-            | Call::Mkdir { .. }
-            | Call::Unlink { .. }
-            | Call::Rmdir { .. }
-            | Call::Rename { .. }
-            | Call::Link { .. }
-            | Call::Create { .. } => self.change_names(slot, call),
-            Call::Setxattr { .. }
-            | Call::Getxattr { .. }
-            | Call::Listxattr { .. }
-            | Call::Removexattr { .. } => self.use_xattr(slot, call),
+        make_call!(call, slot, self, self.context, call => match call {
             Call::Read { .. } | Call::Write { .. } => self.transfer(slot, call, request, room),
-            Call::Open { .. }
-            | Call::Release { .. }
-            | Call::Fsync { .. }
-            | Call::Flush { .. }
-            | Call::Fallocate { .. }
-            | Call::Lseek { .. }
-            | Call::CopyFileRange { .. } => self.use_file(slot, call),
-            Call::Opendir { .. }
-            | Call::Readdir { .. }
-            | Call::Releasedir { .. }
-            | Call::Fsyncdir { .. } => self.use_directory(slot, call),
+            Call::Open { .. } | Call::Create { .. } | Call::Opendir { .. } => self.open(slot, call),
+            Call::Readdir { .. } | Call::Readlink { .. } => self.read_node(slot, call),
             Call::Init { .. }
             | Call::Destroy { .. }
             | Call::Forget { .. }
             | Call::BatchForget { .. } => self.keep_session(slot, call),
-            Call::Getattr { .. }
-            | Call::Setattr { .. }
-            | Call::Readlink { .. }
-            | Call::Statfs { .. }
-            | Call::Access { .. }
-            | Call::Syncfs { .. } => self.use_node(slot, call),
             _ => self.refuse(slot, call),
-        }
-    }
-
-    /// The calls that look up, create, rename or remove a name.
-    fn change_names<'s>(&self, slot: &'s mut Slot, call: Call) -> Told<'s> {
-        match call {
-            Call::Lookup { parent, name, to } => {
-                let result = self.ask(|fs, ctx| fs.lookup(ctx, parent.into(), &name));
-                to.answer(slot, result.map(entry_of))
-            }
-            Call::Symlink { linkname, parent, name, extensions, to } => {
-                let extensions = extensions_of(extensions);
-                let result = self
-                    .ask(|fs, ctx| fs.symlink(ctx, &linkname, parent.into(), &name, extensions));
-                to.answer(slot, result.map(entry_of))
-            }
-            Call::Mknod { parent, name, mode, rdev, umask, extensions, to } => {
-                let extensions = extensions_of(extensions);
-                let result = self.ask(|fs, ctx| {
-                    fs.mknod(ctx, parent.into(), &name, mode, rdev, umask, extensions)
-                });
-                to.answer(slot, result.map(entry_of))
-            }
-            Call::Mkdir { parent, name, mode, umask, extensions, to } => {
-                let extensions = extensions_of(extensions);
-                let result = self
-                    .ask(|fs, ctx| fs.mkdir(ctx, parent.into(), &name, mode, umask, extensions));
-                to.answer(slot, result.map(entry_of))
-            }
-            Call::Unlink { parent, name, to } => {
-                to.answer(slot, self.ask(|fs, ctx| fs.unlink(ctx, parent.into(), &name)))
-            }
-            Call::Rmdir { parent, name, to } => {
-                to.answer(slot, self.ask(|fs, ctx| fs.rmdir(ctx, parent.into(), &name)))
-            }
-            Call::Rename { parent, name, new_parent, new_name, flags, to } => {
-                let result = self.ask(|fs, ctx| {
-                    fs.rename(ctx, parent.into(), &name, new_parent.into(), &new_name, flags)
-                });
-                to.answer(slot, result)
-            }
-            Call::Link { node, new_parent, new_name, to } => {
-                let result =
-                    self.ask(|fs, ctx| fs.link(ctx, node.into(), new_parent.into(), &new_name));
-                to.answer(slot, result.map(entry_of))
-            }
-            Call::Create { parent, name, mode, kill_priv, flags, umask, extensions, to } => {
-                let extensions = extensions_of(extensions);
-                let result = self.ask(|fs, ctx| {
-                    let parent = parent.into();
-                    fs.create(ctx, parent, &name, mode, kill_priv, flags, umask, extensions)
-                });
-                let result = result.map(|(entry, handle, options)| {
-                    let (handle, options) = opened((handle, options));
-                    (entry_of(entry), handle, options)
-                });
-                let told = to.answer(slot, result);
-                self.release_lost(&told, flags);
-                told
-            }
-            other => self.refuse(slot, other),
-        }
-    }
-
-    /// The calls about extended attributes.
-    fn use_xattr<'s>(&self, slot: &'s mut Slot, call: Call) -> Told<'s> {
-        match call {
-            Call::Setxattr { node, name, value, flags, extra_flags, to } => {
-                let extra = SetxattrFlags::from_bits_truncate(extra_flags.bits());
-                let result =
-                    self.ask(|fs, ctx| fs.setxattr(ctx, node.into(), &name, &value, flags, extra));
-                to.answer(slot, result)
-            }
-            Call::Getxattr { node, name, size, to } => {
-                let result = self.ask(|fs, ctx| fs.getxattr(ctx, node.into(), &name, size));
-                let result = result.map(|reply| match reply {
-                    GetxattrReply::Value(value) => nizwarf::GetxattrReply::Value(value),
-                    GetxattrReply::Count(count) => nizwarf::GetxattrReply::Count(count),
-                });
-                to.answer(slot, result)
-            }
-            Call::Listxattr { node, size, to } => {
-                let result = self.ask(|fs, ctx| fs.listxattr(ctx, node.into(), size));
-                let result = result.map(|reply| match reply {
-                    ListxattrReply::Names(names) => nizwarf::ListxattrReply::Names(names),
-                    ListxattrReply::Count(count) => nizwarf::ListxattrReply::Count(count),
-                });
-                to.answer(slot, result)
-            }
-            Call::Removexattr { node, name, to } => {
-                to.answer(slot, self.ask(|fs, ctx| fs.removexattr(ctx, node.into(), &name)))
-            }
-            other => self.refuse(slot, other),
-        }
+        })
     }
 
     /// READ and WRITE.
@@ -316,10 +191,11 @@ impl<'f, F: FileSystem> Asker<'f, F> {
         request: Pieces,
         room: Pieces,
     ) -> Told<'s> {
+        let ctx = self.context;
         match call {
             Call::Read { node, handle, size, offset, lock_owner, flags, to } => {
                 let data = Data::new(room, REPLY_HEADER, to.most());
-                let result = self.ask(|fs, ctx| {
+                let result = self.ask(|fs| {
                     let (node, handle) = (node.into(), handle.into());
                     fs.read(ctx, node, handle, data, size, offset, lock_owner, flags)
                 });
@@ -339,7 +215,7 @@ impl<'f, F: FileSystem> Asker<'f, F> {
             } => {
                 let most = request.len().saturating_sub(WRITE_HEAD).min(size as usize);
                 let data = Data::new(request, WRITE_HEAD, most);
-                let result = self.ask(|fs, ctx| {
+                let result = self.ask(|fs| {
                     let (node, handle) = (node.into(), handle.into());
                     fs.write(
                         ctx, node, handle, data, size, offset, lock_owner, delayed, kill_priv,
@@ -352,84 +228,46 @@ impl<'f, F: FileSystem> Asker<'f, F> {
         }
     }
 
-    /// The other calls about an open file.
-    fn use_file<'s>(&self, slot: &'s mut Slot, call: Call) -> Told<'s> {
-        match call {
+    /// The calls that open a file or a directory. If the reply does not fit, the handle is released: the client does
+    /// not know it, and nobody can be told of an error.
+    fn open<'s>(&self, slot: &'s mut Slot, call: Call) -> Told<'s> {
+        let ctx = self.context;
+        let (told, flags) = match call {
             Call::Open { node, kill_priv, flags, to } => {
-                let result = self.ask(|fs, ctx| fs.open(ctx, node.into(), kill_priv, flags));
-                let told = to.answer(slot, result.map(opened));
-                self.release_lost(&told, flags);
-                told
+                let result = self.ask(|fs| fs.open(ctx, node.into(), kill_priv, flags));
+                (to.answer(slot, result), flags)
             }
-            Call::Release { node, flags, handle, flush, flock_release, lock_owner, to } => {
-                let result = self.ask(|fs, ctx| {
-                    let (node, handle) = (node.into(), handle.into());
-                    fs.release(ctx, node, flags, handle, flush, flock_release, lock_owner)
+            Call::Create { parent, name, mode, kill_priv, flags, umask, extensions, to } => {
+                let extensions = extensions.into();
+                let result = self.ask(|fs| {
+                    let parent = parent.into();
+                    fs.create(ctx, parent, &name, mode, kill_priv, flags, umask, extensions)
                 });
-                to.answer(slot, result)
+                (to.answer(slot, result), flags)
             }
-            Call::Fsync { node, datasync, handle, to } => {
-                let result =
-                    self.ask(|fs, ctx| fs.fsync(ctx, node.into(), datasync, handle.into()));
-                to.answer(slot, result)
+            Call::Opendir { node, flags, to } => {
+                let told = to.answer(slot, self.ask(|fs| fs.opendir(ctx, node.into(), flags)));
+                if let Some((node, handle)) = told.lost_handle() {
+                    let _ = self.ask(|fs| fs.releasedir(ctx, node.into(), flags, handle.into()));
+                }
+                return told;
             }
-            Call::Flush { node, handle, lock_owner, to } => {
-                let result =
-                    self.ask(|fs, ctx| fs.flush(ctx, node.into(), handle.into(), lock_owner));
-                to.answer(slot, result)
-            }
-            Call::Fallocate { node, handle, mode, offset, length, to } => {
-                let result = self.ask(|fs, ctx| {
-                    fs.fallocate(ctx, node.into(), handle.into(), mode, offset, length)
-                });
-                to.answer(slot, result)
-            }
-            Call::Lseek { node, handle, offset, whence, to } => {
-                let result =
-                    self.ask(|fs, ctx| fs.lseek(ctx, node.into(), handle.into(), offset, whence));
-                to.answer(slot, result)
-            }
-            Call::CopyFileRange {
-                node_in,
-                handle_in,
-                offset_in,
-                node_out,
-                handle_out,
-                offset_out,
-                len,
-                flags,
-                to,
-            } => {
-                let result = self.ask(|fs, ctx| {
-                    let (node_in, handle_in) = (node_in.into(), handle_in.into());
-                    let (node_out, handle_out) = (node_out.into(), handle_out.into());
-                    fs.copyfilerange(
-                        ctx, node_in, handle_in, offset_in, node_out, handle_out, offset_out, len,
-                        flags,
-                    )
-                });
-                to.answer(slot, result)
-            }
-            other => self.refuse(slot, other),
+            other => return self.refuse(slot, other),
+        };
+        if let Some((node, handle)) = told.lost_handle() {
+            let (node, handle) = (node.into(), handle.into());
+            let _ = self.ask(|fs| fs.release(ctx, node, flags, handle, false, false, None));
         }
+        told
     }
 
-    /// The calls about an open directory.
-    fn use_directory<'s>(&self, slot: &'s mut Slot, call: Call) -> Told<'s> {
+    /// READDIR and READLINK.
+    fn read_node<'s>(&self, slot: &'s mut Slot, call: Call) -> Told<'s> {
+        let ctx = self.context;
         match call {
-            Call::Opendir { node, flags, to } => {
-                let result = self.ask(|fs, ctx| fs.opendir(ctx, node.into(), flags));
-                let told = to.answer(slot, result.map(opened));
-                if let Some((node, handle)) = told.lost_handle() {
-                    // Nobody can be told of an error.
-                    let _ =
-                        self.ask(|fs, ctx| fs.releasedir(ctx, node.into(), flags, handle.into()));
-                }
-                told
-            }
             Call::Readdir { node, handle, size, offset, plus, to } => {
                 let result =
-                    self.ask(|fs, ctx| fs.readdir(ctx, node.into(), handle.into(), size, offset));
+                    self.run(|fs| fs.readdir(ctx, node.into(), handle.into(), size, offset));
                 match result {
                     Ok(items) => LISTING.with(move |listing| {
                         let mut listing = listing.borrow_mut();
@@ -445,16 +283,10 @@ impl<'f, F: FileSystem> Asker<'f, F> {
                     Err(error) => to.fail(slot, &error),
                 }
             }
-            Call::Releasedir { node, flags, handle, to } => {
-                let result =
-                    self.ask(|fs, ctx| fs.releasedir(ctx, node.into(), flags, handle.into()));
-                to.answer(slot, result)
-            }
-            Call::Fsyncdir { node, datasync, handle, to } => {
-                let result =
-                    self.ask(|fs, ctx| fs.fsyncdir(ctx, node.into(), datasync, handle.into()));
-                to.answer(slot, result)
-            }
+            Call::Readlink { node, to } => match self.run(|fs| fs.readlink(ctx, node.into())) {
+                Ok(text) => to.answer(slot, Ok(&text)),
+                Err(error) => to.fail(slot, &error),
+            },
             other => self.refuse(slot, other),
         }
     }
@@ -464,7 +296,7 @@ impl<'f, F: FileSystem> Asker<'f, F> {
     fn list(&self, listing: &mut Listing, mut items: F::DirIter, most: usize, plus: bool) {
         listing.clear();
         // If the iterator panics, the listing ends.
-        self.tell(|_, _| while listing.add(&mut items, most, plus) {});
+        self.tell(|_| while listing.add(&mut items, most, plus) {});
     }
 
     /// Looks items up, but for `.` and `..`, up to the first whose lookup fails.
@@ -475,9 +307,9 @@ impl<'f, F: FileSystem> Asker<'f, F> {
                 items.push(item);
                 continue;
             }
-            let result = self.ask(|fs, ctx| fs.lookup(ctx, node.into(), item.name()));
+            let result = self.ask(|fs| fs.lookup(self.context, node.into(), item.name()));
             let failed = result.is_err();
-            items.push(item.looked_up(&result.map(entry_of)));
+            items.push(item.looked_up(&result));
             if failed {
                 break;
             }
@@ -490,58 +322,20 @@ impl<'f, F: FileSystem> Asker<'f, F> {
         match call {
             Call::Init { capable, to, .. } => {
                 let capable = FsOptions::from_bits_truncate(capable.bits());
-                let result = self.ask(|fs, _| fs.init(capable));
-                let wanted = result.map(|it| nizwarf::FsOptions::from_bits_truncate(it.bits()));
-                to.answer(slot, wanted)
+                to.answer(slot, self.ask(|fs| fs.init(capable)))
             }
             Call::Destroy { to } => {
-                self.tell(|fs, _| fs.destroy());
+                self.tell(FileSystem::destroy);
                 to.done(slot)
             }
             Call::Forget { node, count, to } => {
-                self.tell(|fs, ctx| fs.forget(ctx, node.into(), count));
+                self.tell(|fs| fs.forget(self.context, node.into(), count));
                 to.done(slot)
             }
             Call::BatchForget { forgets, to } => {
                 let forgets = forgets.map(|(node, count)| (node.into(), count)).collect();
-                self.tell(|fs, ctx| fs.batch_forget(ctx, forgets));
+                self.tell(|fs| fs.batch_forget(self.context, forgets));
                 to.done(slot)
-            }
-            other => self.refuse(slot, other),
-        }
-    }
-
-    /// The other calls about a node.
-    fn use_node<'s>(&self, slot: &'s mut Slot, call: Call) -> Told<'s> {
-        match call {
-            Call::Getattr { node, handle, to } => {
-                let handle = handle.map(Into::into);
-                let result = self.ask(|fs, ctx| fs.getattr(ctx, node.into(), handle));
-                to.answer(slot, result.map(attributes))
-            }
-            Call::Setattr { node, attr, handle, valid, to } => {
-                let handle = handle.map(Into::into);
-                let valid = SetattrValid::from_bits_truncate(valid.bits());
-                let result = self
-                    .ask(|fs, ctx| fs.setattr(ctx, node.into(), setattr_of(&attr), handle, valid));
-                to.answer(slot, result.map(attributes))
-            }
-            Call::Readlink { node, to } => {
-                let result = self.ask(|fs, ctx| fs.readlink(ctx, node.into()));
-                match result {
-                    Ok(text) => to.answer(slot, Ok(&text)),
-                    Err(error) => to.fail(slot, &error),
-                }
-            }
-            Call::Statfs { node, to } => {
-                let result = self.ask(|fs, ctx| fs.statfs(ctx, node.into()));
-                to.answer(slot, result.map(statfs_of))
-            }
-            Call::Access { node, mask, to } => {
-                to.answer(slot, self.ask(|fs, ctx| fs.access(ctx, node.into(), mask)))
-            }
-            Call::Syncfs { node, to } => {
-                to.answer(slot, self.ask(|fs, ctx| fs.syncfs(ctx, node.into())))
             }
             other => self.refuse(slot, other),
         }
@@ -550,15 +344,15 @@ impl<'f, F: FileSystem> Asker<'f, F> {
     /// The calls without arguments, which a file system can only refuse, and those that are not known.
     fn refuse<'s>(&self, slot: &'s mut Slot, call: Call) -> Told<'s> {
         match call {
-            Call::Getlk { to } => to.answer(slot, self.ask(|fs, _| fs.getlk())),
-            Call::Setlk { to } => to.answer(slot, self.ask(|fs, _| fs.setlk())),
-            Call::Setlkw { to } => to.answer(slot, self.ask(|fs, _| fs.setlkw())),
-            Call::Bmap { to } => to.answer(slot, self.ask(|fs, _| fs.bmap())),
-            Call::Ioctl { to } => to.answer(slot, self.ask(|fs, _| fs.ioctl())),
-            Call::Poll { to } => to.answer(slot, self.ask(|fs, _| fs.poll())),
-            Call::NotifyReply { to } => to.answer(slot, self.ask(|fs, _| fs.notify_reply())),
+            Call::Getlk { to } => to.answer(slot, self.ask(FileSystem::getlk)),
+            Call::Setlk { to } => to.answer(slot, self.ask(FileSystem::setlk)),
+            Call::Setlkw { to } => to.answer(slot, self.ask(FileSystem::setlkw)),
+            Call::Bmap { to } => to.answer(slot, self.ask(FileSystem::bmap)),
+            Call::Ioctl { to } => to.answer(slot, self.ask(FileSystem::ioctl)),
+            Call::Poll { to } => to.answer(slot, self.ask(FileSystem::poll)),
+            Call::NotifyReply { to } => to.answer(slot, self.ask(FileSystem::notify_reply)),
             Call::Tmpfile { to } => {
-                let result = self.ask(|fs, _| fs.tmpfile());
+                let result = self.run(FileSystem::tmpfile);
                 let error = result.map(|(entry, ..)| self.give_back(entry.inode)).err();
                 to.fail(slot, &error.unwrap_or_else(|| io::Error::from_raw_os_error(libc::EIO)))
             }
@@ -628,14 +422,108 @@ fn name_in(names: &[u8], at: usize) -> &CStr {
     CStr::from_bytes_until_nul(&names[at..]).unwrap_or_default()
 }
 
-#[allow(clippy::needless_pass_by_value)] // as a result is mapped
-fn entry_of(entry: Entry) -> nizwarf::Entry {
-    let Entry { inode, generation, attr, attr_timeout, entry_timeout } = entry;
-    nizwarf::Entry { inode, generation, attr: attr_of(&attr), attr_timeout, entry_timeout }
+/// A result of a method of virtiofsd, as the crate has it.
+trait Answer {
+    type Of;
+
+    fn of(self) -> Self::Of;
 }
 
-fn attributes((attr, timeout): (Attr, Duration)) -> (nizwarf::Attr, Duration) {
-    (attr_of(&attr), timeout)
+/// Results that are the same in both.
+macro_rules! same {
+    ($($name:ty)*) => {
+        $(impl Answer for $name {
+            type Of = Self;
+
+            fn of(self) -> Self {
+                self
+            }
+        })*
+    };
+}
+
+same!(() u64 usize);
+
+impl Answer for FsOptions {
+    type Of = nizwarf::FsOptions;
+
+    fn of(self) -> Self::Of {
+        nizwarf::FsOptions::from_bits_truncate(self.bits())
+    }
+}
+
+impl Answer for Entry {
+    type Of = nizwarf::Entry;
+
+    fn of(self) -> Self::Of {
+        let Entry { inode, generation, attr, attr_timeout, entry_timeout } = self;
+        nizwarf::Entry { inode, generation, attr: attr_of(&attr), attr_timeout, entry_timeout }
+    }
+}
+
+impl Answer for (Attr, Duration) {
+    type Of = (nizwarf::Attr, Duration);
+
+    fn of(self) -> Self::Of {
+        (attr_of(&self.0), self.1)
+    }
+}
+
+impl<H: Into<u64>> Answer for (Option<H>, OpenOptions) {
+    type Of = (Option<u64>, nizwarf::OpenOptions);
+
+    fn of(self) -> Self::Of {
+        let options = nizwarf::OpenOptions::from_bits_truncate(self.1.bits());
+        (self.0.map(Into::into), options)
+    }
+}
+
+impl<H: Into<u64>> Answer for (Entry, Option<H>, OpenOptions) {
+    type Of = (nizwarf::Entry, Option<u64>, nizwarf::OpenOptions);
+
+    fn of(self) -> Self::Of {
+        let (handle, options) = (self.1, self.2).of();
+        (self.0.of(), handle, options)
+    }
+}
+
+impl Answer for libc::statvfs64 {
+    type Of = nizwarf::Statvfs;
+
+    fn of(self) -> Self::Of {
+        nizwarf::Statvfs {
+            f_bsize: self.f_bsize,
+            f_frsize: self.f_frsize,
+            f_blocks: self.f_blocks,
+            f_bfree: self.f_bfree,
+            f_bavail: self.f_bavail,
+            f_files: self.f_files,
+            f_ffree: self.f_ffree,
+            f_namemax: self.f_namemax,
+        }
+    }
+}
+
+impl Answer for GetxattrReply {
+    type Of = nizwarf::GetxattrReply;
+
+    fn of(self) -> Self::Of {
+        match self {
+            GetxattrReply::Value(value) => nizwarf::GetxattrReply::Value(value),
+            GetxattrReply::Count(count) => nizwarf::GetxattrReply::Count(count),
+        }
+    }
+}
+
+impl Answer for ListxattrReply {
+    type Of = nizwarf::ListxattrReply;
+
+    fn of(self) -> Self::Of {
+        match self {
+            ListxattrReply::Names(names) => nizwarf::ListxattrReply::Names(names),
+            ListxattrReply::Count(count) => nizwarf::ListxattrReply::Count(count),
+        }
+    }
 }
 
 fn attr_of(attr: &Attr) -> nizwarf::Attr {
@@ -659,53 +547,49 @@ fn attr_of(attr: &Attr) -> nizwarf::Attr {
     }
 }
 
-fn setattr_of(attr: &nizwarf::SetattrIn) -> SetattrIn {
-    SetattrIn {
-        valid: attr.valid,
-        padding: attr.padding,
-        fh: attr.fh,
-        size: attr.size,
-        lock_owner: attr.lock_owner,
-        atime: attr.atime,
-        mtime: attr.mtime,
-        ctime: attr.ctime,
-        atimensec: attr.atimensec,
-        mtimensec: attr.mtimensec,
-        ctimensec: attr.ctimensec,
-        mode: attr.mode,
-        unused4: attr.unused4,
-        uid: attr.uid.into(),
-        gid: attr.gid.into(),
-        unused5: attr.unused5,
+impl From<nizwarf::SetattrIn> for SetattrIn {
+    fn from(attr: nizwarf::SetattrIn) -> Self {
+        SetattrIn {
+            valid: attr.valid,
+            padding: attr.padding,
+            fh: attr.fh,
+            size: attr.size,
+            lock_owner: attr.lock_owner,
+            atime: attr.atime,
+            mtime: attr.mtime,
+            ctime: attr.ctime,
+            atimensec: attr.atimensec,
+            mtimensec: attr.mtimensec,
+            ctimensec: attr.ctimensec,
+            mode: attr.mode,
+            unused4: attr.unused4,
+            uid: attr.uid.into(),
+            gid: attr.gid.into(),
+            unused5: attr.unused5,
+        }
     }
 }
 
-fn statfs_of(statfs: libc::statvfs64) -> nizwarf::Statvfs {
-    nizwarf::Statvfs {
-        f_bsize: statfs.f_bsize,
-        f_frsize: statfs.f_frsize,
-        f_blocks: statfs.f_blocks,
-        f_bfree: statfs.f_bfree,
-        f_bavail: statfs.f_bavail,
-        f_files: statfs.f_files,
-        f_ffree: statfs.f_ffree,
-        f_namemax: statfs.f_namemax,
+impl From<nizwarf::SetattrValid> for SetattrValid {
+    fn from(valid: nizwarf::SetattrValid) -> Self {
+        SetattrValid::from_bits_truncate(valid.bits())
     }
 }
 
-fn opened<H: Into<u64>>(
-    (handle, options): (Option<H>, OpenOptions),
-) -> (Option<u64>, nizwarf::OpenOptions) {
-    let options = nizwarf::OpenOptions::from_bits_truncate(options.bits());
-    (handle.map(Into::into), options)
+impl From<nizwarf::SetxattrFlags> for SetxattrFlags {
+    fn from(flags: nizwarf::SetxattrFlags) -> Self {
+        SetxattrFlags::from_bits_truncate(flags.bits())
+    }
 }
 
-fn extensions_of(extensions: nizwarf::Extensions) -> Extensions {
-    Extensions {
-        secctx: extensions
-            .secctx
-            .map(|context| SecContext { name: context.name, secctx: context.secctx }),
-        sup_gid: extensions.sup_gid.map(Into::into),
+impl From<nizwarf::Extensions> for Extensions {
+    fn from(extensions: nizwarf::Extensions) -> Self {
+        Extensions {
+            secctx: extensions
+                .secctx
+                .map(|context| SecContext { name: context.name, secctx: context.secctx }),
+            sup_gid: extensions.sup_gid.map(Into::into),
+        }
     }
 }
 
