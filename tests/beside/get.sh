@@ -41,7 +41,7 @@ build_libfuse() {
     local version number major minor patch sources
     mkdir -p "$folder/made"
     version=$(version_of libfuse3-dev)
-    (cd "$folder" && apt-get "${apt[@]}" --download-only source fuse3 && tar -xzf fuse3_*.orig.tar.gz)
+    (cd "$folder" && apt-get "${apt[@]}" --download-only source fuse3 && tar -xf fuse3_*.orig.tar.?z)
     mv "$folder"/fuse-* "$folder/source"
     number=$(sed -nE "s/^project\('libfuse3'.*version: '([0-9.]+)[^']*'.*/\1/p" "$folder/source/meson.build")
     number=${number:-${version%%-*}}
