@@ -4,3 +4,4 @@ pub mod Behind
 pub mod Pairs
 pub mod Refusing
 pub mod Blocks
+pub mod Versions

@@ -1,5 +1,5 @@
 -- Parts of a reply that are put one after another into a room.
-use Rattle.std.proofs.Common.{◌≡◌, ◌⊎◌, inl, inr, ◌≤◌, ◌<◌, ◌+◌, ℕ, Bool, true, false, List, [], ◌++◌, length, take, drop, nat_le, Option, Some, None, IfSome, Result, refl, ap, sym, ◌∙◌, arith, append_assoc, append-nil, length-append, length-take, length-drop}
+use Rattle.std.proofs.Common.{◌≡◌, ◌⊎◌, inl, inr, ◌≤◌, ◌<◌, ℕ, Bool, true, false, List, [], ◌++◌, length, take, drop, nat_le, Option, Some, None, IfSome, Result, refl, ap, sym, ◌∙◌, arith, append_assoc, append-nil, length-append, length-take, length-drop}
 use Rattle.std.proofs.lemmas.List.{take_all, drop_all, nil_from_length, drop-append-le}
 use Rattle.std.proofs.lemmas.Bool.Decides.{nat_tests}
 use Rattle.vfs_wire.specs.Fields.{Table, Fit}
@@ -10,7 +10,7 @@ use Rattle.vfs_grammar.specs.Room.{put_outcome, put_room}
 use Rattle.vfs_grammar.specs.Reply.{Reply, Refusal, NoReply, Bytes, OpenBehind}
 use Rattle.vfs_grammar.proofs.Rooms.{put_outcome-fits, put_room-fits}
 use Rattle.vfs_grammar.specs.declared.error.Error.{Error}
-use Rattle.vfs_messages.specs.Rooms.{bytes_of_option, size_of_option, Replies, Writes, IsShortReply, with_behind}
+use Rattle.vfs_messages.specs.Rooms.{bytes_of_option, size_of_option, Replies, IsShortReply, with_behind}
 
 -- the bytes of a writer into which as much of a reply was written as there is room for
 written_room : (old : Written) (reply : List ℕ) (fits : Bool) → nat_le (length reply) (length old.left) ≡ fits → Leaves old (put_room reply old.left) (wrote old (take (length old.left) reply))

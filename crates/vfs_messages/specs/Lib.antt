@@ -1,2 +1,3 @@
 pub mod Parts
 pub mod Rooms
+pub mod Versions

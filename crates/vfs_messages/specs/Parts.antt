@@ -3,14 +3,14 @@ use Rattle.std.specs.Prelude.{◌≡◌, ◌⊎◌, ℕ, List, drop, option_map,
 use Rattle.std.specs.declared.vec.Vec.{Vec}
 use Rattle.std.specs.declared.alloc.Global.{Global}
 use Rattle.vfs_flags.specs.Flags.{security_ctx}
-use Rattle.vfs_wire.specs.Records.{secctx, in_header}
+use Rattle.vfs_wire.specs.Records.{in_header}
 use Rattle.vfs_wire.specs.declared.headers.InHeader.{InHeader}
 use Rattle.vfs_segments.specs.Lengths.{lengths_from, lie_together}
 use Rattle.vfs_files.specs.Values.{context_values, ExtensionValues, extension_values_of}
 use Rattle.vfs_files.specs.declared.extensions.Extensions.{Extensions}
 use Rattle.vfs_grammar.specs.declared.error.Error.{Error}
 use Rattle.vfs_grammar.specs.declared.error.Error.TheVariants.{OutOfMemory}
-use Rattle.vfs_grammar.specs.Extensions.{context_in, Block, block_size, block_in, has_option, Received}
+use Rattle.vfs_grammar.specs.Extensions.{context_in, block_size, block_in, has_option, Received}
 use Rattle.vfs_grammar.specs.Forms.{Layout, Without, Record, extended_in}
 use Rattle.vfs_grammar.specs.Records.{size_of}
 use Rattle.vfs_messages.specs.declared.extensions.Found.{Found}

@@ -9,9 +9,12 @@ mod options;
 mod parts;
 mod reply;
 mod request;
+mod uses;
 
 pub use extensions::{get_extensions, parse_security_context, parse_sup_groups};
-pub use options::{agreed_options, offered_options, read_second_flags, reply_init, reply_version};
+pub use options::{
+    agreed_options, offered_options, read_second_flags, reply_init, reply_unserved, reply_version,
+};
 pub use parts::Request;
 pub use reply::{
     hold_header, reply_attr, reply_created, reply_data, reply_done, reply_entry, reply_error,

@@ -11,14 +11,17 @@ ghost use Rattle.vfs_grammar.specs.Limits.{AreLimits};
 ghost use Rattle.vfs_grammar.specs.Options.{options_offered, agreed, options_after};
 ghost use Rattle.vfs_grammar.specs.Reply.{Bytes, init_out_of, body_reply, answer_reply, version_out};
 ghost use Rattle.vfs_messages.specs.Rooms.{Replies};
+ghost use Rattle.vfs_messages.specs.Versions.{AnswersVersion};
 
 use crate::reply::{reply_failed, reply_record};
 use crate::request::read_record;
 use bitflags::Flags;
-use vfs_flags::{Fault, FsOptions, KERNEL_MINOR_VERSION, KERNEL_VERSION};
+use vfs_flags::{
+    Errno, Fault, FsOptions, KERNEL_MINOR_VERSION, KERNEL_VERSION, MIN_KERNEL_MINOR_VERSION,
+};
 use vfs_grammar::{Limits, Result};
 use vfs_segments::{Reader, Writer};
-use vfs_wire::{InitInExt, InitOut};
+use vfs_wire::{InHeader, InitInCompat, InitInExt, InitOut};
 
 /// The second word of INIT's flags, in a record of its own where the first word says so, and else
 /// 0.
@@ -75,6 +78,27 @@ pub fn reply_version(unique: u64, w: &mut Writer) -> Result<usize>
         ..InitOut::default()
     };
     reply_record(out, unique, w)
+}
+
+/// The reply to an INIT of a version that isn't served: an older one is refused, and a newer major
+/// one is told ours. `None` where it is served, and then nothing is put.
+pub fn reply_unserved(
+    header: &InHeader,
+    init_in: &InitInCompat,
+    w: &mut Writer,
+) -> Option<Result<usize>>
+    ensures { AnswersVersion header.now init_in.now w.old result w.new }
+{
+    if init_in.major < KERNEL_VERSION {
+        return Some(reply_failed(Some(Errno::EPROTO), header.unique, w));
+    }
+    if init_in.major > KERNEL_VERSION {
+        return Some(reply_version(header.unique, w));
+    }
+    if init_in.minor < MIN_KERNEL_MINOR_VERSION {
+        return Some(reply_failed(Some(Errno::EPROTO), header.unique, w));
+    }
+    None
 }
 
 /// What INIT replies to a client that it agrees with.
