@@ -371,25 +371,6 @@ static bool changes(const nizwarf_call *asked)
 	}
 }
 
-/* Whether a call is of an open file. */
-static bool wants_file(const nizwarf_call *asked)
-{
-	switch (asked->call) {
-	case NIZWARF_READ:
-	case NIZWARF_WRITE:
-	case NIZWARF_FLUSH:
-	case NIZWARF_FSYNC:
-	case NIZWARF_FSYNCDIR:
-	case NIZWARF_READDIR:
-	case NIZWARF_FALLOCATE:
-	case NIZWARF_LSEEK:
-	case NIZWARF_COPY:
-		return true;
-	default:
-		return asked->has & NIZWARF_HAS_HANDLE;
-	}
-}
-
 /* Whether a call makes do with its open file, and needs no descriptor of its node. */
 static bool needs_file_alone(const nizwarf_call *asked)
 {
@@ -477,43 +458,6 @@ static int make_of_node(const struct call *call)
 		return open_file(call);
 	case NIZWARF_CREATE:
 		return create_file(call);
-	default:
-		return ENOSYS;
-	}
-}
-
-/* Tells the host that a descriptor of the file is closed, as it may have an error to tell. */
-static int flush(int fd)
-{
-	const int copy = dup(fd);
-
-	return copy < 0 ? errno : failed(close(copy));
-}
-
-/* A call of an open file, which is in hand. */
-static int make_of_file(const struct call *call)
-{
-	const nizwarf_call *asked = call->asked;
-	const int fd = call->file->counted.fd;
-
-	switch (asked->call) {
-	case NIZWARF_READ:
-		return read_file(call);
-	case NIZWARF_WRITE:
-		return write_file(call);
-	case NIZWARF_FLUSH:
-		return flush(fd);
-	case NIZWARF_FSYNC:
-	case NIZWARF_FSYNCDIR:
-		return failed(asked->has & NIZWARF_DATASYNC ? fdatasync(fd) : fsync(fd));
-	case NIZWARF_READDIR:
-		return read_directory(call);
-	case NIZWARF_FALLOCATE:
-		return allocate(call);
-	case NIZWARF_LSEEK:
-		return seek(call);
-	case NIZWARF_COPY:
-		return copy_range(call);
 	default:
 		return ENOSYS;
 	}

@@ -118,12 +118,9 @@ void regain_fsetid(const struct call *call);
 
 /* Whether the client writes later. */
 bool writes_later(const struct call *call);
-/* The calls about bytes of open files: 0, or an error. */
-int read_file(const struct call *call);
-int write_file(const struct call *call);
-int allocate(const struct call *call);
-int seek(const struct call *call);
-int copy_range(const struct call *call);
+/* Whether a call is of an open file; and makes one, whose file is in hand: 0, or an error. */
+bool wants_file(const nizwarf_call *asked);
+int make_of_file(const struct call *call);
 
 /* READDIR and READDIRPLUS, and the calls of extended attributes: 0, or an error. */
 int read_directory(const struct call *call);

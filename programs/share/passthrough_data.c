@@ -1,4 +1,4 @@
-/* The data of a passthrough's open files. */
+/* A passthrough's open files: their data, and which call does what with one. */
 #define _GNU_SOURCE
 #include <errno.h>
 #include <fcntl.h>
@@ -78,7 +78,7 @@ static int transfer(const struct call *call)
 	return 0;
 }
 
-int read_file(const struct call *call)
+static int read_file(const struct call *call)
 {
 	return transfer(call);
 }
@@ -120,7 +120,7 @@ static bool is_append(const struct call *call)
 	return asked->flags & O_APPEND && !(asked->has & NIZWARF_DELAYED) && !writes_later(call);
 }
 
-int write_file(const struct call *call)
+static int write_file(const struct call *call)
 {
 	int error = hold_write(call->file, is_append(call));
 
@@ -133,7 +133,7 @@ int write_file(const struct call *call)
 	return error;
 }
 
-int allocate(const struct call *call)
+static int allocate(const struct call *call)
 {
 	const nizwarf_call *asked = call->asked;
 	int error;
@@ -147,7 +147,7 @@ int allocate(const struct call *call)
 	return error;
 }
 
-int seek(const struct call *call)
+static int seek(const struct call *call)
 {
 	const nizwarf_call *asked = call->asked;
 	const uint32_t whence = nizwarf_lseek_whence(asked);
@@ -163,7 +163,7 @@ int seek(const struct call *call)
 	return failed(at < 0 ? -1 : 0);
 }
 
-int copy_range(const struct call *call)
+static int copy_range(const struct call *call)
 {
 	const nizwarf_call *asked = call->asked;
 	struct open_file *into = file_get(&call->all->nodes, asked->other_handle);
@@ -185,4 +185,47 @@ int copy_range(const struct call *call)
 	}
 	file_put(into);
 	return error;
+}
+
+/* Tells the host that a descriptor of the file is closed, as it may have an error to tell. */
+static int flush(const struct call *call)
+{
+	const int copy = dup(call->file->counted.fd);
+
+	return copy < 0 ? errno : failed(close(copy));
+}
+
+static int sync_file(const struct call *call)
+{
+	const int fd = call->file->counted.fd;
+
+	return failed(call->asked->has & NIZWARF_DATASYNC ? fdatasync(fd) : fsync(fd));
+}
+
+typedef int maker(const struct call *call);
+
+/* What makes a call of an open file; NULL: it is none. */
+static maker *maker_of(uint32_t call)
+{
+	static maker *const makers[] = {
+		[NIZWARF_READ] = read_file,	[NIZWARF_WRITE] = write_file,
+		[NIZWARF_FLUSH] = flush,	[NIZWARF_FSYNC] = sync_file,
+		[NIZWARF_FSYNCDIR] = sync_file, [NIZWARF_READDIR] = read_directory,
+		[NIZWARF_FALLOCATE] = allocate, [NIZWARF_LSEEK] = seek,
+		[NIZWARF_COPY] = copy_range,
+	};
+
+	return call < sizeof(makers) / sizeof(*makers) ? makers[call] : NULL;
+}
+
+bool wants_file(const nizwarf_call *asked)
+{
+	return maker_of(asked->call) || asked->has & NIZWARF_HAS_HANDLE;
+}
+
+int make_of_file(const struct call *call)
+{
+	maker *const make = maker_of(call->asked->call);
+
+	return make ? make(call) : ENOSYS;
 }
