@@ -93,6 +93,7 @@ def shape(row):
 
 
 SHAPES = dict(shape(row) for row in ROWS.splitlines()[2:])
+assert SHAPES.keys() == set(Op), f"without a row: {set(Op) - SHAPES.keys()}"
 RECORDS = {opcode: struct.Struct("<" + "".join("Q" if it.size == 8 else "I" for it in of.fields))
            for opcode, of in SHAPES.items()}
 
