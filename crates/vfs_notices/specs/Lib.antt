@@ -1,0 +1,4 @@
+pub mod Backing
+pub mod Init
+pub mod Notices
+pub mod Samples
