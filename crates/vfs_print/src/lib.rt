@@ -15,7 +15,6 @@ pub mod laws;
 mod message;
 mod opcodes;
 mod part;
-mod records;
 mod reply;
 mod request;
 mod stop;

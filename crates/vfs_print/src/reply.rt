@@ -3,8 +3,7 @@
 ghost use Rattle.std.specs.Prelude.{◌≡◌, ◌<◌, OnOk, codes, length};
 
 use crate::fields::print_alone;
-use crate::opcodes::print_answer;
-use crate::records::options_of;
+use crate::opcodes::{options_of, print_answer};
 use crate::stop::{Stop, print_end};
 use crate::take::take_record;
 use bitflags::Flags;
