@@ -93,6 +93,10 @@ pub mod number {
     pub const SYNCFS: u32 = 50;
 
     pub const TMPFILE: u32 = 51;
+
+    pub const STATX: u32 = 52;
+
+    pub const COPY_64: u32 = 53;
 }
 
 /// The kinds of answers.
@@ -151,6 +155,8 @@ pub mod has {
     pub const FLOCK_RELEASE: u32 = 256;
 
     pub const PLUS: u32 = 512;
+
+    pub const FLOCK: u32 = 1024;
 }
 
 /// Bytes of a request.

@@ -1,0 +1,3 @@
+pub mod Further
+pub mod Fitting
+pub mod Uses
