@@ -5,11 +5,11 @@ ghost use Rattle.vfs_grammar.specs.Forms.{ask_version};
 
 use crate::handlers::session::Session;
 use vfs_files::FileSystem;
-use vfs_flags::{Errno, KERNEL_VERSION, MIN_KERNEL_MINOR_VERSION, Opcode};
+use vfs_flags::Opcode;
 use vfs_grammar::Result;
 use vfs_messages::{
-    Request, agreed_options, offered_options, read_second_flags, reply_done, reply_failed,
-    reply_init, reply_version,
+    Request, agreed_options, offered_options, read_second_flags, reply_done, reply_init,
+    reply_unserved,
 };
 use vfs_segments::Writer;
 use vfs_wire::{InHeader, InitInCompat};
@@ -25,8 +25,8 @@ impl<F: FileSystem> Session<F> {
         self.init_version(q.header, &init_in, flags2, w)
     }
 
-    /// INIT of this version: an older one is refused, a newer major one is told ours, and else
-    /// both sides agree on options, which stand even where the reply does not fit.
+    /// INIT of this version: where it is served, both sides agree on options, which stand even
+    /// where the reply does not fit.
     fn init_version(
         &mut self,
         header: &InHeader,
@@ -37,14 +37,8 @@ impl<F: FileSystem> Session<F> {
         ensures { Handles F.allows F.DirIter.gives ⊥ (ask_version header.now init_in.now flags2)
             self.old w.old result w.new self.new }
     {
-        if init_in.major < KERNEL_VERSION {
-            return reply_failed(Some(Errno::EPROTO), header.unique, w);
-        }
-        if init_in.major > KERNEL_VERSION {
-            return reply_version(header.unique, w);
-        }
-        if init_in.minor < MIN_KERNEL_MINOR_VERSION {
-            return reply_failed(Some(Errno::EPROTO), header.unique, w);
+        if let Some(outcome) = reply_unserved(header, init_in, w) {
+            return outcome;
         }
         let offered = offered_options(init_in.flags, flags2);
         let answer = self.fs.init(offered);
