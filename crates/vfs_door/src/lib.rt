@@ -14,10 +14,13 @@ mod answer;
 mod ask;
 mod check;
 mod data;
+mod further_init;
 mod handle;
 mod memory;
+mod notices;
 mod print;
 mod uses;
+mod uses_notices;
 mod uses_text;
 
 ghost use Rattle.std.specs.Prelude.{◌≡◌, ◌≢◌, ◌≤◌, ◌++◌, length, take, drop, min, MatchOption};
