@@ -22,7 +22,7 @@
  *	complete(told.len);
  *
  * This file goes in that order: a session, to ask, the call, its answer, to reply. Then come checks of
- * requests, and messages as text; last the functions of the library, and what is inline. nizwarf_ops.h has
+ * requests, messages as text, and notices; last the functions of the library, and what is inline. nizwarf_ops.h has
  * a table of functions over the door; nizwarf_tree.h, which is included here, a server over a tree in memory.
  *
  * A request that is refused, by whichever of the two, has no reply: a virtual machine's is completed
@@ -595,6 +595,54 @@ static inline size_t nizwarf_print_request(const void *request, size_t len, uint
 static inline size_t nizwarf_print_reply(const void *request, size_t len, const void *reply, size_t reply_len,
 					 char *text, size_t size);
 
+/* ---- Notices ----------------------------------------------------------------------------------- */
+
+/* What a server says unasked: write one to /dev/fuse in one piece, as a reply, from any thread; but not before a
+ * request of the same node or name is answered, for which Linux may wait. It fails by ENOENT if it keeps nothing of
+ * these, and by EINVAL if it doesn't know the notice. virtio-fs has no way for notices.
+ *
+ * Each function puts a notice over the first of the `size` bytes at `out`, and answers how many they are: 48 at most
+ * without a name, and 41 and the name with one. 0: it is longer than that, or with what follows than 4 GiB, or a
+ * pointer is NULL; nothing was put. They have no state, and allocate nothing. */
+
+/* In `flags` of nizwarf_notice_inval_entry: the name is looked up again at its next use, and not dropped. */
+enum { NIZWARF_EXPIRE_ONLY = 1 << 0 };
+
+/* Whoever polled by this number is to poll again: a POLL told it, with FUSE_POLL_SCHEDULE_NOTIFY. */
+static inline size_t nizwarf_notice_poll(uint64_t kh, void *out, size_t size);
+
+/* What is kept of a node is old: its attributes, and its bytes from `offset` on, `len` of them, or all if that isn't
+ * above 0; none of its bytes if `offset` is below 0. */
+static inline size_t nizwarf_notice_inval_inode(uint64_t node, int64_t offset, int64_t len, void *out,
+						size_t size);
+
+/* A name in a directory is old. */
+static inline size_t nizwarf_notice_inval_entry(uint64_t parent, uint32_t flags, const char *name,
+						size_t name_len, void *out, size_t size);
+
+/* These are bytes of a node, to be kept: `count` of them, from `offset` on, follow in the same write. */
+static inline size_t nizwarf_notice_store(uint64_t node, uint64_t offset, uint32_t count, void *out,
+					  size_t size);
+
+/* Bytes that are kept of a node are wanted: `count` of them, from `offset` on, come by a NOTIFY_REPLY whose `unique`
+ * is this. */
+static inline size_t nizwarf_notice_retrieve(uint64_t unique, uint64_t node, uint64_t offset, uint32_t count,
+					     void *out, size_t size);
+
+/* A name in a directory, which was that of the node `child`, is gone: also for who watches it by inotify(7). */
+static inline size_t nizwarf_notice_delete(uint64_t parent, uint64_t child, const char *name, size_t name_len,
+					   void *out, size_t size);
+
+/* All requests that have no reply yet are to be sent again, as to a server that took over: bit 63 of their `unique`
+ * is set. */
+static inline size_t nizwarf_notice_resend(void *out, size_t size);
+
+/* All names that are kept are to be looked up again at their next use. */
+static inline size_t nizwarf_notice_inc_epoch(void *out, size_t size);
+
+/* Nodes are to be forgotten, if nothing uses them: the numbers of `count` follow in the same write, of 8 bytes each. */
+static inline size_t nizwarf_notice_prune(uint32_t count, void *out, size_t size);
+
 /* ---- The functions of the library -------------------------------------------------------------- */
 
 /* A program that isn't in C links these, and lays structs out so. No pointer is NULL, and that to a
@@ -636,6 +684,23 @@ size_t nizwarf_print_request_at(const uint8_t *request, size_t len, uint64_t opt
 				size_t text_len);
 size_t nizwarf_print_reply_at(const uint8_t *request, size_t len, const uint8_t *reply, size_t reply_len,
 			      uint8_t *text, size_t text_len);
+
+/* Those of notices: the bytes of a name are in one piece, without a 0. */
+size_t nizwarf_notice_poll_at(uint64_t kh, uint8_t *out, size_t size);
+size_t nizwarf_notice_inval_inode_at(uint64_t node, int64_t offset, int64_t len, uint8_t *out, size_t size);
+size_t nizwarf_notice_inval_entry_at(uint64_t parent, uint32_t flags, const uint8_t *name, size_t name_len,
+				     uint8_t *out, size_t size);
+size_t nizwarf_notice_store_at(uint64_t node, uint64_t offset, uint32_t count, uint8_t *out, size_t size);
+size_t nizwarf_notice_retrieve_at(uint64_t unique, uint64_t node, uint64_t offset, uint32_t count,
+				  uint8_t *out, size_t size);
+size_t nizwarf_notice_delete_at(uint64_t parent, uint64_t child, const uint8_t *name, size_t name_len,
+				uint8_t *out, size_t size);
+size_t nizwarf_notice_resend_at(uint8_t *out, size_t size);
+size_t nizwarf_notice_inc_epoch_at(uint8_t *out, size_t size);
+size_t nizwarf_notice_prune_at(uint32_t count, uint8_t *out, size_t size);
+/* Names the file of a `backing_id` in the reply to an OPEN or a CREATE, if PASSTHROUGH is agreed on: 1. 0: the reply is
+ * a fault, or no whole one, and stays. */
+int32_t nizwarf_add_backing_at(uint8_t *reply, size_t len, int32_t id);
 
 /* ---- What is inline ---------------------------------------------------------------------------- */
 
@@ -793,6 +858,60 @@ static inline size_t nizwarf_print_reply(const void *request, size_t len, const 
 	return nizwarf_print_reply_at(request ? (const uint8_t *)request : &none, request ? len : 0,
 				      reply ? (const uint8_t *)reply : &none, reply ? reply_len : 0,
 				      text ? (uint8_t *)text : &none, text ? size : 0);
+}
+
+static inline size_t nizwarf_notice_poll(uint64_t kh, void *out, size_t size)
+{
+	return out ? nizwarf_notice_poll_at(kh, (uint8_t *)out, size) : 0;
+}
+
+static inline size_t nizwarf_notice_inval_inode(uint64_t node, int64_t offset, int64_t len, void *out,
+						size_t size)
+{
+	return out ? nizwarf_notice_inval_inode_at(node, offset, len, (uint8_t *)out, size) : 0;
+}
+
+static inline size_t nizwarf_notice_inval_entry(uint64_t parent, uint32_t flags, const char *name,
+						size_t name_len, void *out, size_t size)
+{
+	return name && out ? nizwarf_notice_inval_entry_at(parent, flags, (const uint8_t *)name, name_len,
+							   (uint8_t *)out, size) :
+			     0;
+}
+
+static inline size_t nizwarf_notice_store(uint64_t node, uint64_t offset, uint32_t count, void *out,
+					  size_t size)
+{
+	return out ? nizwarf_notice_store_at(node, offset, count, (uint8_t *)out, size) : 0;
+}
+
+static inline size_t nizwarf_notice_retrieve(uint64_t unique, uint64_t node, uint64_t offset, uint32_t count,
+					     void *out, size_t size)
+{
+	return out ? nizwarf_notice_retrieve_at(unique, node, offset, count, (uint8_t *)out, size) : 0;
+}
+
+static inline size_t nizwarf_notice_delete(uint64_t parent, uint64_t child, const char *name, size_t name_len,
+					   void *out, size_t size)
+{
+	return name && out ? nizwarf_notice_delete_at(parent, child, (const uint8_t *)name, name_len,
+						      (uint8_t *)out, size) :
+			     0;
+}
+
+static inline size_t nizwarf_notice_resend(void *out, size_t size)
+{
+	return out ? nizwarf_notice_resend_at((uint8_t *)out, size) : 0;
+}
+
+static inline size_t nizwarf_notice_inc_epoch(void *out, size_t size)
+{
+	return out ? nizwarf_notice_inc_epoch_at((uint8_t *)out, size) : 0;
+}
+
+static inline size_t nizwarf_notice_prune(uint32_t count, void *out, size_t size)
+{
+	return out ? nizwarf_notice_prune_at(count, (uint8_t *)out, size) : 0;
 }
 
 #ifdef __cplusplus

@@ -2,9 +2,9 @@
 # Builds examples/c/serve.c with the library for C, and runs it: it answers an INIT, a MKDIR and a LOOKUP, and
 # checks the replies. Then tests/c/tree.c holds the library against what the header says, also where each
 # allocation is refused in turn. tests/c/hello.c asks a few requests of examples/c/hello.c, a file system over the
-# library vfs_door; door.c, door-cases.c, door-threads.c, ops.c, ops-threads.c and text.c hold that library against
-# what the headers say; as root mounted.c mounts a table of wrong answers. All that runs under the sanitizers of the
-# compiler too, if it has them. The structs are laid out as in version 0.2, and a program of that version runs with
+# library vfs_door; door.c, door-cases.c, door-threads.c, notices.c, ops.c, ops-threads.c and text.c hold that library
+# against what the headers say; as root mounted.c mounts a table of wrong answers. All that runs under the sanitizers
+# of the compiler too, if it has them. The structs are laid out as in version 0.2, and a program of that version runs with
 # what is built and what is packed: tests/c/version-0.2. All names that the libraries define begin with `nizwarf_`.
 # Records and numbers of crates are those of the kernel's header, by tests/c/kernel.py.
 # Last, tools/package.sh packs the libraries, and the examples are built by pkg-config against what is installed of
@@ -98,6 +98,8 @@ run_all() {
     "$folder/program"
     compile tests/c/text.c "$@" "${counted[@]}"
     "$folder/program" "$folder/recorded"
+    compile tests/c/notices.c "$@"
+    "$folder/program"
     compile tests/c/door-threads.c "$@" -pthread
     timeout 60 "$folder/program"
     compile tests/c/version-0.2/program.c "$@"
