@@ -6,4 +6,4 @@ pub mod Telling
 pub mod Using
 pub mod One
 pub mod Names
-pub mod Records
+pub mod Adding

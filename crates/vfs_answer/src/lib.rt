@@ -7,7 +7,6 @@ mod answered;
 mod call;
 mod listing;
 mod name;
-mod record;
 mod reply;
 mod uses;
 mod value;

@@ -1,21 +1,16 @@
 //! The records of a directory, from the items that were offered.
 
-ghost use Rattle.std.specs.Prelude.{◌≡◌, ◌≤◌, ◌<◌, ◌^◌, length, Ok, Err, Some};
-ghost use Rattle.vfs_files.specs.Values.{entry_out_of, item, name_of, name_text};
-ghost use Rattle.vfs_grammar.specs.Listing.{is_dot, dot_out, verdict, answer_at, Fails};
-ghost use Rattle.vfs_files.specs.declared.entry.Entry.{Entry as AnyEntry};
-ghost use Rattle.vfs_listings.specs.Reading.{got_of, Adds};
-ghost use Rattle.vfs_answer.specs.Offered.{item_told, taken_by, AddsItem, IsFound, ReadsOffered};
+ghost use Rattle.std.specs.Prelude.{◌≡◌, ◌≤◌, length, Ok, Err, Some};
+ghost use Rattle.vfs_files.specs.Values.{item, name_of, name_text};
+ghost use Rattle.vfs_grammar.specs.Listing.{answer_at, Fails};
+ghost use Rattle.vfs_answer.specs.Offered.{item_told, taken_by, AddsItem, ReadsOffered};
 
 use crate::name::name_in;
-use crate::record::{add_plain, add_plus};
-use std::time::Duration;
 use vfs_calls::{ItemData, fault_of};
-use vfs_files::{CStr, DirEntry, Entry};
+use vfs_files::{CStr, DirEntry};
 use vfs_flags::Fault;
-use vfs_listings::add_dirent;
+use vfs_listings::{add_dirent, dot_entry, is_dot, record_len};
 use vfs_segments::Writer;
-use vfs_wire::Attr;
 
 /// What was put of a directory.
 #[derive(Drop)]
@@ -48,49 +43,6 @@ impl Listed {
     }
 }
 
-/// Whether a name is `.` or `..`.
-#[inline(always)]
-fn is_dot(name: &[u8]) -> bool
-    ensures { result ≡ is_dot name.now }
-{
-    name.len() <= 2 && is_short_dot(name)
-}
-
-/// The same, whatever the length.
-fn is_short_dot(name: &[u8]) -> bool
-    ensures { result ≡ is_dot name.now }
-{
-    name == b".".as_slice() || name == b"..".as_slice()
-}
-
-/// The entry of `.` and `..`: their number, and a mode that says their type and no more.
-fn dot_entry(dir_entry: DirEntry<'_>) -> Entry
-    ensures { entry_out_of result ≡ dot_out (item dir_entry.entry) }
-{
-    Entry {
-        inode: 0,
-        generation: 0,
-        attr: Attr {
-            ino: dir_entry.ino,
-            mode: dir_entry.type_.wrapping_mul(4096),
-            ..Attr::default()
-        },
-        attr_timeout: Duration::ZERO,
-        entry_timeout: Duration::ZERO,
-    }
-}
-
-/// What the lookup of an item got.
-#[inline(always)]
-fn found(offered: &ItemData<'_>) -> Result<Entry, Fault>
-    ensures { IsFound offered.now (got_of result) }
-{
-    match offered.error {
-        0 => Ok(offered.entry.entry()),
-        error => Err(fault_of(error)),
-    }
-}
-
 /// An item with this name.
 fn named<'a>(offered: &ItemData<'_>, name: CStr<'a>) -> DirEntry<'a>
     ensures { item result ≡ item_told offered.now (name_text name.entry) }
@@ -103,24 +55,44 @@ fn named<'a>(offered: &ItemData<'_>, name: CStr<'a>) -> DirEntry<'a>
     }
 }
 
-/// Adds the record of `.` or `..`.
+/// Whether the first segment has the next `len` bytes. No promise stands on it: what is put is the same.
+#[inline(always)]
+fn has_left(w: &Writer, len: usize) -> bool {
+    match w.segments().first() {
+        Some(first) => { w.bytes_written() < first.len() && len <= first.len() - w.bytes_written() }
+        None => false,
+    }
+}
+
+/// Adds the record of an item with this name, where `plus` with its entry. A fault of its lookup is the
+/// answer.
 #[cold]
-fn add_dot(
+#[inline(never)]
+fn add_anywhere(
     offered: &ItemData<'_>,
     name: CStr<'_>,
+    plus: bool,
     max: usize,
     w: &mut Writer,
 ) -> Result<usize, Fault>
-    ensures { (entry : AnyEntry) × (entry_out_of entry ≡ dot_out (item_told offered.now (name_text name.entry)))
-        × Adds (verdict max (length w.old.left) (Ok (Some entry)) (item_told offered.now (name_text name.entry)))
-        (Some entry) (item_told offered.now (name_text name.entry)) w.old result w.new }
+    requires { name_of offered.now.name.now ≡ Some (name_text name) }
+    ensures { AddsItem plus max offered.now w.old result w.new }
 {
-    let dir_entry = named(offered, name);
-    add_dirent(w, max, dir_entry, Some(dot_entry(dir_entry)))
+    let item = named(offered, name);
+    if !plus {
+        return add_dirent(w, max, item, None);
+    }
+    if is_dot(name.to_bytes()) {
+        return add_dirent(w, max, item, Some(dot_entry(item)));
+    }
+    if offered.error != 0 {
+        return Err(fault_of(offered.error));
+    }
+    add_dirent(w, max, item, Some(offered.entry.entry()))
 }
 
-/// Adds the record of an item with this name, where `plus` with its entry, which is spelled right from the
-/// item. A fault of its lookup is the answer.
+/// The same. Most records lie in the first segment: those are spelled right from the item into the room. For
+/// one over a cut the entry is put together in memory, so that stands apart, with what is rare.
 #[inline(always)]
 fn add_item(
     offered: &ItemData<'_>,
@@ -129,20 +101,17 @@ fn add_item(
     max: usize,
     w: &mut Writer,
 ) -> Result<usize, Fault>
-    requires named { name_of offered.now.name.now ≡ Some (name_text name) }
-    requires short { max < 2 ^ 32 }
+    requires { name_of offered.now.name.now ≡ Some (name_text name) }
     ensures { AddsItem plus max offered.now w.old result w.new }
 {
-    if !plus {
-        return add_plain(offered, name, max, w);
+    let bytes = name.to_bytes();
+    if !plus && has_left(w, record_len(bytes, false)) {
+        return add_dirent(w, max, named(offered, name), None);
     }
-    if is_dot(name.to_bytes()) {
-        return add_dot(offered, name, max, w);
+    if plus && offered.error == 0 && !is_dot(bytes) && has_left(w, record_len(bytes, true)) {
+        return add_dirent(w, max, named(offered, name), Some(offered.entry.entry()));
     }
-    match found(offered) {
-        Ok(_) => add_plus(offered, name, max, w),
-        Err(fault) => Err(fault),
-    }
+    add_anywhere(offered, name, plus, max, w)
 }
 
 /// What is answered where an item fails behind so many bytes of records, of so many items.
@@ -161,7 +130,6 @@ fn tell(plus: bool, written: usize, taken: usize, fault: Fault) -> Listed
 /// Puts the records of items, at most `size` bytes of them, where `plus` with their entries, up to
 /// the first item that isn't written, or whose name is none.
 pub(crate) fn put_items(items: &[ItemData<'_>], plus: bool, size: usize, w: &mut Writer) -> Listed
-    requires short { size < 2 ^ 32 }
     ensures reads { ReadsOffered plus size items.now w.old result.answer result.taken w.new }
     ensures within { result.taken ≤ length items.now }
 {

@@ -10,5 +10,5 @@ pub mod laws;
 mod listing;
 mod record;
 
-pub use listing::{give_back, read_directory};
-pub use record::add_dirent;
+pub use listing::{dot_entry, give_back, is_dot, read_directory};
+pub use record::{add_dirent, record_len};

@@ -15,14 +15,23 @@ use vfs_wire::{Attr, InHeader};
 use vfs_wire_more::ReadIn;
 
 /// Whether a name is `.` or `..`.
-fn is_dot(name: &[u8]) -> bool
+#[inline(always)]
+pub fn is_dot(name: &[u8]) -> bool
+    ensures { result ≡ is_dot name.now }
+{
+    name.len() <= 2 && is_short_dot(name)
+}
+
+/// The same, apart from where names are longer.
+#[cold]
+fn is_short_dot(name: &[u8]) -> bool
     ensures { result ≡ is_dot name.now }
 {
     name == b".".as_slice() || name == b"..".as_slice()
 }
 
 /// What `.` and `..` get: their number, and a mode that says their type and no more.
-fn dot_entry(dir_entry: DirEntry<'_>) -> Entry
+pub fn dot_entry(dir_entry: DirEntry<'_>) -> Entry
     ensures { entry_out_of result ≡ dot_out (item dir_entry.entry) }
 {
     Entry {

@@ -1,7 +1,7 @@
 //! Records of a directory's entries: a `Dirent`, the name, and zeros to a multiple of 8, with an
 //! `EntryOut` in front of them for READDIRPLUS.
 
-ghost use Rattle.std.specs.Prelude.{◌≡◌, ◌+◌, ◌-◌, ◌<◌, ◌≤◌, ◌^◌, length, Some, None, Ok};
+ghost use Rattle.std.specs.Prelude.{◌≡◌, ◌+◌, ◌-◌, ◌<◌, ◌≤◌, ◌^◌, length, true, false, Some, None, Ok};
 ghost use Rattle.std.specs.Int.{next_multiple_of};
 ghost use Rattle.vfs_files.specs.Answers.{FitsEntry};
 ghost use Rattle.vfs_files.specs.Values.{item};
@@ -14,23 +14,40 @@ use vfs_flags::{Errno, Fault};
 use vfs_segments::Writer;
 use vfs_wire::{ByteValued, Dirent, Direntplus, EntryOut};
 
-/// How long the record of an entry with this name is, without an `EntryOut`.
-fn dirent_len(name: &[u8]) -> usize
-    ensures { result ≡ dirent_len (length name.now) }
+/// How many zeros stand behind `len` bytes of a record, up to a multiple of 8.
+#[inline(always)]
+fn zeros_behind(len: usize) -> u8
+    ensures zeros { result ≡ next_multiple_of len 8 - len }
+    ensures few { result < 8 }
 {
-    (Dirent::SIZE + name.len()).next_multiple_of(8)
+    ((8 - len % 8) % 8) as u8
 }
 
-/// How many zeros stand behind `len` bytes of a record, up to a multiple of 8.
-fn zeros_behind(len: usize) -> u8
-    requires { len + 8 < 2 ^ 64 }
-    ensures zeros { result ≡ next_multiple_of len 8 - len }
-    ensures few { result ≤ 8 }
+/// How long a record is with so many bytes in front of this name.
+#[inline(always)]
+fn len_behind(front: usize, name: &[u8]) -> usize
+    requires { front < 2 ^ 32 }
+    ensures { result ≡ next_multiple_of (front + length name.now) 8 }
 {
-    (len.next_multiple_of(8) - len) as u8
+    let len = front + name.len();
+    len + zeros_behind(len) as usize
+}
+
+/// How long the record of an entry with this name is, where `plus` with an `EntryOut`.
+#[inline(always)]
+pub fn record_len(name: &[u8], plus: bool) -> usize
+    ensures plain { plus ≡ false → result ≡ dirent_len (length name.now) }
+    ensures with_entry { plus ≡ true → result ≡ 128 + dirent_len (length name.now) }
+{
+    if plus {
+        len_behind(Direntplus::SIZE, name)
+    } else {
+        len_behind(Dirent::SIZE, name)
+    }
 }
 
 /// The `Dirent` of an entry.
+#[inline(always)]
 fn dirent_of(dir_entry: DirEntry<'_>) -> Dirent
     requires { length dir_entry.name.bytes.now < 2 ^ 32 }
     ensures { result ≡ dirent_of (item dir_entry.entry) }
@@ -44,6 +61,7 @@ fn dirent_of(dir_entry: DirEntry<'_>) -> Dirent
 }
 
 /// Puts a record without an `EntryOut`.
+#[inline(always)]
 fn put_dirent(w: &mut Writer, dir_entry: DirEntry<'_>) -> io::Result<()>
     requires { length dir_entry.name.bytes.now < 2 ^ 32 }
     ensures { PutsBeginning w.old (dirent_bytes (item dir_entry.entry)) result w.new }
@@ -71,6 +89,7 @@ fn put_direntplus(w: &mut Writer, dir_entry: DirEntry<'_>, entry: &Entry) -> io:
 }
 
 /// Adds a record without an `EntryOut`.
+#[inline(always)]
 pub(crate) fn add_plain(w: &mut Writer, max: usize, dir_entry: DirEntry<'_>) -> Result<usize, Fault>
     ensures { Adds (verdict max (length w.old.left) (Ok None) (item dir_entry.entry)) None
         (item dir_entry.entry) w.old result w.new }
@@ -79,7 +98,7 @@ pub(crate) fn add_plain(w: &mut Writer, max: usize, dir_entry: DirEntry<'_>) -> 
     if name.len() > u32::MAX as usize {
         return Err(Some(Errno::EOVERFLOW));
     }
-    let len = dirent_len(name);
+    let len = len_behind(Dirent::SIZE, name);
     if len > max {
         return Ok(0);
     }
@@ -105,7 +124,7 @@ pub(crate) fn add_plus(
     if name.len() > u32::MAX as usize {
         return Err(Some(Errno::EOVERFLOW));
     }
-    let plus_len = EntryOut::SIZE + dirent_len(name);
+    let plus_len = len_behind(Direntplus::SIZE, name);
     if plus_len > max {
         return Ok(0);
     }
@@ -124,6 +143,7 @@ pub(crate) fn add_plus(
 ///
 /// The fault EOVERFLOW where the name has 2^32 bytes or more; then nothing is put. The fault `None`
 /// where the room is too small for the record; then the record's beginning fills it.
+#[inline(always)]
 pub fn add_dirent(
     w: &mut Writer,
     max: usize,

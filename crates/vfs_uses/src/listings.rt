@@ -11,7 +11,7 @@ ghost use Rattle.vfs_listings.specs.Reading.{ReadsItems};
 
 use vfs_files::{CStr, DirEntry, FileSystem};
 use vfs_flags::Fault;
-use vfs_listings::{add_dirent, read_directory};
+use vfs_listings::{add_dirent, read_directory, record_len};
 use vfs_segments::Writer;
 use vfs_small::Unserved;
 use vfs_wire::InHeader;
@@ -52,6 +52,14 @@ fn add_past_the_room(w: &mut Writer, entry: DirEntry<'_>) -> Result<usize, Fault
     ensures full { w.new.left ≡ [] }
 {
     add_dirent(w, 32, entry, None)
+}
+
+/// How long the record of an entry with this name of one byte is with an `EntryOut`: that has 128 bytes.
+fn len_with_entry(name: &[u8]) -> usize
+    requires { length name.now ≡ 1 }
+    ensures { result ≡ 160 }
+{
+    record_len(name, true)
 }
 
 /// Reads a directory of a file system that serves nothing: its fault is answered, and nothing is
