@@ -180,23 +180,13 @@ impl Notes {
 
     /// Begins the line of an answer. The parts of one that is no fault go on with it.
     pub fn answer<T>(&mut self, answer: &Result<T, Fault>) {
-        match answer {
-            Ok(_) => {
-                let noted = self.text.push_str("  -> ok");
-                self.keep(noted);
-            }
-            Err(fault) => self.fault(fault),
-        }
-    }
-
-    /// Begins the line of an answer that is a fault.
-    pub fn fault(&mut self, fault: &Fault) {
-        let noted = match fault {
-            Some(errno) => {
+        let noted = match answer {
+            Ok(_) => self.text.push_str("  -> ok"),
+            Err(Some(errno)) => {
                 let number = errno.get();
                 write!(self.text, "  -> fault {number}")
             }
-            None => self.text.push_str("  -> fault none"),
+            Err(None) => self.text.push_str("  -> fault none"),
         };
         self.keep(noted);
     }

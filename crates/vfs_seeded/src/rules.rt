@@ -97,19 +97,15 @@ pub fn wanted_bits(seed: u32) -> u64 {
     }
 }
 
-/// The handle that an opening answers: none where the seed is a multiple of 3, else the seed in
-/// both halves of the number.
-pub fn handle(seed: u32) -> Option<u64> {
-    if seed % 3 == 0 {
+/// What an opening answers: no handle where the seed is a multiple of 3, else the seed in both halves of the
+/// number; and how what was opened is to be used, the known bits of the seed's rest by 128.
+pub fn opening(seed: u32) -> (Option<u64>, OpenOptions) {
+    let handle = if seed % 3 == 0 {
         None
     } else {
         Some(u64::from(seed) * 4_294_967_297)
-    }
-}
-
-/// How what was opened is to be used: the known bits of the seed's rest by 128.
-pub fn open_options(seed: u32) -> OpenOptions {
-    OpenOptions::from_bits_truncate(seed % 128)
+    };
+    (handle, OpenOptions::from_bits_truncate(seed % 128))
 }
 
 /// What a file system holds. Two of the numbers have more bits than their places in the reply, for

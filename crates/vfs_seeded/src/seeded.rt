@@ -30,7 +30,7 @@
 
 ghost use Rattle.std.specs.Prelude.{◌≤◌, ℕ, List, IfOk};
 ghost use Rattle.vfs_files.specs.Answers.{Counts};
-ghost use Rattle.vfs_files.specs.Asked.{IsOptions, IsEntry, IsAttributes, IsOpening, IsCreation, IsText, IsTextOrCount, IsOffset, IsWrote, IsDone};
+ghost use Rattle.vfs_files.specs.Asked.{IsOptions, IsEntry, IsAttributes, IsText, IsTextOrCount};
 
 use crate::contents::Contents;
 use crate::listing::{DirectoryItems, Seeded};
@@ -47,7 +47,6 @@ use vfs_flags::{Errno, Fault, FsOptions, OpenOptions};
 use vfs_wire::{Attr, SetattrIn};
 
 mod calls;
-mod noting;
 
 /// The file system.
 #[derive(Drop)]
@@ -129,14 +128,6 @@ impl<'a> SeededFs<'a> {
         }
     }
 
-    // The seed, or what the input tells in its place.
-    fn seed_or_told(&self) -> Result<u32, Fault> {
-        match self.source() {
-            Ok(source) => Ok(source.as_seed()),
-            Err(fault) => Err(fault),
-        }
-    }
-
     // The options that are wanted.
     fn wanted(&self) -> Result<Given, Fault>
         ensures { IsOptions result }
@@ -170,22 +161,6 @@ impl<'a> SeededFs<'a> {
         Ok(Given::Found(self.source()?.entry(ctx, name.to_bytes())))
     }
 
-    // What is opened.
-    fn opened(&self) -> Result<Given, Fault>
-        ensures { IsOpening result }
-    {
-        let (handle, options) = self.source()?.opening();
-        Ok(Given::Opened(handle, options))
-    }
-
-    // The node that is made, and what is opened of it.
-    fn created(&self, ctx: &Context, name: CStr<'_>) -> Result<Given, Fault>
-        ensures { IsCreation result }
-    {
-        let (entry, handle, options) = self.source()?.creation(ctx, name.to_bytes());
-        Ok(Given::Created(entry, handle, options))
-    }
-
     // A reading of a directory from this place on.
     fn listing(&self, place: u64) -> Result<DirectoryItems, Fault> {
         let source = match self.next_told() {
@@ -202,7 +177,7 @@ impl<'a> SeededFs<'a> {
     fn attributes(&self, ctx: &Context, inode: u64, handle: Option<u64>) -> Result<Given, Fault>
         ensures { IsAttributes result }
     {
-        let t = u64::from(self.seed_or_told()?) + inode % 1000 + handle.unwrap_or(0) % 7;
+        let t = u64::from(self.source()?.as_seed()) + inode % 1000 + handle.unwrap_or(0) % 7;
         Ok(Given::Attributes(attr(t, inode, ctx), time(t)))
     }
 
@@ -217,7 +192,7 @@ impl<'a> SeededFs<'a> {
     ) -> Result<Given, Fault>
         ensures { IsAttributes result }
     {
-        let t = u64::from(self.seed_or_told()?);
+        let t = u64::from(self.source()?.as_seed());
         let attr = Attr {
             size: set.size,
             atime: set.atime,
@@ -245,7 +220,7 @@ impl<'a> SeededFs<'a> {
     ) -> Result<usize, Fault>
         ensures { (bytes : List ℕ) × W.puts w.old bytes w.new × Counts result bytes size }
     {
-        let seed = self.seed_or_told()?;
+        let seed = self.source()?.as_seed();
         let mut file = self.lend_notes(seed);
         let answer = file.read_into(w, size, offset);
         self.notes = file.into_notes();
@@ -262,7 +237,7 @@ impl<'a> SeededFs<'a> {
         ensures taken { (bytes : List ℕ) × R.takes r.old bytes r.new }
         ensures within { IfOk result (λ n. n ≤ size) }
     {
-        let seed = self.seed_or_told()?;
+        let seed = self.source()?.as_seed();
         let mut file = self.lend_notes(seed);
         let answer = file.write_from(r, size, offset);
         self.notes = file.into_notes();
@@ -279,7 +254,7 @@ impl<'a> SeededFs<'a> {
     fn text(&self) -> Result<Given, Fault>
         ensures { IsText result }
     {
-        let seed = self.seed_or_told()?;
+        let seed = self.source()?.as_seed();
         Ok(Given::Text(bytes(self.alloc, seed, seed % 300)?))
     }
 
@@ -287,40 +262,12 @@ impl<'a> SeededFs<'a> {
     fn attribute(&self) -> Result<Given, Fault>
         ensures { IsTextOrCount result }
     {
-        let seed = self.seed_or_told()?;
+        let seed = self.source()?.as_seed();
         if seed % 3 == 0 {
             Ok(Given::Count(seed))
         } else {
             Ok(Given::Text(bytes(self.alloc, seed, seed / 3 % 500)?))
         }
-    }
-
-    // The place in a file that is found.
-    fn sought(&self, offset: u64) -> Result<Given, Fault>
-        ensures { IsOffset result }
-    {
-        let seed = self.seed_or_told()?;
-        Ok(Given::Offset(if seed % 2 == 0 {
-            offset
-        } else {
-            u64::from(seed)
-        }))
-    }
-
-    // How much of `len` bytes is copied.
-    fn copied(&self, len: u64) -> Result<Given, Fault>
-        ensures { IsWrote result }
-    {
-        let seed = self.seed_or_told()?;
-        Ok(Given::Wrote(u32::try_from(len).unwrap_or(seed).min(seed)))
-    }
-
-    // That a call is done.
-    fn done(&self) -> Result<Given, Fault>
-        ensures { IsDone result }
-    {
-        self.seed_or_told()?;
-        Ok(Given::Done)
     }
 
     // Notes an answer, and the numbers that it shows.

@@ -1,6 +1,6 @@
 //! Answers that the input tells, for the calls of the requests that follow.
 
-use crate::rules::{entry, handle, open_options};
+use crate::rules::{entry, opening};
 use bitflags::Flags;
 use hex::FromHexError;
 use std::alloc::{AllocError, Global};
@@ -65,7 +65,7 @@ impl Source {
     pub fn opening(self) -> (Option<u64>, OpenOptions) {
         match self {
             Source::Told(handle) => (Some(handle), OpenOptions::empty()),
-            Source::Seed(seed) => (handle(seed), open_options(seed)),
+            Source::Seed(seed) => opening(seed),
         }
     }
 
@@ -73,7 +73,10 @@ impl Source {
     pub fn creation(self, ctx: &Context, name: &[u8]) -> (Entry, Option<u64>, OpenOptions) {
         match self {
             Source::Told(inode) => (bare_entry(inode), None, OpenOptions::empty()),
-            Source::Seed(seed) => (entry(seed, ctx, name), handle(seed), open_options(seed)),
+            Source::Seed(seed) => {
+                let (handle, options) = opening(seed);
+                (entry(seed, ctx, name), handle, options)
+            }
         }
     }
 }

@@ -1,15 +1,18 @@
-//! The calls of the seeded file system: what each answers.
+//! The calls of the seeded file system: how each is noted, and what it answers.
 
 ghost use Rattle.vfs_files.specs.Calls.{kind_of};
 ghost use Rattle.vfs_files.specs.Asked.{call_of, IsOfKind};
 
 use super::SeededFs;
 use crate::listing::DirectoryItems;
-use crate::notes::Arg;
+use crate::notes::Arg::{Bytes, Extensions, Maybe, Name, Number, Pairs, Small, Truth};
 use crate::rules::statistics;
 use bitflags::Flags;
-use vfs_files::{Asked, Context, Given, PartialFileSystem, ZeroCopyReader, ZeroCopyWriter};
+use vfs_files::{
+    AnswerKind, Asked, Context, Given, PartialFileSystem, ZeroCopyReader, ZeroCopyWriter,
+};
 use vfs_flags::{Errno, Fault};
+use vfs_wire::{ByteValued, SetattrIn};
 
 impl SeededFs<'_> {
     // What a call answers.
@@ -35,28 +38,504 @@ impl SeededFs<'_> {
                 let nlink = if handle.is_some() { 77 } else { 1 };
                 self.changed(ctx, *inode, attr, nlink, valid.bits())
             }
-            Asked::Open { .. } | Asked::Opendir { .. } => self.opened(),
-            Asked::Create { ctx, name, .. } => self.created(ctx, *name),
-            Asked::Statfs { .. } => Ok(Given::Statistics(statistics(self.seed_or_told()?))),
+            Asked::Open { .. } | Asked::Opendir { .. } => {
+                let (handle, options) = self.source()?.opening();
+                Ok(Given::Opened(handle, options))
+            }
+            Asked::Create { ctx, name, .. } => {
+                let (entry, handle, options) = self.source()?.creation(ctx, name.to_bytes());
+                Ok(Given::Created(entry, handle, options))
+            }
+            Asked::Statfs { .. } => Ok(Given::Statistics(statistics(self.source()?.as_seed()))),
             Asked::Readlink { .. } => self.text(),
             Asked::Getxattr { .. } | Asked::Listxattr { .. } => self.attribute(),
-            Asked::Lseek { offset, .. } => self.sought(*offset),
-            Asked::Copyfilerange { len, .. } => self.copied(*len),
+            Asked::Lseek { offset, .. } => {
+                let seed = u64::from(self.source()?.as_seed());
+                Ok(Given::Offset(if seed % 2 == 0 { *offset } else { seed }))
+            }
+            Asked::Copyfilerange { len, .. } => {
+                let seed = self.source()?.as_seed();
+                Ok(Given::Wrote(u32::try_from(*len).unwrap_or(seed).min(seed)))
+            }
             Asked::Tmpfile => {
-                self.seed_or_told()?;
+                self.source()?;
                 Err(Some(Errno::ENOSYS))
             }
-            _ => self.done(),
+            _ => {
+                self.source()?;
+                Ok(Given::Done)
+            }
         }
     }
-}
 
-// Whether a call has an answer.
-fn is_answered(asked: &Asked<'_>) -> bool {
-    !matches!(
-        asked,
-        Asked::Forget { .. } | Asked::BatchForget { .. } | Asked::Destroy
-    )
+    // Notes a call with its arguments.
+    fn note_call(&mut self, asked: &Asked<'_>) {
+        match asked {
+            Asked::Lookup { .. }
+            | Asked::Unlink { .. }
+            | Asked::Rmdir { .. }
+            | Asked::Removexattr { .. }
+            | Asked::Getxattr { .. }
+            | Asked::Setxattr { .. } => self.note_name(asked),
+            Asked::Symlink { .. } | Asked::Mknod { .. } | Asked::Mkdir { .. } => self.note_made(
+                asked,
+            ),
+            Asked::Rename { .. } | Asked::Link { .. } | Asked::Create { .. } => self.note_led(
+                asked,
+            ),
+            Asked::Forget { .. }
+            | Asked::BatchForget { .. }
+            | Asked::Getattr { .. }
+            | Asked::Readlink { .. }
+            | Asked::Statfs { .. }
+            | Asked::Listxattr { .. }
+            | Asked::Access { .. }
+            | Asked::Opendir { .. }
+            | Asked::Syncfs { .. } => self.note_node(asked),
+            Asked::Setattr { .. } | Asked::Fallocate { .. } => self.note_changed(asked),
+            Asked::Open { .. } | Asked::Release { .. } | Asked::Releasedir { .. } =>
+                self.note_opened(asked),
+            Asked::Flush { .. } | Asked::Fsync { .. } | Asked::Fsyncdir { .. } => self.note_kept(
+                asked,
+            ),
+            Asked::Lseek { .. } | Asked::Copyfilerange { .. } => self.note_place(asked),
+            Asked::Init { capable } => {
+                self.notes.call("init");
+                self.notes.bits("capable", capable.bits());
+                self.notes.end();
+            }
+            Asked::Getlk => self.called_untold("getlk"),
+            Asked::Setlk => self.called_untold("setlk"),
+            Asked::Setlkw => self.called_untold("setlkw"),
+            Asked::Bmap => self.called_untold("bmap"),
+            Asked::Destroy => self.called_untold("destroy"),
+            Asked::Ioctl => self.called_untold("ioctl"),
+            Asked::Poll => self.called_untold("poll"),
+            Asked::NotifyReply => self.called_untold("notify_reply"),
+            Asked::Tmpfile => self.called_untold("tmpfile"),
+        }
+    }
+
+    // Notes a call by a node and a name.
+    fn note_name(&mut self, asked: &Asked<'_>) {
+        match asked {
+            Asked::Lookup { ctx, parent, name } => self.called(
+                "lookup",
+                ctx,
+                &[Number("parent", *parent), Name("name", *name)],
+            ),
+            Asked::Unlink { ctx, parent, name } => self.called(
+                "unlink",
+                ctx,
+                &[Number("parent", *parent), Name("name", *name)],
+            ),
+            Asked::Rmdir { ctx, parent, name } => self.called(
+                "rmdir",
+                ctx,
+                &[Number("parent", *parent), Name("name", *name)],
+            ),
+            Asked::Removexattr { ctx, inode, name } => self.called(
+                "removexattr",
+                ctx,
+                &[Number("inode", *inode), Name("name", *name)],
+            ),
+            Asked::Getxattr {
+                ctx,
+                inode,
+                name,
+                size,
+            } => self.called(
+                "getxattr",
+                ctx,
+                &[
+                    Number("inode", *inode),
+                    Name("name", *name),
+                    Small("size", *size),
+                ],
+            ),
+            Asked::Setxattr {
+                ctx,
+                inode,
+                name,
+                value,
+                flags,
+                extra,
+            } => self.called(
+                "setxattr",
+                ctx,
+                &[
+                    Number("inode", *inode),
+                    Name("name", *name),
+                    Bytes("value", value),
+                    Small("flags", *flags),
+                    Small("extra", extra.bits()),
+                ],
+            ),
+            _ => {}
+        }
+    }
+
+    // Notes a call that makes a node, and does not open it.
+    fn note_made(&mut self, asked: &Asked<'_>) {
+        match asked {
+            Asked::Symlink {
+                ctx,
+                linkname,
+                parent,
+                name,
+                ext,
+            } => self.called(
+                "symlink",
+                ctx,
+                &[
+                    Name("linkname", *linkname),
+                    Number("parent", *parent),
+                    Name("name", *name),
+                    Extensions(ext),
+                ],
+            ),
+            Asked::Mknod {
+                ctx,
+                inode,
+                name,
+                mode,
+                rdev,
+                umask,
+                ext,
+            } => self.called(
+                "mknod",
+                ctx,
+                &[
+                    Number("inode", *inode),
+                    Name("name", *name),
+                    Small("mode", *mode),
+                    Small("rdev", *rdev),
+                    Small("umask", *umask),
+                    Extensions(ext),
+                ],
+            ),
+            Asked::Mkdir {
+                ctx,
+                parent,
+                name,
+                mode,
+                umask,
+                ext,
+            } => self.called(
+                "mkdir",
+                ctx,
+                &[
+                    Number("parent", *parent),
+                    Name("name", *name),
+                    Small("mode", *mode),
+                    Small("umask", *umask),
+                    Extensions(ext),
+                ],
+            ),
+            _ => {}
+        }
+    }
+
+    // Notes a call that makes a name lead to a node that is there, or to a file that is opened.
+    fn note_led(&mut self, asked: &Asked<'_>) {
+        match asked {
+            Asked::Rename {
+                ctx,
+                olddir,
+                oldname,
+                newdir,
+                newname,
+                flags,
+            } => self.called(
+                "rename",
+                ctx,
+                &[
+                    Number("olddir", *olddir),
+                    Name("oldname", *oldname),
+                    Number("newdir", *newdir),
+                    Name("newname", *newname),
+                    Small("flags", *flags),
+                ],
+            ),
+            Asked::Link {
+                ctx,
+                inode,
+                newparent,
+                newname,
+            } => self.called(
+                "link",
+                ctx,
+                &[
+                    Number("inode", *inode),
+                    Number("newparent", *newparent),
+                    Name("newname", *newname),
+                ],
+            ),
+            Asked::Create {
+                ctx,
+                parent,
+                name,
+                mode,
+                kill_priv,
+                flags,
+                umask,
+                ext,
+            } => self.called(
+                "create",
+                ctx,
+                &[
+                    Number("parent", *parent),
+                    Name("name", *name),
+                    Small("mode", *mode),
+                    Truth("kill_priv", *kill_priv),
+                    Small("flags", *flags),
+                    Small("umask", *umask),
+                    Extensions(ext),
+                ],
+            ),
+            _ => {}
+        }
+    }
+
+    // Notes a call of a node or of several, with one number at most.
+    fn note_node(&mut self, asked: &Asked<'_>) {
+        match asked {
+            Asked::Forget { ctx, inode, count } => self.called(
+                "forget",
+                ctx,
+                &[Number("inode", *inode), Number("count", *count)],
+            ),
+            Asked::BatchForget { ctx, requests } => self.called(
+                "batch_forget",
+                ctx,
+                &[Pairs("requests", requests)],
+            ),
+            Asked::Getattr { ctx, inode, handle } => self.called(
+                "getattr",
+                ctx,
+                &[Number("inode", *inode), Maybe("handle", *handle)],
+            ),
+            Asked::Readlink { ctx, inode } => self.called(
+                "readlink",
+                ctx,
+                &[Number("inode", *inode)],
+            ),
+            Asked::Statfs { ctx, inode } => self.called("statfs", ctx, &[Number("inode", *inode)]),
+            Asked::Listxattr { ctx, inode, size } => self.called(
+                "listxattr",
+                ctx,
+                &[Number("inode", *inode), Small("size", *size)],
+            ),
+            Asked::Access { ctx, inode, mask } => self.called(
+                "access",
+                ctx,
+                &[Number("inode", *inode), Small("mask", *mask)],
+            ),
+            Asked::Opendir { ctx, inode, flags } => self.called(
+                "opendir",
+                ctx,
+                &[Number("inode", *inode), Small("flags", *flags)],
+            ),
+            Asked::Syncfs { ctx, inode } => self.called("syncfs", ctx, &[Number("inode", *inode)]),
+            _ => {}
+        }
+    }
+
+    // Notes a call that changes a node.
+    fn note_changed(&mut self, asked: &Asked<'_>) {
+        match asked {
+            Asked::Setattr {
+                ctx,
+                inode,
+                attr,
+                handle,
+                valid,
+            } => {
+                let mut record = [0u8; SetattrIn::SIZE];
+                attr.put(&mut record);
+                self.called(
+                    "setattr",
+                    ctx,
+                    &[
+                        Number("inode", *inode),
+                        Bytes("attr", &record),
+                        Maybe("handle", *handle),
+                        Small("valid", valid.bits()),
+                    ],
+                );
+            }
+            Asked::Fallocate {
+                ctx,
+                inode,
+                handle,
+                mode,
+                offset,
+                length,
+            } => self.called(
+                "fallocate",
+                ctx,
+                &[
+                    Number("inode", *inode),
+                    Number("handle", *handle),
+                    Small("mode", *mode),
+                    Number("offset", *offset),
+                    Number("length", *length),
+                ],
+            ),
+            _ => {}
+        }
+    }
+
+    // Notes a call that opens or releases.
+    fn note_opened(&mut self, asked: &Asked<'_>) {
+        match asked {
+            Asked::Open {
+                ctx,
+                inode,
+                kill_priv,
+                flags,
+            } => self.called(
+                "open",
+                ctx,
+                &[
+                    Number("inode", *inode),
+                    Truth("kill_priv", *kill_priv),
+                    Small("flags", *flags),
+                ],
+            ),
+            Asked::Release {
+                ctx,
+                inode,
+                flags,
+                handle,
+                flush,
+                flock_release,
+                lock_owner,
+            } => self.called(
+                "release",
+                ctx,
+                &[
+                    Number("inode", *inode),
+                    Small("flags", *flags),
+                    Number("handle", *handle),
+                    Truth("flush", *flush),
+                    Truth("flock_release", *flock_release),
+                    Maybe("owner", *lock_owner),
+                ],
+            ),
+            Asked::Releasedir {
+                ctx,
+                inode,
+                flags,
+                handle,
+            } => self.called(
+                "releasedir",
+                ctx,
+                &[
+                    Number("inode", *inode),
+                    Small("flags", *flags),
+                    Number("handle", *handle),
+                ],
+            ),
+            _ => {}
+        }
+    }
+
+    // Notes a call by which what was written is kept.
+    fn note_kept(&mut self, asked: &Asked<'_>) {
+        match asked {
+            Asked::Flush {
+                ctx,
+                inode,
+                handle,
+                lock_owner,
+            } => self.called(
+                "flush",
+                ctx,
+                &[
+                    Number("inode", *inode),
+                    Number("handle", *handle),
+                    Number("owner", *lock_owner),
+                ],
+            ),
+            Asked::Fsync {
+                ctx,
+                inode,
+                datasync,
+                handle,
+            } => self.called(
+                "fsync",
+                ctx,
+                &[
+                    Number("inode", *inode),
+                    Truth("datasync", *datasync),
+                    Number("handle", *handle),
+                ],
+            ),
+            Asked::Fsyncdir {
+                ctx,
+                inode,
+                datasync,
+                handle,
+            } => self.called(
+                "fsyncdir",
+                ctx,
+                &[
+                    Number("inode", *inode),
+                    Truth("datasync", *datasync),
+                    Number("handle", *handle),
+                ],
+            ),
+            _ => {}
+        }
+    }
+
+    // Notes a call of places in files.
+    fn note_place(&mut self, asked: &Asked<'_>) {
+        match asked {
+            Asked::Lseek {
+                ctx,
+                inode,
+                handle,
+                offset,
+                whence,
+            } => self.called(
+                "lseek",
+                ctx,
+                &[
+                    Number("inode", *inode),
+                    Number("handle", *handle),
+                    Number("offset", *offset),
+                    Small("whence", *whence),
+                ],
+            ),
+            Asked::Copyfilerange {
+                ctx,
+                inode_in,
+                handle_in,
+                offset_in,
+                inode_out,
+                handle_out,
+                offset_out,
+                len,
+                flags,
+            } => self.called(
+                "copyfilerange",
+                ctx,
+                &[
+                    Number("inode_in", *inode_in),
+                    Number("handle_in", *handle_in),
+                    Number("offset_in", *offset_in),
+                    Number("inode_out", *inode_out),
+                    Number("handle_out", *handle_out),
+                    Number("offset_out", *offset_out),
+                    Number("len", *len),
+                    Number("flags", *flags),
+                ],
+            ),
+            _ => {}
+        }
+    }
 }
 
 // Each call notes itself, finds its answer, and notes that. Its relation allows every answer.
@@ -70,7 +549,7 @@ impl PartialFileSystem for SeededFs<'_> {
     fn call(&mut self, asked: Asked<'_>) -> Result<Given, Fault> {
         self.note_call(&asked);
         let answer = self.given(&asked);
-        if is_answered(&asked) {
+        if !matches!(asked.kind(), AnswerKind::Quiet) {
             self.note_answer(&answer);
         }
         answer
@@ -91,12 +570,12 @@ impl PartialFileSystem for SeededFs<'_> {
             "read",
             &ctx,
             &[
-                Arg::Number("inode", inode),
-                Arg::Number("handle", handle),
-                Arg::Small("size", size),
-                Arg::Number("offset", offset),
-                Arg::Maybe("owner", lock_owner),
-                Arg::Small("flags", flags),
+                Number("inode", inode),
+                Number("handle", handle),
+                Small("size", size),
+                Number("offset", offset),
+                Maybe("owner", lock_owner),
+                Small("flags", flags),
             ],
         );
         let answer = self.read_file(w, size, offset);
@@ -121,14 +600,14 @@ impl PartialFileSystem for SeededFs<'_> {
             "write",
             &ctx,
             &[
-                Arg::Number("inode", inode),
-                Arg::Number("handle", handle),
-                Arg::Small("size", size),
-                Arg::Number("offset", offset),
-                Arg::Maybe("owner", lock_owner),
-                Arg::Truth("delayed_write", delayed_write),
-                Arg::Truth("kill_priv", kill_priv),
-                Arg::Small("flags", flags),
+                Number("inode", inode),
+                Number("handle", handle),
+                Small("size", size),
+                Number("offset", offset),
+                Maybe("owner", lock_owner),
+                Truth("delayed_write", delayed_write),
+                Truth("kill_priv", kill_priv),
+                Small("flags", flags),
             ],
         );
         let answer = self.write_file(r, size, offset);
@@ -151,10 +630,10 @@ impl PartialFileSystem for SeededFs<'_> {
             "readdir",
             &ctx,
             &[
-                Arg::Number("inode", inode),
-                Arg::Number("handle", handle),
-                Arg::Small("size", size),
-                Arg::Number("offset", offset),
+                Number("inode", inode),
+                Number("handle", handle),
+                Small("size", size),
+                Number("offset", offset),
             ],
         );
         let answer = self.listing(offset);
