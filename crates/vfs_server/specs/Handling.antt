@@ -47,8 +47,9 @@ module _ {S I : Type 0} (allows : S → Call → Handed I → S → Type 0)
       old.limits old.options a new.options
       × (new.limits ≡ old.limits)
 
-  -- a request of this opcode was handled
-  abbrev pub Serves : Opcode → (request : Request) → (old : ServerState S) → (writer : Written)
+  -- a request of this opcode was handled (it is opened where a handler is proved, and not where
+  -- one is chosen)
+  unfoldable pub Serves : Opcode → (request : Request) → (old : ServerState S) → (writer : Written)
       → Result ℕ Error → (writer_after : Written) → (new : ServerState S) → Type 0
   Serves opcode request old writer outcome writer_after new =
       let header = request.header.now in

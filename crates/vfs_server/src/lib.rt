@@ -6,7 +6,7 @@
 //! `filesystem` the trait and its types. `server` has the server, and the parts of requests and
 //! replies that a caller may need beside it. `handlers` has a handler of each opcode, `laws` what
 //! holds of every request, and `transport` the simplest transport, one call.
-#![tactic(auto)]
+#![tactic(auto, unfolding(crate::specs::Handling::Serves))]
 
 pub mod descriptor_utils;
 pub mod filesystem;

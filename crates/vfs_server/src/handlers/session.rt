@@ -81,6 +81,7 @@ impl<F: FileSystem> Session<F> {
 
     /// Handles a request by its opcode. Where no handler is named, no record is looked at, and of BMAP,
     /// IOCTL, POLL and NOTIFY_REPLY a fault alone is replied.
+    #[tactic(auto)]
     fn dispatch(&mut self, opcode: Opcode, q: Request<'_, '_>, w: &mut Writer) -> Result<usize>
         ensures { Serves F.allows F.DirIter.gives opcode q.entry
             self.old w.old result w.new self.new }

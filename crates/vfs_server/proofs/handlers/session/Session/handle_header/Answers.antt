@@ -3,9 +3,11 @@ use Rattle.std.proofs.Common.{◌≡◌, false, nat_lt, arith, rules, sym, Some}
 use Rattle.std.proofs.lemmas.Bool.Decides.{nat_tests}
 use Rattle.vfs_flags.specs.Numbers.{opcode_of}
 use Rattle.vfs_grammar.specs.Limits.{max_len}
+use Rattle.vfs_server.specs.Handling.{Serves}
 use Rattle.vfs_server.proofs.handlers.session.Session.handle_header.Goals as goal
 
 pub returns-in-Ok : goal.returns-in-Ok
+unfolding Serves
 returns-in-Ok g c =
     let h = c.args.q.header.now in
     let known : opcode_of h.opcode ≡ Some c.in-Ok.opcode = sym c.in-Ok.ensures.0 in

@@ -1,9 +1,11 @@
 -- Nothing was put beyond the data.
 use Rattle.vfs_files.specs.Answers.{read_answer}
 use Rattle.vfs_server.proofs.Listings.{data_behind}
+use Rattle.vfs_server.specs.Handling.{Serves}
 use Rattle.vfs_server.proofs.handlers.session.Session.read.Goals as goal
 
 pub returns : goal.returns
+unfolding Serves
 returns g c =
     let r = c.read_into-answer.ensures in
     let h = data_behind c.args.w.now c.hold_header.new.w c.read_into-answer.new.w r.bytes c.in_ok-hold_header.ensures.held c.in_ok-hold_header.ensures.enough r.moves in

@@ -1,10 +1,12 @@
 -- The flags that the call was given are those of the record: its answer is followed as it stands.
 use Rattle.std.proofs.Common.{◌≡◌, ap, rules}
 use Rattle.vfs_files.specs.Answers.{done_answer}
+use Rattle.vfs_server.specs.Handling.{Serves}
 use Rattle.vfs_server.specs.State.{ServerState}
 use Rattle.vfs_server.proofs.handlers.session.Session.release.Goals as goal
 
 pub returns : goal.returns
+unfolding Serves
 returns g c =
     let same : _ ≡ c.args.self.now = c.self.view_is in
     rw c.in_ok-release_in.ensures.value (

@@ -1,9 +1,11 @@
 -- The bytes that the call was lent are those behind the record.
 use Rattle.std.proofs.Common.{rules}
 use Rattle.vfs_files.specs.Answers.{written_answer}
+use Rattle.vfs_server.specs.Handling.{Serves}
 use Rattle.vfs_server.proofs.handlers.session.Session.write.Goals as goal
 
 pub returns : goal.returns
+unfolding Serves
 returns g c =
     rw c.in_ok-write_in.ensures.value (
       (
