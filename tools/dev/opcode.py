@@ -22,8 +22,9 @@ PAGE = "CONTRIBUTING.md"
 # Written by tools or recorded, and what tells of the past or of this list.
 APART = ["docs/generated/*", "crates/vfs_sessions/std*", "crates/vfs_decode/std*", "crates/vfs_demo/std*",
          "tests/oracle/recorded/*", "tests/c/version-0.2/*", "CHANGELOG.md", PAGE, "tools/dev/opcode.py", "tools/dev/numbers.py"]
-# Where the word is a call of the system or of a client, and no opcode is meant.
-ELSEWHERE = ["programs/share/passthrough_list.c", "tests/beside/get.sh", "tests/suites/get.sh",
+# Where the word is a call of the system or of a client, or begins that of another opcode (COPY_FILE_RANGE_64).
+ELSEWHERE = ["crates/vfs_further/*", "programs/share/passthrough_list.c", "tests/beside/get.sh",
+             "tests/suites/get.sh",
              "tests/mirror/calls.py", "tests/mount/session.sh", "tests/share/calls.py", "tests/share/load.py"]
 
 
