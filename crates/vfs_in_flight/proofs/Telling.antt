@@ -1,103 +1,157 @@
 -- What is told determines the call.
-use Rattle.std.proofs.Common.{◌≡◌, ◌∙◌, ◌+◌, ℕ, Bool, true, false, List, Option, None, Some, refl, ap}
-use Rattle.std.specs.Prelude.{◌==◌, bit_and, unwrap_or, if◌then◌else◌}
+use Rattle.std.proofs.Common.{◌≡◌, ◌==◌, ◌∙◌, ◌+◌, ℕ, Bool, true, false, List, Option, None, Some, refl, ap, sym, arith}
+use Rattle.std.proofs.lemmas.Bool.Decides.{nat_tests}
+use Rattle.std.specs.Prelude.{bit_and, unwrap_or, if◌then◌else◌}
 use Rattle.vfs_files.specs.Calls.{Call}
 use Rattle.vfs_files.specs.Calls as call
-use Rattle.vfs_flags.specs.Flags.{known_setxattr_flags}
 use Rattle.vfs_files.specs.Values.{ExtensionValues}
+use Rattle.vfs_files.specs.declared.entry.Context.{Context}
+use Rattle.vfs_wire.specs.declared.attributes.SetattrIn.{SetattrIn}
 use Rattle.vfs_grammar.specs.Ask.{if_set, has_flag}
+use Rattle.vfs_grammar.specs.Forms.{pairs_of}
+use Rattle.vfs_grammar.specs.Reply.{Echo}
 use Rattle.vfs_calls.specs.Shapes.{bit, bit_of, context_bit}
 use Rattle.vfs_calls.specs.declared.call.CallData.{CallData}
-use Rattle.vfs_ask.specs.Asked.{IsContextPlaced, bytes_in, told_of, without_places}
-use Rattle.vfs_in_flight.specs.ToldCall.{Parts, parts_in, extensions_of, call_by_kind, data_call, quiet_call, done_call, want_call, entry_call, attr_call, open_call, create_call, text_or_count_call, written_call, ToldIsCall}
+use Rattle.vfs_calls.specs.declared.call.SetattrData.{SetattrData}
+use Rattle.vfs_calls.specs.declared.call.has.TheConstants as has
+use Rattle.vfs_ask.specs.Asked.{ArePlaced, IsContextPlaced, bytes_in, told_of}
+use Rattle.vfs_in_flight.specs.ToldCall.{ToldIsCall}
 
--- the places are not looked at
-places_aside : (told : CallData) (parts : Parts)
-    → call_by_kind told.answer told parts ≡ call_by_kind (without_places told).answer (without_places told) parts
-unfolding call_by_kind
-places_aside told parts = refl
+-- ---- what the data tell
 
-by_numbers : (told n : CallData) (parts : Parts) → without_places told ≡ n
-    → call_by_kind told.answer told parts ≡ call_by_kind n.answer n parts
-by_numbers told n parts e = places_aside told parts ∙ ap (λ (m : CallData). call_by_kind m.answer m parts) e
+-- who calls
+abbrev caller : CallData → Context
+caller d = record { uid = d.uid; gid = d.gid; pid = d.pid }
 
--- ---- each kind of answer
+-- the record of a SETATTR
+abbrev setattr_in_of : SetattrData → SetattrIn
+setattr_in_of r = record {
+  valid = r.valid;
+  padding = r.padding;
+  fh = r.fh;
+  size = r.size;
+  lock_owner = r.lock_owner;
+  atime = r.atime;
+  mtime = r.mtime;
+  ctime = r.ctime;
+  atimensec = r.atimensec;
+  mtimensec = r.mtimensec;
+  ctimensec = r.ctimensec;
+  mode = r.mode;
+  unused4 = r.unused4;
+  uid = r.uid;
+  gid = r.gid;
+  unused5 = r.unused5;
+}
 
-pub is_quiet : (told : CallData) (parts : Parts) → call_by_kind 0 told parts ≡ quiet_call told.call told parts
-unfolding call_by_kind
-is_quiet told parts = refl
+-- the handle and the owner of locks, where there is one
+abbrev handle_in : CallData → Option ℕ
+handle_in d = if_set d.has has.HANDLE d.handle
 
-pub is_done : (told : CallData) (parts : Parts) → call_by_kind 1 told parts ≡ done_call told.call told parts
-unfolding call_by_kind
-is_done told parts = refl
+abbrev owner_in : CallData → Option ℕ
+owner_in d = if_set d.has has.OWNER d.lock_owner
 
-pub is_want : (told : CallData) (parts : Parts) → call_by_kind 4 told parts ≡ want_call told.call told
-unfolding call_by_kind
-is_want told parts = refl
+-- Its caller and its numbers. Two equal ones have each in common.
+data Numbers : Type 0 where
+  Told : (ctx : Context) (node handle offset length lock_owner other_node other_handle other_offset flags mode umask rdev size more : ℕ)
+      → Numbers
 
-pub is_entry : (told : CallData) (parts : Parts) → call_by_kind 5 told parts ≡ entry_call told.call told parts
-unfolding call_by_kind
-is_entry told parts = refl
+abbrev numbers_in : CallData → Numbers
+numbers_in d =
+    Told (caller d) d.node d.handle d.offset d.length d.lock_owner d.other_node d.other_handle d.other_offset d.flags d.mode d.umask d.rdev
+    d.size d.more
 
-pub is_attr : (told : CallData) (parts : Parts) → call_by_kind 6 told parts ≡ attr_call told.call told
-unfolding call_by_kind
-is_attr told parts = refl
+-- ---- bits
 
-pub is_open : (told : CallData) (parts : Parts) → call_by_kind 7 told parts ≡ open_call told.call told
-unfolding call_by_kind
-is_open told parts = refl
+handle_told : (h : Option ℕ) → if_set (bit_of h has.HANDLE) has.HANDLE (unwrap_or h 0) ≡ h
+handle_told None = refl
+handle_told (Some h) = refl
 
-pub is_create : (told : CallData) (parts : Parts) → call_by_kind 8 told parts ≡ create_call told.call told parts
-unfolding call_by_kind
-is_create told parts = refl
+owner_told : (o : Option ℕ) → if_set (bit_of o has.OWNER) has.OWNER (unwrap_or o 0) ≡ o
+owner_told None = refl
+owner_told (Some o) = refl
 
-pub is_text_or_count : (told : CallData) (parts : Parts) → call_by_kind 11 told parts ≡ text_or_count_call told.call told parts
-unfolding call_by_kind
-is_text_or_count told parts = refl
+kill_told : (k : Bool) → has_flag (bit k has.KILL_PRIV) has.KILL_PRIV ≡ k
+kill_told true = refl
+kill_told false = refl
 
-pub is_written : (told : CallData) (parts : Parts) → call_by_kind 13 told parts ≡ written_call told.call told parts
-unfolding call_by_kind
-is_written told parts = refl
+datasync_told : (k : Bool) → has_flag (bit k has.DATASYNC) has.DATASYNC ≡ k
+datasync_told true = refl
+datasync_told false = refl
 
-pub is_data : (told : CallData) (parts : Parts) → call_by_kind 3 told parts ≡ data_call told.call told
-unfolding call_by_kind
-is_data told parts = refl
+-- the bits of a WRITE
+abbrev write_has : (owner : Option ℕ) → (delayed kill : Bool) → ℕ
+write_has o d k = bit_of o has.OWNER + (bit d has.DELAYED + bit k has.KILL_PRIV)
+
+record WriteTold (o : Option ℕ) (d k : Bool) : Type 0 where
+  owner : if_set (write_has o d k) has.OWNER (unwrap_or o 0) ≡ o
+  delayed : has_flag (write_has o d k) has.DELAYED ≡ d
+  kill : has_flag (write_has o d k) has.KILL_PRIV ≡ k
+
+write_told : (o : Option ℕ) (d k : Bool) → WriteTold o d k
+write_told None true true = record { owner = refl; delayed = refl; kill = refl }
+write_told None true false = record { owner = refl; delayed = refl; kill = refl }
+write_told None false true = record { owner = refl; delayed = refl; kill = refl }
+write_told None false false = record { owner = refl; delayed = refl; kill = refl }
+write_told (Some o) true true = record { owner = refl; delayed = refl; kill = refl }
+write_told (Some o) true false = record { owner = refl; delayed = refl; kill = refl }
+write_told (Some o) false true = record { owner = refl; delayed = refl; kill = refl }
+write_told (Some o) false false = record { owner = refl; delayed = refl; kill = refl }
+
+-- the bits of a RELEASE
+abbrev release_has : (owner : Option ℕ) → (flushes flock : Bool) → ℕ
+release_has o f k = bit_of o has.OWNER + (bit f has.FLUSHES + bit k has.FLOCK_RELEASE)
+
+record ReleaseTold (o : Option ℕ) (f k : Bool) : Type 0 where
+  owner : if_set (release_has o f k) has.OWNER (unwrap_or o 0) ≡ o
+  flushes : has_flag (release_has o f k) has.FLUSHES ≡ f
+  flock : has_flag (release_has o f k) has.FLOCK_RELEASE ≡ k
+
+release_told : (o : Option ℕ) (f k : Bool) → ReleaseTold o f k
+release_told None true true = record { owner = refl; flushes = refl; flock = refl }
+release_told None true false = record { owner = refl; flushes = refl; flock = refl }
+release_told None false true = record { owner = refl; flushes = refl; flock = refl }
+release_told None false false = record { owner = refl; flushes = refl; flock = refl }
+release_told (Some o) true true = record { owner = refl; flushes = refl; flock = refl }
+release_told (Some o) true false = record { owner = refl; flushes = refl; flock = refl }
+release_told (Some o) false true = record { owner = refl; flushes = refl; flock = refl }
+release_told (Some o) false false = record { owner = refl; flushes = refl; flock = refl }
 
 -- ---- extensions
 
 -- the bits of extensions, and of a file that is to lose bits
-abbrev has_extensions : (kill : Bool) → Option (List ℕ × List ℕ) → Option ℕ → ℕ
-has_extensions kill context group = bit kill 16 + (context_bit context + bit_of group 8)
+abbrev has_extensions : (kill : Bool) → ExtensionValues → ℕ
+has_extensions kill ext = bit kill has.KILL_PRIV + (context_bit ext.context + bit_of ext.group has.GROUP)
 
-kill_told : (kill : Bool) (context : Option (List ℕ × List ℕ)) (group : Option ℕ)
-    → has_flag (has_extensions kill context group) 16 ≡ kill
-kill_told true None None = refl
-kill_told true None (Some g) = refl
-kill_told true (Some c) None = refl
-kill_told true (Some c) (Some g) = refl
-kill_told false None None = refl
-kill_told false None (Some g) = refl
-kill_told false (Some c) None = refl
-kill_told false (Some c) (Some g) = refl
+extended_kill : (kill : Bool) (context : Option (List ℕ × List ℕ)) (group : Option ℕ)
+    → has_flag (has_extensions kill (record { context = context; group = group })) has.KILL_PRIV ≡ kill
+extended_kill true None None = refl
+extended_kill true None (Some g) = refl
+extended_kill true (Some c) None = refl
+extended_kill true (Some c) (Some g) = refl
+extended_kill false None None = refl
+extended_kill false None (Some g) = refl
+extended_kill false (Some c) None = refl
+extended_kill false (Some c) (Some g) = refl
 
 pair_is : (a b : List ℕ) (pair : List ℕ × List ℕ) → a ≡ pair.0 → b ≡ pair.1 → (let p : List ℕ × List ℕ = (a, b) in p) ≡ pair
 pair_is a b (x, y) e f =
     ap (λ (v : List ℕ). let p : List ℕ × List ℕ = (v, b) in p) e
     ∙ ap (λ (v : List ℕ). let p : List ℕ × List ℕ = (x, v) in p) f
 
--- what extensions are told so
-abbrev extensions_from : (has group : ℕ) → (context : List ℕ × List ℕ) → ExtensionValues
-extensions_from has group context = record {
-  context = if bit_and has 4 == 0 then None else Some context;
-  group = if_set has 8 group;
-}
-
 abbrev in_ranges : (request : List ℕ) → CallData → List ℕ × List ℕ
 in_ranges q told = (bytes_in q told.context_name, bytes_in q told.context)
 
+-- what extensions are told so
+abbrev extensions_from : (has group : ℕ) → (context : List ℕ × List ℕ) → ExtensionValues
+extensions_from h group context = record {
+  context = if bit_and h has.CONTEXT == 0 then None else Some context;
+  group = if_set h has.GROUP group;
+}
+
 told_so : (kill : Bool) (context : Option (List ℕ × List ℕ)) (group : Option ℕ) (q : List ℕ) (told : CallData)
     → IsContextPlaced q context told
-    → extensions_from (has_extensions kill context group) (unwrap_or group 0) (in_ranges q told)
+    → extensions_from (has_extensions kill (record { context = context; group = group })) (unwrap_or group 0) (in_ranges q told)
     ≡ (let e : ExtensionValues = record { context = context; group = group } in e)
 told_so true None None q told placed = refl
 told_so true None (Some g) q told placed = refl
@@ -116,126 +170,115 @@ told_so false (Some c) (Some g) q told placed =
     ap (λ (p : List ℕ × List ℕ). let e : ExtensionValues = record { context = Some p; group = Some g } in e)
     (pair_is _ _ c placed.0.bytes_are placed.1.bytes_are)
 
+same_extensions : (q : List ℕ) (told : CallData) (kill kill' : Bool) (ext ext' : ExtensionValues) → has_extensions kill ext ≡ has_extensions kill' ext'
+    → unwrap_or ext.group 0 ≡ unwrap_or ext'.group 0 → IsContextPlaced q ext.context told → IsContextPlaced q ext'.context told → ext ≡ ext'
+same_extensions q told kill kill' ext ext' bits group placed placed' =
+    sym (told_so kill ext.context ext.group q told placed)
+    ∙ ap (λ (h : ℕ). extensions_from h (unwrap_or ext.group 0) (in_ranges q told)) bits
+    ∙ ap (λ (g : ℕ). extensions_from (has_extensions kill' ext') g (in_ranges q told)) group
+    ∙ told_so kill' ext'.context ext'.group q told placed'
+
 -- ---- each call
 
+same_test : (n m : ℕ) → n ≡ m → (n == m) ≡ true
+same_test n m e = grind (arith, nat_tests, e)
+
+-- two names that stand in one place
+same_bytes : (bytes name other : List ℕ) → bytes ≡ name → bytes ≡ other → name ≡ other
+same_bytes bytes name other e f = sym e ∙ f
+
+module _ (q : List ℕ) (options room : ℕ) (one other : Echo) (told : CallData) where
+  abbrev First : Call → CallData
+  First a = told_of options room one a
+
+  abbrev Second : Call → CallData
+  Second b = told_of options room other b
+
+  -- Two calls that are told alike have one number, and so are of one kind. Then their numbers are those that are told, and so are
+  -- their names and values.
+  alike : (a b : Call) → ((First a).call == (Second b).call) ≡ true → (Unit {0} → First a ≡ Second b)
+      → ArePlaced q a told → ArePlaced q b told → a ≡ b
+  alike (call.Lookup ctx parent name) (call.Lookup ctx' parent' name') n e p p' =
+      let same_name : name ≡ name' = same_bytes _ _ _ p.bytes_are p'.bytes_are in
+      cc (ap numbers_in (e tt))
+  alike _ (call.Lookup ctx' parent' name') n e _ _ = absurd cc
+  alike (call.Symlink ctx text parent name ext) (call.Symlink ctx' text' parent' name' ext') n e p p' =
+      let same_name : name ≡ name' = same_bytes _ _ _ p.0.bytes_are p'.0.bytes_are in
+      let same_text : text ≡ text' = same_bytes _ _ _ p.1.bytes_are p'.1.bytes_are in
+      let same_ext : ext ≡ ext' = same_extensions q told false false ext ext' (ap (λ (d : CallData). d.has) (e tt)) (ap (λ (d : CallData). d.group) (e tt)) p.2 p'.2 in
+      cc (ap numbers_in (e tt))
+  alike (call.Mknod ctx inode name mode rdev umask ext) (call.Mknod ctx' inode' name' mode' rdev' umask' ext') n e p p' =
+      let same_name : name ≡ name' = same_bytes _ _ _ p.0.bytes_are p'.0.bytes_are in
+      let same_ext : ext ≡ ext' = same_extensions q told false false ext ext' (ap (λ (d : CallData). d.has) (e tt)) (ap (λ (d : CallData). d.group) (e tt)) p.1 p'.1 in
+      cc (ap numbers_in (e tt))
+  alike (call.Mkdir ctx parent name mode umask ext) (call.Mkdir ctx' parent' name' mode' umask' ext') n e p p' =
+      let same_name : name ≡ name' = same_bytes _ _ _ p.0.bytes_are p'.0.bytes_are in
+      let same_ext : ext ≡ ext' = same_extensions q told false false ext ext' (ap (λ (d : CallData). d.has) (e tt)) (ap (λ (d : CallData). d.group) (e tt)) p.1 p'.1 in
+      cc (ap numbers_in (e tt))
+  alike (call.Create ctx parent name mode kill flags umask ext) (call.Create ctx' parent' name' mode' kill' flags' umask' ext') n e p p' =
+      let same_name : name ≡ name' = same_bytes _ _ _ p.0.bytes_are p'.0.bytes_are in
+      let same_kill : kill ≡ kill' = sym (extended_kill kill ext.context ext.group) ∙ ap (λ (d : CallData). has_flag d.has has.KILL_PRIV) (e tt) ∙ extended_kill kill' ext'.context ext'.group in
+      let same_ext : ext ≡ ext' = same_extensions q told kill kill' ext ext' (ap (λ (d : CallData). d.has) (e tt)) (ap (λ (d : CallData). d.group) (e tt)) p.1 p'.1 in
+      cc (ap numbers_in (e tt))
+  alike (call.Unlink ctx parent name) (call.Unlink ctx' parent' name') n e p p' =
+      let same_name : name ≡ name' = same_bytes _ _ _ p.bytes_are p'.bytes_are in
+      cc (ap numbers_in (e tt))
+  alike (call.Rmdir ctx parent name) (call.Rmdir ctx' parent' name') n e p p' =
+      let same_name : name ≡ name' = same_bytes _ _ _ p.bytes_are p'.bytes_are in
+      cc (ap numbers_in (e tt))
+  alike (call.Rename ctx olddir oldname newdir newname flags) (call.Rename ctx' olddir' oldname' newdir' newname' flags') n e p p' =
+      let same_oldname : oldname ≡ oldname' = same_bytes _ _ _ p.0.bytes_are p'.0.bytes_are in
+      let same_newname : newname ≡ newname' = same_bytes _ _ _ p.1.bytes_are p'.1.bytes_are in
+      cc (ap numbers_in (e tt))
+  alike (call.Link ctx inode newparent newname) (call.Link ctx' inode' newparent' newname') n e p p' =
+      let same_newname : newname ≡ newname' = same_bytes _ _ _ p.bytes_are p'.bytes_are in
+      cc (ap numbers_in (e tt))
+  alike (call.Setxattr ctx inode name value flags extra) (call.Setxattr ctx' inode' name' value' flags' extra') n e p p' =
+      let same_name : name ≡ name' = same_bytes _ _ _ p.0.bytes_are p'.0.bytes_are in
+      let same_value : value ≡ value' = same_bytes _ _ _ p.1.bytes_are p'.1.bytes_are in
+      cc (ap numbers_in (e tt))
+  alike (call.Getxattr ctx inode name size) (call.Getxattr ctx' inode' name' size') n e p p' =
+      let same_name : name ≡ name' = same_bytes _ _ _ p.bytes_are p'.bytes_are in
+      cc (ap numbers_in (e tt))
+  alike (call.Removexattr ctx inode name) (call.Removexattr ctx' inode' name') n e p p' =
+      let same_name : name ≡ name' = same_bytes _ _ _ p.bytes_are p'.bytes_are in
+      cc (ap numbers_in (e tt))
+  alike (call.Getattr ctx inode handle) (call.Getattr ctx' inode' handle') n e p p' =
+      let same_handle : handle ≡ handle' = sym (handle_told handle) ∙ ap handle_in (e tt) ∙ handle_told handle' in
+      cc (ap numbers_in (e tt))
+  alike (call.Setattr ctx inode attr handle valid) (call.Setattr ctx' inode' attr' handle' valid') n e p p' =
+      let same_handle : handle ≡ handle' = sym (handle_told handle) ∙ ap handle_in (e tt) ∙ handle_told handle' in
+      let same_attr : attr ≡ attr' = ap (λ (d : CallData). setattr_in_of d.attr) (e tt) in
+      cc (ap numbers_in (e tt))
+  alike (call.Open ctx inode kill flags) (call.Open ctx' inode' kill' flags') n e p p' =
+      let same_kill : kill ≡ kill' = sym (kill_told kill) ∙ ap (λ (d : CallData). has_flag d.has has.KILL_PRIV) (e tt) ∙ kill_told kill' in
+      cc (ap numbers_in (e tt))
+  alike (call.Read ctx inode handle space size offset owner flags) (call.Read ctx' inode' handle' space' size' offset' owner' flags') n e p p' =
+      let same_owner : owner ≡ owner' = sym (owner_told owner) ∙ ap owner_in (e tt) ∙ owner_told owner' in
+      cc (ap numbers_in (e tt))
+  alike (call.Write ctx inode handle bytes size offset owner delayed kill flags) (call.Write ctx' inode' handle' bytes' size' offset' owner' delayed' kill' flags') n e p p' =
+      let same_bytes : bytes ≡ bytes' = same_bytes _ _ _ p.bytes_are p'.bytes_are in
+      let same_owner : owner ≡ owner' = sym ((write_told owner delayed kill).owner) ∙ ap owner_in (e tt) ∙ (write_told owner' delayed' kill').owner in
+      let same_delayed : delayed ≡ delayed' = sym ((write_told owner delayed kill).delayed) ∙ ap (λ (d : CallData). has_flag d.has has.DELAYED) (e tt) ∙ (write_told owner' delayed' kill').delayed in
+      let same_kill : kill ≡ kill' = sym ((write_told owner delayed kill).kill) ∙ ap (λ (d : CallData). has_flag d.has has.KILL_PRIV) (e tt) ∙ (write_told owner' delayed' kill').kill in
+      cc (ap numbers_in (e tt))
+  alike (call.Release ctx inode flags handle flushes flock owner) (call.Release ctx' inode' flags' handle' flushes' flock' owner') n e p p' =
+      let same_owner : owner ≡ owner' = sym ((release_told owner flushes flock).owner) ∙ ap owner_in (e tt) ∙ (release_told owner' flushes' flock').owner in
+      let same_flushes : flushes ≡ flushes' = sym ((release_told owner flushes flock).flushes) ∙ ap (λ (d : CallData). has_flag d.has has.FLUSHES) (e tt) ∙ (release_told owner' flushes' flock').flushes in
+      let same_flock : flock ≡ flock' = sym ((release_told owner flushes flock).flock) ∙ ap (λ (d : CallData). has_flag d.has has.FLOCK_RELEASE) (e tt) ∙ (release_told owner' flushes' flock').flock in
+      cc (ap numbers_in (e tt))
+  alike (call.Fsync ctx inode datasync handle) (call.Fsync ctx' inode' datasync' handle') n e p p' =
+      let same_datasync : datasync ≡ datasync' = sym (datasync_told datasync) ∙ ap (λ (d : CallData). has_flag d.has has.DATASYNC) (e tt) ∙ datasync_told datasync' in
+      cc (ap numbers_in (e tt))
+  alike (call.Fsyncdir ctx inode datasync handle) (call.Fsyncdir ctx' inode' datasync' handle') n e p p' =
+      let same_datasync : datasync ≡ datasync' = sym (datasync_told datasync) ∙ ap (λ (d : CallData). has_flag d.has has.DATASYNC) (e tt) ∙ datasync_told datasync' in
+      cc (ap numbers_in (e tt))
+  alike (call.BatchForget ctx pairs) (call.BatchForget ctx' pairs') n e p p' =
+      let same_pairs : pairs ≡ pairs' = sym p.pairs_are ∙ ap (λ (d : CallData). pairs_of d.length (bytes_in q told.data)) (e tt) ∙ p'.pairs_are in
+      cc (ap numbers_in (e tt))
+  alike a b n e _ _ = first_of (cc, cc (ap numbers_in (e tt)))
+
 pub told_is_call : ToldIsCall
-unfolding call_by_kind
-told_is_call q options room echo (call.Lookup ctx parent name) told known is =
-    by_numbers told (told_of options room echo (call.Lookup ctx parent name)) (parts_in q told) is.numbers ∙ is_entry (told_of options room echo (call.Lookup ctx parent name)) (parts_in q told)
-    ∙ ap (λ (b : List ℕ). Some (call.Lookup ctx parent b)) is.places.bytes_are
-told_is_call q options room echo (call.Symlink ctx text parent name ext) told known is =
-    by_numbers told (told_of options room echo (call.Symlink ctx text parent name ext)) (parts_in q told) is.numbers ∙ is_entry (told_of options room echo (call.Symlink ctx text parent name ext)) (parts_in q told)
-    ∙ ap (λ (b : List ℕ). Some (call.Symlink ctx b parent (bytes_in q told.name) (extensions_of (told_of options room echo (call.Symlink ctx text parent name ext)) (parts_in q told)))) is.places.1.bytes_are
-    ∙ ap (λ (b : List ℕ). Some (call.Symlink ctx text parent b (extensions_of (told_of options room echo (call.Symlink ctx text parent name ext)) (parts_in q told)))) is.places.0.bytes_are
-    ∙ ap (λ (e : ExtensionValues). Some (call.Symlink ctx text parent name e)) (told_so false ext.context ext.group q told is.places.2)
-told_is_call q options room echo (call.Mknod ctx inode name mode rdev umask ext) told known is =
-    by_numbers told (told_of options room echo (call.Mknod ctx inode name mode rdev umask ext)) (parts_in q told) is.numbers ∙ is_entry (told_of options room echo (call.Mknod ctx inode name mode rdev umask ext)) (parts_in q told)
-    ∙ ap (λ (b : List ℕ). Some (call.Mknod ctx inode b mode rdev umask (extensions_of (told_of options room echo (call.Mknod ctx inode name mode rdev umask ext)) (parts_in q told)))) is.places.0.bytes_are
-    ∙ ap (λ (e : ExtensionValues). Some (call.Mknod ctx inode name mode rdev umask e)) (told_so false ext.context ext.group q told is.places.1)
-told_is_call q options room echo (call.Mkdir ctx parent name mode umask ext) told known is =
-    by_numbers told (told_of options room echo (call.Mkdir ctx parent name mode umask ext)) (parts_in q told) is.numbers ∙ is_entry (told_of options room echo (call.Mkdir ctx parent name mode umask ext)) (parts_in q told)
-    ∙ ap (λ (b : List ℕ). Some (call.Mkdir ctx parent b mode umask (extensions_of (told_of options room echo (call.Mkdir ctx parent name mode umask ext)) (parts_in q told)))) is.places.0.bytes_are
-    ∙ ap (λ (e : ExtensionValues). Some (call.Mkdir ctx parent name mode umask e)) (told_so false ext.context ext.group q told is.places.1)
-told_is_call q options room echo (call.Create ctx parent name mode kill flags umask ext) told known is =
-    by_numbers told (told_of options room echo (call.Create ctx parent name mode kill flags umask ext)) (parts_in q told) is.numbers ∙ is_create (told_of options room echo (call.Create ctx parent name mode kill flags umask ext)) (parts_in q told)
-    ∙ ap (λ (b : List ℕ). Some (call.Create ctx parent b mode (has_flag (has_extensions kill ext.context ext.group) 16) flags umask (extensions_of (told_of options room echo (call.Create ctx parent name mode kill flags umask ext)) (parts_in q told)))) is.places.0.bytes_are
-    ∙ ap (λ (k : Bool). Some (call.Create ctx parent name mode k flags umask (extensions_of (told_of options room echo (call.Create ctx parent name mode kill flags umask ext)) (parts_in q told)))) (kill_told kill ext.context ext.group)
-    ∙ ap (λ (e : ExtensionValues). Some (call.Create ctx parent name mode kill flags umask e)) (told_so kill ext.context ext.group q told is.places.1)
-told_is_call q options room echo (call.Link ctx inode newparent newname) told known is =
-    by_numbers told (told_of options room echo (call.Link ctx inode newparent newname)) (parts_in q told) is.numbers ∙ is_entry (told_of options room echo (call.Link ctx inode newparent newname)) (parts_in q told)
-    ∙ ap (λ (b : List ℕ). Some (call.Link ctx inode newparent b)) is.places.bytes_are
-told_is_call q options room echo (call.Unlink ctx parent name) told known is =
-    by_numbers told (told_of options room echo (call.Unlink ctx parent name)) (parts_in q told) is.numbers ∙ is_done (told_of options room echo (call.Unlink ctx parent name)) (parts_in q told)
-    ∙ ap (λ (b : List ℕ). Some (call.Unlink ctx parent b)) is.places.bytes_are
-told_is_call q options room echo (call.Rmdir ctx parent name) told known is =
-    by_numbers told (told_of options room echo (call.Rmdir ctx parent name)) (parts_in q told) is.numbers ∙ is_done (told_of options room echo (call.Rmdir ctx parent name)) (parts_in q told)
-    ∙ ap (λ (b : List ℕ). Some (call.Rmdir ctx parent b)) is.places.bytes_are
-told_is_call q options room echo (call.Removexattr ctx inode name) told known is =
-    by_numbers told (told_of options room echo (call.Removexattr ctx inode name)) (parts_in q told) is.numbers ∙ is_done (told_of options room echo (call.Removexattr ctx inode name)) (parts_in q told)
-    ∙ ap (λ (b : List ℕ). Some (call.Removexattr ctx inode b)) is.places.bytes_are
-told_is_call q options room echo (call.Getxattr ctx inode name size) told known is =
-    by_numbers told (told_of options room echo (call.Getxattr ctx inode name size)) (parts_in q told) is.numbers ∙ is_text_or_count (told_of options room echo (call.Getxattr ctx inode name size)) (parts_in q told)
-    ∙ ap (λ (b : List ℕ). Some (call.Getxattr ctx inode b size)) is.places.bytes_are
-told_is_call q options room echo (call.Rename ctx olddir oldname newdir newname flags) told known is =
-    by_numbers told (told_of options room echo (call.Rename ctx olddir oldname newdir newname flags)) (parts_in q told) is.numbers ∙ is_done (told_of options room echo (call.Rename ctx olddir oldname newdir newname flags)) (parts_in q told)
-    ∙ ap (λ (b : List ℕ). Some (call.Rename ctx olddir b newdir (bytes_in q told.other_name) flags)) is.places.0.bytes_are
-    ∙ ap (λ (b : List ℕ). Some (call.Rename ctx olddir oldname newdir b flags)) is.places.1.bytes_are
-told_is_call q options room echo (call.Setxattr ctx inode name value flags extra) told known is =
-    by_numbers told (told_of options room echo (call.Setxattr ctx inode name value flags extra)) (parts_in q told) is.numbers ∙ is_done (told_of options room echo (call.Setxattr ctx inode name value flags extra)) (parts_in q told)
-    ∙ ap (λ (b : List ℕ). Some (call.Setxattr ctx inode b (bytes_in q told.data) flags (bit_and extra known_setxattr_flags))) is.places.0.bytes_are
-    ∙ ap (λ (b : List ℕ). Some (call.Setxattr ctx inode name b flags (bit_and extra known_setxattr_flags))) is.places.1.bytes_are
-    ∙ ap (λ (n : ℕ). Some (call.Setxattr ctx inode name value flags n)) known
-told_is_call q options room echo (call.Getattr ctx inode None) told known is =
-    by_numbers told (told_of options room echo (call.Getattr ctx inode None)) (parts_in q told) is.numbers ∙ is_attr (told_of options room echo (call.Getattr ctx inode None)) (parts_in q told)
-told_is_call q options room echo (call.Setattr ctx inode attr None valid) told known is =
-    by_numbers told (told_of options room echo (call.Setattr ctx inode attr None valid)) (parts_in q told) is.numbers ∙ is_attr (told_of options room echo (call.Setattr ctx inode attr None valid)) (parts_in q told)
-    ∙ ap (λ (n : ℕ). Some (call.Setattr ctx inode attr None n)) known
-told_is_call q options room echo (call.Getattr ctx inode (Some h)) told known is =
-    by_numbers told (told_of options room echo (call.Getattr ctx inode (Some h))) (parts_in q told) is.numbers ∙ is_attr (told_of options room echo (call.Getattr ctx inode (Some h))) (parts_in q told)
-told_is_call q options room echo (call.Setattr ctx inode attr (Some h) valid) told known is =
-    by_numbers told (told_of options room echo (call.Setattr ctx inode attr (Some h) valid)) (parts_in q told) is.numbers ∙ is_attr (told_of options room echo (call.Setattr ctx inode attr (Some h) valid)) (parts_in q told)
-    ∙ ap (λ (n : ℕ). Some (call.Setattr ctx inode attr (Some h) n)) known
-told_is_call q options room echo (call.Open ctx inode true flags) told known is =
-    by_numbers told (told_of options room echo (call.Open ctx inode true flags)) (parts_in q told) is.numbers ∙ is_open (told_of options room echo (call.Open ctx inode true flags)) (parts_in q told)
-told_is_call q options room echo (call.Fsync ctx inode true handle) told known is =
-    by_numbers told (told_of options room echo (call.Fsync ctx inode true handle)) (parts_in q told) is.numbers ∙ is_done (told_of options room echo (call.Fsync ctx inode true handle)) (parts_in q told)
-told_is_call q options room echo (call.Fsyncdir ctx inode true handle) told known is =
-    by_numbers told (told_of options room echo (call.Fsyncdir ctx inode true handle)) (parts_in q told) is.numbers ∙ is_done (told_of options room echo (call.Fsyncdir ctx inode true handle)) (parts_in q told)
-told_is_call q options room echo (call.Open ctx inode false flags) told known is =
-    by_numbers told (told_of options room echo (call.Open ctx inode false flags)) (parts_in q told) is.numbers ∙ is_open (told_of options room echo (call.Open ctx inode false flags)) (parts_in q told)
-told_is_call q options room echo (call.Fsync ctx inode false handle) told known is =
-    by_numbers told (told_of options room echo (call.Fsync ctx inode false handle)) (parts_in q told) is.numbers ∙ is_done (told_of options room echo (call.Fsync ctx inode false handle)) (parts_in q told)
-told_is_call q options room echo (call.Fsyncdir ctx inode false handle) told known is =
-    by_numbers told (told_of options room echo (call.Fsyncdir ctx inode false handle)) (parts_in q told) is.numbers ∙ is_done (told_of options room echo (call.Fsyncdir ctx inode false handle)) (parts_in q told)
-told_is_call q options room echo (call.Write ctx inode handle bytes size offset None true true flags) told known is =
-    by_numbers told (told_of options room echo (call.Write ctx inode handle bytes size offset None true true flags)) (parts_in q told) is.numbers ∙ is_written (told_of options room echo (call.Write ctx inode handle bytes size offset None true true flags)) (parts_in q told)
-    ∙ ap (λ (b : List ℕ). Some (call.Write ctx inode handle b size offset None true true flags)) is.places.bytes_are
-told_is_call q options room echo (call.Release ctx inode flags handle true true None) told known is =
-    by_numbers told (told_of options room echo (call.Release ctx inode flags handle true true None)) (parts_in q told) is.numbers ∙ is_done (told_of options room echo (call.Release ctx inode flags handle true true None)) (parts_in q told)
-told_is_call q options room echo (call.Write ctx inode handle bytes size offset None true false flags) told known is =
-    by_numbers told (told_of options room echo (call.Write ctx inode handle bytes size offset None true false flags)) (parts_in q told) is.numbers ∙ is_written (told_of options room echo (call.Write ctx inode handle bytes size offset None true false flags)) (parts_in q told)
-    ∙ ap (λ (b : List ℕ). Some (call.Write ctx inode handle b size offset None true false flags)) is.places.bytes_are
-told_is_call q options room echo (call.Release ctx inode flags handle true false None) told known is =
-    by_numbers told (told_of options room echo (call.Release ctx inode flags handle true false None)) (parts_in q told) is.numbers ∙ is_done (told_of options room echo (call.Release ctx inode flags handle true false None)) (parts_in q told)
-told_is_call q options room echo (call.Write ctx inode handle bytes size offset None false true flags) told known is =
-    by_numbers told (told_of options room echo (call.Write ctx inode handle bytes size offset None false true flags)) (parts_in q told) is.numbers ∙ is_written (told_of options room echo (call.Write ctx inode handle bytes size offset None false true flags)) (parts_in q told)
-    ∙ ap (λ (b : List ℕ). Some (call.Write ctx inode handle b size offset None false true flags)) is.places.bytes_are
-told_is_call q options room echo (call.Release ctx inode flags handle false true None) told known is =
-    by_numbers told (told_of options room echo (call.Release ctx inode flags handle false true None)) (parts_in q told) is.numbers ∙ is_done (told_of options room echo (call.Release ctx inode flags handle false true None)) (parts_in q told)
-told_is_call q options room echo (call.Write ctx inode handle bytes size offset None false false flags) told known is =
-    by_numbers told (told_of options room echo (call.Write ctx inode handle bytes size offset None false false flags)) (parts_in q told) is.numbers ∙ is_written (told_of options room echo (call.Write ctx inode handle bytes size offset None false false flags)) (parts_in q told)
-    ∙ ap (λ (b : List ℕ). Some (call.Write ctx inode handle b size offset None false false flags)) is.places.bytes_are
-told_is_call q options room echo (call.Release ctx inode flags handle false false None) told known is =
-    by_numbers told (told_of options room echo (call.Release ctx inode flags handle false false None)) (parts_in q told) is.numbers ∙ is_done (told_of options room echo (call.Release ctx inode flags handle false false None)) (parts_in q told)
-told_is_call q options room echo (call.Write ctx inode handle bytes size offset (Some o) true true flags) told known is =
-    by_numbers told (told_of options room echo (call.Write ctx inode handle bytes size offset (Some o) true true flags)) (parts_in q told) is.numbers ∙ is_written (told_of options room echo (call.Write ctx inode handle bytes size offset (Some o) true true flags)) (parts_in q told)
-    ∙ ap (λ (b : List ℕ). Some (call.Write ctx inode handle b size offset (Some o) true true flags)) is.places.bytes_are
-told_is_call q options room echo (call.Release ctx inode flags handle true true (Some o)) told known is =
-    by_numbers told (told_of options room echo (call.Release ctx inode flags handle true true (Some o))) (parts_in q told) is.numbers ∙ is_done (told_of options room echo (call.Release ctx inode flags handle true true (Some o))) (parts_in q told)
-told_is_call q options room echo (call.Write ctx inode handle bytes size offset (Some o) true false flags) told known is =
-    by_numbers told (told_of options room echo (call.Write ctx inode handle bytes size offset (Some o) true false flags)) (parts_in q told) is.numbers ∙ is_written (told_of options room echo (call.Write ctx inode handle bytes size offset (Some o) true false flags)) (parts_in q told)
-    ∙ ap (λ (b : List ℕ). Some (call.Write ctx inode handle b size offset (Some o) true false flags)) is.places.bytes_are
-told_is_call q options room echo (call.Release ctx inode flags handle true false (Some o)) told known is =
-    by_numbers told (told_of options room echo (call.Release ctx inode flags handle true false (Some o))) (parts_in q told) is.numbers ∙ is_done (told_of options room echo (call.Release ctx inode flags handle true false (Some o))) (parts_in q told)
-told_is_call q options room echo (call.Write ctx inode handle bytes size offset (Some o) false true flags) told known is =
-    by_numbers told (told_of options room echo (call.Write ctx inode handle bytes size offset (Some o) false true flags)) (parts_in q told) is.numbers ∙ is_written (told_of options room echo (call.Write ctx inode handle bytes size offset (Some o) false true flags)) (parts_in q told)
-    ∙ ap (λ (b : List ℕ). Some (call.Write ctx inode handle b size offset (Some o) false true flags)) is.places.bytes_are
-told_is_call q options room echo (call.Release ctx inode flags handle false true (Some o)) told known is =
-    by_numbers told (told_of options room echo (call.Release ctx inode flags handle false true (Some o))) (parts_in q told) is.numbers ∙ is_done (told_of options room echo (call.Release ctx inode flags handle false true (Some o))) (parts_in q told)
-told_is_call q options room echo (call.Write ctx inode handle bytes size offset (Some o) false false flags) told known is =
-    by_numbers told (told_of options room echo (call.Write ctx inode handle bytes size offset (Some o) false false flags)) (parts_in q told) is.numbers ∙ is_written (told_of options room echo (call.Write ctx inode handle bytes size offset (Some o) false false flags)) (parts_in q told)
-    ∙ ap (λ (b : List ℕ). Some (call.Write ctx inode handle b size offset (Some o) false false flags)) is.places.bytes_are
-told_is_call q options room echo (call.Release ctx inode flags handle false false (Some o)) told known is =
-    by_numbers told (told_of options room echo (call.Release ctx inode flags handle false false (Some o))) (parts_in q told) is.numbers ∙ is_done (told_of options room echo (call.Release ctx inode flags handle false false (Some o))) (parts_in q told)
-told_is_call q options room echo (call.Init capable) told known is =
-    by_numbers told (told_of options room echo (call.Init capable)) (parts_in q told) is.numbers ∙ is_want (told_of options room echo (call.Init capable)) (parts_in q told)
-    ∙ ap (λ (n : ℕ). Some (call.Init n)) known
-told_is_call q options room echo (call.BatchForget ctx pairs) told known is =
-    by_numbers told (told_of options room echo (call.BatchForget ctx pairs)) (parts_in q told) is.numbers ∙ is_quiet (told_of options room echo (call.BatchForget ctx pairs)) (parts_in q told)
-    ∙ ap (λ (ps : List (ℕ × ℕ)). Some (call.BatchForget ctx ps)) is.places.pairs_are
-told_is_call q options room echo (call.Read ctx inode handle space size offset None flags) told known is =
-    by_numbers told (told_of options room echo (call.Read ctx inode handle space size offset None flags)) (parts_in q told) is.numbers ∙ is_data (told_of options room echo (call.Read ctx inode handle space size offset None flags)) (parts_in q told)
-told_is_call q options room echo (call.Read ctx inode handle space size offset (Some o) flags) told known is =
-    by_numbers told (told_of options room echo (call.Read ctx inode handle space size offset (Some o) flags)) (parts_in q told) is.numbers ∙ is_data (told_of options room echo (call.Read ctx inode handle space size offset (Some o) flags)) (parts_in q told)
-told_is_call q options room echo c told known is =
-    by_numbers told (told_of options room echo c) (parts_in q told) is.numbers
+told_is_call q options room one other a b told is_a is_b =
+    let e = sym is_a.numbers ∙ is_b.numbers in
+    alike q options room one other told a b (same_test _ _ (ap (λ (d : CallData). d.call) e)) (λ _. e) is_a.places is_b.places

@@ -12,8 +12,7 @@ ghost use Rattle.vfs_in_flight.specs.OneTurn.{AreOneTurn};
 ghost use Rattle.vfs_in_flight.specs.ToldCall.{ToldIsCall};
 
 /// What is told of a call determines it: the numbers, and the bytes of the request in the ranges
-/// that are told. Of SETATTR, SETXATTR and INIT the sets of flags are of known ones, as those of
-/// requests are.
+/// that are told. No two calls are told by the same data.
 pub fn what_is_told_is_the_call()
     ensures { ToldIsCall }
 {}

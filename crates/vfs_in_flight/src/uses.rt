@@ -1,9 +1,10 @@
 //! What a transport knows of requests in flight, by the laws alone.
 
-ghost use Rattle.std.specs.Prelude.{◌≡◌, ℕ, List, [], ◌∷◌, length, IfSome};
+ghost use Rattle.std.specs.Prelude.{◌≡◌, ℕ, List, Option, [], ◌∷◌, length, IfSome};
 ghost use Rattle.vfs_flags.specs.Flags.{fs_options_bits};
 ghost use Rattle.vfs_messages.specs.Rooms.{with_behind};
-ghost use Rattle.vfs_files.specs.Calls.{Call};
+ghost use Rattle.vfs_files.specs.Calls.{Call, Read};
+ghost use Rattle.vfs_files.specs.declared.entry.Context.{Context};
 ghost use Rattle.vfs_grammar.specs.Limits.{AreLimits};
 ghost use Rattle.vfs_grammar.specs.Books.{KeepsBooks};
 ghost use Rattle.vfs_grammar.specs.Turn.{AreTurns, Turn};
@@ -13,7 +14,6 @@ ghost use Rattle.vfs_calls.specs.declared.call.CallData.{CallData};
 ghost use Rattle.vfs_ask.specs.Asked.{IsEnough, IsTold};
 ghost use Rattle.vfs_in_flight.specs.Flight.{Waiting, IsTurnOf};
 ghost use Rattle.vfs_in_flight.specs.OneTurn.{IsAnsweredTurn};
-ghost use Rattle.vfs_in_flight.specs.ToldCall.{HasKnownSets, told_as_call};
 
 use crate::laws::{
     asked_and_answered_is_one_turn, turns_in_flight_are_in_order, turns_in_flight_keep_books,
@@ -73,11 +73,13 @@ fn one_behind_another()
     turns_in_flight_are_in_order();
 }
 
-/// Two calls that the same data tell, of the same request, are one call.
+/// A call that the same data tell as a READ is that READ, of the same request.
 fn calls_told_alike()
-    ensures { (request : List ℕ) (options room : ℕ) (one other : Echo) (a b : Call) (told : CallData) →
-        HasKnownSets a → HasKnownSets b → IsTold request options room one a told →
-        IsTold request options room other b told → told_as_call a ≡ told_as_call b }
+    ensures { (request : List ℕ) (options room : ℕ) (one other : Echo) (told : CallData) (ctx : Context)
+        (inode handle space size offset flags : ℕ) (owner : Option ℕ) (call : Call) →
+        IsTold request options room one (Read ctx inode handle space size offset owner flags) told →
+        IsTold request options room other call told →
+        call ≡ Read ctx inode handle space size offset owner flags }
 {
     what_is_told_is_the_call();
 }
