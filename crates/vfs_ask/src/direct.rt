@@ -4,12 +4,12 @@
 ghost use Rattle.std.specs.Prelude.{◌≡◌, ℕ};
 ghost use Rattle.vfs_segments.specs.Written.{Written};
 ghost use Rattle.vfs_messages.specs.Parts.{TailIsCut};
-ghost use Rattle.vfs_calls.specs.Shapes.{bit, nothing};
+ghost use Rattle.vfs_calls.specs.Shapes.{nothing};
 ghost use Rattle.vfs_grammar.specs.Ask.{ask_opcode};
 ghost use Rattle.vfs_grammar.specs.declared.limits.Limits.{Limits as AnyLimits};
 ghost use Rattle.vfs_ask.specs.Noting.{IsNoted};
 
-use vfs_calls::{Asking, CallData, has, kind, number};
+use vfs_calls::{Asking, CallData};
 use vfs_files::FileSystem;
 use vfs_flags::{
     GETATTR_FH, Opcode, READ_LOCKOWNER, WRITE_CACHE, WRITE_KILL_PRIV, WRITE_LOCKOWNER,
@@ -18,13 +18,6 @@ use vfs_grammar::{Error, Result};
 use vfs_messages::{Request, handle_if, is_set, number_if};
 use vfs_wire::{ByteValued, GetattrIn, OutHeader};
 use vfs_wire_more::{ReadIn, WriteIn};
-
-// A bit that is set where this holds.
-fn bit_if(holds: bool, value: u32) -> u32
-    ensures { result ≡ bit holds value }
-{
-    if holds { value } else { 0 }
-}
 
 /// Notes the LOOKUP that a request asks for, or says why it asks for none.
 pub fn note_lookup(mut q: Request<'_, '_>, call: &mut CallData) -> Result<usize>
@@ -67,19 +60,15 @@ pub fn note_read(room: usize, mut q: Request<'_, '_>, call: &mut CallData) -> Re
         return Err(Error::EncodeMessage);
     }
     let owner = number_if(read_in.read_flags, READ_LOCKOWNER, read_in.lock_owner);
-    let ctx = q.context();
-    call.call = number::READ;
-    call.answer = kind::DATA;
-    call.uid = ctx.uid.into_inner();
-    call.gid = ctx.gid.into_inner();
-    call.pid = ctx.pid;
-    call.node = q.header.nodeid;
-    call.handle = read_in.fh;
-    call.size = read_in.size;
-    call.offset = read_in.offset;
-    call.lock_owner = owner.unwrap_or(0);
-    call.has = bit_if(owner.is_some(), has::OWNER);
-    call.flags = read_in.flags;
+    call.note_read(
+        q.context(),
+        q.node(),
+        read_in.fh,
+        read_in.size,
+        read_in.offset,
+        owner,
+        read_in.flags,
+    );
     Ok(0)
 }
 
@@ -94,20 +83,16 @@ pub fn note_write(mut q: Request<'_, '_>, call: &mut CallData) -> Result<usize>
     let write_in = q.record::<WriteIn>()?;
     let flags = write_in.write_flags;
     let owner = number_if(flags, WRITE_LOCKOWNER, write_in.lock_owner);
-    let ctx = q.context();
-    call.call = number::WRITE;
-    call.answer = kind::WRITTEN;
-    call.uid = ctx.uid.into_inner();
-    call.gid = ctx.gid.into_inner();
-    call.pid = ctx.pid;
-    call.node = q.header.nodeid;
-    call.handle = write_in.fh;
-    call.size = write_in.size;
-    call.offset = write_in.offset;
-    call.lock_owner = owner.unwrap_or(0);
-    call.has = bit_if(owner.is_some(), has::OWNER)
-        + (bit_if(is_set(flags, WRITE_CACHE), has::DELAYED)
-            + bit_if(is_set(flags, WRITE_KILL_PRIV), has::KILL_PRIV));
-    call.flags = write_in.flags;
+    call.note_write(
+        q.context(),
+        q.node(),
+        write_in.fh,
+        write_in.size,
+        write_in.offset,
+        owner,
+        is_set(flags, WRITE_CACHE),
+        is_set(flags, WRITE_KILL_PRIV),
+        write_in.flags,
+    );
     Ok(0)
 }

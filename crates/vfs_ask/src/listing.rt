@@ -10,7 +10,7 @@ ghost use Rattle.vfs_ask.specs.Asked.{Tells};
 
 use crate::asked::Asked;
 use bitflags::Flags;
-use vfs_calls::{CallData, has, kind, number};
+use vfs_calls::{CallData, has};
 use vfs_flags::{Errno, FsOptions};
 use vfs_grammar::{Error, Limits};
 use vfs_messages::{Request, reply_failed};
@@ -46,19 +46,16 @@ pub fn ask_listing(
     if room < OutHeader::SIZE {
         return Asked::finished(Err(Error::EncodeMessage));
     }
-    let ctx = q.context();
-    call.call = number::READDIR;
-    call.answer = kind::DIRECTORY;
+    call.note_readdir(
+        q.context(),
+        q.node(),
+        read_in.fh,
+        read_in.size,
+        read_in.offset,
+    );
     call.unique = q.header.unique;
     call.options = options.bits();
     call.room = room as u64;
-    call.node = q.header.nodeid;
-    call.handle = read_in.fh;
-    call.size = read_in.size;
-    call.offset = read_in.offset;
-    call.uid = ctx.uid.into_inner();
-    call.gid = ctx.gid.into_inner();
-    call.pid = ctx.pid;
     call.has = if plus { has::PLUS } else { 0 };
     Asked::Call
 }

@@ -1,12 +1,12 @@
 //! A file system that notes the call that it is asked for, and holds the answer back.
 
-ghost use Rattle.std.specs.Prelude.{◌≡◌, ◌+◌, ◌<◌, ◌^◌, None};
+ghost use Rattle.std.specs.Prelude.{◌≡◌, ◌+◌, ◌<◌, ◌^◌, [], None};
 ghost use Rattle.vfs_flags.specs.Flags.{setattr_valid_bits};
-ghost use Rattle.vfs_files.specs.Calls.{Getattr, Setattr, BatchForget, Plain, Done};
+ghost use Rattle.vfs_files.specs.Calls.{Getattr, Setattr, Read, Write, Readdir, BatchForget, Plain, Done};
 ghost use Rattle.vfs_files.specs.Answers.{attr_answer};
 ghost use Rattle.vfs_files.specs.Values.{extension_values_of};
 ghost use Rattle.vfs_calls.specs.Asked.{Notes};
-ghost use Rattle.vfs_calls.specs.Shapes.{asks, bit, bit_of, extended, made_by, setattr_of};
+ghost use Rattle.vfs_calls.specs.Shapes.{asks, bit, bit_of, extended, made_by, setattr_of, shape_over};
 
 use crate::call::{CallData, Range, SetattrData, has, kind, number};
 use bitflags::Flags;
@@ -82,19 +82,98 @@ fn setattr_data(r: SetattrIn) -> SetattrData
     }
 }
 
+impl CallData {
+    // Notes a call of this number, with this kind of answer, that this caller makes.
+    #[inline(always)]
+    fn note(&mut self, call: u32, answer: u32, ctx: Context)
+        ensures { self.new ≡ made_by ctx (asks call answer self.old) }
+    {
+        self.call = call;
+        self.answer = answer;
+        self.uid = ctx.uid.into_inner();
+        self.gid = ctx.gid.into_inner();
+        self.pid = ctx.pid;
+    }
+
+    /// Notes a READ. How much room there is for its data is told apart.
+    #[inline(always)]
+    pub fn note_read(
+        &mut self,
+        ctx: Context,
+        inode: u64,
+        handle: u64,
+        size: u32,
+        offset: u64,
+        lock_owner: Option<u64>,
+        flags: u32,
+    )
+        ensures { self.new ≡ shape_over self.old
+            (Read ctx inode handle 0 size offset lock_owner flags) }
+    {
+        self.note(number::READ, kind::DATA, ctx);
+        self.node = inode;
+        self.handle = handle;
+        self.size = size;
+        self.offset = offset;
+        self.lock_owner = lock_owner.unwrap_or(0);
+        self.has = bit_if_some(lock_owner, has::OWNER);
+        self.flags = flags;
+    }
+
+    /// Notes a WRITE. Where its data are is told apart.
+    #[inline(always)]
+    pub fn note_write(
+        &mut self,
+        ctx: Context,
+        inode: u64,
+        handle: u64,
+        size: u32,
+        offset: u64,
+        lock_owner: Option<u64>,
+        delayed_write: bool,
+        kill_priv: bool,
+        flags: u32,
+    )
+        ensures { self.new ≡ shape_over self.old
+            (Write ctx inode handle [] size offset lock_owner delayed_write kill_priv flags) }
+    {
+        self.note(number::WRITE, kind::WRITTEN, ctx);
+        self.node = inode;
+        self.handle = handle;
+        self.size = size;
+        self.offset = offset;
+        self.lock_owner = lock_owner.unwrap_or(0);
+        self.has = bit_if_some(lock_owner, has::OWNER)
+            + (bit_if(delayed_write, has::DELAYED) + bit_if(kill_priv, has::KILL_PRIV));
+        self.flags = flags;
+    }
+
+    /// Notes a READDIR, which a READDIRPLUS is too, but for its bit.
+    #[inline(always)]
+    pub fn note_readdir(&mut self, ctx: Context, inode: u64, handle: u64, size: u32, offset: u64)
+        ensures { self.new ≡ shape_over self.old (Readdir ctx inode handle size offset) }
+    {
+        self.note(number::READDIR, kind::DIRECTORY, ctx);
+        self.node = inode;
+        self.handle = handle;
+        self.size = size;
+        self.offset = offset;
+    }
+}
+
 impl Asking<'_> {
     // Notes a call of this number, with this kind of answer, that this caller makes.
+    #[inline(always)]
     fn note(&mut self, call: u32, answer: u32, ctx: Context)
         ensures same_record { self.new.call.ghost_name ≡ self.old.call.ghost_name }
-        ensures noted { self.new.call.now ≡ made_by ctx (asks call answer self.old.call.now) }
+        ensures noted { self.new.call.now ≡
+            made_by ctx (asks call answer self.old.call.now) }
     {
-        self.note_untold(call, answer);
-        self.call.uid = ctx.uid.into_inner();
-        self.call.gid = ctx.gid.into_inner();
-        self.call.pid = ctx.pid;
+        self.call.note(call, answer, ctx);
     }
 
     // Notes a call of this number, with this kind of answer, that is told nothing.
+    #[inline(always)]
     fn note_untold(&mut self, call: u32, answer: u32)
         ensures same_record { self.new.call.ghost_name ≡ self.old.call.ghost_name }
         ensures noted { self.new.call.now ≡ asks call answer self.old.call.now }
@@ -321,14 +400,8 @@ impl FileSystem for Asking<'_> {
         lock_owner: Option<u64>,
         flags: u32,
     ) -> Result<usize, Fault> {
-        self.note(number::READ, kind::DATA, ctx);
-        self.call.node = inode;
-        self.call.handle = handle;
-        self.call.size = size;
-        self.call.offset = offset;
-        self.call.lock_owner = lock_owner.unwrap_or(0);
-        self.call.has = bit_if_some(lock_owner, has::OWNER);
-        self.call.flags = flags;
+        self.call
+            .note_read(ctx, inode, handle, size, offset, lock_owner, flags);
         Err(HELD_BACK)
     }
 
@@ -345,15 +418,17 @@ impl FileSystem for Asking<'_> {
         kill_priv: bool,
         flags: u32,
     ) -> Result<u32, Fault> {
-        self.note(number::WRITE, kind::WRITTEN, ctx);
-        self.call.node = inode;
-        self.call.handle = handle;
-        self.call.size = size;
-        self.call.offset = offset;
-        self.call.lock_owner = lock_owner.unwrap_or(0);
-        self.call.has = bit_if_some(lock_owner, has::OWNER)
-            + (bit_if(delayed_write, has::DELAYED) + bit_if(kill_priv, has::KILL_PRIV));
-        self.call.flags = flags;
+        self.call.note_write(
+            ctx,
+            inode,
+            handle,
+            size,
+            offset,
+            lock_owner,
+            delayed_write,
+            kill_priv,
+            flags,
+        );
         Err(HELD_BACK)
     }
 
@@ -483,11 +558,7 @@ impl FileSystem for Asking<'_> {
         size: u32,
         offset: u64,
     ) -> Result<NoEntries, Fault> {
-        self.note(number::READDIR, kind::DIRECTORY, ctx);
-        self.call.node = inode;
-        self.call.handle = handle;
-        self.call.size = size;
-        self.call.offset = offset;
+        self.call.note_readdir(ctx, inode, handle, size, offset);
         Err(HELD_BACK)
     }
 
