@@ -8,3 +8,4 @@ pub mod InRoom
 pub mod Memory
 pub mod Short
 pub mod Checking
+pub mod WithOpcode

@@ -7,3 +7,4 @@ pub mod Parts
 pub mod Uses
 pub mod Checked
 pub mod Terms
+pub mod WithOpcode

@@ -67,13 +67,13 @@ impl Asked {
 #[derive(Clone, Copy)]
 pub(crate) struct Terms {
     /// The sizes that a server goes by.
-    limits: Limits,
+    pub(crate) limits: Limits,
     /// The options that are agreed on.
-    options: FsOptions,
+    pub(crate) options: FsOptions,
     /// How many bytes the request has.
-    len: u64,
+    pub(crate) len: u64,
     /// How many bytes the room for its reply has.
-    room: usize,
+    pub(crate) room: usize,
 }
 
 /// How many bytes a reply to a request that asks for no call has at most.
@@ -149,7 +149,12 @@ pub(crate) fn ask_request(
 
 // What a request with this header asks.
 #[inline(always)]
-fn ask_behind(terms: Terms, q: Request<'_, '_>, w: &mut Writer, call: &mut CallData) -> Asked
+pub(crate) fn ask_behind(
+    terms: Terms,
+    q: Request<'_, '_>,
+    w: &mut Writer,
+    call: &mut CallData,
+) -> Asked
     requires limits { AreLimits terms.limits }
     requires fits { terms.len < 2 ^ 64 }
     requires none { call.old ≡ nothing }

@@ -4,8 +4,10 @@ ghost use Rattle.std.specs.Prelude.{◌≡◌, length};
 ghost use Rattle.vfs_flags.specs.Flags.{fs_options_bits};
 ghost use Rattle.vfs_grammar.specs.Limits.{AreLimits};
 ghost use Rattle.vfs_ask.specs.Checked.{IsChecked, checked_of};
+ghost use Rattle.vfs_ask.specs.WithOpcode.{unread_with_opcode};
 
 use crate::asked::{Asked, ask_request};
+use crate::with_opcode::ask_request_as;
 use std::alloc::Global;
 use vfs_calls::CallData;
 use vfs_flags::FsOptions;
@@ -72,5 +74,24 @@ pub fn check(
 {
     let mut nowhere = Writer::empty(alloc);
     let asked = ask_request(alloc, limits, options, r, room, &mut nowhere, call);
+    Checked::of(&asked, room)
+}
+
+/// What the request is that `r` has left with this number in place of its opcode: [`check`] of those bytes.
+pub fn check_as(
+    opcode: u32,
+    alloc: Global,
+    limits: Limits,
+    options: FsOptions,
+    r: Reader<'_>,
+    room: usize,
+    call: &mut CallData,
+) -> Checked
+    requires { AreLimits limits }
+    ensures { IsChecked limits (fs_options_bits options) (unread_with_opcode opcode r.entry) room
+        result call.new }
+{
+    let mut nowhere = Writer::empty(alloc);
+    let asked = ask_request_as(opcode, alloc, limits, options, r, room, &mut nowhere, call);
     Checked::of(&asked, room)
 }

@@ -11,6 +11,8 @@ mod listing;
 mod note;
 mod parts;
 mod uses;
+mod with_opcode;
 
 pub use asked::{Asked, LONGEST_REPLY, ask};
-pub use checked::{Checked, check};
+pub use checked::{Checked, check, check_as};
+pub use with_opcode::ask_as;

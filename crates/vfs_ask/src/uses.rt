@@ -8,12 +8,15 @@ ghost use Rattle.vfs_grammar.specs.Samples.{eight, header_9, lookup_of_a, reques
 ghost use Rattle.vfs_grammar.specs.declared.error.Error.{Error};
 ghost use Rattle.vfs_calls.specs.Shapes.{nothing};
 ghost use Rattle.vfs_ask.specs.Asked.{IsFinished};
+ghost use Rattle.vfs_ask.specs.declared.checked.Checked.TheVariants.{Refused};
 ghost use Rattle.vfs_ask.specs.Memory.{LacksNoMemory};
 ghost use Rattle.vfs_ask.specs.Uses.{HasContext, LooksUpA, mkdir_with_context, ReadsThree, RenamesAToB, rename_of_a_to_b};
 
 use crate::asked::{Asked, ask};
+use crate::checked::{Checked, check_as};
+use crate::with_opcode::ask_as;
 use std::alloc::Global;
-use vfs_calls::CallData;
+use vfs_calls::{CallData, number};
 use vfs_flags::{DEFAULT_MAX_BUFFER, FsOptions};
 use vfs_grammar::Limits;
 use vfs_segments::{Reader, Writer};
@@ -155,4 +158,34 @@ fn interrupt_seven(
         } => interrupts,
         Asked::Call => 0,
     }
+}
+
+/// A request of another opcode, asked as a LOOKUP of the same bytes, is that LOOKUP.
+fn look_up_a_as(
+    alloc: Global,
+    options: FsOptions,
+    r: Reader<'_>,
+    w: &mut Writer,
+    call: &mut CallData,
+) -> Asked
+    requires { r.left ≡ header_9 42 51 ++ (0x61 ∷ 0 ∷ []) }
+    ensures { LooksUpA (fs_options_bits options) (length w.old.left) result call.new
+        ⊎ IsFinished (Refusal Error.OutOfMemory) 0 w.old result w.new call.new }
+{
+    let room = w.available_bytes();
+    ask_as(number::LOOKUP, alloc, LIMITS, options, r, room, w, call)
+}
+
+/// A header alone, checked as a GETATTR, is refused.
+fn check_getattr_as(
+    alloc: Global,
+    options: FsOptions,
+    r: Reader<'_>,
+    room: usize,
+    call: &mut CallData,
+) -> Checked
+    requires { r.left ≡ header_9 40 51 }
+    ensures { result ≡ Refused Error.DecodeMessage }
+{
+    check_as(number::GETATTR, alloc, LIMITS, options, r, room, call)
 }
