@@ -5,3 +5,4 @@ mod Lookup
 mod OneTurn
 mod LookupChecked
 mod Printing
+mod OfferedAsks

@@ -5,3 +5,4 @@ pub mod Asking
 pub mod Answering
 pub mod Uses
 pub mod Checking
+pub mod Further

@@ -76,7 +76,7 @@ fn check_piece(
 }
 
 // A reader of one piece, for which no memory is taken.
-fn reader_of<'a>(alloc: Global, pieces: &'a [&'a [u8]]) -> Reader<'a>
+pub(crate) fn reader_of<'a>(alloc: Global, pieces: &'a [&'a [u8]]) -> Reader<'a>
     requires one { length pieces.now ≡ 1 }
     requires fits { length (flat_bytes (segments_of pieces.now)) < 2 ^ 64 }
     ensures { IsWhole (flat_bytes (segments_of pieces.now)) result }
@@ -88,7 +88,7 @@ fn reader_of<'a>(alloc: Global, pieces: &'a [&'a [u8]]) -> Reader<'a>
 }
 
 // The code of what a request is, and which request it interrupts.
-fn code_and_number(checked: &Checked) -> (i32, u64)
+pub(crate) fn code_and_number(checked: &Checked) -> (i32, u64)
     ensures code { result.0 ≡ checked_code checked.now }
     ensures number { result.1 ≡ interrupts_of checked.now }
 {

@@ -14,12 +14,14 @@ mod answer;
 mod ask;
 mod check;
 mod data;
+mod further;
 mod further_init;
 mod handle;
 mod memory;
 mod notices;
 mod print;
 mod uses;
+mod uses_further;
 mod uses_notices;
 mod uses_text;
 
@@ -45,7 +47,7 @@ use vfs_calls::{AnswerData, CallData, ItemData};
 use vfs_rooms::codes::{NO_SERVER, OK, OUT_OF_MEMORY, WRONG_SIZE};
 
 // The memory behind a handle, or new. `None` where there is no memory.
-fn memory_of(alloc: Global, handle: &mut Handle) -> Option<Box<Memory>>
+pub(crate) fn memory_of(alloc: Global, handle: &mut Handle) -> Option<Box<Memory>>
     ensures taken { handle.new.value ≡ None }
     ensures kept { (m : Memory) → handle.old.value ≡ Some m →
         MatchOption result ⊥ (λ b. b.value ≡ m) }
