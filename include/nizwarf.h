@@ -188,11 +188,37 @@ typedef struct {
 
 typedef struct nizwarf_call nizwarf_call;
 
+/* Rows that a file system may offer: calls that virtiofsd 1.13.2 does not tell, as it answers each with an
+ * error or not at all. Where none is offered, every reply is virtiofsd's, byte for byte. What is offered may
+ * differ from one ask to the next, but the kernel takes a call that was answered ENOSYS for one that is not
+ * there, and asks no more. */
+enum {
+	/* NIZWARF_GETLK, NIZWARF_SETLK and NIZWARF_SETLKW. They take POSIX_LOCKS (bit 1) or FLOCK_LOCKS (bit 10)
+	 * in the answer to INIT, or the kernel keeps locks itself. */
+	NIZWARF_OFFER_LOCKS = 1 << 0,
+	NIZWARF_OFFER_BMAP = 1 << 1,
+	NIZWARF_OFFER_IOCTL = 1 << 2,
+	NIZWARF_OFFER_POLL = 1 << 3,
+	NIZWARF_OFFER_STATX = 1 << 4,
+	NIZWARF_OFFER_COPY_64 = 1 << 5,
+	NIZWARF_OFFER_TMPFILE = 1 << 6,
+	NIZWARF_OFFER_NOTIFY_REPLY = 1 << 7,
+	/* Not a row: an INIT tells the further options that it offers, and takes a nizwarf_init_more. */
+	NIZWARF_OFFER_INIT = 1 << 8,
+};
+
 /* Reads a request. NIZWARF_ASKED: it asks for `call`, and `told` says nothing. NIZWARF_OK: it is
  * finished, and told->len bytes of the rooms are its reply. Others: it is refused, and has none. */
 static inline int32_t nizwarf_ask(nizwarf_slot *slot, const nizwarf_session *session,
 				  const nizwarf_segment *request, size_t segments, const nizwarf_room *room,
 				  size_t rooms, nizwarf_call *call, nizwarf_told *told);
+
+/* The same of a file system that offers these rows: a request of one of them asks for its call. It is refused
+ * (NIZWARF_DECODE_MESSAGE) where its record is cut short, or has no room for as many bytes as it says. */
+static inline int32_t nizwarf_ask_offered(nizwarf_slot *slot, const nizwarf_session *session, uint32_t offers,
+					  const nizwarf_segment *request, size_t segments,
+					  const nizwarf_room *room, size_t rooms, nizwarf_call *call,
+					  nizwarf_told *told);
 
 /* ---- The call ---------------------------------------------------------------------------------- */
 
@@ -251,7 +277,7 @@ enum {
 	NIZWARF_REMOVEXATTR = 24,
 	/* node, handle, lock_owner (DONE) */
 	NIZWARF_FLUSH = 25,
-	/* length: nizwarf_init_offered, readahead (WANT) */
+	/* length: nizwarf_init_offered, readahead; if INIT is offered, nizwarf_init_further (WANT) */
 	NIZWARF_INIT = 26,
 	/* node, flags (OPENED) */
 	NIZWARF_OPENDIR = 27,
@@ -262,7 +288,8 @@ enum {
 	NIZWARF_RELEASEDIR = 29,
 	/* node, handle, DATASYNC (DONE) */
 	NIZWARF_FSYNCDIR = 30,
-	/* told nothing (FAULT_OR_SILENCE) */
+	/* told nothing (FAULT_OR_SILENCE); if LOCKS are offered, node, handle, lock_owner, HAS_FLOCK, and the lock:
+	 * nizwarf_lock_asked. SETLKW waits until it has its lock (GETLK TEXT: a nizwarf_lock, the others DONE) */
 	NIZWARF_GETLK = 31,
 	NIZWARF_SETLK = 32,
 	NIZWARF_SETLKW = 33,
@@ -270,13 +297,20 @@ enum {
 	NIZWARF_ACCESS = 34,
 	/* node, name, mode, flags, umask, KILL_PRIV, extensions (CREATED) */
 	NIZWARF_CREATE = 35,
-	/* told nothing (FAULT_OR_SILENCE) */
+	/* told nothing (FAULT_OR_SILENCE); if BMAP is offered, node, offset: the number of a block, size: of a
+	 * block (OFFSET: the block of the device) */
 	NIZWARF_BMAP = 37,
 	/* told nothing: the client goes, and holds no lookup from then on (QUIET) */
 	NIZWARF_DESTROY = 38,
-	/* told nothing (FAULT_OR_SILENCE) */
+	/* told nothing (FAULT_OR_SILENCE); if IOCTL is offered, node, handle, flags: FUSE_IOCTL_COMPAT .., more:
+	 * nizwarf_ioctl_command, offset: nizwarf_ioctl_argument, data: what is handed in, size: how many bytes may
+	 * be handed out (TEXT: a nizwarf_ioctl, and then what is handed out) */
 	NIZWARF_IOCTL = 39,
+	/* told nothing (FAULT_OR_SILENCE); if POLL is offered, node, handle, offset: the number for a notice,
+	 * flags: FUSE_POLL_SCHEDULE_NOTIFY, more: nizwarf_poll_events (WRITTEN: those that are there) */
 	NIZWARF_POLL = 40,
+	/* told nothing (FAULT_OR_SILENCE); if NOTIFY_REPLY is offered, unique: that of the notice, node, offset,
+	 * size, data (QUIET) */
 	NIZWARF_NOTIFY_REPLY = 41,
 	/* length: nizwarf_batch_forget_pairs, data: of each 8 bytes the node and 8 how many lookups
 	 * (QUIET) */
@@ -290,8 +324,14 @@ enum {
 	NIZWARF_COPY = 47,
 	/* node (DONE) */
 	NIZWARF_SYNCFS = 50,
-	/* told nothing (FAULT) */
+	/* told nothing (FAULT); if TMPFILE is offered, as a CREATE: the file gets no name, and `name` is of no use
+	 * (CREATED) */
 	NIZWARF_TMPFILE = 51,
+	/* If STATX is offered: node, handle if HAS_HANDLE, flags: those of statx(2), more: nizwarf_statx_mask
+	 * (TEXT: a nizwarf_statx) */
+	NIZWARF_STATX = 52,
+	/* If COPY_64 is offered: as COPY, but for the answer (OFFSET: how many bytes) */
+	NIZWARF_COPY_64 = 53,
 };
 
 /* Bits of `has`. Extensions are HAS_CONTEXT and HAS_GROUP with their fields. */
@@ -317,6 +357,8 @@ enum {
 	NIZWARF_FLOCK_RELEASE = 1 << 8,
 	/* Each item has an entry. */
 	NIZWARF_PLUS = 1 << 9,
+	/* The lock is one of flock(2), and else of fcntl(2). */
+	NIZWARF_HAS_FLOCK = 1 << 10,
 };
 
 /* Bytes of a request: names, values and data are told so. `at` counts from the first byte of its
@@ -412,6 +454,57 @@ static inline uint64_t nizwarf_init_offered(const nizwarf_call *call)
 	return call->length;
 }
 
+/* A lock, as fuse_file_lock has it: its first and its last byte, F_RDLCK, F_WRLCK or F_UNLCK, and the process that
+ * has it. */
+typedef struct {
+	uint64_t start, end;
+	uint32_t type, pid;
+} nizwarf_lock;
+
+/* The lock that is asked for. */
+static inline nizwarf_lock nizwarf_lock_asked(const nizwarf_call *call)
+{
+	const nizwarf_lock lock = { call->offset, call->other_offset, call->flags, call->more };
+
+	return lock;
+}
+
+/* The second argument of ioctl(2). */
+static inline uint32_t nizwarf_ioctl_command(const nizwarf_call *call)
+{
+	return call->more;
+}
+
+/* The third one. */
+static inline uint64_t nizwarf_ioctl_argument(const nizwarf_call *call)
+{
+	return call->offset;
+}
+
+/* POLLIN .. */
+static inline uint32_t nizwarf_poll_events(const nizwarf_call *call)
+{
+	return call->more;
+}
+
+/* The number by which a notice wakes who polled. */
+static inline uint64_t nizwarf_poll_number(const nizwarf_call *call)
+{
+	return call->offset;
+}
+
+/* STATX_SIZE .. */
+static inline uint32_t nizwarf_statx_mask(const nizwarf_call *call)
+{
+	return call->more;
+}
+
+/* The further options that are offered: bits that virtiofsd 1.13.2 does not know. */
+static inline uint64_t nizwarf_init_further(const nizwarf_call *call)
+{
+	return call->other_offset;
+}
+
 /* Takes all but these out of the options that are offered, before an INIT is answered: what isn't offered isn't
  * agreed on. So it is with ATOMIC_O_TRUNC, without which Linux cuts by SETATTR what it opens with O_TRUNC; and
  * with ALLOW_IDMAP (bit 40), which Linux takes only from a mount with default_permissions. It refuses everything
@@ -441,9 +534,9 @@ enum {
 	NIZWARF_ENTRY = 5,
 	/* Of `entry` the attributes, and how long they hold. */
 	NIZWARF_ATTR = 6,
-	/* `has_handle`, `handle`, `open_flags` */
+	/* `has_handle`, `handle`, `open_flags`, `count`: nizwarf_answer_backing */
 	NIZWARF_OPENED = 7,
-	/* `entry`, `has_handle`, `handle`, `open_flags` */
+	/* `entry`, and the same */
 	NIZWARF_CREATED = 8,
 	/* `statfs` */
 	NIZWARF_STATISTICS = 9,
@@ -498,7 +591,7 @@ typedef struct {
  * replied as EIO. What can't be is replied as EIO too: a `count` above what was asked for by a READ,
  * or of 2^32 and more where the reply has 32 bits. A link is for you to keep within the 4095 bytes
  * that Linux takes, an attribute within the `size` that is asked for. A text of 2^32 - 16 bytes or more
- * is replied as ERANGE. Bits of `open_flags`, and of options, that the protocol doesn't have are left
+ * is replied as ERANGE; one of a GETLK, a STATX or an IOCTL that is no such record as EIO. Bits of `open_flags`, and of options, that the protocol doesn't have are left
  * out. */
 typedef struct {
 	int32_t error;
@@ -513,6 +606,37 @@ typedef struct {
 	const nizwarf_item *items;
 	size_t items_len;
 } nizwarf_answer;
+
+/* What the answer to an IOCTL begins with, as fuse_ioctl_out has it: what ioctl(2) returns; and with
+ * FUSE_IOCTL_RETRY in `flags`, how many pairs of an address and a length follow, in place of what is handed out,
+ * of what is to be handed in and out when it is asked again. Linux takes that of CUSE alone. */
+typedef struct {
+	int32_t result;
+	uint32_t flags, in_iovs, out_iovs;
+} nizwarf_ioctl;
+
+/* A time of a nizwarf_statx. */
+typedef struct {
+	int64_t tv_sec;
+	uint32_t tv_nsec;
+	int32_t reserved;
+} nizwarf_sx_time;
+
+/* The answer to a STATX, as fuse_statx_out has it: how long it holds, and what statx(2) tells, of which `mask` says
+ * what is there. */
+typedef struct {
+	uint64_t attr_seconds;
+	uint32_t attr_nanoseconds, out_flags;
+	uint64_t spare[2];
+	uint32_t mask, blksize;
+	uint64_t attributes;
+	uint32_t nlink, uid, gid;
+	uint16_t mode, spare0[1];
+	uint64_t ino, size, blocks, attributes_mask;
+	nizwarf_sx_time atime, btime, ctime, mtime;
+	uint32_t rdev_major, rdev_minor, dev_major, dev_minor;
+	uint64_t spare2[14];
+} nizwarf_statx;
 
 /* The last number of an error that Linux takes. */
 enum { NIZWARF_LAST_ERROR = 511 };
@@ -530,11 +654,34 @@ static inline void nizwarf_answer_options(nizwarf_answer *answer, uint64_t optio
 	answer->count = options;
 }
 
+#define NIZWARF_PASSTHROUGH (UINT64_C(1) << 37)
+
+/* Answers an OPEN or a CREATE by a file that the client reads and writes by itself, of this number, which
+ * FUSE_DEV_IOC_BACKING_OPEN gave. Without PASSTHROUGH in the session's options it is not looked at. */
+static inline void nizwarf_answer_backing(nizwarf_answer *answer, uint32_t backing_id)
+{
+	answer->count = backing_id;
+}
+
 /* Answers an LSEEK by a place in the file. */
 static inline void nizwarf_answer_offset(nizwarf_answer *answer, uint64_t offset)
 {
 	answer->count = offset;
 }
+
+/* What an INIT may agree on besides its options, if INIT is offered: the `text` of its answer, of this length. Bits of
+ * `want` are those of nizwarf_init_further: PASSTHROUGH (37) with the most file systems over one another,
+ * NO_EXPORT_SUPPORT (38), HAS_RESEND (39), OVER_IO_URING (41), REQUEST_TIMEOUT (42) with so many seconds. Of the other
+ * fields 0 leaves what virtiofsd says; the first two only make that less, max_write no less than 4096 bytes. */
+typedef struct {
+	uint64_t want;
+	uint32_t max_readahead, max_write;
+	/* In nanoseconds, how exact times of files are: a power of 10, up to 1000000000. */
+	uint32_t time_gran;
+	uint32_t max_stack_depth, request_timeout;
+	uint16_t max_background, congestion_threshold;
+	uint64_t padding;
+} nizwarf_init_more;
 
 /* How many bytes an item takes of the `size` of a READDIR. One who adds these up knows when to
  * stop, and has no entry to give back. */
@@ -556,6 +703,34 @@ static inline int32_t nizwarf_reply(nizwarf_slot *slot, const nizwarf_session *s
 /* Gives the memory of a slot back. NIZWARF_NO_SERVER: it had none. */
 static inline int32_t nizwarf_end_slot(nizwarf_slot *slot);
 
+enum { NIZWARF_MOST_INTERRUPTS = 64 };
+
+/* Interrupts of requests that are not there: one has overtaken its request, or came after its end. It begins as
+ * zeros, and is used under a lock of yours: whoever is told of an interrupt keeps the number, if no such call is there,
+ * and a call that is to wait takes its own. The oldest go. */
+typedef struct {
+	uint64_t unique[NIZWARF_MOST_INTERRUPTS];
+	unsigned next;
+} nizwarf_interrupts;
+
+static inline void nizwarf_keep_interrupt(nizwarf_interrupts *kept, uint64_t unique)
+{
+	kept->unique[kept->next++ % NIZWARF_MOST_INTERRUPTS] = unique;
+}
+
+/* Whether this call was interrupted before it came: it answers EINTR. */
+static inline int nizwarf_take_interrupt(nizwarf_interrupts *kept, uint64_t unique)
+{
+	int i;
+
+	for (i = 0; i < NIZWARF_MOST_INTERRUPTS; i++)
+		if (kept->unique[i] == unique) {
+			kept->unique[i] = 0;
+			return 1;
+		}
+	return 0;
+}
+
 /* ---- Checks, and messages as text -------------------------------------------------------------- */
 
 /* A check stands in front of a server that trusts whoever sends it requests: check.c, of the examples. It has no
@@ -572,6 +747,10 @@ static inline int32_t nizwarf_end_slot(nizwarf_slot *slot);
  * ends in NIZWARF_OUT_OF_MEMORY. */
 static inline int32_t nizwarf_check(const nizwarf_session *session, const void *request, size_t len,
 				    size_t room, nizwarf_call *call, uint64_t *interrupts);
+/* The same where these rows are offered. */
+static inline int32_t nizwarf_check_offered(const nizwarf_session *session, uint32_t offers,
+					    const void *request, size_t len, size_t room, nizwarf_call *call,
+					    uint64_t *interrupts);
 
 /* Writes a request as a line of text, without a newline, as snprintf(3) writes: at most `size` bytes, the last
  * of them a 0, which may cut the line. Answers how many bytes the whole line has without the 0. The line names
@@ -663,6 +842,8 @@ NIZWARF_HOLDS(sizeof(nizwarf_setattr) == 88 && sizeof(nizwarf_call) == 312);
 NIZWARF_HOLDS(sizeof(nizwarf_attr) == 88 && sizeof(nizwarf_entry) == 128);
 NIZWARF_HOLDS(sizeof(nizwarf_statfs) == 64 && sizeof(nizwarf_item) == 168);
 NIZWARF_HOLDS(sizeof(nizwarf_answer) == 256);
+NIZWARF_HOLDS(sizeof(nizwarf_init_more) == 40);
+NIZWARF_HOLDS(sizeof(nizwarf_lock) == 24 && sizeof(nizwarf_ioctl) == 16 && sizeof(nizwarf_statx) == 288);
 #undef NIZWARF_HOLDS
 
 /* `told` comes to both as zeros, but for the options: the session's to an ask, the call's to an
@@ -677,6 +858,22 @@ int32_t nizwarf_answer_at(nizwarf_slot *slot, const nizwarf_session *session, co
 			  const nizwarf_item *items, size_t items_len, nizwarf_told *told);
 size_t nizwarf_copy_slot_at(nizwarf_slot *slot, size_t at, uint8_t *piece, size_t piece_len);
 int32_t nizwarf_end_slot_at(nizwarf_slot *slot);
+/* Those of a file system that offers rows. The second is as nizwarf_answer_at, but that the text of a GETLK, a STATX
+ * and an IOCTL is looked at. */
+int32_t nizwarf_ask_offered_at(nizwarf_slot *slot, const nizwarf_session *session, uint32_t offers,
+			       const nizwarf_segment *request, size_t segments, size_t room,
+			       nizwarf_call *call, nizwarf_told *told);
+int32_t nizwarf_answer_offered_at(nizwarf_slot *slot, const nizwarf_session *session,
+				  const nizwarf_call *call, const nizwarf_answer *answer, const uint8_t *text,
+				  size_t text_len, const nizwarf_item *items, size_t items_len,
+				  nizwarf_told *told);
+int32_t nizwarf_check_offered_at(const nizwarf_session *session, uint32_t offers, const uint8_t *request,
+				 size_t len, size_t room, nizwarf_call *call, uint64_t *interrupts);
+/* The further options that an INIT offers, of which the first bytes are enough; and what is agreed on besides, put into
+ * its reply: the bits that were agreed on are answered. */
+enum { NIZWARF_INIT_FRONT = 104, NIZWARF_LONGEST_CHANGED = 160 };
+uint64_t nizwarf_init_offered_at(const uint8_t *request, size_t len);
+uint64_t nizwarf_add_to_init_at(uint8_t *reply, size_t len, uint64_t offered, const nizwarf_init_more *more);
 /* `call` comes with `call` 0, and `*interrupts` as 0. */
 int32_t nizwarf_check_at(const nizwarf_session *session, const uint8_t *request, size_t len, size_t room,
 			 nizwarf_call *call, uint64_t *interrupts);
@@ -738,6 +935,36 @@ static inline void nizwarf_put(nizwarf_slot *slot, const nizwarf_room *room, siz
 	}
 }
 
+/* Copies the first bytes of a request. */
+static inline size_t nizwarf_front(const nizwarf_segment *request, size_t segments, uint8_t *front,
+				   size_t size)
+{
+	size_t len = 0, i;
+
+	for (i = 0; i < segments && len < size; i++) {
+		const size_t part = size - len < request[i].len ? size - len : request[i].len;
+
+		memcpy(front + len, request[i].at, part);
+		len += part;
+	}
+	return len;
+}
+
+/* Zeros for what is told of an ask, and how many bytes of room there are. */
+static inline int32_t nizwarf_begin_ask(const nizwarf_slot *slot, const nizwarf_session *session,
+					const nizwarf_segment *request, size_t segments,
+					const nizwarf_room *room, size_t rooms, nizwarf_call *call,
+					nizwarf_told *told, size_t *total)
+{
+	if (told)
+		memset(told, 0, sizeof(*told));
+	if (!slot || !session || !call || !told)
+		return NIZWARF_NULL;
+	call->call = 0;
+	told->options = session->options;
+	return nizwarf_add_up(request, segments, room, rooms, total);
+}
+
 static inline int32_t nizwarf_ask(nizwarf_slot *slot, const nizwarf_session *session,
 				  const nizwarf_segment *request, size_t segments, const nizwarf_room *room,
 				  size_t rooms, nizwarf_call *call, nizwarf_told *told)
@@ -746,17 +973,33 @@ static inline int32_t nizwarf_ask(nizwarf_slot *slot, const nizwarf_session *ses
 	size_t total;
 	int32_t code;
 
-	if (told)
-		memset(told, 0, sizeof(*told));
-	if (!slot || !session || !call || !told)
-		return NIZWARF_NULL;
-	call->call = 0;
-	told->options = session->options;
-	code = nizwarf_add_up(request, segments, room, rooms, &total);
+	code = nizwarf_begin_ask(slot, session, request, segments, room, rooms, call, told, &total);
 	if (code != NIZWARF_OK)
 		return code;
 	code = nizwarf_ask_at(slot, session, segments ? request : &none, segments, total, call, told);
 	nizwarf_put(slot, room, rooms, told->put);
+	return code;
+}
+
+static inline int32_t nizwarf_ask_offered(nizwarf_slot *slot, const nizwarf_session *session, uint32_t offers,
+					  const nizwarf_segment *request, size_t segments,
+					  const nizwarf_room *room, size_t rooms, nizwarf_call *call,
+					  nizwarf_told *told)
+{
+	const nizwarf_segment none = { "", 0 };
+	uint8_t front[NIZWARF_INIT_FRONT];
+	size_t total;
+	int32_t code;
+
+	code = nizwarf_begin_ask(slot, session, request, segments, room, rooms, call, told, &total);
+	if (code != NIZWARF_OK)
+		return code;
+	code = nizwarf_ask_offered_at(slot, session, offers & ~(uint32_t)NIZWARF_OFFER_INIT,
+				      segments ? request : &none, segments, total, call, told);
+	nizwarf_put(slot, room, rooms, told->put);
+	if (code == NIZWARF_ASKED && call->call == NIZWARF_INIT && offers & NIZWARF_OFFER_INIT)
+		call->other_offset = nizwarf_init_offered_at(
+			front, nizwarf_front(request, segments, front, sizeof(front)));
 	return code;
 }
 
@@ -788,6 +1031,49 @@ static inline int32_t nizwarf_answer_fault(nizwarf_slot *slot, const nizwarf_ses
 				 (const nizwarf_item *)(const void *)&fault, 0, told);
 }
 
+/* Puts a reply of few bytes that is changed: to an INIT, with what is agreed on besides; to an OPEN or a CREATE, with
+ * the file that the client reads and writes by itself. */
+static inline void nizwarf_put_changed(nizwarf_slot *slot, const nizwarf_call *call,
+				       const nizwarf_answer *answer, const nizwarf_room *room, size_t rooms,
+				       nizwarf_told *told)
+{
+	uint8_t reply[NIZWARF_LONGEST_CHANGED];
+	nizwarf_init_more more;
+	size_t at = 0, i, len;
+
+	len = nizwarf_copy_slot_at(slot, 0, reply, sizeof(reply));
+	if (call->call == NIZWARF_INIT) {
+		memcpy(&more, answer->text, sizeof(more));
+		told->options |= nizwarf_add_to_init_at(reply, len, nizwarf_init_further(call), &more);
+	} else {
+		nizwarf_add_backing_at(reply, len, (int32_t)answer->count);
+	}
+	for (i = 0; i < rooms && at < len; i++) {
+		const size_t part = len - at < room[i].len ? len - at : room[i].len;
+
+		memcpy(room[i].at, reply + at, part);
+		at += part;
+	}
+}
+
+/* Whether a reply is to be changed. */
+static inline int nizwarf_is_changed(const nizwarf_session *session, const nizwarf_call *call,
+				     const nizwarf_answer *answer)
+{
+	if (answer->error)
+		return 0;
+	if (call->call == NIZWARF_INIT)
+		return answer->text_len == sizeof(nizwarf_init_more);
+	return (call->answer == NIZWARF_OPENED || call->answer == NIZWARF_CREATED) &&
+	       session->options & NIZWARF_PASSTHROUGH && answer->count;
+}
+
+/* Whether the text of an answer is a record, which the library looks at. */
+static inline int nizwarf_is_record(const nizwarf_call *call)
+{
+	return call->answer == NIZWARF_TEXT && call->call != NIZWARF_READLINK;
+}
+
 static inline int32_t nizwarf_reply(nizwarf_slot *slot, const nizwarf_session *session,
 				    const nizwarf_call *call, const nizwarf_answer *answer,
 				    const nizwarf_room *room, size_t rooms, nizwarf_told *told)
@@ -815,14 +1101,21 @@ static inline int32_t nizwarf_reply(nizwarf_slot *slot, const nizwarf_session *s
 	for (i = 0; i < answer->items_len; i++)
 		if (!items[i].name)
 			return NIZWARF_NULL;
-	code = nizwarf_answer_at(slot, session, call, answer, text, answer->text_len, items,
-				 answer->items_len, told);
+	if (nizwarf_is_record(call))
+		code = nizwarf_answer_offered_at(slot, session, call, answer, text, answer->text_len, items,
+						 answer->items_len, told);
+	else
+		code = nizwarf_answer_at(slot, session, call, answer, text, answer->text_len, items,
+					 answer->items_len, told);
 	if (code == NIZWARF_OK &&
 	    (answer->error > NIZWARF_LAST_ERROR || nizwarf_is_cut(call, answer, told->taken) ||
 	     (!answer->error && call->answer == NIZWARF_FAULT_OR_SILENCE &&
 	      call->call != NIZWARF_NOTIFY_REPLY)))
 		code = nizwarf_answer_fault(slot, session, call, told);
-	nizwarf_put(slot, room, rooms, told->put);
+	if (code == NIZWARF_OK && nizwarf_is_changed(session, call, answer))
+		nizwarf_put_changed(slot, call, answer, room, rooms, told);
+	else
+		nizwarf_put(slot, room, rooms, told->put);
 	return code;
 }
 
@@ -839,6 +1132,18 @@ static inline int32_t nizwarf_check(const nizwarf_session *session, const void *
 	call->call = 0;
 	*interrupts = 0;
 	return nizwarf_check_at(session, (const uint8_t *)request, len, room, call, interrupts);
+}
+
+static inline int32_t nizwarf_check_offered(const nizwarf_session *session, uint32_t offers,
+					    const void *request, size_t len, size_t room, nizwarf_call *call,
+					    uint64_t *interrupts)
+{
+	if (!session || !request || !call || !interrupts)
+		return NIZWARF_NULL;
+	call->call = 0;
+	*interrupts = 0;
+	return nizwarf_check_offered_at(session, offers & ~(uint32_t)NIZWARF_OFFER_INIT,
+					(const uint8_t *)request, len, room, call, interrupts);
 }
 
 static inline size_t nizwarf_print_request(const void *request, size_t len, uint64_t options, char *text,

@@ -5,9 +5,14 @@
  * as ENOENT. What else it answers goes where the pointers at its end point to, which are zeros
  * before. What it is handed is lent until then.
  *
- * A function that is NULL answers ENOSYS. But OPEN, OPENDIR, RELEASE and RELEASEDIR are done
- * without one, INIT, DESTROY and FORGET are too, and STATFS tells of names of 255 bytes. Locks,
- * BMAP, IOCTL, POLL and TMPFILE, of which nothing is told, are answered ENOSYS.
+ * A function that is NULL answers ENOSYS, and its row is not offered (NIZWARF_OFFER_LOCKS ..): then the
+ * reply is virtiofsd's. But OPEN, OPENDIR, RELEASE and RELEASEDIR are done without one, INIT, DESTROY
+ * and FORGET are too, and STATFS tells of names of 255 bytes.
+ *
+ * A function may answer later: it copies `*req->call` and what else it wants of the request, and
+ * answers NIZWARF_LATER. Then nizwarf_serve_ops answers NIZWARF_ASKED, and whoever has the copy
+ * answers it once, from any thread, by nizwarf_finish_ops; perhaps before nizwarf_serve_ops comes back.
+ * So a lock that is waited for holds no thread. FORGET, DESTROY and INIT can't be answered later.
  *
  * An answer that Linux refuses comes to who asked as an error, and ends nothing: EIO for the number
  * of an error below 0 or above 511, a link of more than 4095 bytes, and more bytes read, written or
@@ -24,8 +29,10 @@
 #define NIZWARF_OPS_H
 
 #include <errno.h>
+#include <fcntl.h>
 /* (in strict C99 this one has struct timespec, and time.h has not) */
 #include <sched.h>
+#include <sys/file.h>
 #include <sys/stat.h>
 #include <sys/statvfs.h>
 #include <time.h>
@@ -46,13 +53,17 @@ typedef struct {
 	const uint8_t *request;
 } nizwarf_req;
 
+/* What a function answers that answers later. */
+enum { NIZWARF_LATER = -0x10000 };
+
 /* An open file. `fh` is what OPEN or CREATE answered. `flags` are those of open(2), for open,
- * opendir, create, read, write, release and releasedir; `lock_owner` is for read, write, flush and
- * release; else they are 0. `open_flags` are FOPEN_KEEP_CACHE .. of linux/fuse.h, which OPEN,
- * OPENDIR and CREATE answer. */
+ * opendir, create, tmpfile, read, write, release and releasedir; `lock_owner` is for read, write,
+ * flush, release and locks; else they are 0. `open_flags` are FOPEN_KEEP_CACHE .. of linux/fuse.h, which OPEN,
+ * OPENDIR and CREATE answer. `backing_id` is that of nizwarf_answer_backing; 0: none. */
 typedef struct {
 	uint64_t fh, lock_owner;
 	uint32_t flags, open_flags;
+	uint32_t backing_id, padding;
 } nizwarf_file_info;
 
 /* An entry. `ino` is the number of the node, `attr.ino` that which programs see. */
@@ -65,6 +76,21 @@ typedef struct {
 /* The items of a directory while it is read: see nizwarf_add_direntry. */
 typedef struct nizwarf_dir nizwarf_dir;
 
+/* What a client offers at INIT (`capable`), and what is wanted of it, which begins as `want` of init does.
+ * The other fields begin as 0, and are those of a nizwarf_init_more. */
+typedef struct {
+	uint64_t capable, want;
+	uint32_t max_readahead, max_write, time_gran, max_stack_depth, request_timeout;
+	uint16_t max_background, congestion_threshold;
+} nizwarf_conn_info;
+
+/* How many lookups of a node are given back. */
+typedef struct {
+	uint64_t ino, nlookup;
+} nizwarf_forget;
+
+enum { NIZWARF_MOST_FORGETS = 64 };
+
 typedef struct nizwarf_ops {
 	/* `capable` are the options that are offered. `want` begins as those of NIZWARF_WANT_USUAL and
 	 * READDIRPLUS that are offered and served: see nizwarf_served. Take out what you don't want,
@@ -74,7 +100,7 @@ typedef struct nizwarf_ops {
 	/* The client goes, and holds no lookup from then on: see nizwarf_end_ops. */
 	void (*destroy)(const nizwarf_req *req);
 	int (*lookup)(const nizwarf_req *req, uint64_t parent, const char *name, nizwarf_entry_param *e);
-	/* BATCH_FORGET comes as a forget for each of its pairs. */
+	/* BATCH_FORGET comes as a forget for each of its pairs, where forget_multi is NULL. */
 	void (*forget)(const nizwarf_req *req, uint64_t ino, uint64_t nlookup);
 	/* `fi` is NULL where the file isn't open, here and in setattr. */
 	int (*getattr)(const nizwarf_req *req, uint64_t ino, const nizwarf_file_info *fi, nizwarf_attr *attr,
@@ -132,8 +158,43 @@ typedef struct nizwarf_ops {
 			       const nizwarf_file_info *fi_out, uint64_t size, uint64_t flags, size_t *len);
 	int (*syncfs)(const nizwarf_req *req, uint64_t ino);
 	/* Who waits for the request of this number, `call->unique`, wants no longer to: a call of it that
-	 * goes on may end, by EINTR. It comes on another thread, perhaps before that call, or after. */
+	 * goes on may end, by EINTR. It comes on another thread, perhaps before that call, or after: see
+	 * nizwarf_interrupts. */
 	void (*interrupt)(void *user, uint64_t unique);
+	/* In place of init: what it may agree on besides. */
+	int (*conn)(const nizwarf_req *req, nizwarf_conn_info *conn);
+	/* At most NIZWARF_MOST_FORGETS at a time. */
+	void (*forget_multi)(const nizwarf_req *req, size_t count, const nizwarf_forget *forgets);
+	/* Locks of fcntl(2), where POSIX_LOCKS is agreed on: `fi->lock_owner` is who asks. getlk answers in
+	 * `lock` one that is in the way, or F_UNLCK as its type. With `sleep`, setlk waits until it has the
+	 * lock: it answers later, or holds the thread. A close of a file is a flush, which gives up all locks
+	 * of its owner. */
+	int (*getlk)(const nizwarf_req *req, uint64_t ino, const nizwarf_file_info *fi, nizwarf_lock *lock);
+	int (*setlk)(const nizwarf_req *req, uint64_t ino, const nizwarf_file_info *fi,
+		     const nizwarf_lock *lock, int sleep);
+	/* Locks of flock(2), where FLOCK_LOCKS is agreed on: `op` is LOCK_SH, LOCK_EX or LOCK_UN, with LOCK_NB
+	 * where it does not wait. A release with NIZWARF_FLOCK_RELEASE in `req->call->has` gives the lock up. */
+	int (*flock)(const nizwarf_req *req, uint64_t ino, const nizwarf_file_info *fi, int op);
+	/* Linux asks it of block devices alone (fuseblk). */
+	int (*bmap)(const nizwarf_req *req, uint64_t ino, size_t blocksize, uint64_t idx, uint64_t *block);
+	/* `flags` are FUSE_IOCTL_COMPAT .., `out` is what ioctl(2) returns, and `out_buf` has room for
+	 * `out_size` bytes, of which `*len` are handed out. */
+	int (*ioctl)(const nizwarf_req *req, uint64_t ino, uint32_t cmd, uint64_t arg,
+		     const nizwarf_file_info *fi, uint32_t flags, const void *in_buf, size_t in_size,
+		     nizwarf_ioctl *out, void *out_buf, size_t out_size, size_t *len);
+	/* `events` are waited for, and `*revents` there. With `notify`, a notice of the number `kh` is to come
+	 * when that changes: nizwarf_notice_poll. */
+	int (*poll)(const nizwarf_req *req, uint64_t ino, const nizwarf_file_info *fi, uint32_t events,
+		    uint64_t kh, int notify, uint32_t *revents);
+	/* A file without a name in this directory, opened with O_TMPFILE. */
+	int (*tmpfile)(const nizwarf_req *req, uint64_t parent, uint32_t mode, nizwarf_file_info *fi,
+		       nizwarf_entry_param *e);
+	/* `fi` is NULL where the file isn't open. `mask` is what is asked for, statx->mask what is there. */
+	int (*statx)(const nizwarf_req *req, uint64_t ino, uint32_t flags, uint32_t mask,
+		     const nizwarf_file_info *fi, nizwarf_statx *statx, struct timespec *timeout);
+	/* What a notice of this number, `cookie`, wanted: nizwarf_notice_retrieve. */
+	void (*retrieve_reply)(const nizwarf_req *req, uint64_t cookie, uint64_t ino, uint64_t offset,
+			       const void *data, size_t size);
 } nizwarf_ops;
 
 struct nizwarf_dir {
@@ -157,12 +218,18 @@ enum { NIZWARF_WANT_READDIRPLUS = 3 << 13 };
 /* The longest link that Linux takes. */
 enum { NIZWARF_LONGEST_LINK = 4095 };
 
-/* What a table serves of options. Of locks and HAS_IOCTL_DIR, and HAS_INODE_DAX, it has no functions;
- * ATOMIC_O_TRUNC takes `open`, READDIRPLUS `readdirplus`, WRITEBACK_CACHE `write`, and SETXATTR_EXT
- * `setxattr`. */
+/* What a table serves of options. HAS_INODE_DAX it does not; POSIX_LOCKS takes `getlk` and `setlk`,
+ * FLOCK_LOCKS `flock`, HAS_IOCTL_DIR `ioctl`, ATOMIC_O_TRUNC `open`, READDIRPLUS `readdirplus`,
+ * WRITEBACK_CACHE `write`, and SETXATTR_EXT `setxattr`. */
 static inline uint64_t nizwarf_served(const nizwarf_ops *ops, uint64_t options)
 {
-	options &= ~(UINT64_C(1) << 1 | UINT64_C(1) << 10 | UINT64_C(1) << 11 | UINT64_C(1) << 33);
+	options &= ~(UINT64_C(1) << 33);
+	if (!ops->getlk || !ops->setlk)
+		options &= ~(UINT64_C(1) << 1);
+	if (!ops->flock)
+		options &= ~(UINT64_C(1) << 10);
+	if (!ops->ioctl)
+		options &= ~(UINT64_C(1) << 11);
 	if (!ops->open)
 		options &= ~NIZWARF_WANT_ATOMIC_O_TRUNC;
 	if (!ops->readdirplus)
@@ -172,6 +239,32 @@ static inline uint64_t nizwarf_served(const nizwarf_ops *ops, uint64_t options)
 	if (!ops->setxattr)
 		options &= ~(UINT64_C(1) << 29);
 	return options;
+}
+
+/* The rows that a table offers. */
+static inline uint32_t nizwarf_offers_of(const nizwarf_ops *ops)
+{
+	uint32_t offers = 0;
+
+	if ((ops->getlk && ops->setlk) || ops->flock)
+		offers |= NIZWARF_OFFER_LOCKS;
+	if (ops->bmap)
+		offers |= NIZWARF_OFFER_BMAP;
+	if (ops->ioctl)
+		offers |= NIZWARF_OFFER_IOCTL;
+	if (ops->poll)
+		offers |= NIZWARF_OFFER_POLL;
+	if (ops->statx)
+		offers |= NIZWARF_OFFER_STATX;
+	if (ops->copy_file_range)
+		offers |= NIZWARF_OFFER_COPY_64;
+	if (ops->tmpfile)
+		offers |= NIZWARF_OFFER_TMPFILE;
+	if (ops->retrieve_reply)
+		offers |= NIZWARF_OFFER_NOTIFY_REPLY;
+	if (ops->conn)
+		offers |= NIZWARF_OFFER_INIT;
+	return offers;
 }
 
 /* A time of so many seconds: 0, if it is less or no number. */
@@ -329,34 +422,86 @@ static inline int nizwarf_add_direntry_plus(nizwarf_dir *dir, const char *name, 
 #define NIZWARF_DO(op, ...) (ops->op ? ops->op(req, __VA_ARGS__) : ENOSYS)
 #define NIZWARF_NAME(range) ((const char *)req->request + (range).at)
 
+/* Whether `flags` of the call are those of open(2). */
+static inline int nizwarf_has_open_flags(uint32_t call)
+{
+	switch (call) {
+	case NIZWARF_SETATTR:
+	case NIZWARF_GETLK:
+	case NIZWARF_SETLK:
+	case NIZWARF_SETLKW:
+	case NIZWARF_IOCTL:
+	case NIZWARF_POLL:
+	case NIZWARF_STATX:
+		return 0;
+	default:
+		return 1;
+	}
+}
+
 static inline nizwarf_file_info nizwarf_file_of(const nizwarf_call *call)
 {
 	nizwarf_file_info fi;
 
 	fi.fh = call->handle;
 	/* (of these two calls the fields say something else) */
-	fi.lock_owner = call->call == NIZWARF_COPY ? 0 : call->lock_owner;
-	fi.flags = call->call == NIZWARF_SETATTR ? 0 : call->flags;
+	fi.lock_owner = call->call == NIZWARF_COPY || call->call == NIZWARF_COPY_64 ? 0 : call->lock_owner;
+	fi.flags = nizwarf_has_open_flags(call->call) ? call->flags : 0;
 	fi.open_flags = 0;
+	fi.backing_id = fi.padding = 0;
 	return fi;
+}
+
+static inline void nizwarf_do_forgets(const nizwarf_ops *ops, const nizwarf_req *req)
+{
+	const uint64_t count = nizwarf_batch_forget_pairs(req->call);
+	const uint8_t *pairs = req->request + req->call->data.at;
+	nizwarf_forget forgets[NIZWARF_MOST_FORGETS];
+	uint64_t done;
+	size_t some, i;
+
+	for (done = 0; done < count; done += some) {
+		some = count - done < NIZWARF_MOST_FORGETS ? (size_t)(count - done) :
+							     (size_t)NIZWARF_MOST_FORGETS;
+		memcpy(forgets, pairs + sizeof(*forgets) * done, sizeof(*forgets) * some);
+		if (ops->forget_multi)
+			ops->forget_multi(req, some, forgets);
+		else if (ops->forget)
+			for (i = 0; i < some; i++)
+				ops->forget(req, forgets[i].ino, forgets[i].nlookup);
+	}
 }
 
 static inline int nizwarf_do_quiet(const nizwarf_ops *ops, const nizwarf_req *req)
 {
 	const nizwarf_call *c = req->call;
-	const uint8_t *pairs = req->request + c->data.at;
-	uint64_t pair[2], i;
 
 	if (c->call == NIZWARF_DESTROY && ops->destroy)
 		ops->destroy(req);
 	if (c->call == NIZWARF_FORGET && ops->forget)
 		ops->forget(req, c->node, nizwarf_forget_lookups(c));
-	if (c->call == NIZWARF_BATCH_FORGET && ops->forget)
-		for (i = 0; i < nizwarf_batch_forget_pairs(c); i++) {
-			memcpy(pair, pairs + 16 * i, sizeof(pair));
-			ops->forget(req, pair[0], pair[1]);
-		}
+	if (c->call == NIZWARF_BATCH_FORGET)
+		nizwarf_do_forgets(ops, req);
+	if (c->call == NIZWARF_NOTIFY_REPLY && ops->retrieve_reply)
+		ops->retrieve_reply(req, c->unique, c->node, c->offset, req->request + c->data.at,
+				    (size_t)c->data.len);
 	return 0;
+}
+
+/* SETLK and SETLKW, of both kinds of locks. */
+static inline int nizwarf_do_lock(const nizwarf_ops *ops, const nizwarf_req *req)
+{
+	const nizwarf_call *c = req->call;
+	const nizwarf_file_info fi = nizwarf_file_of(c);
+	const nizwarf_lock lock = nizwarf_lock_asked(c);
+	const int sleep = c->call == NIZWARF_SETLKW;
+	int op = LOCK_UN;
+
+	if (!(c->has & NIZWARF_HAS_FLOCK))
+		return NIZWARF_DO(setlk, c->node, &fi, &lock, sleep);
+	if (lock.type != F_UNLCK)
+		op = (lock.type == F_RDLCK ? LOCK_SH : LOCK_EX) | (sleep ? 0 : LOCK_NB);
+	return NIZWARF_DO(flock, c->node, &fi, op);
 }
 
 static inline int nizwarf_do_done(const nizwarf_ops *ops, const nizwarf_req *req)
@@ -395,6 +540,9 @@ static inline int nizwarf_do_done(const nizwarf_ops *ops, const nizwarf_req *req
 		return NIZWARF_DO(fallocate, c->node, c->mode, c->offset, c->length, &fi);
 	case NIZWARF_SYNCFS:
 		return NIZWARF_DO(syncfs, c->node);
+	case NIZWARF_SETLK:
+	case NIZWARF_SETLKW:
+		return nizwarf_do_lock(ops, req);
 	default:
 		return ENOSYS;
 	}
@@ -447,7 +595,7 @@ static inline int nizwarf_do_attr(const nizwarf_ops *ops, const nizwarf_req *req
 	return error;
 }
 
-/* OPEN and OPENDIR, which are done where they are not in the table, and CREATE. */
+/* OPEN and OPENDIR, which are done where they are not in the table, CREATE and TMPFILE. */
 static inline int nizwarf_do_open(const nizwarf_ops *ops, const nizwarf_req *req, nizwarf_answer *answer)
 {
 	const nizwarf_call *c = req->call;
@@ -458,6 +606,8 @@ static inline int nizwarf_do_open(const nizwarf_ops *ops, const nizwarf_req *req
 	memset(&e, 0, sizeof(e));
 	if (c->call == NIZWARF_CREATE)
 		error = NIZWARF_DO(create, c->node, NIZWARF_NAME(c->name), c->mode, &fi, &e);
+	else if (c->call == NIZWARF_TMPFILE)
+		error = NIZWARF_DO(tmpfile, c->node, c->mode, &fi, &e);
 	else if (c->call == NIZWARF_OPENDIR)
 		error = ops->opendir ? ops->opendir(req, c->node, &fi) : 0;
 	else if (ops->open)
@@ -466,6 +616,7 @@ static inline int nizwarf_do_open(const nizwarf_ops *ops, const nizwarf_req *req
 	answer->has_handle = 1;
 	answer->handle = fi.fh;
 	answer->open_flags = fi.open_flags;
+	nizwarf_answer_backing(answer, fi.backing_id);
 	return error;
 }
 
@@ -505,6 +656,54 @@ static inline int nizwarf_do_data(const nizwarf_ops *ops, const nizwarf_req *req
 	return error;
 }
 
+/* What answers a record: it is put where it has its place in the reply. */
+static inline int nizwarf_do_record(const nizwarf_ops *ops, const nizwarf_req *req, uint8_t *room,
+				    size_t space, nizwarf_answer *answer)
+{
+	const nizwarf_call *c = req->call;
+	const nizwarf_file_info fi = nizwarf_file_of(c);
+	nizwarf_lock lock = nizwarf_lock_asked(c);
+	struct timespec timeout = { 0, 0 };
+	nizwarf_ioctl out = { 0, 0, 0, 0 };
+	nizwarf_statx statx;
+	size_t len = 0, size;
+	int error;
+
+	memset(&statx, 0, sizeof(statx));
+	answer->text = room;
+	switch (c->call) {
+	case NIZWARF_GETLK:
+		answer->text_len = sizeof(lock);
+		if (space < answer->text_len)
+			return EIO;
+		error = NIZWARF_DO(getlk, c->node, &fi, &lock);
+		memcpy(room, &lock, sizeof(lock));
+		return error;
+	case NIZWARF_STATX:
+		answer->text_len = sizeof(statx);
+		if (space < answer->text_len)
+			return EIO;
+		error = NIZWARF_DO(statx, c->node, c->flags, nizwarf_statx_mask(c),
+				   c->has & NIZWARF_HAS_HANDLE ? &fi : NULL, &statx, &timeout);
+		statx.attr_seconds = nizwarf_seconds_of(timeout);
+		statx.attr_nanoseconds = nizwarf_nanoseconds_of(timeout);
+		memcpy(room, &statx, sizeof(statx));
+		return error;
+	case NIZWARF_IOCTL:
+		if (space < sizeof(out))
+			return EIO;
+		size = c->size < space - sizeof(out) ? c->size : space - sizeof(out);
+		error = NIZWARF_DO(ioctl, c->node, nizwarf_ioctl_command(c), nizwarf_ioctl_argument(c), &fi,
+				   c->flags, req->request + c->data.at, (size_t)c->data.len, &out,
+				   room + sizeof(out), size, &len);
+		memcpy(room, &out, sizeof(out));
+		answer->text_len = sizeof(out) + len;
+		return !error && len > size ? EIO : error;
+	default:
+		return ENOSYS;
+	}
+}
+
 static inline int nizwarf_do_directory(const nizwarf_ops *ops, const nizwarf_req *req, nizwarf_dir *dir,
 				       nizwarf_answer *answer)
 {
@@ -530,34 +729,66 @@ static inline int nizwarf_do_written(const nizwarf_ops *ops, const nizwarf_req *
 	const nizwarf_file_info fi = nizwarf_file_of(c);
 	nizwarf_file_info out = fi;
 	uint64_t size = c->size < c->data.len ? c->size : c->data.len;
+	uint32_t revents = 0;
 	size_t len = 0;
 	int error = ENOSYS;
 
 	out.fh = c->other_handle;
-	if (c->call == NIZWARF_COPY)
+	if (c->call == NIZWARF_POLL) {
+		error = NIZWARF_DO(poll, c->node, &fi, nizwarf_poll_events(c), nizwarf_poll_number(c),
+				   (int)(c->flags & 1), &revents);
+		answer->count = revents;
+		return error;
+	}
+	if (c->call == NIZWARF_COPY || c->call == NIZWARF_COPY_64)
 		size = c->length;
 	if (c->call == NIZWARF_WRITE)
 		error = NIZWARF_DO(write, c->node, req->request + c->data.at, (size_t)size, c->offset, &fi,
 				   &len);
-	else if (c->call == NIZWARF_COPY)
+	else if (c->call == NIZWARF_COPY || c->call == NIZWARF_COPY_64)
 		error = NIZWARF_DO(copy_file_range, c->node, c->offset, &fi, c->other_node, c->other_offset,
 				   &out, size, nizwarf_copy_flags(c), &len);
 	answer->count = len;
 	return !error && len > size ? EIO : error;
 }
 
-/* INIT, which is answered by what is to be agreed on. */
-static inline int nizwarf_do_init(const nizwarf_ops *ops, const nizwarf_req *req, nizwarf_answer *answer)
+/* INIT, which is answered by what is to be agreed on, and with `conn` by what is to be agreed on besides. */
+static inline int nizwarf_do_init(const nizwarf_ops *ops, const nizwarf_req *req, uint8_t *room, size_t space,
+				  nizwarf_answer *answer)
 {
-	const uint64_t capable = nizwarf_init_offered(req->call), high = UINT64_C(0xffffffff) << 32;
-	uint64_t want = NIZWARF_WANT_USUAL | NIZWARF_WANT_READDIRPLUS;
-	int error;
+	const uint64_t capable = nizwarf_init_offered(req->call), further = nizwarf_init_further(req->call);
+	const uint64_t high = UINT64_C(0xffffffff) << 32;
+	uint64_t want = capable & nizwarf_served(ops, NIZWARF_WANT_USUAL | NIZWARF_WANT_READDIRPLUS);
+	nizwarf_conn_info conn;
+	nizwarf_init_more more;
+	int error = 0;
 
-	want = capable & nizwarf_served(ops, want);
-	error = ops->init ? ops->init(req, capable, &want) : 0;
+	if (ops->conn) {
+		memset(&conn, 0, sizeof(conn));
+		memset(&more, 0, sizeof(more));
+		conn.capable = capable | further;
+		conn.want = want;
+		error = ops->conn(req, &conn);
+		want = conn.want;
+		more.want = conn.want & further;
+		more.max_readahead = conn.max_readahead;
+		more.max_write = conn.max_write;
+		more.time_gran = conn.time_gran;
+		more.max_stack_depth = conn.max_stack_depth;
+		more.request_timeout = conn.request_timeout;
+		more.max_background = conn.max_background;
+		more.congestion_threshold = conn.congestion_threshold;
+		if (space >= sizeof(more)) {
+			memcpy(room, &more, sizeof(more));
+			answer->text = room;
+			answer->text_len = sizeof(more);
+		}
+	} else if (ops->init) {
+		error = ops->init(req, capable, &want);
+	}
 	want = capable & nizwarf_served(ops, want);
 	/* (INIT_EXT says that there are others than the first 32) */
-	nizwarf_answer_options(answer, want & high ? want | (capable & 1 << 30) : want);
+	nizwarf_answer_options(answer, want & high || further ? want | (capable & 1 << 30) : want);
 	return error;
 }
 
@@ -569,8 +800,12 @@ static inline int nizwarf_do_others(const nizwarf_ops *ops, const nizwarf_req *r
 	int error;
 
 	switch (c->call) {
-	case NIZWARF_INIT:
-		return nizwarf_do_init(ops, req, answer);
+	case NIZWARF_COPY_64:
+		return nizwarf_do_written(ops, req, answer);
+	case NIZWARF_BMAP:
+		error = NIZWARF_DO(bmap, c->node, c->size, c->offset, &found);
+		nizwarf_answer_offset(answer, found);
+		return error;
 	case NIZWARF_STATFS:
 		answer->statfs.namemax = 255;
 		answer->statfs.bsize = answer->statfs.frsize = 512;
@@ -603,9 +838,13 @@ static inline int nizwarf_make_call(const nizwarf_ops *ops, const nizwarf_req *r
 	case NIZWARF_OPENED:
 	case NIZWARF_CREATED:
 		return nizwarf_do_open(ops, req, answer);
+	case NIZWARF_WANT:
+		return nizwarf_do_init(ops, req, dir->names, dir->left, answer);
 	case NIZWARF_DATA:
 	case NIZWARF_TEXT:
 	case NIZWARF_TEXT_OR_COUNT:
+		if (nizwarf_is_record(req->call))
+			return nizwarf_do_record(ops, req, dir->names, dir->left, answer);
 		return nizwarf_do_data(ops, req, dir->names, dir->left, answer);
 	case NIZWARF_DIRECTORY:
 		return nizwarf_do_directory(ops, req, dir, answer);
@@ -630,7 +869,7 @@ static inline void nizwarf_do_release(const nizwarf_ops *ops, const nizwarf_req 
 	if (c->call == NIZWARF_OPENDIR && ops->releasedir)
 		ops->releasedir(req, c->node, &fi);
 	else if (c->call != NIZWARF_OPENDIR && ops->release)
-		ops->release(req, c->call == NIZWARF_CREATE ? answer->entry.node : c->node, &fi);
+		ops->release(req, c->answer == NIZWARF_CREATED ? answer->entry.node : c->node, &fi);
 }
 
 /* A session as it is now. Another thread may serve an INIT meanwhile. */
@@ -651,6 +890,20 @@ static inline int nizwarf_overlap(const void *one, size_t one_len, const void *o
 	return one_len && other_len && (a < b ? b - a < one_len : a - b < other_len);
 }
 
+/* Answers a call that was made, and gives back what the client does not get. */
+static inline int32_t nizwarf_reply_ops(const nizwarf_ops *ops, const nizwarf_req *req, nizwarf_slot *slot,
+					const nizwarf_session *now, const nizwarf_answer *answer,
+					const nizwarf_room *whole, nizwarf_told *told)
+{
+	const int32_t code = nizwarf_reply(slot, now, req->call, answer, whole, 1, told);
+
+	if (code != NIZWARF_OK)
+		nizwarf_do_release(ops, req, answer);
+	if (told->give_back && ops->forget)
+		ops->forget(req, told->give_back, 1);
+	return code;
+}
+
 /* Makes the call that a request asked for, and answers it. */
 static inline int32_t nizwarf_answer_ops(const nizwarf_ops *ops, const nizwarf_req *req, nizwarf_slot *slot,
 					 nizwarf_session *session, nizwarf_call *call, nizwarf_dir *dir,
@@ -663,26 +916,46 @@ static inline int32_t nizwarf_answer_ops(const nizwarf_ops *ops, const nizwarf_r
 	size_t i;
 
 	answer.error = nizwarf_make_call(ops, req, dir, &answer);
+	/* (nothing of the call is touched from here on: who answers it may be done with it) */
+	if (answer.error == NIZWARF_LATER && call->answer != NIZWARF_QUIET && call->answer != NIZWARF_WANT)
+		return NIZWARF_ASKED;
 	/* (what isn't offered isn't agreed on, whether or not the library serves it by itself) */
 	if (call->call == NIZWARF_INIT)
 		nizwarf_init_keep(call, answer.count);
-	code = nizwarf_reply(slot, &now, call, &answer, whole, 1, &told);
+	code = nizwarf_reply_ops(ops, req, slot, &now, &answer, whole, &told);
 	*reply_len = (size_t)told.len;
 	if (call->call == NIZWARF_INIT || call->call == NIZWARF_DESTROY)
 		__atomic_store_n(&session->options, call->call == NIZWARF_DESTROY ? 0 : told.options,
 				 __ATOMIC_RELEASE);
-	if (code != NIZWARF_OK)
-		nizwarf_do_release(ops, req, &answer);
-	nizwarf_give_back(dir, told.give_back);
 	for (i = (size_t)told.taken; i < dir->len; i++)
 		nizwarf_give_back(dir, dir->items[i].entry.node);
+	return code;
+}
+
+/* Answers a call that is answered later, of which `call` is a copy: `answer` as nizwarf_reply takes it, with
+ * `error` as a function of the table would have answered. The room is memory of as many bytes as
+ * `call->room`. What the client does not get is given back and released. The slot is lent to nobody
+ * else meanwhile. As nizwarf_serve_ops, it tells a code and how long the reply is. */
+static inline int32_t nizwarf_finish_ops(const nizwarf_ops *ops, void *user, nizwarf_slot *slot,
+					 const nizwarf_session *session, const nizwarf_call *call,
+					 const nizwarf_answer *answer, void *room, size_t *reply_len)
+{
+	const nizwarf_room whole = { room, (size_t)call->room };
+	const nizwarf_session now = nizwarf_session_now(session);
+	const nizwarf_req req = { user, call, (const uint8_t *)"" };
+	nizwarf_told told;
+	int32_t code;
+
+	code = nizwarf_reply_ops(ops, &req, slot, &now, answer, &whole, &told);
+	*reply_len = (size_t)told.len;
 	return code;
 }
 
 /* Serves one request, of `len` bytes in one piece, with one room. The answer is as that of
  * nizwarf_message: NIZWARF_OK, and the first `*reply_len` bytes of the room are the reply; any
  * other code, and there is none, though the kernel behind /dev/fuse waits for one: write it EIO, as
- * fuse_device.c does. NIZWARF_OUT_OF_MEMORY may come after the call was made, too.
+ * fuse_device.c does; but NIZWARF_ASKED, which says that the call is answered later.
+ * NIZWARF_OUT_OF_MEMORY may come after the call was made, too.
  * `session->options` change with INIT and DESTROY. What the client does not get is given back by
  * `forget`, and what was opened for it is released first. `items` are room for the items of a
  * directory: of those that don't fit there the client asks again, and where `most` is 0 it gets EIO.
@@ -709,7 +982,7 @@ static inline int32_t nizwarf_serve_ops(const nizwarf_ops *ops, void *user, nizw
 	if (nizwarf_overlap(request, len, room, room_len))
 		return NIZWARF_NOT_ASKED;
 	now = nizwarf_session_now(session);
-	code = nizwarf_ask(slot, &now, &piece, 1, &whole, 1, &call, &told);
+	code = nizwarf_ask_offered(slot, &now, nizwarf_offers_of(ops), &piece, 1, &whole, 1, &call, &told);
 	*reply_len = (size_t)told.len;
 	if (told.interrupts && ops->interrupt)
 		ops->interrupt(user, told.interrupts);

@@ -2,10 +2,11 @@
 # Builds examples/c/serve.c with the library for C, and runs it: it answers an INIT, a MKDIR and a LOOKUP, and
 # checks the replies. Then tests/c/tree.c holds the library against what the header says, also where each
 # allocation is refused in turn. tests/c/hello.c asks a few requests of examples/c/hello.c, a file system over the
-# library vfs_door; door.c, door-cases.c, door-threads.c, notices.c, ops.c, ops-threads.c and text.c hold that library
-# against what the headers say; as root mounted.c mounts a table of wrong answers. All that runs under the sanitizers
-# of the compiler too, if it has them. The structs are laid out as in version 0.2, and a program of that version runs with
-# what is built and what is packed: tests/c/version-0.2. All names that the libraries define begin with `nizwarf_`.
+# library vfs_door; door.c, door-cases.c, door-threads.c, init.c, notices.c, offered.c, ops.c, ops-threads.c and text.c
+# hold that library against what the headers say; as root mounted.c mounts a table of wrong answers. All that runs under
+# the sanitizers of the compiler too, if it has them. The structs are laid out as in version 0.2, and a program of that
+# version runs with what is built and what is packed: tests/c/version-0.2. All names that the libraries define begin with
+# `nizwarf_`.
 # Records and numbers of crates are those of the kernel's header, by tests/c/kernel.py.
 # Last, tools/package.sh packs the libraries, and the examples are built by pkg-config against what is installed of
 # that, shared and static, and do the same.
@@ -70,7 +71,7 @@ run_mounted() {
         echo "Missing: root and /dev/fuse, so nothing is mounted." >&2
         return
     fi
-    compile tests/c/mounted.c "$here"/programs/transport/fuse_{device,mount}.c -pthread "$@"
+    compile tests/c/mounted.c "$here"/programs/transport/{fuse_device,fuse_mount,later}.c -pthread "$@"
     timeout -k 5 60 "$folder/program" 2> "$folder/said" || status=$?
     if [ $status != 0 ]; then
         cat "$folder/said" >&2
@@ -98,8 +99,10 @@ run_all() {
     "$folder/program"
     compile tests/c/text.c "$@" "${counted[@]}"
     "$folder/program" "$folder/recorded"
-    compile tests/c/notices.c "$@"
-    "$folder/program"
+    for name in notices init offered; do
+        compile tests/c/$name.c "$@"
+        "$folder/program"
+    done
     compile tests/c/door-threads.c "$@" -pthread
     timeout 60 "$folder/program"
     compile tests/c/version-0.2/program.c "$@"

@@ -83,10 +83,12 @@ if os.path.exists(LINUX):
     hold(NAMES, {name: n for name, n in NUMBER.items() if name in kernel}, LINUX,
          {name: n for name, n in kernel.items() if name in NUMBER}, "opcode")
 
+# Those that a file system may offer and virtiofsd's opcodes lack.
+BEYOND = {"STATX": 52, "COPY_FILE_RANGE_64": 53}
 PAGE = "docs/PROTOCOL.md"
 rows = re.findall(r"^\| ([\d, ]+) ([A-Z][A-Z_0-9, ]+) \|", read(PAGE), re.M)
 hold(PAGE, {name: int(n) for ns, names in rows for n, name in zip(ns.split(", "), names.split(", "))}, NAMES,
-     {name: n for name, n in NUMBER.items() if name not in ("SETUPMAPPING", "REMOVEMAPPING")}, "opcode")
+     {name: n for name, n in {**NUMBER, **BEYOND}.items() if name not in ("SETUPMAPPING", "REMOVEMAPPING")}, "opcode")
 
 # ---- calls, kinds of answers, bits of `has`, codes
 
@@ -99,8 +101,8 @@ def constants(path, module, kind):
 CALL, KIND, HAS = (constants(CALLS, it, "u32") for it in ("number", "kind", "has"))
 # Opcodes of which no call is told, and calls that have a shorter name.
 UNTOLD = {"INTERRUPT", "READDIRPLUS", "RENAME2", "SETUPMAPPING", "REMOVEMAPPING"}
-SHORT = {"COPY_FILE_RANGE": "COPY"}
-hold(CALLS, CALL, NAMES, {SHORT.get(it, it): n for it, n in NUMBER.items() if it not in UNTOLD}, "call")
+SHORT = {"COPY_FILE_RANGE": "COPY", "COPY_FILE_RANGE_64": "COPY_64"}
+hold(CALLS, CALL, NAMES, {SHORT.get(it, it): n for it, n in {**NUMBER, **BEYOND}.items() if it not in UNTOLD}, "call")
 for at, bit in enumerate(HAS.values()):
     if bit != 1 << at:
         faults.append(f"{CALLS}: the bits of `has` are not one after another")

@@ -1,0 +1,528 @@
+/* Holds the calls that a file system may offer (NIZWARF_OFFER_LOCKS ..) against linux/fuse.h: by the door, where each
+ * is told of a request in pieces of any lengths, where its record is cut short, and what its answer is; and by a table
+ * of nizwarf_ops.h.
+ *
+ * tests/c/check.sh links it with the library. Status 0: all is as it should be. */
+#define _GNU_SOURCE
+#include <fcntl.h>
+#include <poll.h>
+#include <stdarg.h>
+#include "nizwarf_ops.h"
+#include "door.h"
+
+enum { ALL = 0xff, LONGEST = 200 };
+
+/* What newer headers than some have. */
+struct statx_in {
+	uint32_t getattr_flags, reserved;
+	uint64_t fh;
+	uint32_t sx_flags, sx_mask;
+};
+
+static const struct fuse_lk_in lock = {
+	.fh = 4, .owner = 5, .lk = { .start = 6, .end = 7, .type = F_WRLCK, .pid = 8 }, .lk_flags = 0
+};
+static const struct fuse_lk_in whole = {
+	.fh = 4, .owner = 5, .lk = { .end = INT64_MAX, .type = F_RDLCK, .pid = 8 }, .lk_flags = FUSE_LK_FLOCK
+};
+static const struct fuse_bmap_in bmap = { .block = 6, .blocksize = 512 };
+static const struct fuse_ioctl_in ioctl = {
+	.fh = 4, .flags = 2, .cmd = 9, .arg = 10, .in_size = 4, .out_size = 100
+};
+static const struct fuse_poll_in poll_in = {
+	.fh = 4, .kh = 11, .flags = FUSE_POLL_SCHEDULE_NOTIFY, .events = POLLIN
+};
+static const struct fuse_notify_retrieve_in retrieved = { .offset = 6, .size = 4 };
+static const struct fuse_create_in unnamed = { .flags = O_RDWR, .mode = 0640, .umask = 022 };
+static const struct statx_in statx_in = {
+	.getattr_flags = 1, .fh = 4, .sx_flags = 3, .sx_mask = STATX_BTIME
+};
+static const struct fuse_copy_file_range_in copy = { 4, 6, 3, 5, 7, 9, 15 };
+
+/* A call that is offered: its record, what follows that, and what is told. */
+static const struct {
+	uint32_t opcode, offer, answer;
+	const void *record;
+	size_t len;
+	const char *rest;
+	nizwarf_call told;
+} rows[] = {
+	{ NIZWARF_GETLK,
+	  NIZWARF_OFFER_LOCKS,
+	  NIZWARF_TEXT,
+	  &lock,
+	  sizeof(lock),
+	  "",
+	  { .handle = 4,
+	    .lock_owner = 5,
+	    .offset = 6,
+	    .other_offset = 7,
+	    .flags = F_WRLCK,
+	    .more = 8,
+	    .has = NIZWARF_HAS_OWNER } },
+	{ NIZWARF_SETLK,
+	  NIZWARF_OFFER_LOCKS,
+	  NIZWARF_DONE,
+	  &lock,
+	  sizeof(lock),
+	  "",
+	  { .handle = 4,
+	    .lock_owner = 5,
+	    .offset = 6,
+	    .other_offset = 7,
+	    .flags = F_WRLCK,
+	    .more = 8,
+	    .has = NIZWARF_HAS_OWNER } },
+	{ NIZWARF_SETLKW,
+	  NIZWARF_OFFER_LOCKS,
+	  NIZWARF_DONE,
+	  &whole,
+	  sizeof(whole),
+	  "",
+	  { .handle = 4,
+	    .lock_owner = 5,
+	    .other_offset = INT64_MAX,
+	    .flags = F_RDLCK,
+	    .more = 8,
+	    .has = NIZWARF_HAS_OWNER | NIZWARF_HAS_FLOCK } },
+	{ NIZWARF_BMAP,
+	  NIZWARF_OFFER_BMAP,
+	  NIZWARF_OFFSET,
+	  &bmap,
+	  sizeof(bmap),
+	  "",
+	  { .offset = 6, .size = 512 } },
+	{ NIZWARF_IOCTL,
+	  NIZWARF_OFFER_IOCTL,
+	  NIZWARF_TEXT,
+	  &ioctl,
+	  sizeof(ioctl),
+	  "four",
+	  { .handle = 4, .flags = 2, .more = 9, .offset = 10, .length = 4, .data = { 72, 4 }, .size = 100 } },
+	{ NIZWARF_POLL,
+	  NIZWARF_OFFER_POLL,
+	  NIZWARF_WRITTEN,
+	  &poll_in,
+	  sizeof(poll_in),
+	  "",
+	  { .handle = 4, .offset = 11, .flags = 1, .more = POLLIN } },
+	{ NIZWARF_NOTIFY_REPLY,
+	  NIZWARF_OFFER_NOTIFY_REPLY,
+	  NIZWARF_QUIET,
+	  &retrieved,
+	  sizeof(retrieved),
+	  "four",
+	  { .offset = 6, .size = 4, .data = { 80, 4 } } },
+	{ NIZWARF_STATX,
+	  NIZWARF_OFFER_STATX,
+	  NIZWARF_TEXT,
+	  &statx_in,
+	  sizeof(statx_in),
+	  "",
+	  { .handle = 4, .has = NIZWARF_HAS_HANDLE, .flags = 3, .more = STATX_BTIME } },
+	{ NIZWARF_COPY_64,
+	  NIZWARF_OFFER_COPY_64,
+	  NIZWARF_OFFSET,
+	  &copy,
+	  sizeof(copy),
+	  "",
+	  { .handle = 4,
+	    .offset = 6,
+	    .other_node = 3,
+	    .other_handle = 5,
+	    .other_offset = 7,
+	    .length = 9,
+	    .lock_owner = 15 } },
+};
+enum { ROWS = sizeof(rows) / sizeof(*rows) };
+
+/* Asks what is in `request`, in two pieces. */
+static int32_t ask_cut(uint32_t offers, size_t cut, size_t len, nizwarf_call *call, nizwarf_told *told)
+{
+	const nizwarf_segment pieces[] = { { request, cut }, { request + cut, len - cut } };
+	const nizwarf_room room = { ours, 4096 };
+
+	memset(call, 1, sizeof(*call));
+	memset(told, 1, sizeof(*told));
+	return nizwarf_ask_offered(&slot, &session, offers, pieces, 2, &room, 1, call, told);
+}
+
+static void begin_row(size_t i)
+{
+	begin_with(rows[i].opcode, 2, rows[i].record, rows[i].len);
+	add(rows[i].rest, strlen(rows[i].rest));
+}
+
+/* What is told of a row, however it is cut; one without its end is refused; and where it is not offered it is what it
+ * is without any. */
+static void told_as_asked(size_t i)
+{
+	nizwarf_call call, expected = rows[i].told, before;
+	uint64_t interrupts;
+	nizwarf_told told;
+	int32_t code;
+	size_t cut;
+
+	begin_row(i);
+	expected.unique = unique;
+	expected.room = 4096;
+	expected.node = 2;
+	expected.call = rows[i].opcode;
+	expected.answer = rows[i].answer;
+	expected.uid = 1000;
+	expected.gid = 1001;
+	expected.pid = 77;
+	for (cut = 0; cut <= request_len; cut++) {
+		CHECK(ask_cut(rows[i].offer, cut, request_len, &call, &told) == NIZWARF_ASKED);
+		CHECK(!memcmp(&call, &expected, sizeof(call)));
+		CHECK(!told.len && !told.put && !told.interrupts && told.options == session.options);
+	}
+	CHECK(nizwarf_check_offered(&session, rows[i].offer, request, request_len, 4096, &call,
+				    &interrupts) == NIZWARF_ASKED);
+	CHECK(!memcmp(&call, &expected, sizeof(call)) && !interrupts);
+	for (cut = 40; cut < request_len; cut++) {
+		CHECK(ask_cut(ALL, cut / 2, cut, &call, &told) == NIZWARF_DECODE_MESSAGE);
+		CHECK(!told.len && !told.put);
+		CHECK(nizwarf_check_offered(&session, ALL, request, cut, 4096, &call, &interrupts) ==
+		      NIZWARF_DECODE_MESSAGE);
+	}
+	code = ask_cut(0, 41, request_len, &before, &told);
+	CHECK(ask_cut(ALL & ~rows[i].offer, 41, request_len, &call, &told) == code);
+	CHECK(!memcmp(&call, &before, sizeof(call)));
+}
+
+/* More data than there are, by as little as one byte. */
+static void data_that_lack(void)
+{
+	struct fuse_notify_retrieve_in many = retrieved;
+	struct fuse_ioctl_in long_one = ioctl;
+	const uint32_t sizes[] = { 5, 6, 1 << 20, INT32_MAX, UINT32_MAX };
+	nizwarf_call call;
+	nizwarf_told told;
+	size_t i;
+
+	for (i = 0; i < sizeof(sizes) / sizeof(*sizes); i++) {
+		long_one.in_size = many.size = sizes[i];
+		begin_with(NIZWARF_IOCTL, 2, &long_one, sizeof(long_one));
+		add("four", 4);
+		CHECK(ask_cut(ALL, 50, request_len, &call, &told) == NIZWARF_DECODE_MESSAGE);
+		begin_with(NIZWARF_NOTIFY_REPLY, 2, &many, sizeof(many));
+		add("four", 4);
+		CHECK(ask_cut(ALL, 50, request_len, &call, &told) == NIZWARF_DECODE_MESSAGE);
+	}
+	/* (a request that says to be longer than any is left to the table) */
+	begin_row(0);
+	memset(request, 0xff, 4);
+	CHECK(ask_cut(ALL, 50, request_len, &call, &told) == NIZWARF_OK &&
+	      u32(ours + 4) == (uint32_t)-ENOMEM);
+}
+
+/* A TMPFILE is a CREATE of the same bytes, but for its number; so is what is refused. */
+static void unnamed_files(void)
+{
+	static const char *const tails[] = { "/", "", "a name", "not ended" };
+	nizwarf_call call, other;
+	nizwarf_told told, others;
+	size_t i;
+
+	for (i = 0; i < 4; i++) {
+		begin_with(NIZWARF_CREATE, 2, &unnamed, sizeof(unnamed));
+		add(tails[i], strlen(tails[i]) + (i != 3));
+		CHECK(ask_cut(ALL, 60, request_len, &other, &others) ==
+			      (i == 3 ? NIZWARF_INVALID_C_STRING : NIZWARF_ASKED) ||
+		      i == 3);
+		request[4] = NIZWARF_TMPFILE;
+		CHECK((ask_cut(ALL, 60, request_len, &call, &told) == NIZWARF_ASKED) == (i != 3));
+		if (i != 3)
+			other.call = NIZWARF_TMPFILE;
+		CHECK(!memcmp(&call, &other, sizeof(call)) && !memcmp(&told, &others, sizeof(told)));
+	}
+	begin_with(NIZWARF_TMPFILE, 2, &unnamed, 15);
+	CHECK(ask_cut(ALL, 50, request_len, &call, &told) == NIZWARF_DECODE_MESSAGE);
+}
+
+/* Answers a row by so many bytes of text: the error of the reply, 0 if it has these bytes after its header. */
+static int answered(size_t i, const void *text, size_t len)
+{
+	nizwarf_answer answer = NIZWARF_NO_ANSWER;
+	const nizwarf_room room = { ours, 4096 };
+	nizwarf_call call;
+	nizwarf_told told;
+
+	begin_row(i);
+	CHECK(ask_cut(ALL, 50, request_len, &call, &told) == NIZWARF_ASKED);
+	answer.error = 0;
+	answer.text = text;
+	answer.text_len = len;
+	CHECK(nizwarf_reply(&slot, &session, &call, &answer, &room, 1, &told) == NIZWARF_OK);
+	CHECK(told.len == u32(ours) && told.put == told.len && u64(ours + 8) == unique);
+	if (u32(ours + 4)) {
+		CHECK(told.len == 16);
+		return -(int)u32(ours + 4);
+	}
+	CHECK(told.len == 16 + len && !memcmp(ours + 16, text, len));
+	return 0;
+}
+
+/* Records of another length than theirs are EIO. */
+static void records(void)
+{
+	static const uint8_t text[3000] = { 1, 2, 3 };
+	uint8_t retry[16 + 16 * 257] = { 0 };
+	const uint32_t flags = FUSE_IOCTL_RETRY;
+	size_t len;
+
+	for (len = 0; len < 400; len++) {
+		CHECK(answered(0, text, len) == (len == 24 ? 0 : EIO));
+		CHECK(answered(7, text, len) == (len == 288 ? 0 : EIO));
+		CHECK(answered(4, text + 16, len) == (len >= 16 && len <= 116 ? 0 : EIO));
+	}
+	/* (the lengths of the two lists may be any) */
+	memcpy(retry + 4, &flags, 4);
+	for (uint32_t in = 0; in <= 2; in++)
+		for (uint32_t out = 0; out <= 2; out++) {
+			memcpy(retry + 8, &in, 4);
+			memcpy(retry + 12, &out, 4);
+			for (len = 0; len < 100; len++)
+				CHECK(answered(4, retry, len) == (len == 16 + 16 * (in + out) ? 0 : EIO));
+		}
+	memcpy(retry + 8, &(uint32_t){ 256 }, 4);
+	memcpy(retry + 12, &(uint32_t){ 1 }, 4);
+	CHECK(answered(4, retry, sizeof(retry)) == EIO);
+}
+
+/* ---- a table */
+
+static char said[512];
+
+static int say(const char *format, ...)
+{
+	const size_t len = strlen(said);
+	va_list arguments;
+
+	va_start(arguments, format);
+	vsnprintf(said + len, sizeof(said) - len, format, arguments);
+	va_end(arguments);
+	return 0;
+}
+
+#define REQ const nizwarf_req *req, uint64_t ino
+#define FI const nizwarf_file_info *fi
+#define INO ((void)req, (unsigned)ino)
+
+static int note_getlk(REQ, FI, nizwarf_lock *asked)
+{
+	say("getlk %u %u %u %u %u %u %u", INO, (unsigned)fi->fh, (unsigned)fi->lock_owner,
+	    (unsigned)asked->start, (unsigned)asked->end, asked->type, asked->pid);
+	asked->type = F_UNLCK;
+	return 0;
+}
+
+static int note_setlk(REQ, FI, const nizwarf_lock *asked, int sleep)
+{
+	return say("setlk %u %u %u %u %u %u %d", INO, (unsigned)fi->fh, (unsigned)fi->lock_owner,
+		   (unsigned)asked->start, (unsigned)asked->end, asked->type, sleep);
+}
+
+static int note_flock(REQ, FI, int op)
+{
+	return say("flock %u %u %u %d", INO, (unsigned)fi->fh, (unsigned)fi->lock_owner, op);
+}
+
+static int note_bmap(REQ, size_t blocksize, uint64_t idx, uint64_t *block)
+{
+	*block = 77;
+	return say("bmap %u %zu %u", INO, blocksize, (unsigned)idx);
+}
+
+static int note_ioctl(REQ, uint32_t cmd, uint64_t arg, FI, uint32_t flags, const void *in_buf, size_t in_size,
+		      nizwarf_ioctl *out, void *out_buf, size_t out_size, size_t *len)
+{
+	memcpy(out_buf, "out", 3);
+	out->result = 5;
+	*len = 3;
+	return say("ioctl %u %u %u %u %u %.*s %zu", INO, cmd, (unsigned)arg, (unsigned)fi->fh, flags,
+		   (int)in_size, (const char *)in_buf, out_size);
+}
+
+static int note_poll(REQ, FI, uint32_t events, uint64_t kh, int notify, uint32_t *revents)
+{
+	*revents = POLLIN | POLLOUT;
+	return say("poll %u %u %u %u %d", INO, (unsigned)fi->fh, events, (unsigned)kh, notify);
+}
+
+static int note_tmpfile(REQ, uint32_t mode, nizwarf_file_info *fi, nizwarf_entry_param *e)
+{
+	say("tmpfile %u %o %u %o", INO, mode, fi->flags, req->call->umask);
+	fi->fh = 9;
+	e->ino = 6;
+	return 0;
+}
+
+static int note_statx(REQ, uint32_t flags, uint32_t mask, FI, nizwarf_statx *statx, struct timespec *timeout)
+{
+	timeout->tv_sec = 3;
+	statx->mask = STATX_BTIME;
+	statx->btime.tv_sec = -2;
+	statx->spare2[13] = 1;
+	return say("statx %u %u %u %d", INO, flags, mask, fi ? (int)fi->fh : -1);
+}
+
+static void note_retrieve_reply(const nizwarf_req *req, uint64_t cookie, uint64_t ino, uint64_t offset,
+				const void *data, size_t size)
+{
+	say("retrieved %d %u %u %.*s", cookie == unique, INO, (unsigned)offset, (int)size,
+	    (const char *)data);
+}
+
+static int note_copy(REQ, uint64_t off_in, FI, uint64_t ino_out, uint64_t off_out,
+		     const nizwarf_file_info *fi_out, uint64_t size, uint64_t flags, size_t *len)
+{
+	CHECK(!fi->lock_owner);
+	*len = size;
+	return say("copy %u %u %u %u %u %u %u", INO, (unsigned)off_in, (unsigned)ino_out, (unsigned)off_out,
+		   (unsigned)fi_out->fh, (unsigned)size, (unsigned)flags);
+}
+
+static void note_forget_multi(const nizwarf_req *req, size_t count, const nizwarf_forget *forgets)
+{
+	(void)req;
+	say("forget_multi %zu %u %u ", count, (unsigned)forgets[0].ino, (unsigned)forgets[count - 1].nlookup);
+}
+
+static void note_forget(REQ, uint64_t nlookup)
+{
+	say(" forget %u %u", INO, (unsigned)nlookup);
+}
+
+static int note_release(REQ, FI)
+{
+	return say(" release %u %u", INO, (unsigned)fi->fh);
+}
+
+static int note_conn(const nizwarf_req *req, nizwarf_conn_info *conn)
+{
+	(void)req;
+	say("conn %u", (unsigned)(conn->capable >> 35 & 1));
+	conn->want |= UINT64_C(1) << 38 | UINT64_C(1) << 42 | UINT64_C(1) << 1;
+	conn->request_timeout = 30;
+	conn->max_background = 7;
+	conn->time_gran = 1000;
+	conn->max_write = 8192;
+	return 0;
+}
+
+static const nizwarf_ops ops = { .conn = note_conn,
+				 .forget = note_forget,
+				 .forget_multi = note_forget_multi,
+				 .release = note_release,
+				 .getlk = note_getlk,
+				 .setlk = note_setlk,
+				 .flock = note_flock,
+				 .bmap = note_bmap,
+				 .ioctl = note_ioctl,
+				 .poll = note_poll,
+				 .tmpfile = note_tmpfile,
+				 .statx = note_statx,
+				 .copy_file_range = note_copy,
+				 .retrieve_reply = note_retrieve_reply };
+
+/* Serves what is in `request`: what is called is these words, and the reply has this length. */
+static void expect(const char *words, size_t space, size_t len)
+{
+	size_t reply_len;
+
+	said[0] = 0;
+	CHECK(nizwarf_serve_ops(&ops, said, &slot, &session, request, request_len, ours, space, NULL, 0,
+				&reply_len) ==
+	      (len || rows[6].opcode == u32(request + 4) || u32(request + 4) == NIZWARF_BATCH_FORGET ?
+		       NIZWARF_OK :
+		       NIZWARF_ENCODE_MESSAGE));
+	if (strcmp(said, words) || reply_len != len)
+		fprintf(stderr, "%s, and %zu bytes\n", said, reply_len);
+	CHECK(!strcmp(said, words) && reply_len == len);
+}
+
+static void called_as_told(void)
+{
+	static const char *const words[ROWS] = {
+		"getlk 2 4 5 6 7 1 8",	"setlk 2 4 5 6 7 1 0",	     "flock 2 4 5 1",
+		"bmap 2 512 6",		"ioctl 2 9 10 4 2 four 100", "poll 2 4 1 11 1",
+		"retrieved 1 2 6 four", "statx 2 3 2048 4",	     "copy 2 6 3 7 5 9 15"
+	};
+	static const size_t lengths[ROWS] = { 40, 16, 16, 24, 35, 24, 0, 304, 24 };
+	uint64_t pairs[2 * 70 + 1] = { 70 };
+	size_t i;
+
+	for (i = 0; i < ROWS; i++) {
+		begin_row(i);
+		expect(words[i], 4096, lengths[i]);
+		switch (rows[i].opcode) {
+		case NIZWARF_GETLK:
+			CHECK(u64(ours + 16) == 6 && u64(ours + 24) == 7 && u32(ours + 32) == F_UNLCK);
+			break;
+		case NIZWARF_IOCTL:
+			CHECK(u32(ours + 16) == 5 && !memcmp(ours + 32, "out", 3));
+			break;
+		case NIZWARF_POLL:
+			CHECK(u32(ours + 16) == (POLLIN | POLLOUT));
+			break;
+		case NIZWARF_STATX:
+			CHECK(u64(ours + 16) == 3 && u32(ours + 48) == STATX_BTIME && u64(ours + 296) == 1);
+			break;
+		case NIZWARF_BMAP:
+		case NIZWARF_COPY_64:
+			CHECK(u64(ours + 16) == (rows[i].opcode == NIZWARF_BMAP ? 77 : 9));
+			break;
+		}
+	}
+	begin_with(NIZWARF_TMPFILE, 2, &unnamed, sizeof(unnamed));
+	add_name("/");
+	expect("tmpfile 2 640 2 22", 4096, 160);
+	CHECK(u64(ours + 16) == 6 && u64(ours + 144) == 9);
+	/* (who gets no reply has no file, and no lookup) */
+	expect("tmpfile 2 640 2 22 release 6 9 forget 6 1", 159, 0);
+	for (i = 0; i < 70; i++) {
+		pairs[1 + 2 * i] = i + 1;
+		pairs[2 + 2 * i] = i + 100;
+	}
+	begin_with(NIZWARF_BATCH_FORGET, 0, pairs, sizeof(pairs));
+	expect("forget_multi 64 1 163 forget_multi 6 65 169 ", 4096, 0);
+}
+
+/* INIT by `conn`: what virtiofsd does not know is agreed on besides, and sizes are lowered. */
+static void agreed_besides(void)
+{
+	const uint64_t further = UINT64_C(1) << 38 | UINT64_C(1) << 42;
+	const struct fuse_init_in init = { .major = 7,
+					   .minor = 45,
+					   .max_readahead = 65536,
+					   .flags = FUSE_INIT_EXT | FUSE_POSIX_LOCKS,
+					   .flags2 = (uint32_t)(further >> 32) | 1 << 3 };
+	struct fuse_init_out out;
+
+	begin_with(NIZWARF_INIT, 0, &init, sizeof(init));
+	expect("conn 1", 4096, 80);
+	memcpy(&out, ours + 16, sizeof(out));
+	CHECK(out.flags == (FUSE_INIT_EXT | FUSE_POSIX_LOCKS) && out.flags2 == further >> 32);
+	CHECK(out.max_background == 7 && out.time_gran == 1000 && out.max_write == 8192);
+	/* (request_timeout is the two bytes after max_stack_depth, which older headers lack) */
+	CHECK(u32(ours + 16 + 36) == 0 && ours[16 + 40] == 30 && !ours[16 + 41]);
+	CHECK(session.options == (further | FUSE_INIT_EXT | FUSE_POSIX_LOCKS));
+	session.options = 0;
+}
+
+int main(void)
+{
+	size_t i;
+
+	for (i = 0; i < ROWS; i++)
+		told_as_asked(i);
+	data_that_lack();
+	unnamed_files();
+	records();
+	called_as_told();
+	agreed_besides();
+	nizwarf_end_slot(&slot);
+	return 0;
+}
