@@ -37,9 +37,11 @@
 #include <sys/ioctl.h>
 #include <sys/signalfd.h>
 #include <sys/stat.h>
+#include <sys/uio.h>
 #include <time.h>
 #include <unistd.h>
 #include "fuse_ring.h"
+#include "later.h"
 
 /* The longest request and reply: a header and its record take less than a page. Before the data of
  * a WRITE stand 80 bytes, and before those of a READ's reply 16. */
@@ -111,6 +113,8 @@ struct device {
 	pthread_mutex_t lock;
 	pthread_cond_t call;
 	unsigned resting, called;
+	/* The requests that are answered later. */
+	struct later_list later;
 	/* Beside io_uring: whoever reads for the first one. */
 	pthread_mutex_t reading;
 	struct worker worker[TRANSPORT_MOST_WORKERS];
@@ -545,6 +549,75 @@ static void start_rings(struct worker *w, size_t got, size_t len)
 		d->rings = rings;
 }
 
+/* What is kept of a request that is answered later. */
+struct kept {
+	const transport *by;
+	int fd;
+	struct fuse_in_header asked;
+};
+
+/* Completes it. (Linux has no reply to a request that was interrupted before it was read, and that is gone: ENOENT.) */
+static void send_kept(void *about, int32_t code, const void *reply, size_t len)
+{
+	const struct kept *kept = about;
+	struct fuse_out_header refused;
+
+	if (code != NIZWARF_OK) {
+		reply = &refused;
+		len = fuse_device_refuse(kept->by, &kept->asked, code, &refused);
+	}
+	if (!len || write(kept->fd, reply, len) >= 0 || errno == ENOENT || errno == ENODEV)
+		return;
+	fprintf(stderr, "%s: the reply to opcode %u is refused: %s\n", kept->by->program,
+		(unsigned)kept->asked.opcode, strerror(errno));
+	refused = (struct fuse_out_header){ sizeof(refused), -EIO, kept->asked.unique };
+	if (write(kept->fd, &refused, sizeof(refused)) < 0 && errno != ENOENT && errno != ENODEV)
+		say(kept->by, "write");
+}
+
+/* Hands a request to `serve`, which may keep it. Answers whether it does. */
+static int ask(struct worker *w, const struct fuse_in_header *asked, const nizwarf_segment *request,
+	       const nizwarf_room *room, int32_t *code, size_t *len)
+{
+	struct device *d = w->of;
+	const struct kept kept = { d->by, d->worker[0].fd, *asked };
+	struct later_source source = { &d->later, send_kept, &kept, sizeof(kept), 0 };
+
+	later_serve(&source);
+	*code = fuse_device_ask(d, w->number, request, 1, room, 1, len);
+	later_serve(NULL);
+	return later_keeps(&source, *code);
+}
+
+/* Notices can be sent from now on, or no longer: to no device. -1: one is being sent that waits for something. */
+static int let_notify(const transport *by, int device)
+{
+	struct timespec until;
+
+	if (!by->notices)
+		return 0;
+	clock_gettime(CLOCK_REALTIME, &until);
+	until.tv_sec++;
+	if (pthread_mutex_timedlock(&by->notices->lock, &until))
+		return -1;
+	by->notices->device = device;
+	pthread_mutex_unlock(&by->notices->lock);
+	return 0;
+}
+
+int fuse_device_notify(transport_notices *notices, const void *notice, size_t len, const void *data,
+		       size_t data_len)
+{
+	struct iovec pieces[] = { { (void *)(uintptr_t)notice, len }, { (void *)(uintptr_t)data, data_len } };
+	int error = ENOTCONN;
+
+	pthread_mutex_lock(&notices->lock);
+	if (notices->device >= 0)
+		error = writev(notices->device, pieces, data_len ? 2 : 1) < 0 ? errno : 0;
+	pthread_mutex_unlock(&notices->lock);
+	return error == ENODEV ? ENOTCONN : error;
+}
+
 /* Takes a request and answers it. `*opcode` is what was asked, 0 if nothing was. */
 static enum outcome serve_one(struct worker *w, uint32_t *opcode)
 {
@@ -553,6 +626,7 @@ static enum outcome serve_one(struct worker *w, uint32_t *opcode)
 	nizwarf_room room = { w->room, LONGEST };
 	const transport *by = w->of->by;
 	struct fuse_in_header asked;
+	int is_kept;
 	size_t len = 0;
 	int32_t code;
 
@@ -572,8 +646,10 @@ static enum outcome serve_one(struct worker *w, uint32_t *opcode)
 	room.len = fuse_device_room(&asked, w->request + sizeof(asked), (size_t)got - sizeof(asked));
 	call_if_late(w, &asked, room.len);
 	w->header.unique = asked.unique;
-	code = fuse_device_ask(w->of, w->number, &segment, 1, &room, 1, &len);
-	if (code != NIZWARF_OK)
+	is_kept = ask(w, &asked, &segment, &room, &code, &len);
+	if (is_kept)
+		len = 0;
+	else if (code != NIZWARF_OK)
 		len = fuse_device_refuse(by, &asked, code, w->room);
 	if (w->written) {
 		empty_pipe(w, w->request + BEFORE_WRITE, w->written);
@@ -586,6 +662,8 @@ static enum outcome serve_one(struct worker *w, uint32_t *opcode)
 		close_pipe(w);
 	if (len && put_or_refuse(w, &asked, len))
 		return failed(w, "write");
+	if (asked.opcode == FUSE_INIT && code == NIZWARF_OK)
+		let_notify(by, w->of->worker[0].fd);
 	return SERVED;
 }
 
@@ -955,7 +1033,8 @@ static int serve(struct device *d, int device, int signals)
 	if (start(d, 0, device))
 		return 1;
 	wait_for_end(d, signals);
-	if (end_all(d))
+	later_end(&d->later);
+	if (let_notify(d->by, -1) || end_all(d))
 		leave(d);
 	return atomic_load(&d->failed);
 }

@@ -20,6 +20,7 @@
 #define TRANSPORT_H
 
 #include <linux/fuse.h>
+#include <pthread.h>
 #include <stddef.h>
 #include <string.h>
 #include <sys/types.h>
@@ -29,6 +30,18 @@
 enum { TRANSPORT_PAYLOAD = 1 << 20, TRANSPORT_MOST_WORKERS = 64 };
 /* The largest payload if it may go by a pipe: one that holds it must not take privileges. */
 enum { FUSE_DEVICE_PIPED = 1 << 19 };
+
+/* Where notices are sent: see fuse_device_notify. It begins as TRANSPORT_NO_NOTICES, and is the transport's while it
+ * serves. */
+typedef struct {
+	pthread_mutex_t lock;
+	/* -1: there is none, or INIT was not answered yet. */
+	int device;
+} transport_notices;
+#define TRANSPORT_NO_NOTICES                  \
+	{                                     \
+		PTHREAD_MUTEX_INITIALIZER, -1 \
+	}
 
 struct fuse_ring_calls;
 extern const struct fuse_ring_calls fuse_ring;
@@ -58,6 +71,8 @@ typedef struct {
 	const struct fuse_ring_calls *ring;
 	/* One of /proc/self/fd, by which /dev/fuse is opened again where it has no path; 0: none. */
 	int descriptors;
+	/* May be NULL. */
+	transport_notices *notices;
 	/* Is handed to each of the functions. */
 	void *user;
 	/* Both may be NULL. An answer that isn't 0 ends the transport, which then failed; `begin` said
@@ -67,6 +82,9 @@ typedef struct {
 	/* May be NULL. A front end of a virtual machine has gone, and no request of it is in flight, or with
 	 * `has_spare` those alone that don't come back. */
 	void (*parted)(void *user);
+	/* May be NULL: then nothing of a virtual machine is kept (transport_keep). What is kept is to be completed now, as
+	 * by EINTR, since the machine pauses, or its memory changes. */
+	void (*recall)(void *user);
 	/* A request that doesn't come back, though its front end has gone, holds up no other one: a worker
 	 * begins in place of its own, with a number of its own below TRANSPORT_MOST_WORKERS. */
 	int has_spare;
@@ -74,10 +92,23 @@ typedef struct {
 	 * ends once this has removed what must not stay. */
 	void (*left)(void *user);
 	/* Answers a request as nizwarf_message does: a code, and in `*len`, which comes as 0, how many
-	 * bytes of the rooms are the reply. */
+	 * bytes of the rooms are the reply. NIZWARF_ASKED: it was kept, by transport_keep. */
 	int32_t (*serve)(void *user, unsigned worker, const nizwarf_segment *request, size_t segments,
 			 const nizwarf_room *room, size_t rooms, size_t *len);
 } transport;
+
+/* A request that is answered later. */
+typedef struct transport_later transport_later;
+
+/* Takes the request that `serve` has now, on this thread, out of the worker's hands: `serve` answers NIZWARF_ASKED
+ * then, and the request is completed once, from any thread, perhaps before `serve` comes back. NULL: there is no
+ * memory, or it can't be kept: over io_uring, or while a machine pauses. In a machine a request that is kept holds its
+ * place in the queue. */
+transport_later *transport_keep(void);
+
+/* Completes a request that was kept, by these bytes, or refuses it by this code if it isn't NIZWARF_OK. If its client
+ * has gone, nothing is sent. */
+void transport_complete(transport_later *later, int32_t code, const void *reply, size_t len);
 
 /* Takes the flags that are withheld out of a request, whose bytes are the transport's own. One without
  * flags stays as it is: it is no INIT, or too short. */
@@ -133,6 +164,13 @@ int fuse_device_serve(const transport *by, int device, const char *folder);
  * says. */
 ssize_t fuse_device_read_from(int fd, uint64_t offset, size_t size);
 ssize_t fuse_device_write_to(int fd, uint64_t offset, size_t size);
+
+/* Sends a notice (nizwarf_notice_inval_inode ..) to the kernel, from any thread: these bytes, and then its data. 0; or
+ * an error: ENOTCONN before INIT was answered or once it was unmounted, ENOENT where the kernel has no such node or
+ * name. While a notice is sent, the kernel may wait for a request that is served: hold no lock that `serve` takes. A
+ * virtual machine has no way for notices. */
+int fuse_device_notify(transport_notices *notices, const void *notice, size_t len, const void *data,
+		       size_t data_len);
 
 /* Listens on a new socket of this path, in place of one on which nobody listens. Answers its
  * descriptor, or -1: it failed; -2: the path can't be that of a socket. It said why. */

@@ -7,6 +7,7 @@
 #include <errno.h>
 #include <fcntl.h>
 #include <poll.h>
+#include <sched.h>
 #include <stdio.h>
 #include <stdlib.h>
 #include <string.h>
@@ -185,10 +186,68 @@ static int take_chain(struct worker *w, const struct guest *g, const struct queu
 	return 0;
 }
 
+/* What is kept of a chain whose request is answered later. */
+enum { KEPT_ROOMS = 8 };
+struct kept {
+	struct queue *q;
+	uint16_t head;
+	size_t rooms;
+	nizwarf_room room[KEPT_ROOMS];
+};
+
+/* The answer to it. */
+struct late {
+	struct late *next;
+	struct kept kept;
+	int32_t code;
+	size_t len;
+	unsigned char reply[];
+};
+
+/* Leaves the answer to a worker, which writes it into the guest's memory. Without memory for it the request is
+ * completed as one that was refused. */
+static void send_kept(void *about, int32_t code, const void *reply, size_t len)
+{
+	const struct kept *kept = about;
+	struct late *late = malloc(sizeof(*late) + len);
+
+	if (!late) {
+		code = NIZWARF_OUT_OF_MEMORY;
+		len = 0;
+	}
+	while (!late && !(late = malloc(sizeof(*late))))
+		sched_yield();
+	late->kept = *kept;
+	late->code = code;
+	late->len = len;
+	if (len)
+		memcpy(late->reply, reply, len);
+	pthread_mutex_lock(&kept->q->lock);
+	late->next = kept->q->late;
+	kept->q->late = late;
+	pthread_mutex_unlock(&kept->q->lock);
+	queue_look(kept->q);
+}
+
+/* Hands a chain to `serve`, which may keep it, if it can be called back. Answers whether it does. */
+static int ask(struct worker *w, struct guest *g, struct queue *q, uint16_t head, int32_t *code, size_t *len)
+{
+	struct kept kept = { .q = q, .head = head, .rooms = w->rooms };
+	struct later_source source = { &g->later, send_kept, &kept, sizeof(kept), 0 };
+	const int can_keep = by->recall && w->rooms <= KEPT_ROOMS;
+
+	if (can_keep)
+		memcpy(kept.room, w->room, w->rooms * sizeof(*w->room));
+	later_serve(can_keep ? &source : NULL);
+	*code = by->serve(by->user, w->number, w->segment, w->segments, w->room, w->rooms, len);
+	later_serve(NULL);
+	return later_keeps(&source, *code);
+}
+
 /* Answers the chain, and gives the length that completes it: 0 for a refused request, and for one
  * without a reply, as FORGET, INTERRUPT and DESTROY. These are completed too, or the guest waits for
- * ever. */
-static uint32_t answer(struct worker *w, const struct guest *g, const struct queue *q, uint16_t head)
+ * ever. -1: it is answered later. */
+static int64_t answer(struct worker *w, struct guest *g, struct queue *q, uint16_t head)
 {
 	size_t len = 0;
 	int32_t code;
@@ -198,9 +257,10 @@ static uint32_t answer(struct worker *w, const struct guest *g, const struct que
 		return 0;
 	}
 	transport_withhold(by, w->request, w->copied);
-	code = by->serve(by->user, w->number, w->segment, w->segments, w->room, w->rooms, &len);
+	if (ask(w, g, q, head, &code, &len))
+		return -1;
 	outcomes[code >= 0 && code < OUTCOMES ? code : 0]++;
-	return (uint32_t)len;
+	return (int64_t)len;
 }
 
 /* (if none is woken for it yet) */
@@ -262,11 +322,50 @@ static void call_guest(struct queue *q)
 	pthread_mutex_unlock(&q->lock);
 }
 
+/* Takes the next answer that came late; NULL: there is none. */
+static struct late *take_late(struct queue *q)
+{
+	struct late *late;
+
+	pthread_mutex_lock(&q->lock);
+	late = q->late;
+	if (late)
+		q->late = late->next;
+	pthread_mutex_unlock(&q->lock);
+	return late;
+}
+
+/* Gives the chain back to whose request an answer came late, if there is one. Whether there was. */
+static int serve_late(struct guest *g, struct queue *q)
+{
+	struct late *late = take_late(q);
+	size_t put = 0, i;
+	int calls;
+
+	if (!late)
+		return 0;
+	for (i = 0; i < late->kept.rooms && put < late->len; i++) {
+		const nizwarf_room *room = &late->kept.room[i];
+		const size_t part = late->len - put < room->len ? late->len - put : room->len;
+
+		memcpy(room->at, late->reply + put, part);
+		put += part;
+	}
+	outcomes[late->code >= 0 && late->code < OUTCOMES ? late->code : 0]++;
+	pthread_mutex_lock(&q->lock);
+	calls = !atomic_load(&g->gone) && complete(q, late->kept.head, (uint32_t)put);
+	pthread_mutex_unlock(&q->lock);
+	if (calls)
+		call_guest(q);
+	free(late);
+	return 1;
+}
+
 /* Answers the next chain of a queue, if one waits. Whether one did. */
 static int serve_next(struct worker *w, struct guest *g, struct queue *q)
 {
 	int head, calls;
-	uint32_t len;
+	int64_t len;
 
 	pthread_mutex_lock(&q->lock);
 	head = atomic_load(&g->gone) ? -1 : take_head(q);
@@ -274,8 +373,10 @@ static int serve_next(struct worker *w, struct guest *g, struct queue *q)
 	if (head < 0)
 		return 0;
 	len = answer(w, g, q, (uint16_t)head);
+	if (len < 0)
+		return 1;
 	pthread_mutex_lock(&q->lock);
-	calls = !atomic_load(&g->gone) && complete(q, (uint16_t)head, len);
+	calls = !atomic_load(&g->gone) && complete(q, (uint16_t)head, (uint32_t)len);
 	pthread_mutex_unlock(&q->lock);
 	if (calls)
 		call_guest(q);
@@ -294,6 +395,16 @@ static struct guest *take_guest(void)
 	return g;
 }
 
+/* Forgets answers whose guest has gone. */
+static void drop_late(struct guest *g)
+{
+	struct late *late;
+
+	for (int i = 0; i < QUEUES; i++)
+		while ((late = take_late(&g->queue[i])))
+			free(late);
+}
+
 static void put_guest(struct guest *g)
 {
 	unsigned users;
@@ -303,6 +414,8 @@ static void put_guest(struct guest *g)
 	pthread_mutex_unlock(&guests);
 	if (users)
 		return;
+	later_end(&g->later);
+	drop_late(g);
 	guest_unshare(g);
 	for (int i = 0; i < QUEUES; i++) {
 		struct queue *q = &g->queue[i];
@@ -332,7 +445,7 @@ static void serve_queue(struct worker *w, uint32_t number)
 		do {
 			/* (between two chains a message may have its turn) */
 			pthread_rwlock_rdlock(&g->in_flight);
-			more = serve_next(w, g, q);
+			more = serve_late(g, q) || serve_next(w, g, q);
 			pthread_rwlock_unlock(&g->in_flight);
 		} while (more);
 		if (number < QUEUES)
@@ -642,6 +755,37 @@ static int leave_guest(void)
 	return 1;
 }
 
+/* Whether nothing is kept, and no answer is to be given back. */
+static int is_answered(struct guest *g)
+{
+	int is_late = 0;
+
+	for (int i = 0; i < QUEUES && !is_late; i++) {
+		pthread_mutex_lock(&g->queue[i].lock);
+		is_late = g->queue[i].late != NULL;
+		pthread_mutex_unlock(&g->queue[i].lock);
+	}
+	return !is_late && later_is_empty(&g->later);
+}
+
+void queues_recall(void)
+{
+	const struct timespec most = after(MOST, CLOCK_MONOTONIC), pause = { 0, 1000000 };
+	struct guest *g = vhost_guest;
+
+	later_close(&g->later);
+	while (by->recall && !is_answered(g) && !has_passed(&most)) {
+		by->recall(by->user);
+		nanosleep(&pause, NULL);
+	}
+	later_end(&g->later);
+}
+
+void queues_keep(void)
+{
+	later_open(&vhost_guest->later);
+}
+
 int queues_part(int signals)
 {
 	const struct timespec interrupts = after(INTERRUPTS, CLOCK_MONOTONIC),
@@ -649,6 +793,7 @@ int queues_part(int signals)
 	struct pollfd wait = { signals, POLLIN, 0 };
 
 	atomic_store(&vhost_guest->gone, 1);
+	later_end(&vhost_guest->later);
 	while (try_hold(REST)) {
 		if (has_passed(&interrupts))
 			interrupt();
@@ -657,6 +802,8 @@ int queues_part(int signals)
 		if (by->has_spare && has_passed(&most))
 			return leave_guest();
 	}
+	drop_late(vhost_guest);
+	later_open(&vhost_guest->later);
 	atomic_store(&vhost_guest->gone, 0);
 	return 0;
 }

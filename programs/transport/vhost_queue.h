@@ -7,7 +7,7 @@
 #include <pthread.h>
 #include <signal.h>
 #include <stdatomic.h>
-#include "transport.h"
+#include "later.h"
 
 /* Queues: one of forgets, and those of requests, as many as the protocol can number. */
 enum { QUEUES = 256, REGIONS = 8 };
@@ -35,6 +35,8 @@ struct queue {
 	int calls;
 	/* A worker is to look at it. */
 	atomic_int look;
+	/* Chains that were answered later, and are not given back yet. */
+	struct late *late;
 };
 
 /* What a front end shares. It is there until it has gone, and each worker that has a request of it is
@@ -50,6 +52,8 @@ struct guest {
 	atomic_int gone;
 	/* The calling thread, and the workers that serve it. */
 	unsigned users;
+	/* Requests that are answered later. */
+	struct later_list later;
 };
 
 /* That of the front end that is served. It is changed between queues_hold and queues_go alone. */
@@ -74,6 +78,10 @@ void queues_go(void);
  * its place, and what the next front end shares is apart. Nothing is held then. -1: that can't be, or a
  * signal came. */
 int queues_part(int signals);
+/* Has what is kept completed, before queues or memory change, and lets nothing be kept up to queues_keep. What is not
+ * completed within a second never is. */
+void queues_recall(void);
+void queues_keep(void);
 /* Lets go of the memory that a front end shared. */
 void guest_unshare(struct guest *g);
 

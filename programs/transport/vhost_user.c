@@ -279,6 +279,21 @@ static enum outcome obey(int client, struct message *m)
 	}
 }
 
+/* Whether a message changes queues or memory, in which a request may wait. */
+static int changes(const struct message *m)
+{
+	switch (m->head.request) {
+	case SET_MEM_TABLE:
+	case SET_VRING_NUM:
+	case SET_VRING_ADDR:
+	case SET_VRING_BASE:
+	case GET_VRING_BASE:
+		return 1;
+	default:
+		return 0;
+	}
+}
+
 /* Takes one message, if the front end has not hung up, and does what it asks, with no request in
  * flight. */
 static enum outcome serve_message(int client, int signals)
@@ -286,10 +301,13 @@ static enum outcome serve_message(int client, int signals)
 	struct message m;
 	enum outcome outcome = receive(client, &m);
 
+	if (outcome == DONE && changes(&m))
+		queues_recall();
 	if (outcome == DONE && queues_hold(signals, client)) {
 		outcome = GONE;
 	} else if (outcome == DONE) {
 		outcome = obey(client, &m);
+		queues_keep();
 		queues_go();
 	}
 	if (outcome == DONE && m.head.flags & WANTS_REPLY && protocol & REPLY_ACK)

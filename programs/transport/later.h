@@ -1,0 +1,40 @@
+/* Requests that are answered later, for the transports. */
+#ifndef LATER_H
+#define LATER_H
+
+#include "transport.h"
+
+/* The requests of a transport that were kept, while they can be completed. */
+struct later_list {
+	transport_later *first;
+	/* None is kept now. */
+	int is_closed;
+	/* How many are being sent. */
+	unsigned sending;
+};
+
+/* What a transport says of the request that a thread serves: what it keeps of it, `size` bytes at `about`, and how
+ * it is completed. */
+struct later_source {
+	struct later_list *list;
+	void (*send)(void *about, int32_t code, const void *reply, size_t len);
+	const void *about;
+	size_t size;
+	int is_kept;
+};
+
+/* The request that this thread serves from now on can be kept; NULL: it can't be. */
+void later_serve(struct later_source *source);
+
+/* Who served it answered this code. Answers whether the request is kept, and so is not to be completed. */
+int later_keeps(const struct later_source *source, int32_t code);
+
+/* From now on requests can be kept, or can't. */
+void later_open(struct later_list *list);
+void later_close(struct later_list *list);
+/* Whether no request is kept, and none is being sent. */
+int later_is_empty(struct later_list *list);
+/* From now on no request is kept, and none that was can be completed. It waits for those that are being sent. */
+void later_end(struct later_list *list);
+
+#endif
