@@ -14,6 +14,8 @@
 
 /* How long a client may remember, in milliseconds. */
 enum { NO_TIME = 0, SHORT_TIME = 1000, LONG_TIME = 86400000 };
+/* The rows that are offered, besides locks. */
+enum { OFFERS = NIZWARF_OFFER_STATX | NIZWARF_OFFER_COPY_64 | NIZWARF_OFFER_TMPFILE };
 /* How many descriptors a call of a worker opens and closes again: of two nodes, and one more. */
 enum { PASSING = 3 };
 
@@ -92,6 +94,9 @@ static int32_t answer_call(struct call *call, const nizwarf_session *session, co
 	call->data = call->worker->pieces;
 	call->pieces = pieces < 0 ? 0 : (size_t)pieces;
 	answer->error = pieces < 0 ? ENOMEM : make_call(call);
+	/* (who waits for the lock answers it) */
+	if (answer->error == LOCK_WAITS && asked->call == NIZWARF_SETLKW)
+		return NIZWARF_ASKED;
 	code = nizwarf_reply(&call->worker->slot, session, asked, answer, room, rooms, told);
 	/* (it was made, and stays so: the reply waits for memory) */
 	for (int tries = 1; code == NIZWARF_OUT_OF_MEMORY && tries < TRIES; tries++) {
@@ -125,9 +130,9 @@ static bool gives_back(const nizwarf_segment *request)
 }
 
 /* Asks what a request asks for. One that gives something back waits for memory, up to ten seconds. */
-static int32_t ask(struct worker *w, const nizwarf_session *session, const nizwarf_segment *request,
-		   size_t segments, const nizwarf_room *room, size_t rooms, nizwarf_call *asked,
-		   nizwarf_told *told)
+static int32_t ask(struct worker *w, const nizwarf_session *session, uint32_t offers,
+		   const nizwarf_segment *request, size_t segments, const nizwarf_room *room, size_t rooms,
+		   nizwarf_call *asked, nizwarf_told *told)
 {
 	int32_t code = NIZWARF_OUT_OF_MEMORY;
 
@@ -136,7 +141,8 @@ static int32_t ask(struct worker *w, const nizwarf_session *session, const nizwa
 			break;
 		if (tries)
 			let_pass();
-		code = nizwarf_ask(&w->slot, session, request, segments, room, rooms, asked, told);
+		code = nizwarf_ask_offered(&w->slot, session, offers, request, segments, room, rooms, asked,
+					   told);
 	}
 	return code;
 }
@@ -160,7 +166,10 @@ int32_t passthrough_serve(void *user, unsigned worker, const nizwarf_segment *re
 	ssize_t pieces = 0;
 	int32_t code;
 
-	code = ask(w, &session, request, segments, room, rooms, &asked, &told);
+	code = ask(w, &session, OFFERS | (all->locks ? NIZWARF_OFFER_LOCKS : 0), request, segments, room,
+		   rooms, &asked, &told);
+	if (told.interrupts && all->locks)
+		locks_interrupt(all->locks, told.interrupts);
 	if (code != NIZWARF_ASKED) {
 		*len = told.len;
 		return code;
@@ -205,9 +214,20 @@ void passthrough_parted(void *user)
 {
 	struct passthrough *all = user;
 
+	if (all->locks)
+		locks_forget_all(all->locks);
 	nodes_forget_all(&all->nodes);
 	atomic_store(&all->agreed, 0);
 	atomic_store(&all->lacks_lists, false);
+}
+
+/* What waits for a lock is answered now. */
+void passthrough_recall(void *user)
+{
+	struct passthrough *all = user;
+
+	if (all->locks)
+		locks_recall(all->locks);
 }
 
 /* Looks whether the folder is on a local file system. To such a one it means nothing that a descriptor is
@@ -255,11 +275,17 @@ struct passthrough *passthrough_new(int root, int proc, const struct passthrough
 		passthrough_end(all);
 		return NULL;
 	}
+	if ((options->flock || options->posix_lock) && !(all->locks = locks_new(&all->nodes))) {
+		passthrough_end(all);
+		return NULL;
+	}
 	return all;
 }
 
 void passthrough_end(struct passthrough *all)
 {
+	if (!locks_free(all->locks))
+		return;
 	if (all->nodes.chains)
 		nodes_end(&all->nodes);
 	numbers_free(all->numbers);

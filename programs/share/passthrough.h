@@ -37,6 +37,8 @@ struct passthrough_options {
 	/* Extended attributes are served. With access control lists, which a client must have, the client's kernel goes
 	 * by these, and the host's makes files by those of their directory, or else with the client's umask. */
 	bool xattr, posix_acl;
+	/* Locks of flock(2), and of fcntl(2), are the host's; else they are the client's alone. */
+	bool flock, posix_lock;
 	/* What would change something is EROFS. */
 	bool read_only;
 	/* Directories are listed with attributes. */
@@ -77,6 +79,7 @@ int passthrough_limit(const struct passthrough_options *options);
 int passthrough_begin(void *user, unsigned worker);
 void passthrough_finish(void *user, unsigned worker);
 void passthrough_parted(void *user);
+void passthrough_recall(void *user);
 int32_t passthrough_serve(void *user, unsigned worker, const nizwarf_segment *request, size_t segments,
 			  const nizwarf_room *room, size_t rooms, size_t *len);
 

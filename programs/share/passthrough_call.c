@@ -77,6 +77,48 @@ static int get_attr(const struct call *call)
 	return 0;
 }
 
+static nizwarf_sx_time time_of(const struct statx_timestamp *time)
+{
+	return (nizwarf_sx_time){ .tv_sec = time->tv_sec, .tv_nsec = time->tv_nsec };
+}
+
+/* STATX: what GETATTR tells, and when the file was made, if the host knows. */
+static int get_statx(const struct call *call)
+{
+	const int fd = call->file ? call->file->counted.fd : call->node.fd;
+	const unsigned asked = nizwarf_statx_mask(call->asked) & (STATX_BASIC_STATS | STATX_BTIME);
+	nizwarf_statx told = { 0 };
+	nizwarf_entry entry;
+	struct statx seen;
+
+	if (statx(fd, "",
+		  AT_EMPTY_PATH | AT_SYMLINK_NOFOLLOW | (int)(call->asked->flags & AT_STATX_SYNC_TYPE),
+		  asked | WANTED, &seen))
+		return errno;
+	tell_attr(call, &seen, call->node.node->is_apart, &entry);
+	told.attr_seconds = entry.attr_seconds;
+	told.attr_nanoseconds = entry.attr_nanoseconds;
+	told.mask = seen.stx_mask & (STATX_BASIC_STATS | STATX_BTIME);
+	told.blksize = seen.stx_blksize;
+	told.nlink = seen.stx_nlink;
+	told.uid = seen.stx_uid;
+	told.gid = seen.stx_gid;
+	told.mode = seen.stx_mode;
+	told.ino = entry.attr.ino;
+	told.size = seen.stx_size;
+	told.blocks = seen.stx_blocks;
+	told.atime = time_of(&seen.stx_atime);
+	told.btime = time_of(&seen.stx_btime);
+	told.ctime = time_of(&seen.stx_ctime);
+	told.mtime = time_of(&seen.stx_mtime);
+	told.rdev_major = seen.stx_rdev_major;
+	told.rdev_minor = seen.stx_rdev_minor;
+	memcpy(call->worker->text, &told, sizeof(told));
+	call->answer->text = (const uint8_t *)call->worker->text;
+	call->answer->text_len = sizeof(told);
+	return 0;
+}
+
 static int set_mode(const struct call *call)
 {
 	if (call->file)
@@ -218,8 +260,9 @@ static void tell_open(const struct call *call, bool is_directory)
 	case CACHE_AUTO:
 		break;
 	}
-	/* (what was only read has nothing to flush, and a client that writes later flushes all the same) */
-	if (!is_directory && ((call->asked->flags & O_ACCMODE) == O_RDONLY || is_local(call)))
+	/* (what was only read has nothing to flush but locks, and a client that writes later flushes all the same) */
+	if (!is_directory && !call->all->locks &&
+	    ((call->asked->flags & O_ACCMODE) == O_RDONLY || is_local(call)))
 		answer->open_flags |= FOPEN_NOFLUSH;
 }
 
@@ -264,15 +307,11 @@ static int open_made(const struct call *call, const char *name, int fd)
 	return open_again(&call->all->nodes, fd, O_PATH);
 }
 
-static int create_file(const struct call *call)
+/* Makes a file by this name, or one without, as who asks, with a node and a descriptor reserved for it: 0, or an error. */
+static int open_new(const struct call *call, const char *name, int flags, int *fd)
 {
-	const nizwarf_call *asked = call->asked;
-	const char *name = name_of(call, asked->name);
-	const struct found found = found_in(&call->node, name);
 	struct nodes *nodes = &call->all->nodes;
-	nizwarf_answer *answer = call->answer;
-	nizwarf_entry *entry = &answer->entry;
-	int fd = -1, path, error = node_reserve(nodes);
+	int error = node_reserve(nodes);
 
 	if (!error && (error = fd_reserve(nodes, 1)))
 		node_give_back(nodes);
@@ -280,36 +319,72 @@ static int create_file(const struct call *call)
 		return error;
 	error = become(call);
 	if (!error) {
-		/* (a name that is there may be that of a pipe, which waits) */
-		fd = openat(call->node.fd, name, flags_of(call) | O_CREAT | O_EXCL | O_NOFOLLOW | O_CLOEXEC,
-			    asked->mode & 07777);
-		error = fd < 0 ? errno : 0;
+		*fd = openat(call->node.fd, name, flags_of(call) | flags | O_CLOEXEC,
+			     call->asked->mode & 07777);
+		error = *fd < 0 ? errno : 0;
 	}
 	become_root(call);
 	if (error) {
 		node_give_back(nodes);
 		fd_give_back(nodes, 1);
-		/* The client thinks that a file which CREATE opens is new, and doesn't ask who may open it. So one
-		 * that came meanwhile is not opened, and the client looks the name up again. */
-		return error == EEXIST && !(asked->flags & O_EXCL) ? ESTALE : error;
 	}
-	path = open_made(call, name, fd);
-	error = path < 0 ? errno : enter(call, &found, path, entry, NULL);
+	return error;
+}
+
+/* Answers a new file, of which `path` is a descriptor made with O_PATH, or -1: it failed as errno says. If it can't be
+ * answered it is still the caller's, but for the node that was reserved. */
+static int tell_new(const struct call *call, const char *name, int fd, int path)
+{
+	const struct found found = found_in(&call->node, name);
+	struct nodes *nodes = &call->all->nodes;
+	nizwarf_answer *answer = call->answer;
+	int error = path < 0 ? errno : enter(call, &found, path, &answer->entry, NULL);
+
 	if (path < 0)
 		node_give_back(nodes);
-	if (!error) {
-		answer->handle = file_add(nodes, fd, flags_of(call));
-		error = answer->handle ? 0 : ENOMEM;
-		if (error)
-			node_forget(nodes, entry->node, 1);
+	if (error)
+		return error;
+	answer->handle = file_add(nodes, fd, flags_of(call));
+	if (answer->handle) {
+		tell_open(call, false);
+		return 0;
 	}
+	node_forget(nodes, answer->entry.node, 1);
+	return ENOMEM;
+}
+
+/* A file without a name, which a LINK may give it one. */
+static int create_unnamed(const struct call *call)
+{
+	int fd = -1, error;
+
+	error = open_new(call, ".", O_TMPFILE | (int)(call->asked->flags & O_EXCL), &fd);
+	if (error)
+		return error;
+	error = tell_new(call, "", fd, open_again(&call->all->nodes, fd, O_PATH));
+	if (error)
+		fd_let_go(&call->all->nodes, fd);
+	return error;
+}
+
+static int create_file(const struct call *call)
+{
+	const nizwarf_call *asked = call->asked;
+	const char *name = name_of(call, asked->name);
+	int fd = -1, error;
+
+	/* (a name that is there may be that of a pipe, which waits) */
+	error = open_new(call, name, O_CREAT | O_EXCL | O_NOFOLLOW, &fd);
+	/* The client thinks that a file which CREATE opens is new, and doesn't ask who may open it. So one that came
+	 * meanwhile is not opened, and the client looks the name up again. */
+	if (error)
+		return error == EEXIST && !(asked->flags & O_EXCL) ? ESTALE : error;
+	error = tell_new(call, name, fd, open_made(call, name, fd));
 	if (error) {
 		unmake_of(call->node.fd, name, fd);
-		fd_let_go(nodes, fd);
-		return error;
+		fd_let_go(&call->all->nodes, fd);
 	}
-	tell_open(call, false);
-	return 0;
+	return error;
 }
 
 static int sync_all(const struct call *call)
@@ -363,6 +438,8 @@ static bool changes(const nizwarf_call *asked)
 	case NIZWARF_CREATE:
 	case NIZWARF_FALLOCATE:
 	case NIZWARF_COPY:
+	case NIZWARF_COPY_64:
+	case NIZWARF_TMPFILE:
 		return true;
 	case NIZWARF_OPEN:
 		return (asked->flags & O_ACCMODE) != O_RDONLY || asked->flags & O_TRUNC;
@@ -458,9 +535,20 @@ static int make_of_node(const struct call *call)
 		return open_file(call);
 	case NIZWARF_CREATE:
 		return create_file(call);
+	case NIZWARF_TMPFILE:
+		return create_unnamed(call);
+	case NIZWARF_STATX:
+		return get_statx(call);
 	default:
 		return ENOSYS;
 	}
+}
+
+/* Whether a call is of a node, which it may name by an open file. */
+static bool is_of_node(const nizwarf_call *asked)
+{
+	return asked->call == NIZWARF_GETATTR || asked->call == NIZWARF_SETATTR ||
+	       asked->call == NIZWARF_STATX;
 }
 
 /* Takes in hand what a call is of, and makes it. */
@@ -482,9 +570,7 @@ static int make_with_node(struct call *call)
 	if (!error)
 		error = check_names(call);
 	if (!error)
-		error = call->file && asked->call != NIZWARF_GETATTR && asked->call != NIZWARF_SETATTR ?
-				make_of_file(call) :
-				make_of_node(call);
+		error = call->file && !is_of_node(asked) ? make_of_file(call) : make_of_node(call);
 	file_put(call->file);
 	if (call->other.node)
 		node_put(&call->other);
@@ -509,6 +595,10 @@ static uint64_t wanted(const struct passthrough *all)
 		wants |= FUSE_SUBMOUNTS;
 	if (options->posix_acl)
 		wants |= HAS_LISTS;
+	if (options->flock)
+		wants |= FUSE_FLOCK_LOCKS;
+	if (options->posix_lock)
+		wants |= FUSE_POSIX_LOCKS;
 	return wants;
 }
 
@@ -518,6 +608,8 @@ static int agree(const struct call *call)
 	struct passthrough *all = call->all;
 	const uint64_t offered = nizwarf_init_offered(call->asked);
 
+	if (all->locks)
+		locks_forget_all(all->locks);
 	nodes_forget_all(&all->nodes);
 	/* (it would let in whom they deny) */
 	if (all->options.posix_acl && ~offered & HAS_LISTS) {
@@ -549,6 +641,8 @@ int make_call(struct call *call)
 	case NIZWARF_INIT:
 		return agree(call);
 	case NIZWARF_DESTROY:
+		if (all->locks)
+			locks_forget_all(all->locks);
 		nodes_forget_all(&all->nodes);
 		return 0;
 	case NIZWARF_FORGET:
@@ -558,17 +652,21 @@ int make_call(struct call *call)
 		forget_each(call);
 		return 0;
 	case NIZWARF_RELEASE:
+		if (all->locks)
+			locks_close(all->locks, asked);
+		return file_release(&all->nodes, asked->handle);
 	case NIZWARF_RELEASEDIR:
 		return file_release(&all->nodes, asked->handle);
-	/* Of these nothing is told. The client locks files by itself then. */
+	/* If locks are not offered, nothing is told of these, and the client locks files by itself. Nothing is told
+	 * of the others. */
 	case NIZWARF_GETLK:
 	case NIZWARF_SETLK:
 	case NIZWARF_SETLKW:
+		return all->locks ? make_with_node(call) : ENOSYS;
 	case NIZWARF_BMAP:
 	case NIZWARF_IOCTL:
 	case NIZWARF_POLL:
 	case NIZWARF_NOTIFY_REPLY:
-	case NIZWARF_TMPFILE:
 		return ENOSYS;
 	default:
 		return all->options.read_only && changes(asked) ? EROFS : make_with_node(call);

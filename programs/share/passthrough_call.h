@@ -5,6 +5,7 @@
 #include <linux/capability.h>
 #include <sys/uio.h>
 #include "passthrough.h"
+#include "passthrough_locks.h"
 #include "passthrough_nodes.h"
 #include "passthrough_numbers.h"
 
@@ -39,6 +40,8 @@ struct passthrough {
 	struct passthrough_options options;
 	struct nodes nodes;
 	struct numbers *numbers;
+	/* NULL: locks are the client's. */
+	struct locks *locks;
 	/* The options that are agreed on with the client. */
 	atomic_ullong agreed;
 	/* It was said that the client has no access control lists. */

@@ -187,11 +187,14 @@ static int copy_range(const struct call *call)
 	return error;
 }
 
-/* Tells the host that a descriptor of the file is closed, as it may have an error to tell. */
+/* Tells the host that a descriptor of the file is closed, as it may have an error to tell, and gives up the locks of
+ * whose it was. */
 static int flush(const struct call *call)
 {
 	const int copy = dup(call->file->counted.fd);
 
+	if (call->all->locks)
+		locks_close(call->all->locks, call->asked);
 	return copy < 0 ? errno : failed(close(copy));
 }
 
@@ -212,7 +215,9 @@ static maker *maker_of(uint32_t call)
 		[NIZWARF_FLUSH] = flush,	[NIZWARF_FSYNC] = sync_file,
 		[NIZWARF_FSYNCDIR] = sync_file, [NIZWARF_READDIR] = read_directory,
 		[NIZWARF_FALLOCATE] = allocate, [NIZWARF_LSEEK] = seek,
-		[NIZWARF_COPY] = copy_range,
+		[NIZWARF_COPY] = copy_range,	[NIZWARF_COPY_64] = copy_range,
+		[NIZWARF_GETLK] = get_lock,	[NIZWARF_SETLK] = set_lock,
+		[NIZWARF_SETLKW] = set_lock,
 	};
 
 	return call < sizeof(makers) / sizeof(*makers) ? makers[call] : NULL;

@@ -466,7 +466,9 @@ int open_by_name(struct nodes *all, struct node *node, int flags)
 int node_enter(struct nodes *all, const struct found *found, int fd, const struct statx *seen,
 	       uint64_t *number, bool *is_new)
 {
-	const bool by_handle = atomic_load(&all->kept) > all->handles_from || some_handle(all, seen);
+	/* (what has no name is not found by its handle) */
+	const bool by_handle =
+		seen->stx_nlink && (atomic_load(&all->kept) > all->handles_from || some_handle(all, seen));
 	union handle_room room;
 	struct file_handle *handle = by_handle && handle_by(fd, &room) ? &room.handle : NULL;
 	struct node *made;

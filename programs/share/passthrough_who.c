@@ -77,7 +77,9 @@ static bool kills(const struct call *call)
 	       (asked->has & NIZWARF_KILL_PRIV ||
 		(asked->call == NIZWARF_SETATTR && nizwarf_setattr_fields(asked) & FATTR_KILL_SUIDGID) ||
 		(asked->call == NIZWARF_SETXATTR && nizwarf_setxattr_more_flags(asked) & CLEARS_GROUP) ||
-		((asked->call == NIZWARF_FALLOCATE || asked->call == NIZWARF_COPY) && asked->uid));
+		((asked->call == NIZWARF_FALLOCATE || asked->call == NIZWARF_COPY ||
+		  asked->call == NIZWARF_COPY_64) &&
+		 asked->uid));
 }
 
 void lose_fsetid(const struct call *call)

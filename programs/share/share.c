@@ -231,6 +231,7 @@ static transport by = { .program = "nizwarf-share",
 			.begin = passthrough_begin,
 			.end = passthrough_finish,
 			.parted = passthrough_parted,
+			.recall = passthrough_recall,
 			.has_spare = 1,
 			.left = remove_socket,
 			.serve = passthrough_serve };

@@ -321,6 +321,7 @@ static const char *const calls[] = {
 	"fdatasync",
 	"fgetxattr",
 	"flistxattr",
+	"flock",
 	"fstat",
 	"fstatfs",
 	"fsync",

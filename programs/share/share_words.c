@@ -30,7 +30,7 @@ static const char usage[] =
 	"                            long, that there is no such name (0); or virtiofsd's, as managers\n"
 	"                            of machines write them: source=FOLDER, cache=WHAT, sandbox=HOW,\n"
 	"                            modcaps=LIST, loglevel=LEVEL, xattr, posix_acl, writeback,\n"
-	"                            readdirplus, no_xattr, no_flock ..\n"
+	"                            readdirplus, flock, posix_lock, no_xattr ..\n"
 	"  --shared-dir=FOLDER       the folder, in place of the word\n"
 	"  --socket-path=SOCKET      listens on a new socket of this path\n"
 	"  --fd=N                    listens on the socket of this descriptor\n"
@@ -41,6 +41,9 @@ static const char usage[] =
 	"  --xattr                   extended attributes are served\n"
 	"  --posix-acl               so are access control lists, and the client goes by them; without it\n"
 	"                            modes alone say who may, also where a list of the folder denies\n"
+	"  --flock                   locks of flock(2) are the host's, which other clients and programs\n"
+	"                            of the host see; without it the client keeps them to itself\n"
+	"  --posix-lock              so are those of fcntl(2)\n"
 	"  --readonly                nothing is changed\n"
 	"  --no-readdirplus          directories are listed without attributes\n"
 	"  --announce-submounts      a machine is told where something is mounted below the folder\n"
@@ -265,16 +268,16 @@ static bool take_switch(const char *key)
 		      { "no_killpriv_v2", &nothing, false },
 		      { "no_security_label", &nothing, false },
 		      { "no_allow_direct_io", &nothing, false },
-		      { "no_flock", &nothing, false },
-		      { "no_posix_lock", &nothing, false } };
+		      { "flock", &words.files.flock, true },
+		      { "no_flock", &words.files.flock, false },
+		      { "posix_lock", &words.files.posix_lock, true },
+		      { "no_posix_lock", &words.files.posix_lock, false } };
 
 	for (size_t i = 0; i < sizeof(known) / sizeof(*known); i++)
 		if (!strcmp(key, known[i].word)) {
 			*known[i].what = known[i].is;
 			return true;
 		}
-	if (!strcmp(key, "flock") || !strcmp(key, "posix_lock"))
-		refuse("each client's kernel locks files by itself, so there is no option ", key);
 	return false;
 }
 
@@ -358,6 +361,8 @@ enum word {
 	WRITEBACK,
 	XATTR,
 	POSIX_ACL,
+	FLOCK,
+	POSIX_LOCK,
 	READONLY,
 	NO_READDIRPLUS,
 	ANNOUNCE,
@@ -389,6 +394,8 @@ static const struct option known_words[] = {
 	{ "writeback", no_argument, NULL, WRITEBACK },
 	{ "xattr", no_argument, NULL, XATTR },
 	{ "posix-acl", no_argument, NULL, POSIX_ACL },
+	{ "flock", no_argument, NULL, FLOCK },
+	{ "posix-lock", no_argument, NULL, POSIX_LOCK },
 	{ "readonly", no_argument, NULL, READONLY },
 	{ "no-readdirplus", no_argument, NULL, NO_READDIRPLUS },
 	{ "announce-submounts", no_argument, NULL, ANNOUNCE },
@@ -482,6 +489,12 @@ static void take_word(int word)
 		break;
 	case POSIX_ACL:
 		words.files.posix_acl = true;
+		break;
+	case FLOCK:
+		words.files.flock = true;
+		break;
+	case POSIX_LOCK:
+		words.files.posix_lock = true;
 		break;
 	case READONLY:
 		words.files.read_only = true;

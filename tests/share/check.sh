@@ -8,7 +8,8 @@
 # asks a plain folder. escape.c tries to leave the sandbox from within, and the server's capabilities and directories
 # are looked at. Files of several file systems below the folder are told apart, and how many are known is bounded; what
 # a node takes is printed (nodes.py). Over vhost-user it is asked the hostile requests of tests/beside, and more that
-# are made up, under sanitizers and in its sandbox (hostile.py); a machine that goes away is followed by another.
+# are made up, under sanitizers and in its sandbox (hostile.py); a machine that goes away is followed by another. Locks
+# are those of the folder, and what waits for one holds nothing up (waits.py).
 # Last, tools/dev/lint.sh holds its sources against clang-tidy and cppcheck, if they are installed.
 #
 # It takes three minutes, and wants root, /dev/fuse, python3, a C compiler and the Rattle toolchain. It links the proved
@@ -353,7 +354,7 @@ try_words() {
         fi
     done
     # What can't be is named: a beginning of a word is none.
-    for words in --no-such-word --cach=never --cache --xattr=1 -x "-o no-such-option" "-o flock" "-o loglevel" \
+    for words in --no-such-word --cach=never --cache --xattr=1 -x "-o no-such-option" "-o loglevel" \
         "-o sandbox=some"; do
         # shellcheck disable=SC2086
         timeout 10 "$share" "$work/folder" "$work/mount" $words > "$work/said" 2>&1 && wrong "it serves with $words"
@@ -433,6 +434,28 @@ try_chroot() {
     echo "In a chroot it serves in another sandbox."
 }
 
+# A client's locks are the folder's: over a mount they are as on any file system, a program of the host is kept out,
+# and over vhost-user what waits for one holds nothing up.
+try_locks() {
+    rm -rf "$work/folder"
+    mkdir -p "$work/folder" "$work/mount"
+    touch "$work/folder/file"
+    "$share" --log-level=error --flock --posix-lock --thread-pool-size=2 "$@" "$work/folder" "$work/mount" &
+    server=$!
+    await_mount
+    timeout 60 python3 -B "$here/tests/further/locks.py" --no-ofd-close "$work/mount/file" > "$work/said" ||
+        { grep WRONG "$work/said" >&2 && wrong "locks over a mount, with $*"; }
+    flock "$work/mount/file" true || wrong "a lock of a program, with $*"
+    ! flock "$work/mount/file" flock -n "$work/folder/file" true || wrong "a lock of a mount that the host does not see, with $*"
+    ! flock "$work/folder/file" flock -n "$work/mount/file" true || wrong "a lock of the host that a mount does not see, with $*"
+    umount "$work/mount"
+    wait "$server" || wrong "the server with locks ended with $?, with $*"
+    server=
+    timeout 100 python3 -B "$here/tests/share/waits.py" "$work" "$share" "$@" || wrong "locks that are waited for, with $*"
+    rm -rf "$work/waits" "$work/waits.socket"
+    echo "Locks are those of the folder${*:+, with $*}."
+}
+
 # Asks a server over vhost-user: ask_hostile WHAT-IT-IS WORDS
 ask_hostile() {
     python3 -B "$here/tests/share/hostile.py" "$ask" "$work" "$1" "$share" "${@:2}" || wrong "$1 over vhost-user"
@@ -456,6 +479,7 @@ try_sanitizers() {
     ask_hostile "under the sanitizers $1" --xattr --announce-submounts "${words[@]}"
     try_mount --thread-pool-size=4 --xattr --log-level=error "${words[@]}"
     try_calls "${words[@]}"
+    try_locks "${words[@]}"
     try_ends "${words[@]}"
     share=$plain
 }
@@ -511,6 +535,9 @@ part "without standard descriptors"
 try_closed
 part "calls, beside a plain folder"
 try_calls
+part "locks"
+try_locks
+try_locks --cache=always --writeback --inode-file-handles=prefer
 part "a share by a user"
 try_user
 part "what a client knows of files"

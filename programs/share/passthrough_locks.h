@@ -1,0 +1,32 @@
+/* Locks of a passthrough's client, which are locks of the host. */
+#ifndef PASSTHROUGH_LOCKS_H
+#define PASSTHROUGH_LOCKS_H
+
+#include <stdbool.h>
+#include <stdint.h>
+#include "nizwarf.h"
+
+struct call;
+struct locks;
+struct nodes;
+
+/* NULL: there is no memory. */
+struct locks *locks_new(struct nodes *nodes);
+/* False: somebody waits for the host still, and uses what there is. */
+bool locks_free(struct locks *all);
+
+/* GETLK, SETLK and SETLKW: 0, an error, or LOCK_WAITS: the request is answered later. */
+enum { LOCK_WAITS = -1 };
+int get_lock(const struct call *call);
+int set_lock(const struct call *call);
+
+/* A FLUSH or a RELEASE: what its owner has locked by fcntl(2), or flock(2), is given up. */
+void locks_close(struct locks *all, const nizwarf_call *asked);
+/* Whoever waits for a lock by this request waits no longer. */
+void locks_interrupt(struct locks *all, uint64_t unique);
+/* Whoever waits for a lock waits no longer, or soon. */
+void locks_recall(struct locks *all);
+/* Of a client that has gone, or begins anew: it has no locks, and waits for none. */
+void locks_forget_all(struct locks *all);
+
+#endif
