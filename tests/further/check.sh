@@ -1,0 +1,41 @@
+#!/usr/bin/env bash
+# A table of functions that has what virtiofsd has not, mounted, and asked as programs ask.
+#
+# Usage: tests/further/check.sh, as root
+# news.c is compiled with the library vfs_door, plainly, under address and undefined, and under thread sanitizers if the
+# compiler has them, and mounted: session.py goes through its notices, STATX, IOCTL, POLL and O_TMPFILE, and locks.py
+# through 41 steps of flock(2) and fcntl(2). The library is the proved one where that is built and no source is newer, or
+# else one that tools/lib/unproved.sh builds. Two minutes.
+# Status 0: all came as Linux says; 1: not so; 2: it could not start.
+set -euo pipefail
+. "$(dirname "$0")/../../tools/lib/usage.sh"
+. "$(dirname "$0")/../../tools/lib/transport.sh"
+
+[ $# = 0 ] || { echo "Usage: tests/further/check.sh" >&2 && exit 2; }
+if [ "$(id -u)" != 0 ] || ! [ -w /dev/fuse ]; then
+    echo "Missing: root and /dev/fuse." >&2
+    exit 2
+fi
+folder=$(mktemp -d)
+trap 'umount -l "$folder/mounted" 2> /dev/null; rm -rf "$folder"' EXIT
+mkdir "$folder/mounted"
+find_library vfs_door
+
+# A session with the program, compiled with these flags.
+run() {
+    cc -std=c11 -Wall -Wextra -Werror -pthread -I "$here/include" -o "$folder/news" "$here/tests/further/news.c" \
+        "$here"/programs/transport/{fuse_device,fuse_mount,later}.c "${library[@]}" "$@"
+    python3 "$here/tests/further/session.py" "$folder/news" "$folder/mounted"
+}
+
+say() {
+    echo "$1 of 3: $2 .." >&2
+}
+
+say 1 "plain"
+run -O2
+say 2 "address and undefined sanitizers"
+run -g -O1 -fsanitize=address,undefined -fno-sanitize-recover=all
+say 3 "thread sanitizer"
+run -g -O1 -fsanitize=thread
+echo "Further: a table's locks, notices, STATX, IOCTL, POLL and O_TMPFILE are as Linux says"

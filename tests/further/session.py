@@ -1,0 +1,164 @@
+#!/usr/bin/env python3
+"""Mounts news.c and asks of it, as programs do, what virtiofsd has not.
+
+Usage: tests/further/session.py PROGRAM FOLDER, as root
+
+Everything is kept for a day: so a change is seen after its notice, and not before. Then come STATX, IOCTL, POLL, BMAP,
+O_TMPFILE, and locks.py. It prints a line a step. Status 0: all came as Linux says.
+"""
+import ctypes
+import fcntl
+import os
+import select
+import struct
+import subprocess
+import sys
+import threading
+import time
+
+FIBMAP, LENGTH, COUNT = 1, 0x80046E01, 0xC0406E02
+HERE = os.path.dirname(os.path.abspath(__file__))
+faults = 0
+
+
+def step(what, got, wanted):
+    global faults
+    faults += got != wanted
+    print("ok" if got == wanted else "WRONG", what, got if got == wanted else f"{got!r} in place of {wanted!r}", flush=True)
+
+
+class News:
+    def __init__(self, program, folder):
+        self.folder = folder
+        self.file = os.path.join(folder, "news")
+        self.process = subprocess.Popen([program, folder], stdin=subprocess.PIPE, stdout=subprocess.PIPE, text=True)
+        until = time.time() + 10
+        while not os.path.ismount(folder) and time.time() < until:
+            time.sleep(0.02)
+        # (the first answer comes after INIT's)
+        os.stat(folder)
+
+    def say(self, line):
+        """What the program prints of this line."""
+        self.process.stdin.write(line + "\n")
+        self.process.stdin.flush()
+        said = []
+        while (one := self.process.stdout.readline().strip()) not in ("done", ""):
+            said.append(one)
+        return said
+
+    def read(self, name="news"):
+        try:
+            with open(os.path.join(self.folder, name), encoding="utf-8") as file:
+                return file.read().strip()
+        except OSError as error:
+            return error.strerror
+
+    def end(self):
+        subprocess.run(["umount", self.folder], check=False)
+        self.process.stdin.close()
+        try:
+            return self.process.wait(20)
+        except subprocess.TimeoutExpired:
+            self.process.kill()
+            return "it did not end"
+
+
+def texts(news):
+    step("text", news.read(), "old")
+    news.say("quiet one")
+    step("after a quiet change", news.read(), "old")
+    news.say("set two")
+    step("after INVAL_INODE", news.read(), "two")
+    step("size after it", os.stat(news.file).st_size, 4)
+    fd = os.open(news.file, os.O_RDONLY)
+    news.say("store three by a notice")
+    step("after STORE", os.pread(fd, 100, 0), b"three by a notice\n")
+    # (the reply is printed once it has come)
+    said = news.say("retrieve")
+    until = time.time() + 5
+    while not said and time.time() < until:
+        said = news.say("show")
+        said = [line for line in said if line.startswith("retrieved")]
+    step("RETRIEVE", said[:1], ["retrieved 77 2 0 three by a notice"])
+    os.close(fd)
+
+
+def names(news):
+    step("no such name", news.read("other"), "No such file or directory")
+    news.say("quietname other")
+    step("after a quiet change", news.read("other"), "No such file or directory")
+    news.say("quietname news")
+    news.say("name other")
+    step("the old name after INVAL_ENTRY", news.read("news"), "No such file or directory")
+    step("the new one", news.read("other"), "three by a notice")
+    news.say("delete other")
+    step("after DELETE", news.read("other"), "No such file or directory")
+    news.say("name news")
+    step("the name again", news.read(), "three by a notice")
+
+
+def others(news):
+    fd = os.open(news.file, os.O_RDONLY)
+    step("IOCTL out", struct.unpack("I", fcntl.ioctl(fd, LENGTH, bytes(4)))[0], os.stat(news.file).st_size)
+    step("IOCTL in and out", struct.unpack("I", fcntl.ioctl(fd, COUNT, b"four".ljust(64, b"\0"))[:4])[0], 4)
+    try:
+        fcntl.ioctl(fd, LENGTH + 7, bytes(4))
+        said = None
+    except OSError as error:
+        said = error.strerror
+    step("IOCTL of no command", said, "Inappropriate ioctl for device")
+    said = subprocess.run(["stat", "-c", "%W %s", news.file], capture_output=True, text=True, check=True).stdout.split()
+    step("STATX", said, ["1234567890", str(os.stat(news.file).st_size)])
+    news.say("quiet old")
+    poll = select.poll()
+    poll.register(fd, select.POLLIN)
+    step("POLL at once", poll.poll(0), [])
+    woken = []
+
+    def wait():
+        begun = time.time()
+        woken.append((poll.poll(5000), time.time() - begun))
+    thread = threading.Thread(target=wait)
+    thread.start()
+    time.sleep(0.4)
+    news.say("set new")
+    news.say("poll")
+    thread.join()
+    step("POLL woken", ([event for _, event in woken[0][0]], woken[0][1] < 4), ([select.POLLIN], True))
+    os.close(fd)
+    unnamed = os.open(news.folder, os.O_TMPFILE | os.O_RDWR, 0o600)
+    os.write(unnamed, b"no name")
+    step("O_TMPFILE", (os.pread(unnamed, 100, 0), os.fstat(unnamed).st_nlink), (b"no name", 0))
+    os.close(unnamed)
+
+
+def notices(news):
+    """Of notices that Linux 6.18 may not have, that nothing breaks."""
+    for line in ("epoch", "resend", "prune"):
+        said = news.say(line)
+        step(f"{line}", said in ([], [f"{line}: Invalid argument"]), True)
+    step("text", news.read(), "new")
+
+
+def main():
+    if len(sys.argv) != 3:
+        print(__doc__.strip())
+        return 0 if sys.argv[1:] in (["-h"], ["--help"]) else 2
+    news = News(*sys.argv[1:])
+    try:
+        for part in (texts, names, others, notices):
+            part(news)
+        # (the file has no write: a lock wants a descriptor that may)
+        ran = subprocess.run([os.path.join(HERE, "locks.py"), "--no-ofd-close", news.file], check=False, timeout=120)
+        step("locks", ran.returncode, 0)
+        step("none is left", [line for line in news.say("show") if line.startswith(("held", "waits"))], [])
+    finally:
+        step("end", news.end(), 0)
+    print(f"{faults} faults")
+    return 1 if faults else 0
+
+
+# (Python does not tell of a signal that ends it otherwise)
+ctypes.CDLL(None).prctl(1, 9)
+sys.exit(main())
