@@ -3,7 +3,7 @@
 # without other crates, there are no warnings, and its tests, doctests and examples pass.
 #
 # Usage: bindings/rust/check.sh [--msrv]
-# As root, if there is /dev/fuse, the examples are also mounted, and tests/mount.rs mounts; if there is
+# As root, if there is /dev/fuse, the examples are also mounted, and tests/mount*.rs mount; if there is
 # fusermount3, another user mounts, too. The tests also run under the address, leak and thread sanitizers of the compiler, and under valgrind, if they are installed. With --msrv they also run
 # with the rustc of Debian 12, the oldest supported one. It is downloaded and unpacked into out/rust/debian,
 # which takes 400 MB, and not installed.
@@ -48,8 +48,8 @@ passed() {
 }
 
 # The tests that do not replace malloc.
-tests=(--lib --test answers --test calls --test hostile --test mount --test refusals --test serve --test server
-    --test threads)
+tests=(--lib --test answers --test calls --test hostile --test later --test mount --test mount_further
+    --test refusals --test serve --test server --test threads)
 
 # Mounts hello.rs as another user.
 mount_as_other() {
@@ -127,7 +127,7 @@ if command -v valgrind > /dev/null; then
     CARGO_TARGET_X86_64_UNKNOWN_LINUX_GNU_RUNNER="valgrind -q --error-exitcode=9 --leak-check=full \
         --show-leak-kinds=definite --errors-for-leak-kinds=definite" \
         step "Tests under valgrind" \
-        cargo test --offline --target "$target" --test answers --test calls --test hostile --test threads
+        cargo test --offline --target "$target" --test answers --test calls --test hostile --test later --test threads
 else
     skip 1 "valgrind is not installed, and is skipped: apt-get install valgrind."
 fi

@@ -179,7 +179,7 @@ impl<'f, F: FileSystem> Asker<'f, F> {
             | Call::Destroy { .. }
             | Call::Forget { .. }
             | Call::BatchForget { .. } => self.keep_session(slot, call),
-            _ => self.refuse(slot, call),
+            _ => refuse(slot, call),
         })
     }
 
@@ -224,7 +224,7 @@ impl<'f, F: FileSystem> Asker<'f, F> {
                 });
                 to.answer(slot, result)
             }
-            other => self.refuse(slot, other),
+            other => refuse(slot, other),
         }
     }
 
@@ -252,7 +252,7 @@ impl<'f, F: FileSystem> Asker<'f, F> {
                 }
                 return told;
             }
-            other => return self.refuse(slot, other),
+            other => return refuse(slot, other),
         };
         if let Some((node, handle)) = told.lost_handle() {
             let (node, handle) = (node.into(), handle.into());
@@ -287,7 +287,7 @@ impl<'f, F: FileSystem> Asker<'f, F> {
                 Ok(text) => to.answer(slot, Ok(&text)),
                 Err(error) => to.fail(slot, &error),
             },
-            other => self.refuse(slot, other),
+            other => refuse(slot, other),
         }
     }
 
@@ -337,28 +337,14 @@ impl<'f, F: FileSystem> Asker<'f, F> {
                 self.tell(|fs| fs.batch_forget(self.context, forgets));
                 to.done(slot)
             }
-            other => self.refuse(slot, other),
+            other => refuse(slot, other),
         }
     }
+}
 
-    /// The calls without arguments, which a file system can only refuse, and those that are not known.
-    fn refuse<'s>(&self, slot: &'s mut Slot, call: Call) -> Told<'s> {
-        match call {
-            Call::Getlk { to } => to.answer(slot, self.ask(FileSystem::getlk)),
-            Call::Setlk { to } => to.answer(slot, self.ask(FileSystem::setlk)),
-            Call::Setlkw { to } => to.answer(slot, self.ask(FileSystem::setlkw)),
-            Call::Bmap { to } => to.answer(slot, self.ask(FileSystem::bmap)),
-            Call::Ioctl { to } => to.answer(slot, self.ask(FileSystem::ioctl)),
-            Call::Poll { to } => to.answer(slot, self.ask(FileSystem::poll)),
-            Call::NotifyReply { to } => to.answer(slot, self.ask(FileSystem::notify_reply)),
-            Call::Tmpfile { to } => {
-                let result = self.run(FileSystem::tmpfile);
-                let error = result.map(|(entry, ..)| self.give_back(entry.inode)).err();
-                to.fail(slot, &error.unwrap_or_else(|| io::Error::from_raw_os_error(libc::EIO)))
-            }
-            other => other.fail(slot, &io::Error::from_raw_os_error(libc::ENOSYS)),
-        }
-    }
+/// Refuses a call that no file system of virtiofsd 1.13.2 has.
+fn refuse<'s>(slot: &'s mut Slot, call: Call) -> Told<'s> {
+    call.fail(slot, &io::Error::from_raw_os_error(libc::ENOSYS))
 }
 
 /// Items of a directory, whose names are copied: the iterator lends them for a step.

@@ -8,6 +8,7 @@ use crate::errno::{answered, Errno};
 use crate::ffi::{Item, Pending, RawAnswer, RawCall, RawEntry, Slot};
 use crate::file_system::{Entry, GetxattrReply, ListxattrReply};
 use crate::flags::{FsOptions, OpenOptions};
+use crate::further::{IoctlReply, Limits, Lock, Statx};
 use crate::numbers::has;
 use std::fmt;
 use std::io;
@@ -28,8 +29,6 @@ kinds! {
     Destroyed
     /// Success, or an error.
     Done
-    /// An error, or no reply.
-    FaultOrSilence
     /// How many bytes of data were put into the buffer.
     Data
     /// Options.
@@ -56,6 +55,16 @@ kinds! {
     Directory
     /// An error only.
     Fault
+    /// A lock.
+    Locked
+    /// The result of an IOCTL.
+    Controlled
+    /// Events.
+    Events
+    /// Attributes with the time of birth, and how long they are valid.
+    Extended
+    /// How many bytes were copied.
+    Copied
 }
 
 /// Answers one call, once. The type parameter is the kind of the answer, one of [`kinds`](crate::kinds).
@@ -263,16 +272,12 @@ fn tell<'s>(
     }
     let options = matches!(call.call, number::INIT | number::DESTROY)
         .then(|| FsOptions::from_bits_truncate(told.options));
+    let unique = call.unique;
     slot.keep(pending);
-    Told {
-        outcome: Refusal::of(code),
-        options,
-        taken,
-        held,
-        entry: None,
-        lost: None,
-        reply: Reply::new(slot, told.len, told.put),
-    }
+    let outcome = Refusal::of(code);
+    let mut reply = Reply::new(slot, told.len, told.put);
+    reply.refused = outcome.err().map(|_| unique);
+    Told { outcome, options, taken, held, entry: None, lost: None, reply }
 }
 
 /// Whether items have lookups: those of a READDIRPLUS do.
@@ -308,14 +313,6 @@ impl To<Done> {
     }
 }
 
-impl To<FaultOrSilence> {
-    /// Answers with an error; success has no reply.
-    #[inline]
-    pub fn answer(self, slot: &mut Slot, result: io::Result<()>) -> Told<'_> {
-        self.say(slot, result, |_, ()| ())
-    }
-}
-
 impl To<Data> {
     /// Returns how many bytes of data fit: at most `size`, and what the buffer has after 16 bytes.
     #[must_use]
@@ -338,7 +335,27 @@ impl To<Want> {
     /// agreed on without being wanted: [`withhold`](crate::withhold()) names and declines them.
     #[inline]
     pub fn answer(self, slot: &mut Slot, result: io::Result<FsOptions>) -> Told<'_> {
-        self.say(slot, result, |answer, options| answer.set_options(options.bits()))
+        self.answer_with(slot, result, Limits::default())
+    }
+
+    /// Answers with the options that the file system wants, as [`answer`](Self::answer), and with limits.
+    pub fn answer_with(
+        self,
+        slot: &mut Slot,
+        result: io::Result<FsOptions>,
+        limits: Limits,
+    ) -> Told<'_> {
+        let want = result.as_ref().map_or(0, |want| want.bits());
+        // What the library knows itself is not there.
+        let offered = self.pending.call.other_offset;
+        let is_changed = result.is_ok() && (want & offered != 0 || limits != Limits::default());
+        let mut told = self.say(slot, result, |answer, options| answer.set_options(options.bits()));
+        if is_changed && told.outcome.is_ok() {
+            let agreed = told.reply.add_to_init(offered, &limits.with(want));
+            let options = told.options.unwrap_or_default();
+            told.options = Some(options | FsOptions::from_bits_truncate(agreed));
+        }
+        told
     }
 }
 
@@ -466,6 +483,58 @@ impl To<Offset> {
     #[inline]
     pub fn answer(self, slot: &mut Slot, result: io::Result<u64>) -> Told<'_> {
         self.say(slot, result, RawAnswer::set_offset)
+    }
+}
+
+impl To<Copied> {
+    /// Answers with the number of bytes that were copied.
+    #[inline]
+    pub fn answer(self, slot: &mut Slot, result: io::Result<usize>) -> Told<'_> {
+        self.say(slot, result, |answer, count| answer.count = count as u64)
+    }
+}
+
+impl To<Events> {
+    /// Answers with events, as `poll(2)` has them.
+    #[inline]
+    pub fn answer(self, slot: &mut Slot, result: io::Result<u32>) -> Told<'_> {
+        self.say(slot, result, |answer, events| answer.count = events.into())
+    }
+}
+
+impl To<Locked> {
+    /// Answers with a lock that is in the way, or one of type [`LockType::Unlock`](crate::LockType::Unlock).
+    #[inline]
+    pub fn answer(self, slot: &mut Slot, result: io::Result<Lock>) -> Told<'_> {
+        match result {
+            Ok(lock) => self.succeed(slot, &lock.to_record(), &[]),
+            Err(error) => self.fail(slot, &error),
+        }
+    }
+}
+
+impl To<Extended> {
+    /// Answers with attributes, and how long they are valid.
+    #[inline]
+    pub fn answer(self, slot: &mut Slot, result: io::Result<(Statx, Duration)>) -> Told<'_> {
+        match result {
+            Ok((statx, timeout)) => self.succeed(slot, &statx.to_record(timeout), &[]),
+            Err(error) => self.fail(slot, &error),
+        }
+    }
+}
+
+impl To<Controlled> {
+    /// Answers with the result of a command. Output of more than `output_size` bytes, and more than 256 ranges, are
+    /// answered EIO.
+    #[inline]
+    pub fn answer(self, slot: &mut Slot, result: io::Result<IoctlReply>) -> Told<'_> {
+        let size = self.pending.call.size;
+        let text = result.and_then(|reply| reply.to_text(size).ok_or_else(|| Errno::EIO.into()));
+        match text {
+            Ok(text) => self.succeed(slot, &text, &[]),
+            Err(error) => self.fail(slot, &error),
+        }
     }
 }
 

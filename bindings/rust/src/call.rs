@@ -2,15 +2,17 @@
 #![forbid(unsafe_code)]
 
 use crate::answer::{
-    Attributes, Created, Data, Destroyed, Directory, Done, EntryOf, Fault, FaultOrSilence, Offset,
-    Opened, Quiet, Statistics, Text, TextOrCount, To, Told, Want, Written,
+    Attributes, Controlled, Copied, Created, Data, Destroyed, Directory, Done, EntryOf, Events,
+    Extended, Fault, Locked, Offset, Opened, Quiet, Statistics, Text, TextOrCount, To, Told, Want,
+    Written,
 };
 use crate::attr::SetattrIn;
 use crate::bytes::{Bytes, Forgets};
 use crate::ffi::{Pending, Range, RawCall, Slot};
 use crate::file_system::{Context, Extensions, SecContext};
-use crate::flags::{FsOptions, SetattrValid, SetxattrFlags};
-use crate::numbers::has;
+use crate::flags::{FsOptions, IoctlFlags, SetattrValid, SetxattrFlags};
+use crate::further::{Lock, LockType, PollHandle};
+use crate::numbers::{has, kind};
 use std::borrow::Cow;
 use std::ffi::CStr;
 use std::io::{self, IoSlice};
@@ -20,7 +22,7 @@ use std::io::{self, IoSlice};
 #[must_use = "the client waits for the reply"]
 #[derive(Debug)]
 pub struct PendingCall<'r> {
-    /// Who asks. Only `unique` is set for INIT, DESTROY, and calls without arguments.
+    /// Who asks. Only `unique` is set for INIT, DESTROY and [`Call::Unknown`].
     pub context: Context,
     /// The call.
     pub call: Call<'r>,
@@ -29,12 +31,20 @@ pub struct PendingCall<'r> {
 /// Declares [`Call`] by a table, and what goes over its calls.
 ///
 /// Of each call the table has the number in the header, the variant with its fields, and the kind of its answer. If the
-/// answer is the result of a method, it also has how that is called; the others are made in `make.rs`. A field is read
-/// by the function of [`Decoder`] that has its name, or the name after `=`.
+/// answer is the result of a method, it also has how that is called; the others are made in `make.rs`. Those of a further
+/// method are calls that virtiofsd does not serve. A field is read by the function of [`Decoder`] that has its name, or
+/// the name after `=`.
 macro_rules! calls {
-    ($(#[$about:meta])* pub enum Call<$r:lifetime>; by_method { $($made:tt)* } by_server { $($other:tt)* }) => {
-        declare_call! { $(#[$about])* pub enum Call<$r>; $($made)* $($other)* }
+    (
+        $(#[$about:meta])*
+        pub enum Call<$r:lifetime>;
+        by_method { $($made:tt)* }
+        by_further_method { $($further:tt)* }
+        by_server { $($other:tt)* }
+    ) => {
+        declare_call! { $(#[$about])* pub enum Call<$r>; $($made)* $($further)* $($other)* }
         declare_make_call! { $($made)* }
+        declare_make_further_call! { $($further)* }
     };
 }
 
@@ -57,7 +67,8 @@ macro_rules! declare_call {
         $(#[$about])*
         pub enum Call<$r> {
             $($(#[$doc])* $Name { $($field: $type,)* to: To<$kind> },)*
-            /// A call of a later version of the library. It can only be refused, with ENOSYS.
+            /// A call that is not [offered](crate::Offers), of a lock of unknown type, or of a later version of the library.
+            /// It can only be refused, with ENOSYS.
             Unknown { number: u32, to: To<Fault> },
         }
 
@@ -67,6 +78,7 @@ macro_rules! declare_call {
         pub(crate) fn call_of(pending: Box<Pending>, request: Request<'_>) -> Call<'_> {
             let asked = Decoder { raw: &pending.call, request };
             match asked.raw.call {
+                number if asked.is_unknown() => Call::Unknown { number, to: To::new(pending) },
                 $(number::$NUMBER => Call::$Name {
                     $($field: read!(asked $field $($function)?),)*
                     to: To::new(pending),
@@ -120,8 +132,8 @@ macro_rules! declare_make_call {
         /// arguments, whose types may be others that have `From` for those here. `server.ask(|files| ..)` calls the
         /// closure with the file system, and returns its result, in the types of this crate. Of calls whose answer is
         /// not the result of a method `rest` makes the [`Told`](crate::Told): those that open, create, read or
-        /// write a file, open or list a directory, read a link, drop lookups, begin or end the session, or have no
-        /// arguments.
+        /// write a file, open or list a directory, read a link, drop lookups, or begin or end the session; and those
+        /// that are [offered](crate::Offers), or unknown.
         ///
         /// ```
         /// use nizwarf::{make_call, Asked, Call, Context, Errno, FileSystem, NoEntries, Session, Slot, Told};
@@ -162,6 +174,28 @@ macro_rules! declare_make_call {
             ($call:expr, $slot:expr, $server:expr, $context:expr, $other:ident => $rest:expr) => {
                 match $call {
                     $($crate::Call::$Name { $($field,)* to } => to.answer(
+                        $slot,
+                        $server.ask(|files| files.$method($context, $($argument)*)),
+                    ),)*
+                    $other => $rest,
+                }
+            };
+        }
+    };
+}
+
+macro_rules! declare_make_further_call {
+    ($(
+        $(#[$doc:meta])*
+        $NUMBER:ident = $number:literal:
+        $Name:ident { $($field:ident: $type:ty $(= $function:ident)?),* $(,)? } -> $kind:ident
+        by $method:ident($($argument:tt)*);
+    )*) => {
+        /// Makes a call that is offered, as [`make_call`].
+        macro_rules! make_further_call {
+            ($call:expr, $slot:expr, $server:expr, $context:expr, $other:ident => $rest:expr) => {
+                match $call {
+                    $(Call::$Name { $($field,)* to } => to.answer(
                         $slot,
                         $server.ask(|files| files.$method($context, $($argument)*)),
                     ),)*
@@ -356,6 +390,69 @@ calls! {
             by syncfs(node.into());
     }
 
+    by_further_method {
+        /// Returns a lock that is in the way of this one.
+        GETLK = 31: Getlk { node: u64, handle: u64, lock_owner: u64 = owner, lock: Lock } -> Locked
+            by getlk(node.into(), handle.into(), lock_owner, lock);
+        /// Sets or removes a lock. With `flock` it is one of `flock(2)`.
+        SETLK = 32: Setlk {
+            node: u64,
+            handle: u64,
+            lock_owner: u64 = owner,
+            lock: Lock,
+            flock: bool,
+        } -> Done
+            by setlk(node.into(), handle.into(), lock_owner, lock, false, flock);
+        /// Sets or removes a lock, and waits for that. With `flock` it is one of `flock(2)`.
+        SETLKW = 33: Setlkw {
+            node: u64,
+            handle: u64,
+            lock_owner: u64 = owner,
+            lock: Lock,
+            flock: bool,
+        } -> Done
+            by setlk(node.into(), handle.into(), lock_owner, lock, true, flock);
+        /// Maps a block of a file.
+        BMAP = 37: Bmap { node: u64, block: u64 = offset, block_size: u32 = size } -> Offset
+            by bmap(node.into(), block, block_size);
+        /// Carries out a command of `ioctl(2)`.
+        IOCTL = 39: Ioctl {
+            node: u64,
+            handle: u64,
+            flags: IoctlFlags = ioctl_flags,
+            cmd: u32,
+            arg: u64 = offset,
+            input: Cow<'r, [u8]> = value,
+            output_size: u32 = size,
+        } -> Controlled
+            by ioctl(node.into(), handle.into(), flags, cmd, arg, &input, output_size);
+        /// Returns which of the events are there.
+        POLL = 40: Poll { node: u64, handle: u64, wake: Option<PollHandle>, events: u32 } -> Events
+            by poll(node.into(), handle.into(), wake, events);
+        /// Returns attributes with the time of birth.
+        STATX = 52: Statx {
+            node: u64,
+            handle: Option<u64> = handle_if_any,
+            flags: u32,
+            mask: u32,
+        } -> Extended
+            by statx(node.into(), handle.map(Into::into), flags, mask);
+        /// Copies as [`CopyFileRange`](Call::CopyFileRange), and any number of bytes.
+        COPY_64 = 53: CopyFileRange64 {
+            node_in: u64,
+            handle_in: u64,
+            offset_in: u64,
+            node_out: u64,
+            handle_out: u64,
+            offset_out: u64,
+            len: u64,
+            flags: u64 = copy_flags,
+        } -> Copied
+            by copyfilerange(
+                node_in.into(), handle_in.into(), offset_in, node_out.into(), handle_out.into(), offset_out, len, flags
+            );
+    }
+
     by_server {
         /// Drops `count` lookups of a node.
         FORGET = 2: Forget { node: u64, count: u64 } -> Quiet;
@@ -398,12 +495,6 @@ calls! {
             offset: u64,
             plus: bool,
         } -> Directory;
-        /// Tests a lock. It has no arguments.
-        GETLK = 31: Getlk {} -> FaultOrSilence;
-        /// Sets a lock. It has no arguments.
-        SETLK = 32: Setlk {} -> FaultOrSilence;
-        /// Waits for a lock. It has no arguments.
-        SETLKW = 33: Setlkw {} -> FaultOrSilence;
         /// Creates and opens a file.
         CREATE = 35: Create {
             parent: u64,
@@ -414,20 +505,23 @@ calls! {
             umask: u32,
             extensions: Extensions,
         } -> Created;
-        /// Maps a block of a file. It has no arguments.
-        BMAP = 37: Bmap {} -> FaultOrSilence;
         /// Ends the session. The client then holds no lookups.
         DESTROY = 38: Destroy {} -> Destroyed;
-        /// Controls a device. It has no arguments.
-        IOCTL = 39: Ioctl {} -> FaultOrSilence;
-        /// Polls a file. It has no arguments.
-        POLL = 40: Poll {} -> FaultOrSilence;
-        /// Answers a notification. It has no arguments.
-        NOTIFY_REPLY = 41: NotifyReply {} -> FaultOrSilence;
+        /// Has the data that [`Notifier::retrieve`](crate::Notifier::retrieve) asked for by the number `unique` of the
+        /// context.
+        NOTIFY_REPLY = 41: NotifyReply { node: u64, offset: u64, data: Bytes<'r> } -> Quiet;
         /// Drops lookups of many nodes.
         BATCH_FORGET = 42: BatchForget { forgets: Forgets<'r> } -> Quiet;
-        /// Creates a file without a name. It has no arguments, and can only be refused.
-        TMPFILE = 51: Tmpfile {} -> Fault;
+        /// Creates and opens a file without a name. What `name` is says nothing.
+        TMPFILE = 51: Tmpfile {
+            parent: u64,
+            name: Cow<'r, CStr>,
+            mode: u32,
+            kill_priv: bool,
+            flags: u32,
+            umask: u32,
+            extensions: Extensions,
+        } -> Created;
     }
 }
 
@@ -488,7 +582,7 @@ impl<'r> Decoder<'_, 'r> {
         length: u64 { count len length }
         lock_owner: u64 { copy_flags owner }
         mode: u32 { mode }
-        more: u32 { mask whence }
+        more: u32 { cmd events mask whence }
         node: u64 { node node_in parent }
         offset: u64 { offset offset_in }
         other_handle: u64 { handle_out }
@@ -504,6 +598,7 @@ impl<'r> Decoder<'_, 'r> {
         CONTEXT: has_context
         DATASYNC: datasync
         DELAYED: delayed_write
+        FLOCK: flock
         FLOCK_RELEASE: flock_release
         FLUSHES: flush
         GROUP: has_group
@@ -511,6 +606,31 @@ impl<'r> Decoder<'_, 'r> {
         KILL_PRIV: kill_priv
         OWNER: has_owner
         PLUS: plus
+    }
+
+    /// Returns whether the call is told nothing, or more than has a name here.
+    fn is_unknown(&self) -> bool {
+        let RawCall { call, answer, flags, .. } = *self.raw;
+        match call {
+            number::GETLK | number::SETLK | number::SETLKW if LockType::of(flags).is_none() => true,
+            _ => matches!(answer, kind::FAULT | kind::FAULT_OR_SILENCE),
+        }
+    }
+
+    fn lock(&self) -> Lock {
+        let RawCall { offset: start, other_offset: end, flags, more: pid, .. } = *self.raw;
+        // (a call of another type is unknown)
+        Lock { start, end, kind: LockType::of(flags).unwrap_or(LockType::Unlock), pid }
+    }
+
+    fn wake(&self) -> Option<PollHandle> {
+        const FUSE_POLL_SCHEDULE_NOTIFY: u32 = 1;
+        let waits = self.raw.flags & FUSE_POLL_SCHEDULE_NOTIFY != 0;
+        waits.then_some(PollHandle(self.raw.offset))
+    }
+
+    fn ioctl_flags(&self) -> IoctlFlags {
+        IoctlFlags::from_bits_truncate(self.raw.flags)
     }
 
     fn handle_if_any(&self) -> Option<u64> {
@@ -564,7 +684,8 @@ impl<'r> Decoder<'_, 'r> {
     }
 
     fn capable(&self) -> FsOptions {
-        FsOptions::from_bits_truncate(self.raw.length)
+        // The latter are those that the library does not know itself.
+        FsOptions::from_bits_truncate(self.raw.length | self.raw.other_offset)
     }
 
     fn extensions(&self) -> Extensions {

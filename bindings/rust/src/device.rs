@@ -2,14 +2,16 @@
 #![forbid(unsafe_code)]
 
 use crate::call::number;
+use crate::client::Client;
 use crate::errno::Errno;
 use crate::ffi::Slot;
 use crate::file_system::FileSystem;
-use crate::server::Server;
+use crate::server::{guard, Server};
 use std::fs::File;
 use std::io::{self, IoSlice, IoSliceMut, Read, Write};
 use std::panic::{catch_unwind, resume_unwind, AssertUnwindSafe};
 use std::sync::atomic::Ordering;
+use std::sync::Arc;
 use std::thread;
 
 impl<F: FileSystem> Server<F> {
@@ -20,10 +22,20 @@ impl<F: FileSystem> Server<F> {
     /// A request that is refused, or whose reply the kernel refuses, is answered EIO: only its caller is told.
     /// So is one whose call panics, before the panic unwinds out of this function.
     ///
+    /// [`FileSystem::begin`] is called before the first request, and [`FileSystem::take`] for each.
+    ///
     /// # Errors
-    /// Errors of reading and writing, except for replies that are no longer awaited.
+    /// Errors of reading and writing, except for replies that are no longer awaited; and of duplicating the
+    /// descriptor, which is open until this returns.
     pub fn serve(&self, device: &File) -> io::Result<()> {
-        let _ends = Serving::new(self);
+        self.serve_shared(&Arc::new(device.try_clone()?))
+    }
+
+    /// Serves the requests of a device that clients refer to.
+    pub(crate) fn serve_shared(&self, device: &Arc<File>) -> io::Result<()> {
+        let client = Client::new(device);
+        let _ends = Serving::new(self, device, &client);
+        let device: &File = device;
         let longest = self.session().longest_message();
         let (mut slot, mut request, mut room) = (Slot::new(), vec![0; longest], vec![0; longest]);
         loop {
@@ -39,7 +51,7 @@ impl<F: FileSystem> Server<F> {
             let request = &request[..len];
             let serve = || {
                 let room = &mut [IoSliceMut::new(&mut room)];
-                self.serve_one(&mut slot, &[IoSlice::new(request)], room)
+                self.serve_by(&mut slot, &[IoSlice::new(request)], room, Some(&client))
             };
             // Nothing is used again after a panic.
             let done = catch_unwind(AssertUnwindSafe(serve)).unwrap_or_else(|panic| {
@@ -58,17 +70,33 @@ impl<F: FileSystem> Server<F> {
 struct Serving<'a, F: FileSystem>(&'a Server<F>);
 
 impl<'a, F: FileSystem> Serving<'a, F> {
-    fn new(server: &'a Server<F>) -> Self {
-        server.serving.fetch_add(1, Ordering::AcqRel);
+    /// The first one tells the file system of its client.
+    fn new(server: &'a Server<F>, device: &Arc<File>, client: &Client) -> Self {
+        let mut serving = guard(&server.serving);
+        if serving.threads == 0 {
+            server.quietly(|files| files.begin(client));
+            serving.device = Some(Arc::clone(device));
+        }
+        serving.threads += 1;
         Serving(server)
+    }
+
+    /// Returns whether it is the last one.
+    fn end(&self) -> bool {
+        let mut serving = guard(&self.0.serving);
+        serving.threads -= 1;
+        let is_last = serving.threads == 0;
+        if is_last {
+            serving.device = None;
+        }
+        is_last
     }
 }
 
 impl<F: FileSystem> Drop for Serving<'_, F> {
     fn drop(&mut self) {
-        let is_last = self.0.serving.fetch_sub(1, Ordering::AcqRel) == 1;
         // (a second panic would abort the process)
-        if is_last && !thread::panicking() && self.0.begun.load(Ordering::Acquire) {
+        if self.end() && !thread::panicking() && self.0.begun.load(Ordering::Acquire) {
             self.0.destroy();
         }
     }
@@ -80,16 +108,20 @@ fn send(mut device: &File, request: &[u8], reply: &[u8]) -> io::Result<()> {
         return Ok(());
     }
     match device.write(reply) {
-        // It is no longer awaited.
-        Err(error) if Errno::ENOENT.is(&error) => Ok(()),
+        Err(error) if is_unawaited(&error) => Ok(()),
         Err(error) if Errno::EINVAL.is(&error) => send_fault(device, request),
         Err(error) => Err(error),
         Ok(_) => Ok(()),
     }
 }
 
+/// Whether an error of sending a reply is that nobody waits for it any more.
+pub(crate) fn is_unawaited(error: &io::Error) -> bool {
+    Errno::ENOENT.is(error)
+}
+
 /// Answers a request EIO, unless it has no reply, or no number.
-fn send_fault(mut device: &File, request: &[u8]) -> io::Result<()> {
+fn send_fault(device: &File, request: &[u8]) -> io::Result<()> {
     const FORGET: [u8; 4] = number::FORGET.to_le_bytes();
     const BATCH_FORGET: [u8; 4] = number::BATCH_FORGET.to_le_bytes();
     let (opcode, unique) = match (request.get(4..8), request.get(8..16)) {
@@ -99,11 +131,16 @@ fn send_fault(mut device: &File, request: &[u8]) -> io::Result<()> {
     if opcode == FORGET || opcode == BATCH_FORGET || unique == [0; 8] {
         return Ok(());
     }
-    let len = 16_u32.to_le_bytes();
-    let fault = [&len[..], &(-Errno::EIO.number()).to_le_bytes(), unique].concat();
+    answer_fault(device, u64::from_le_bytes(unique.try_into().unwrap_or_default()))
+}
+
+/// Answers the request of this number EIO.
+pub(crate) fn answer_fault(mut device: &File, unique: u64) -> io::Result<()> {
+    let (len, error) = (16_u32.to_le_bytes(), (-Errno::EIO.number()).to_le_bytes());
+    let fault = [&len[..], &error, &unique.to_le_bytes()].concat();
     match device.write(&fault) {
         // It has been answered with this error already.
-        Err(error) if Errno::ENOENT.is(&error) || Errno::EINVAL.is(&error) => Ok(()),
+        Err(error) if is_unawaited(&error) || Errno::EINVAL.is(&error) => Ok(()),
         sent => sent.map(drop),
     }
 }

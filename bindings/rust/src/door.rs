@@ -2,9 +2,9 @@
 #![forbid(unsafe_code)]
 
 use crate::call::{call_of, context_of, number, Call, PendingCall};
-use crate::ffi::{RawSession, Slot};
+use crate::ffi::{add_to_init, further_of, InitReply, RawInitMore, RawSession, Slot, INIT_REPLY};
 use crate::file_system::Context;
-use crate::flags::FsOptions;
+use crate::flags::{FsOptions, Offers};
 use crate::numbers::code;
 use std::error::Error;
 use std::fmt;
@@ -21,7 +21,10 @@ use std::io::{IoSlice, IoSliceMut};
 /// assert!(Session::new(4095, 1 << 20).is_err());
 /// ```
 #[derive(Clone, Copy, Debug, PartialEq, Eq)]
-pub struct Session(pub(crate) RawSession);
+pub struct Session {
+    pub(crate) raw: RawSession,
+    pub(crate) offers: Offers,
+}
 
 impl Session {
     /// Creates a session without options. `page_size` is that of the machine, at least 4096; `max_buffer`
@@ -33,43 +36,56 @@ impl Session {
         if page_size < 4096 || !(4096..=134_217_728).contains(&max_buffer) {
             return Err(WrongSize);
         }
-        Ok(Session(RawSession { options: 0, page_size, max_buffer }))
+        let raw = RawSession { options: 0, page_size, max_buffer };
+        Ok(Session { raw, offers: Offers::empty() })
     }
 
     /// Returns the options.
     #[must_use]
     pub fn options(&self) -> FsOptions {
-        FsOptions::from_bits_truncate(self.0.options)
+        FsOptions::from_bits_truncate(self.raw.options)
     }
 
     /// Sets the options: to those of [`Told`](crate::Told) after an INIT or a DESTROY.
     pub fn set_options(&mut self, options: FsOptions) {
-        self.0.options = options.bits();
+        self.raw.options = options.bits();
+    }
+
+    /// Returns which calls are offered that virtiofsd does not serve.
+    #[must_use]
+    pub fn offers(&self) -> Offers {
+        self.offers
+    }
+
+    /// Offers these calls, and no others. At first there are none, and they stay as they are in a session.
+    pub fn set_offers(&mut self, offers: Offers) {
+        self.offers = offers;
     }
 
     /// Returns the size of a page.
     #[must_use]
     pub fn page_size(&self) -> u32 {
-        self.0.page_size
+        self.raw.page_size
     }
 
     /// Returns the largest payload.
     #[must_use]
     pub fn max_buffer(&self) -> u32 {
-        self.0.max_buffer
+        self.raw.max_buffer
     }
 
     /// Returns the longest request, which is also the longest reply: a payload and what precedes it.
     #[must_use]
     pub fn longest_message(&self) -> usize {
-        self.0.max_buffer as usize + 4096
+        self.raw.max_buffer as usize + 4096
     }
 }
 
 impl Default for Session {
     /// Pages of 4096 bytes, and payloads of 1 MiB.
     fn default() -> Self {
-        Session(RawSession { options: 0, page_size: 4096, max_buffer: 1 << 20 })
+        let raw = RawSession { options: 0, page_size: 4096, max_buffer: 1 << 20 };
+        Session { raw, offers: Offers::empty() }
     }
 }
 
@@ -203,12 +219,32 @@ pub struct Reply<'s> {
     slot: &'s mut Slot,
     len: usize,
     put: usize,
+    /// The bytes, if they are others than those of the slot.
+    changed: Option<Box<InitReply>>,
+    /// The number of the request, if it has no reply but should have one.
+    pub(crate) refused: Option<u64>,
 }
 
 impl<'s> Reply<'s> {
     pub(crate) fn new(slot: &'s mut Slot, len: u64, put: u64) -> Self {
         let size = |bytes| usize::try_from(bytes).unwrap_or(usize::MAX);
-        Reply { slot, len: size(len), put: size(put) }
+        Reply { slot, len: size(len), put: size(put), changed: None, refused: None }
+    }
+
+    /// Puts the further fields into the reply to an INIT. Returns the options that are agreed on besides.
+    pub(crate) fn add_to_init(&mut self, offered: u64, more: &RawInitMore) -> u64 {
+        let mut bytes: InitReply = [0; INIT_REPLY];
+        if self.put != INIT_REPLY || self.slot.copy(0, &mut bytes) != INIT_REPLY {
+            return 0;
+        }
+        let agreed = add_to_init(&mut bytes, offered, more);
+        self.changed = Some(Box::new(bytes));
+        agreed
+    }
+
+    /// Returns how many bytes of data follow [`bytes`](Self::bytes).
+    pub(crate) fn data_len(&self) -> usize {
+        self.len - self.put
     }
 
     /// Returns the length of the reply, with which the request is completed. It is 0 if there is none.
@@ -227,7 +263,10 @@ impl<'s> Reply<'s> {
     /// after which the caller has put the data.
     #[must_use]
     pub fn bytes(&mut self) -> &[u8] {
-        self.slot.lend(self.put)
+        match &self.changed {
+            Some(bytes) => &bytes[..],
+            None => self.slot.lend(self.put),
+        }
     }
 
     /// Copies [these bytes](Self::bytes) to the start of the buffers, and returns the length of the reply.
@@ -237,7 +276,13 @@ impl<'s> Reply<'s> {
         for piece in room {
             let len = piece.len().min(self.put - at);
             if len > 0 {
-                at += self.slot.copy(at, &mut piece[..len]);
+                at += match &self.changed {
+                    Some(bytes) => {
+                        piece[..len].copy_from_slice(&bytes[at..at + len]);
+                        len
+                    }
+                    None => self.slot.copy(at, &mut piece[..len]),
+                };
             }
         }
         self.len
@@ -328,9 +373,13 @@ impl Slot {
         room: usize,
         make: impl FnOnce(&'s mut Slot, Context, Call<'r>) -> T,
     ) -> Result<T, Finished<'s>> {
-        let mut pending = self.take(session.0);
-        let (code, told) = self.ask_raw(&mut pending, request, room);
+        let mut pending = self.take(session.raw);
+        let (code, told) = self.ask_raw(&mut pending, session.offers, request, room);
         if code == code::ASKED {
+            if pending.call.call == number::INIT {
+                // (a field that the library does not read)
+                pending.call.other_offset = further_of(request);
+            }
             let context = context_of(&pending.call);
             let call = call_of(pending, request);
             return Ok(make(self, context, call));

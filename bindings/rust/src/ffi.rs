@@ -5,6 +5,7 @@
 use crate::attr::{Attr, SetattrIn, Statvfs};
 use crate::errno::answered;
 use crate::file_system::Entry;
+use crate::flags::Offers;
 use std::ffi::{c_void, CStr};
 use std::fmt;
 use std::fs::File;
@@ -134,6 +135,21 @@ pub struct Item<'a> {
     lent: PhantomData<&'a CStr>,
 }
 
+/// `nizwarf_init_more`.
+#[repr(C)]
+#[derive(Clone, Copy, Debug)]
+pub(crate) struct RawInitMore {
+    pub want: u64,
+    pub max_readahead: u32,
+    pub max_write: u32,
+    pub time_gran: u32,
+    pub max_stack_depth: u32,
+    pub request_timeout: u32,
+    pub max_background: u16,
+    pub congestion_threshold: u16,
+    pub padding: u64,
+}
+
 /// `nizwarf_told`.
 #[repr(C)]
 #[derive(Clone, Copy, Debug, Default)]
@@ -148,16 +164,17 @@ pub(crate) struct RawTold {
 
 // `std` guarantees that `IoSlice` has the layout of `iovec`, which is that of `nizwarf_segment`.
 extern "C" {
-    fn nizwarf_ask_at(
+    fn nizwarf_ask_offered_at(
         slot: *mut RawSlot,
         session: *const RawSession,
+        offers: u32,
         request: *const IoSlice<'_>,
         segments: usize,
         room: usize,
         call: *mut RawCall,
         told: *mut RawTold,
     ) -> i32;
-    fn nizwarf_answer_at(
+    fn nizwarf_answer_offered_at(
         slot: *mut RawSlot,
         session: *const RawSession,
         call: *const RawCall,
@@ -175,8 +192,9 @@ extern "C" {
         piece_len: usize,
     ) -> usize;
     fn nizwarf_end_slot_at(slot: *mut RawSlot) -> i32;
-    fn nizwarf_check_at(
+    fn nizwarf_check_offered_at(
         session: *const RawSession,
+        offers: u32,
         request: *const u8,
         len: usize,
         room: usize,
@@ -198,6 +216,55 @@ extern "C" {
         text: *mut u8,
         text_len: usize,
     ) -> usize;
+    fn nizwarf_init_offered_at(request: *const u8, len: usize) -> u64;
+    fn nizwarf_add_to_init_at(
+        reply: *mut u8,
+        len: usize,
+        offered: u64,
+        more: *const RawInitMore,
+    ) -> u64;
+    fn nizwarf_notice_inval_inode_at(
+        node: u64,
+        offset: i64,
+        len: i64,
+        out: *mut u8,
+        out_len: usize,
+    ) -> usize;
+    fn nizwarf_notice_inval_entry_at(
+        parent: u64,
+        flags: u32,
+        name: *const u8,
+        name_len: usize,
+        out: *mut u8,
+        out_len: usize,
+    ) -> usize;
+    fn nizwarf_notice_delete_at(
+        parent: u64,
+        child: u64,
+        name: *const u8,
+        name_len: usize,
+        out: *mut u8,
+        out_len: usize,
+    ) -> usize;
+    fn nizwarf_notice_store_at(
+        node: u64,
+        offset: u64,
+        size: u32,
+        out: *mut u8,
+        out_len: usize,
+    ) -> usize;
+    fn nizwarf_notice_retrieve_at(
+        unique: u64,
+        node: u64,
+        offset: u64,
+        size: u32,
+        out: *mut u8,
+        out_len: usize,
+    ) -> usize;
+    fn nizwarf_notice_poll_at(handle: u64, out: *mut u8, out_len: usize) -> usize;
+    fn nizwarf_notice_resend_at(out: *mut u8, out_len: usize) -> usize;
+    fn nizwarf_notice_inc_epoch_at(out: *mut u8, out_len: usize) -> usize;
+    fn nizwarf_notice_prune_at(count: u32, out: *mut u8, out_len: usize) -> usize;
 }
 
 // A function of the C library that `std` does not have.
@@ -221,13 +288,91 @@ pub(crate) fn write_at(file: &File, piece: &[u8], off: u64, flags: i32) -> io::R
 }
 
 /// Checks a request: a code, the call that it asks for, and the request that it interrupts.
-pub(crate) fn check(session: &RawSession, request: &[u8], room: usize) -> (i32, RawCall, u64) {
+pub(crate) fn check(
+    session: &RawSession,
+    offers: u32,
+    request: &[u8],
+    room: usize,
+) -> (i32, RawCall, u64) {
     let (mut call, mut interrupts) = (RawCall::NONE, 0);
+    let (at, len) = (request.as_ptr(), request.len());
     // SAFETY: all pointers are valid for this call, which keeps none.
     let code = unsafe {
-        nizwarf_check_at(session, request.as_ptr(), request.len(), room, &mut call, &mut interrupts)
+        nizwarf_check_offered_at(session, offers, at, len, room, &mut call, &mut interrupts)
     };
     (code, call, interrupts)
+}
+
+/// The length of a reply to INIT that has further fields.
+pub(crate) const INIT_REPLY: usize = 80;
+
+/// Such a reply.
+pub(crate) type InitReply = [u8; INIT_REPLY];
+
+/// The further options that an INIT offers.
+pub(crate) fn further_of(request: &[IoSlice<'_>]) -> u64 {
+    /// How many bytes of it are enough.
+    const FRONT: usize = 104;
+    let mut front = [0; FRONT];
+    let bytes = request.iter().flat_map(|piece| piece.iter());
+    let len = front.iter_mut().zip(bytes).map(|(to, byte)| *to = *byte).count();
+    // SAFETY: the pointer is that of an array, which has at least so many bytes.
+    unsafe { nizwarf_init_offered_at(front.as_ptr(), len) }
+}
+
+/// Puts further fields into a reply to INIT. Returns the further options that are agreed on.
+pub(crate) fn add_to_init(reply: &mut InitReply, offered: u64, more: &RawInitMore) -> u64 {
+    // SAFETY: both pointers are valid for this call, and the reply has this length.
+    unsafe { nizwarf_add_to_init_at(reply.as_mut_ptr(), reply.len(), offered, more) }
+}
+
+/// A notice.
+#[derive(Clone, Copy, Debug)]
+pub(crate) enum Notice<'a> {
+    InvalInode { node: u64, offset: i64, len: i64 },
+    InvalEntry { parent: u64, flags: u32, name: &'a CStr },
+    Delete { parent: u64, child: u64, name: &'a CStr },
+    Store { node: u64, offset: u64, size: u32 },
+    Retrieve { unique: u64, node: u64, offset: u64, size: u32 },
+    Poll { handle: u64 },
+    Resend,
+    IncEpoch,
+    Prune { count: u32 },
+}
+
+impl Notice<'_> {
+    /// Puts it at the start of `out`, without the data that follow it. Returns its length, which is 0 if it has
+    /// no room.
+    pub fn put(self, out: &mut [u8]) -> usize {
+        let (at, len) = (out.as_mut_ptr(), out.len());
+        // SAFETY: the pointers and lengths are those of slices, which do not overlap.
+        unsafe {
+            match self {
+                Notice::InvalInode { node, offset, len: size } => {
+                    nizwarf_notice_inval_inode_at(node, offset, size, at, len)
+                }
+                Notice::InvalEntry { parent, flags, name } => {
+                    let name = name.to_bytes();
+                    let (name, name_len) = (name.as_ptr(), name.len());
+                    nizwarf_notice_inval_entry_at(parent, flags, name, name_len, at, len)
+                }
+                Notice::Delete { parent, child, name } => {
+                    let name = name.to_bytes();
+                    nizwarf_notice_delete_at(parent, child, name.as_ptr(), name.len(), at, len)
+                }
+                Notice::Store { node, offset, size } => {
+                    nizwarf_notice_store_at(node, offset, size, at, len)
+                }
+                Notice::Retrieve { unique, node, offset, size } => {
+                    nizwarf_notice_retrieve_at(unique, node, offset, size, at, len)
+                }
+                Notice::Poll { handle } => nizwarf_notice_poll_at(handle, at, len),
+                Notice::Resend => nizwarf_notice_resend_at(at, len),
+                Notice::IncEpoch => nizwarf_notice_inc_epoch_at(at, len),
+                Notice::Prune { count } => nizwarf_notice_prune_at(count, at, len),
+            }
+        }
+    }
 }
 
 /// Has a line written into memory that is as long as the line, and a byte longer.
@@ -300,6 +445,21 @@ impl RawCall {
         more: 0,
         group: 0,
         readahead: 0,
+    };
+}
+
+impl RawInitMore {
+    /// Nothing more.
+    pub const NONE: Self = Self {
+        want: 0,
+        max_readahead: 0,
+        max_write: 0,
+        time_gran: 0,
+        max_stack_depth: 0,
+        request_timeout: 0,
+        max_background: 0,
+        congestion_threshold: 0,
+        padding: 0,
     };
 }
 
@@ -493,6 +653,7 @@ impl Slot {
     pub(crate) fn ask_raw(
         &mut self,
         pending: &mut Pending,
+        offers: Offers,
         request: &[IoSlice<'_>],
         room: usize,
     ) -> (i32, RawTold) {
@@ -503,9 +664,10 @@ impl Slot {
         // that do not change while they are borrowed. As the header requires, `call.call` is 0, and
         // `told` is zero except for the options.
         let code = unsafe {
-            nizwarf_ask_at(
+            nizwarf_ask_offered_at(
                 &mut self.raw,
                 session,
+                offers.bits(),
                 request.as_ptr(),
                 request.len(),
                 room,
@@ -527,7 +689,7 @@ impl Slot {
         // SAFETY: all pointers are valid for this call and none is null, not even those of length 0. The
         // library reads no more of the answer than there is. The names of items outlive the items.
         let code = unsafe {
-            nizwarf_answer_at(
+            nizwarf_answer_offered_at(
                 &mut self.raw,
                 session,
                 call,
@@ -581,8 +743,8 @@ impl Drop for Slot {
 #[allow(dead_code)] // older compilers do not count uses in unnamed constants
 mod layout {
     use super::{
-        Attr, IoSlice, Item, Range, RawAnswer, RawCall, RawEntry, RawSession, RawSlot, RawTold,
-        SetattrIn, Statvfs,
+        Attr, IoSlice, Item, Range, RawAnswer, RawCall, RawEntry, RawInitMore, RawSession, RawSlot,
+        RawTold, SetattrIn, Statvfs,
     };
     use std::mem::{size_of, transmute};
 
@@ -640,6 +802,9 @@ mod layout {
         count: 1 => 16, open_flags: 1 => 24, has_count: 1 => 28,
         entry: RawEntry { node: 1, ..RawEntry::NONE } => 32,
         statfs: Statvfs { f_bsize: 1, ..Statvfs::NONE } => 160);
+    laid_out!(RawInitMore, 40, RawInitMore::NONE, want: 1 => 0, max_readahead: 1 => 8, max_write: 1 => 12,
+        time_gran: 1 => 16, max_stack_depth: 1 => 20, request_timeout: 1 => 24, max_background: 1 => 28,
+        congestion_threshold: 1 => 30, padding: 1 => 32);
     laid_out!(RawTold, 48, TOLD, len: 1 => 0, put: 1 => 8, options: 1 => 16, give_back: 1 => 24,
         taken: 1 => 32, interrupts: 1 => 40);
     const _: () = assert!(size_of::<RawSlot>() == 8);

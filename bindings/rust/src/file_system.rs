@@ -2,8 +2,13 @@
 #![forbid(unsafe_code)]
 
 use crate::attr::{Attr, SetattrIn, Statvfs};
+use crate::call::Call;
+use crate::client::Client;
 use crate::errno::Errno;
-use crate::flags::{FsOptions, OpenOptions, SetattrValid, SetxattrFlags, WritevFlags};
+use crate::flags::{
+    FsOptions, IoctlFlags, Offers, OpenOptions, SetattrValid, SetxattrFlags, WritevFlags,
+};
+use crate::further::{IoctlReply, Limits, Lock, PollHandle, Statx};
 use std::ffi::{CStr, CString};
 use std::fs::File;
 use std::io;
@@ -205,7 +210,8 @@ impl<W: ZeroCopyWriter> ZeroCopyWriter for &mut W {
 }
 
 /// A file system. Each method is a call of the protocol, and returns ENOSYS by default, unless it is documented
-/// otherwise. The methods and their arguments are those of the trait of virtiofsd 1.13.2. [`Errno`] names errors;
+/// otherwise. The methods and their arguments are those of the trait of virtiofsd 1.13.2, but for the last ones, from
+/// [`offers`](Self::offers) on, which serve what that does not. [`Errno`] names errors;
 /// one without a number has that of its [`kind`](io::Error::kind), as ENOENT for `NotFound`, or else is EIO.
 ///
 /// Each entry that is returned, except one of node 0, is a lookup of its node, and [`forget`](Self::forget)
@@ -600,7 +606,8 @@ pub trait FileSystem {
         not_served()
     }
 
-    /// Copies from one file to another, as `copy_file_range(2)`, and returns how many bytes.
+    /// Copies from one file to another, as `copy_file_range(2)`, and returns how many bytes: less than 2^32, unless
+    /// [`COPY_64`](Offers::COPY_64) is offered.
     fn copyfilerange(
         &self,
         ctx: Context,
@@ -621,46 +628,185 @@ pub trait FileSystem {
         not_served()
     }
 
-    /// Tests a lock. There are no arguments, and success has no reply: [`Server`](crate::Server) answers EIO.
-    fn getlk(&self) -> io::Result<()> {
+    /// Returns which further calls it serves, of those that virtiofsd does not. By default it serves none. It is
+    /// the same for the whole session.
+    ///
+    /// Linux takes a call that was answered ENOSYS for one that is not there, and does not ask for it again.
+    fn offers(&self) -> Offers {
+        Offers::empty()
+    }
+
+    /// Returns limits that the client is told at the INIT, after [`init`](Self::init). By default it has those of
+    /// virtiofsd.
+    fn limits(&self) -> Limits {
+        Limits::default()
+    }
+
+    /// Is told of its client, before the first request: [`Client::notifier`] tells that of changes.
+    /// [`Server::serve`](crate::Server::serve) and a mount call it, each time the first thread begins. By default it
+    /// does nothing.
+    fn begin(&self, client: &Client) {}
+
+    /// Takes a call, to answer it later on any thread, by its [`To`](crate::To) and [`Client::send`]. What it returns
+    /// is made by its method, before this thread reads another request. By default it returns each.
+    /// [`Server::serve`](crate::Server::serve) and a mount call it for each but INIT and DESTROY.
+    ///
+    /// If the [`To`](crate::To) of a call that was taken is dropped, its caller waits for ever. An
+    /// [`interrupt`](Self::interrupt) finds it by `ctx.unique`. On several threads it may come before its call is
+    /// taken. At [`destroy`](Self::destroy) calls may still be taken, whose replies go nowhere.
+    ///
+    /// ```
+    /// use nizwarf::{kinds, Call, Client, Context, FileSystem, NoEntries, Offers, Slot, To};
+    /// use std::sync::Mutex;
+    ///
+    /// /// Locks of which one waits until the other is removed.
+    /// #[derive(Default)]
+    /// struct Locks {
+    ///     waiting: Mutex<Vec<(To<kinds::Done>, Client)>>,
+    /// }
+    ///
+    /// impl Locks {
+    ///     /// The lock is free.
+    ///     fn wake(&self) {
+    ///         if let Some((to, client)) = self.waiting.lock().unwrap().pop() {
+    ///             // Nobody can be told of an error.
+    ///             let _ = client.send(to.answer(&mut Slot::new(), Ok(())).reply());
+    ///         }
+    ///     }
+    /// }
+    ///
+    /// impl FileSystem for Locks {
+    ///     type Inode = u64;
+    ///     type Handle = u64;
+    ///     type DirIter = NoEntries;
+    ///
+    ///     fn offers(&self) -> Offers {
+    ///         Offers::LOCKS
+    ///     }
+    ///
+    ///     fn take<'r>(&self, _: Context, call: Call<'r>, client: &Client) -> Option<Call<'r>> {
+    ///         match call {
+    ///             Call::Setlkw { to, .. } => {
+    ///                 self.waiting.lock().unwrap().push((to, client.clone()));
+    ///                 None
+    ///             }
+    ///             other => Some(other),
+    ///         }
+    ///     }
+    /// }
+    /// # Locks::default().wake();
+    /// ```
+    fn take<'r>(&self, ctx: Context, call: Call<'r>, client: &Client) -> Option<Call<'r>> {
+        Some(call)
+    }
+
+    /// Returns a lock that is in the way of this one, or this one with [`LockType::Unlock`] if there is none. This and
+    /// the methods after it are for calls that are [offered](Self::offers).
+    ///
+    /// [`LockType::Unlock`]: crate::LockType::Unlock
+    fn getlk(
+        &self,
+        ctx: Context,
+        inode: Self::Inode,
+        handle: Self::Handle,
+        lock_owner: u64,
+        lock: Lock,
+    ) -> io::Result<Lock> {
         not_served()
     }
 
-    /// Sets a lock: as [`getlk`](Self::getlk).
-    fn setlk(&self) -> io::Result<()> {
+    /// Sets or removes a lock. If another one is in the way, it is EAGAIN, or with `wait` it waits, until an
+    /// [`interrupt`](Self::interrupt) ends it with EINTR. With `flock` the lock is one of `flock(2)`, of the whole
+    /// file, and has nothing to do with the others.
+    ///
+    /// While it waits, its thread serves no other request, not even the one that removes the other lock:
+    /// [`take`](Self::take) a [`Call::Setlkw`] if it has to wait.
+    fn setlk(
+        &self,
+        ctx: Context,
+        inode: Self::Inode,
+        handle: Self::Handle,
+        lock_owner: u64,
+        lock: Lock,
+        wait: bool,
+        flock: bool,
+    ) -> io::Result<()> {
         not_served()
     }
 
-    /// Waits for a lock: as [`getlk`](Self::getlk).
-    fn setlkw(&self) -> io::Result<()> {
+    /// Returns the number of the block of the device that has this block of a file.
+    fn bmap(
+        &self,
+        ctx: Context,
+        inode: Self::Inode,
+        block: u64,
+        block_size: u32,
+    ) -> io::Result<u64> {
         not_served()
     }
 
-    /// Controls a device: as [`getlk`](Self::getlk).
-    fn ioctl(&self) -> io::Result<()> {
+    /// Carries out a command of `ioctl(2)`, whose third argument is `arg`. `input` is what Linux copied from there, and
+    /// `output_size` how much it copies back at most. Both are as `cmd` says, unless
+    /// [`UNRESTRICTED`](IoctlFlags::UNRESTRICTED) is set. A command that is not known is ENOTTY.
+    fn ioctl(
+        &self,
+        ctx: Context,
+        inode: Self::Inode,
+        handle: Self::Handle,
+        flags: IoctlFlags,
+        cmd: u32,
+        arg: u64,
+        input: &[u8],
+        output_size: u32,
+    ) -> io::Result<IoctlReply> {
         not_served()
     }
 
-    /// Maps a block: as [`getlk`](Self::getlk).
-    fn bmap(&self) -> io::Result<()> {
+    /// Returns which of the events, as `poll(2)` has them, are there. If there is a `wake`,
+    /// [`Notifier::wake`](crate::Notifier::wake) has to tell the client by it when one comes.
+    fn poll(
+        &self,
+        ctx: Context,
+        inode: Self::Inode,
+        handle: Self::Handle,
+        wake: Option<PollHandle>,
+        events: u32,
+    ) -> io::Result<u32> {
         not_served()
     }
 
-    /// Polls a file: as [`getlk`](Self::getlk).
-    fn poll(&self) -> io::Result<()> {
+    /// Returns attributes, also that of the birth, and how long they are valid. `flags` are those of `statx(2)`, and
+    /// `mask` says which attributes are wanted. Linux asks for it if that has more than [`Statx::BASIC`].
+    fn statx(
+        &self,
+        ctx: Context,
+        inode: Self::Inode,
+        handle: Option<Self::Handle>,
+        flags: u32,
+        mask: u32,
+    ) -> io::Result<(Statx, Duration)> {
         not_served()
     }
 
-    /// Answers a notification. There are no arguments, and success has no reply.
-    fn notify_reply(&self) -> io::Result<()> {
+    /// Creates and opens a file without a name in the file system of `parent`, as [`create`](Self::create). Linux sends
+    /// `/` as `name`.
+    fn tmpfile(
+        &self,
+        ctx: Context,
+        parent: Self::Inode,
+        name: &CStr,
+        mode: u32,
+        kill_priv: bool,
+        flags: u32,
+        umask: u32,
+        extensions: Extensions,
+    ) -> io::Result<(Entry, Option<Self::Handle>, OpenOptions)> {
         not_served()
     }
 
-    /// Creates a file without a name. There are no arguments, and the reply is always an error: if a handle is
-    /// returned, it is released, and the lookup of the entry is given back.
-    fn tmpfile(&self) -> io::Result<(Entry, Option<Self::Handle>, OpenOptions)> {
-        not_served()
-    }
+    /// Is told the data that [`Notifier::retrieve`](crate::Notifier::retrieve) asked for by this number: those that the
+    /// client caches from `offset` on. By default it does nothing.
+    fn notify_reply(&self, unique: u64, inode: Self::Inode, offset: u64, data: &[u8]) {}
 }
 
 /// No items.

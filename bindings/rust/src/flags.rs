@@ -171,11 +171,70 @@ flags! {
         HAS_INODE_DAX = 33;
         /// Requests that create a node have a supplementary group.
         CREATE_SUPP_GROUP = 34;
+        /// A name can be let expire: [`Notifier::expire_entry`](crate::Notifier::expire_entry).
+        HAS_EXPIRE_ONLY = 35;
         /// Files with direct I/O can be mapped.
         DIRECT_IO_ALLOW_MMAP = 36;
+        /// Nodes cannot be exported by NFS: their handles are not valid after they are forgotten.
+        NO_EXPORT_SUPPORT = 38;
+        /// Requests can be asked for again: [`Notifier::resend`](crate::Notifier::resend).
+        HAS_RESEND = 39;
         /// The mount can be ID-mapped. Linux then needs `default_permissions`, and says the user and the group
         /// only of calls that make a node.
         ALLOW_IDMAP = 40;
+        /// Requests that are not answered in [`Limits::request_timeout`](crate::Limits::request_timeout) end the
+        /// connection.
+        REQUEST_TIMEOUT = 42;
+    }
+}
+
+flags! {
+    /// Calls that a file system serves though virtiofsd 1.13.2 does not. Without them each of these is answered
+    /// ENOSYS, and every reply is virtiofsd's.
+    ///
+    /// ```
+    /// use nizwarf::Offers;
+    ///
+    /// assert!(Offers::default().is_empty());
+    /// assert!(Offers::all().contains(Offers::LOCKS | Offers::NOTIFY_REPLY));
+    /// ```
+    Offers: u32 {
+        /// [`getlk`](crate::FileSystem::getlk) and [`setlk`](crate::FileSystem::setlk). Linux asks for them only if
+        /// [`init`](crate::FileSystem::init) wants [`POSIX_LOCKS`](FsOptions::POSIX_LOCKS), and for `flock(2)`
+        /// [`FLOCK_LOCKS`](FsOptions::FLOCK_LOCKS).
+        LOCKS = 0;
+        /// [`bmap`](crate::FileSystem::bmap). Linux asks only a mount of a block device, `fuseblk`.
+        BMAP = 1;
+        /// [`ioctl`](crate::FileSystem::ioctl).
+        IOCTL = 2;
+        /// [`poll`](crate::FileSystem::poll).
+        POLL = 3;
+        /// [`statx`](crate::FileSystem::statx).
+        STATX = 4;
+        /// A copy from one file to another may have 4 GiB and more.
+        COPY_64 = 5;
+        /// [`tmpfile`](crate::FileSystem::tmpfile).
+        TMPFILE = 6;
+        /// [`notify_reply`](crate::FileSystem::notify_reply).
+        NOTIFY_REPLY = 7;
+    }
+}
+
+flags! {
+    /// Flags of an IOCTL.
+    IoctlFlags: u32 {
+        /// The caller is a program of 32 bits.
+        COMPAT = 0;
+        /// The command may read and write any memory of the caller, as a CUSE may ask for it.
+        UNRESTRICTED = 1;
+        /// It is asked again, after an [`IoctlReply::Retry`](crate::IoctlReply::Retry).
+        RETRY = 2;
+        /// The caller has pointers of 32 bits.
+        IOCTL_32BIT = 3;
+        /// The file is a directory.
+        DIR = 4;
+        /// The caller is a program of x32.
+        COMPAT_X32 = 5;
     }
 }
 
@@ -268,12 +327,15 @@ mod tests {
 
     #[test]
     fn options_are_those_of_the_protocol() {
-        // As in linux/fuse.h up to version 7.38, with ALLOW_IDMAP and without MAP_ALIGNMENT.
-        assert_eq!(FsOptions::all().bits(), 0x117_fbff_ffff);
+        // As in linux/fuse.h up to version 7.43, without MAP_ALIGNMENT, PASSTHROUGH and OVER_IO_URING.
+        assert_eq!(FsOptions::all().bits(), 0x5df_fbff_ffff);
         assert_eq!(FsOptions::from_bits_truncate(u64::MAX), FsOptions::all());
         assert_eq!(OpenOptions::all().bits(), 0x7f);
         assert_eq!(SetattrValid::all().bits(), 0xdbf);
         assert_eq!(SetxattrFlags::all().bits(), 1);
+        assert_eq!(IoctlFlags::all().bits(), 0x3f);
+        // As in nizwarf.h.
+        assert_eq!(Offers::all().bits(), 0xff);
         // As in linux/fs.h.
         assert_eq!(WritevFlags::RWF_APPEND.bits(), 0x10);
     }

@@ -12,6 +12,9 @@
 //!   traits that have them.
 //! - [`mount()`] mounts a [`FileSystem`], and serves it.
 //!
+//! By default all replies are those of virtiofsd 1.13.2. [`Offers`] are further calls that a file system may serve, as
+//! locks. A [`Notifier`] tells the client of changes, and by a [`Client`] a call is answered later.
+//!
 //! ```
 //! use nizwarf::{Asked, Call, Session, Slot};
 //! use std::io::IoSlice;
@@ -58,15 +61,18 @@ mod attr;
 mod bytes;
 #[macro_use]
 mod call;
+mod client;
 mod device;
 mod door;
 mod errno;
 mod ffi;
 mod file_system;
 mod flags;
+mod further;
 mod listing;
 mod make;
 mod mount;
+mod notifier;
 mod numbers;
 mod server;
 mod system;
@@ -76,8 +82,9 @@ mod transfer;
 /// The kinds of answers: the type parameters of [`To`].
 pub mod kinds {
     pub use crate::answer::{
-        Attributes, Created, Data, Destroyed, Directory, Done, EntryOf, Fault, FaultOrSilence,
-        Offset, Opened, Quiet, Statistics, Text, TextOrCount, Want, Written,
+        Attributes, Controlled, Copied, Created, Data, Destroyed, Directory, Done, EntryOf, Events,
+        Extended, Fault, Locked, Offset, Opened, Quiet, Statistics, Text, TextOrCount, Want,
+        Written,
     };
 }
 
@@ -85,6 +92,7 @@ pub use answer::{To, Told};
 pub use attr::{Attr, SetattrIn, Statvfs};
 pub use bytes::{Bytes, Forgets, Pieces};
 pub use call::{Call, PendingCall};
+pub use client::Client;
 pub use door::{withhold, Asked, Finished, Refusal, Reply, Session, WrongSize};
 pub use errno::Errno;
 pub use ffi::{Item, Slot};
@@ -93,8 +101,12 @@ pub use file_system::{
     ListxattrReply, NoEntries, SecContext, ZeroCopyReader, ZeroCopyWriter, DT_DIR, DT_LNK, DT_REG,
     DT_UNKNOWN, ROOT_ID,
 };
-pub use flags::{FsOptions, OpenOptions, SetattrValid, SetxattrFlags, WritevFlags};
+pub use flags::{
+    FsOptions, IoctlFlags, Offers, OpenOptions, SetattrValid, SetxattrFlags, WritevFlags,
+};
+pub use further::{IoctlRange, IoctlReply, Limits, Lock, LockType, PollHandle, Statx, StatxTime};
 pub use mount::{mount, spawn_mount, MountOption, Mounted};
+pub use notifier::Notifier;
 pub use server::{Served, Server};
 pub use text::{print_reply, print_request, Checked};
 
@@ -106,4 +118,6 @@ const _: () = {
     is_sent::<Call<'static>>();
     is_sent::<PendingCall<'static>>();
     is_sent::<Item<'static>>();
+    is_sent::<Notifier>();
+    is_sent::<Client>();
 };

@@ -1,11 +1,11 @@
 //! Makes the calls that requests ask for.
 #![forbid(unsafe_code)]
 
-use crate::answer::{Fault, FaultOrSilence, Opened, To, Told};
+use crate::answer::{Created, Opened, To, Told};
 use crate::call::{Call, PendingCall};
 use crate::errno::{no_number, Errno};
 use crate::ffi::Slot;
-use crate::file_system::{Context, FileSystem};
+use crate::file_system::{Context, Entry, FileSystem};
 use crate::flags::OpenOptions;
 use crate::listing::Place;
 use crate::server::{Server, HEADER};
@@ -80,25 +80,41 @@ impl<F: FileSystem> Server<F> {
                 let result =
                     self.ask(|files| files.open(ctx, node.into(), kill_priv, flags).map(opened));
                 let told = to.answer(slot, result);
-                self.release_lost(&told, ctx, flags);
+                if let Some((node, handle)) = told.lost_handle() {
+                    self.release(ctx, node, handle, flags);
+                }
                 told
             }
-            Call::Create { parent, name, mode, kill_priv, flags, umask, extensions, to } => {
-                let result = self.ask(|files| {
+            Call::Create { parent, name, mode, kill_priv, flags, umask, extensions, to } => self
+                .create(slot, (ctx, flags), to, |files| {
                     let parent = parent.into();
-                    let (entry, handle, options) = files
-                        .create(ctx, parent, &name, mode, kill_priv, flags, umask, extensions)?;
-                    Ok((entry, handle.map(Into::into), options))
-                });
-                let told = to.answer(slot, result);
-                self.release_lost(&told, ctx, flags);
-                told
-            }
+                    files.create(ctx, parent, &name, mode, kill_priv, flags, umask, extensions)
+                }),
             call => self.make_other(slot, ctx, call),
         }
     }
 
-    /// A call about a directory, about lookups or about the session, one without arguments, or an unknown one.
+    /// Creates and opens a file, for this caller and with these flags.
+    #[inline]
+    fn create<'s>(
+        &self,
+        slot: &'s mut Slot,
+        (ctx, flags): (Context, u32),
+        to: To<Created>,
+        create: impl FnOnce(&F) -> io::Result<(Entry, Option<F::Handle>, OpenOptions)>,
+    ) -> Told<'s> {
+        let result = self.ask(|files| {
+            let (entry, handle, options) = create(files)?;
+            Ok((entry, handle.map(Into::into), options))
+        });
+        let told = to.answer(slot, result);
+        if let Some((node, handle)) = told.lost_handle() {
+            self.release(ctx, node, handle, flags);
+        }
+        told
+    }
+
+    /// A call about a directory, about lookups or about the session, or one that is offered.
     #[inline]
     fn make_other<'s>(&self, slot: &'s mut Slot, ctx: Context, call: Call<'_>) -> Told<'s> {
         match call {
@@ -128,16 +144,26 @@ impl<F: FileSystem> Server<F> {
                 self.quietly(F::destroy);
                 to.done(slot)
             }
-            Call::Getlk { to } => self.untold(slot, to, F::getlk),
-            Call::Setlk { to } => self.untold(slot, to, F::setlk),
-            Call::Setlkw { to } => self.untold(slot, to, F::setlkw),
-            Call::Bmap { to } => self.untold(slot, to, F::bmap),
-            Call::Ioctl { to } => self.untold(slot, to, F::ioctl),
-            Call::Poll { to } => self.untold(slot, to, F::poll),
-            Call::NotifyReply { to } => to.answer(slot, self.ask(F::notify_reply)),
-            Call::Tmpfile { to } => self.make_tmpfile(slot, ctx, to),
-            call => call.fail(slot, &Errno::ENOSYS.into()),
+            call => self.make_further(slot, ctx, call),
         }
+    }
+
+    /// A call that is offered, or an unknown one.
+    fn make_further<'s>(&self, slot: &'s mut Slot, ctx: Context, call: Call<'_>) -> Told<'s> {
+        make_further_call!(call, slot, self, ctx, call => match call {
+            Call::Tmpfile { parent, name, mode, kill_priv, flags, umask, extensions, to } => {
+                self.create(slot, (ctx, flags), to, |files| {
+                    let parent = parent.into();
+                    files.tmpfile(ctx, parent, &name, mode, kill_priv, flags, umask, extensions)
+                })
+            }
+            Call::NotifyReply { node, offset, data, to } => {
+                let data = data.to_cow();
+                self.quietly(|files| files.notify_reply(ctx.unique, node.into(), offset, &data));
+                to.done(slot)
+            }
+            call => call.fail(slot, &Errno::ENOSYS.into()),
+        })
     }
 
     /// Opens a directory. If its reply does not fit, the handle is released: the client does not know it.
@@ -158,41 +184,10 @@ impl<F: FileSystem> Server<F> {
         told
     }
 
-    /// Releases the handle of a file whose reply does not fit: the client does not know it.
-    fn release_lost(&self, told: &Told<'_>, ctx: Context, flags: u32) {
-        if let Some((node, handle)) = told.lost_handle() {
-            self.release(ctx, node, handle, flags);
-        }
-    }
-
     /// Releases a handle. Nobody can be told of an error.
     fn release(&self, ctx: Context, node: u64, handle: u64, flags: u32) {
         let _ = self
             .ask(|files| files.release(ctx, node.into(), flags, handle.into(), false, false, None));
-    }
-
-    /// Makes a call whose only reply is an error: without one the caller would wait forever.
-    fn untold<'s>(
-        &self,
-        slot: &'s mut Slot,
-        to: To<FaultOrSilence>,
-        call: fn(&F) -> io::Result<()>,
-    ) -> Told<'s> {
-        to.answer(slot, self.ask(call).and_then(|()| Err(no_number())))
-    }
-
-    /// Makes a TMPFILE, whose reply is always an error: a handle is released, and an entry given back.
-    #[inline]
-    fn make_tmpfile<'s>(&self, slot: &'s mut Slot, ctx: Context, to: To<Fault>) -> Told<'s> {
-        let made = self.ask(F::tmpfile).map(|(entry, handle, _)| {
-            if let Some(handle) = handle {
-                self.release(ctx, entry.inode, handle.into(), 0);
-            }
-            if entry.inode != 0 {
-                self.give_back(ctx, entry.inode);
-            }
-        });
-        to.fail(slot, &made.err().unwrap_or_else(no_number))
     }
 }
 

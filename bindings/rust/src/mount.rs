@@ -3,6 +3,7 @@
 
 use crate::errno::Errno;
 use crate::file_system::FileSystem;
+use crate::notifier::Notifier;
 use crate::server::Server;
 use crate::system;
 use std::ffi::{CString, OsStr};
@@ -157,7 +158,7 @@ impl<F: FileSystem + Sync> Server<F> {
     fn serve_at(&self, point: &Point, count: usize) -> io::Result<()> {
         let serve = || {
             let _ends = Ends(point);
-            self.serve(&point.device)
+            self.serve_shared(&point.device)
         };
         thread::scope(|scope| {
             let begin = |_| thread::Builder::new().spawn_scoped(scope, serve);
@@ -213,6 +214,12 @@ impl Mounted {
         &self.point.folder
     }
 
+    /// Returns what tells the client what has changed.
+    #[must_use]
+    pub fn notifier(&self) -> Notifier {
+        Notifier::new(Arc::downgrade(&self.point.device))
+    }
+
     /// Waits until somebody unmounts it.
     ///
     /// # Errors
@@ -263,7 +270,7 @@ impl Drop for Ends<'_> {
 #[derive(Debug)]
 struct Point {
     folder: PathBuf,
-    device: File,
+    device: Arc<File>,
     /// What mounted it, if it is not root's own mount.
     helper: Option<Helper>,
     is_mounted: AtomicBool,
@@ -296,6 +303,7 @@ impl Point {
                 (device, Some(helper))
             }
         };
+        let device = Arc::new(device);
         Ok(Point { folder: whole, device, helper, is_mounted: AtomicBool::new(true) })
     }
 

@@ -12,6 +12,13 @@ pub(crate) mod has {
     pub const FLUSHES: u32 = 1 << 7;
     pub const FLOCK_RELEASE: u32 = 1 << 8;
     pub const PLUS: u32 = 1 << 9;
+    pub const FLOCK: u32 = 1 << 10;
+}
+
+/// Kinds of answers that are only errors.
+pub(crate) mod kind {
+    pub const FAULT_OR_SILENCE: u32 = 2;
+    pub const FAULT: u32 = 15;
 }
 
 /// Codes that the functions return.
@@ -27,4 +34,5 @@ pub(crate) mod code {
     pub const OUT_OF_MEMORY: i32 = 10;
     pub const TOO_LONG: i32 = 13;
     pub const ASKED: i32 = 15;
+    pub const NOT_ASKED: i32 = 16;
 }

@@ -3,14 +3,18 @@
 
 use crate::answer::{To, Told, Want};
 use crate::call::{Call, PendingCall};
+use crate::client::Client;
 use crate::door::{withhold, Asked, Refusal, Session};
 use crate::errno::numbered;
 use crate::ffi::Slot;
 use crate::file_system::{Context, FileSystem};
 use crate::flags::FsOptions;
+use crate::numbers::code;
+use std::fs::File;
 use std::io::{self, IoSlice, IoSliceMut};
 use std::panic::{catch_unwind, AssertUnwindSafe};
-use std::sync::atomic::{AtomicBool, AtomicU64, AtomicUsize, Ordering};
+use std::sync::atomic::{AtomicBool, AtomicU64, Ordering};
+use std::sync::{Arc, Mutex, MutexGuard, PoisonError};
 
 /// The length of the header of a reply.
 pub(crate) const HEADER: usize = 16;
@@ -74,8 +78,20 @@ pub struct Server<F> {
     catches: bool,
     /// Whether there was an INIT, and no DESTROY after it.
     pub(crate) begun: AtomicBool,
-    /// How many threads are in [`serve`](Self::serve).
-    pub(crate) serving: AtomicUsize,
+    pub(crate) serving: Mutex<Serves>,
+}
+
+/// The threads in [`Server::serve`].
+#[derive(Debug, Default)]
+pub(crate) struct Serves {
+    pub threads: usize,
+    /// That of the first of them, which clients refer to, until the last ends.
+    pub device: Option<Arc<File>>,
+}
+
+/// Locks what is valid after a panic, too.
+pub(crate) fn guard<T>(lock: &Mutex<T>) -> MutexGuard<'_, T> {
+    lock.lock().unwrap_or_else(PoisonError::into_inner)
 }
 
 impl<F: FileSystem> Server<F> {
@@ -95,7 +111,7 @@ impl<F: FileSystem> Server<F> {
             withheld: FsOptions::empty(),
             catches: false,
             begun: AtomicBool::new(false),
-            serving: AtomicUsize::new(0),
+            serving: Mutex::default(),
         }
     }
 
@@ -127,11 +143,12 @@ impl<F: FileSystem> Server<F> {
         FsOptions::from_bits_truncate(self.options.load(Ordering::Acquire))
     }
 
-    /// Returns the session, with its present options.
+    /// Returns the session, with its present options, and with what the file system offers.
     #[must_use]
     pub fn session(&self) -> Session {
         let mut session = self.session;
         session.set_options(self.options());
+        session.set_offers(self.file_system.offers());
         session
     }
 
@@ -148,11 +165,25 @@ impl<F: FileSystem> Server<F> {
 
     /// Serves one request, whose bytes are the concatenation of the slices. The reply is put at the start of
     /// the buffers in `room`. A READ may also change them after its reply.
+    ///
+    /// No call can be taken, to be answered later: [`FileSystem::take`] is not called. [`Slot::ask`] is for that.
     pub fn serve_one(
         &self,
         slot: &mut Slot,
         request: &[IoSlice<'_>],
         room: &mut [IoSliceMut<'_>],
+    ) -> Served {
+        self.serve_by(slot, request, room, None)
+    }
+
+    /// Serves one request of a client, if there is one to whom a call can be answered later.
+    #[inline]
+    pub(crate) fn serve_by(
+        &self,
+        slot: &mut Slot,
+        request: &[IoSlice<'_>],
+        room: &mut [IoSliceMut<'_>],
+        client: Option<&Client>,
     ) -> Served {
         let total = room.iter().map(|piece| piece.len()).sum();
         match slot.ask(&self.session(), request, total) {
@@ -170,7 +201,11 @@ impl<F: FileSystem> Server<F> {
                 let context = pending.context;
                 let told = match pending.call {
                     Call::Init { capable, to, .. } => self.begin(slot, request, capable, to),
-                    call => self.make(slot, PendingCall { context, call }, room),
+                    Call::Destroy { .. } => self.make(slot, pending, room),
+                    call => match self.left(context, call, client) {
+                        Ok(call) => self.make(slot, PendingCall { context, call }, room),
+                        Err(outcome) => return Served { len: 0, outcome, interrupts: None },
+                    },
                 };
                 if let Some(options) = told.options {
                     self.set_options(options);
@@ -179,6 +214,24 @@ impl<F: FileSystem> Server<F> {
                 let mut reply = told.give_back(|node| self.give_back(context, node));
                 Served { len: reply.copy_to(room), outcome, interrupts: None }
             }
+        }
+    }
+
+    /// Returns a call unless the file system takes it. If it panics, the request is refused.
+    #[inline]
+    fn left<'r>(
+        &self,
+        context: Context,
+        call: Call<'r>,
+        client: Option<&Client>,
+    ) -> Result<Call<'r>, Result<(), Refusal>> {
+        let client = match client {
+            Some(client) => client,
+            None => return Ok(call),
+        };
+        match self.ask(|files| Ok(files.take(context, call, client))) {
+            Ok(call) => call.ok_or(Ok(())),
+            Err(_) => Err(Err(Refusal::Other(code::NOT_ASKED))),
         }
     }
 
@@ -199,7 +252,8 @@ impl<F: FileSystem> Server<F> {
             Err(_) => (capable, to),
         };
         self.begun.fetch_or(want.is_ok(), Ordering::AcqRel);
-        to.answer(slot, want)
+        let limits = self.ask(|files| Ok(files.limits()));
+        to.answer_with(slot, want, limits.unwrap_or_default())
     }
 
     /// Asks for the call of an INIT again, without options. If there are none it is the present one.

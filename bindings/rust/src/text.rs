@@ -77,7 +77,7 @@ impl Session {
     /// The [`Refusal`] of the request. [`Refusal::OutOfMemory`] comes only from a `BATCH_FORGET` or a security
     /// context: nothing else is allocated.
     pub fn check(&self, request: &[u8], room: usize) -> Result<Checked, Refusal> {
-        let (code, call, interrupts) = ffi::check(&self.0, request, room);
+        let (code, call, interrupts) = ffi::check(&self.raw, self.offers.bits(), request, room);
         if code == code::ASKED {
             return Ok(Checked::Call(call.call));
         }

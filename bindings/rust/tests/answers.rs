@@ -2,10 +2,11 @@
 
 mod common;
 
+use common::diary::lock;
 use common::{fault, reply, session, words, Request};
 use nizwarf::{
-    Asked, Attr, Call, Entry, FsOptions, GetxattrReply, Item, ListxattrReply, OpenOptions, Refusal,
-    Slot, Statvfs, Told, DT_DIR, DT_REG,
+    Asked, Attr, Call, Entry, FsOptions, GetxattrReply, IoctlRange, IoctlReply, Item, Limits,
+    ListxattrReply, OpenOptions, Refusal, Slot, Statvfs, Told, DT_DIR, DT_REG,
 };
 use std::ffi::CString;
 use std::io::{self, IoSlice, IoSliceMut};
@@ -210,19 +211,40 @@ fn faults() {
     let nameless = io::Error::from(io::ErrorKind::NotFound);
     let made = answers!(lookup(), Lookup, slot, to => to.fail(slot, &nameless));
     assert_eq!(made, replied(fault(5)));
-    let made = answers!(Request::new(51, 1), Tmpfile, slot, to =>
-        to.fail(slot, &io::Error::from_raw_os_error(95)));
-    assert_eq!(made, replied(fault(95)));
-    // Only an error of a lock has a reply.
-    let made = answers!(Request::new(31, 1), Getlk, slot, to => to.answer(slot, os_error(38)));
-    assert_eq!(made, replied(fault(38)));
-    let made = answers!(Request::new(31, 1), Getlk, slot, to => to.answer(slot, Ok(())));
-    assert_eq!(made, replied(Vec::new()));
+    let made = answers!(lock(31, 0, 0), Getlk, slot, to => to.answer(slot, os_error(11)));
+    assert_eq!(made, replied(fault(11)));
+    let made = answers!(lock(33, 0, 0), Setlkw, slot, to => to.answer(slot, os_error(4)));
+    assert_eq!(made, replied(fault(4)));
+    let statx = Request::new(52, 5).bytes(&[0; 24]);
+    let made = answers!(statx, Statx, slot, to => to.answer(slot, os_error(13)));
+    assert_eq!(made, replied(fault(13)));
     // A FORGET never has one.
     let made = answers!(Request::new(2, 5).u64(1), Forget, slot, to => to.done(slot));
     assert_eq!(made, replied(Vec::new()));
     let made = answers!(Request::new(2, 5).u64(1), Forget, slot, to => to.fail(slot, &nameless));
     assert_eq!(made, replied(Vec::new()));
+}
+
+#[test]
+fn results_of_ioctl() {
+    let ask = |flags: u32, answered: IoctlReply| {
+        let request = Request::new(39, 5).u64(8).u32(flags).u32(0).u64(0).u32(0).u32(4);
+        answers!(request, Ioctl, slot, to => to.answer(slot, Ok(answered)))
+    };
+    let done = |output: &[u8]| IoctlReply::Done { result: -1, output: output.to_vec() };
+    let head = words(&[u32::MAX, 0, 0, 0]);
+    assert_eq!(ask(0, done(b"")), replied(reply(&head)));
+    assert_eq!(ask(0, done(b"four")), replied(reply(&[head, b"four".to_vec()].concat())));
+    // More than is asked for is a fault, and so are too many ranges.
+    assert_eq!(ask(0, done(b"fives")), replied(fault(5)));
+    let range = IoctlRange { base: 1 << 32, len: 3 };
+    let retry = |count| IoctlReply::Retry { input: vec![range; count], output: vec![range] };
+    let body = words(&[0, 4, 1, 1, 0, 1, 3, 0, 0, 1, 3, 0]);
+    assert_eq!(ask(2, retry(1)), replied(reply(&body)));
+    assert_eq!(ask(2, retry(256)), replied(fault(5)));
+    let made = answers!(Request::new(39, 5).bytes(&[0; 32]), Ioctl, slot, to =>
+        to.answer(slot, os_error(25)));
+    assert_eq!(made, replied(fault(25)));
 }
 
 /// A READ of so many bytes.
@@ -290,6 +312,40 @@ fn options_are_told_after_init_and_destroy() {
 }
 
 #[test]
+fn limits_are_told_at_init() {
+    let init = |flags2| {
+        let request = Request::new(26, 0).u32(7).u32(38).u32(131_072);
+        request.u32(1 << 30).u32(flags2).bytes(&[0; 44])
+    };
+    let further = FsOptions::HAS_RESEND | FsOptions::REQUEST_TIMEOUT;
+    let limits = Limits {
+        max_readahead: 65536,
+        max_write: 8192,
+        max_background: 20,
+        congestion_threshold: 10,
+        time_gran: 100,
+        request_timeout: 60,
+    };
+    let answered = |flags2, want: FsOptions, limits: Limits| answers!(init(flags2), Init, slot, to => to.answer_with(slot, Ok(want), limits));
+    let agreed = FsOptions::INIT_EXT;
+    let made = answered(u32::MAX, further, limits);
+    let options = (agreed | further | FsOptions::CREATE_SUPP_GROUP | FsOptions::ALLOW_IDMAP).bits();
+    let flags2 = u32::try_from(options >> 32).unwrap();
+    let background = 10 << 16 | 0x14;
+    let mut body = words(&[7, 38, 65536, 1 << 30, background, 8192, 100, 256, flags2, 0, 60]);
+    body.resize(64, 0);
+    let options = Some(FsOptions::from_bits_truncate(options));
+    assert_eq!(made, Ended { options, ..replied(reply(&body)) });
+    // What the client does not offer is not agreed on. Without limits, nothing changes.
+    let made = answered(0, further, Limits::default());
+    let mut body = words(&[7, 38, 131_072, 1 << 30, 65535 | 49149 << 16, 1 << 20, 1, 256]);
+    body.resize(64, 0);
+    assert_eq!(made, Ended { options: Some(agreed), ..replied(reply(&body)) });
+    let made = answers!(init(0), Init, slot, to => to.answer_with(slot, os_error(13), limits));
+    assert_eq!(made, Ended { options: Some(FsOptions::empty()), ..replied(fault(13)) });
+}
+
+#[test]
 fn an_entry_that_does_not_fit_is_given_back() {
     let nothing = |given_back| Ended {
         outcome: Err(Refusal::EncodeMessage),
@@ -324,7 +380,7 @@ fn a_handle_that_does_not_fit_is_told() {
                 Call::Open { to, .. } | Call::Opendir { to, .. } => {
                     to.answer(slot, answered.map(|handle| (handle, none)))
                 }
-                Call::Create { to, .. } => {
+                Call::Create { to, .. } | Call::Tmpfile { to, .. } => {
                     to.answer(slot, answered.map(|handle| (entry(9), handle, none)))
                 }
                 other => panic!("{other:?}"),
@@ -336,17 +392,19 @@ fn a_handle_that_does_not_fit_is_told() {
         lost
     };
     let open = |opcode| Request::new(opcode, 5).u32(0).u32(0);
-    let create = || Request::new(35, 5).u32(0).u32(0).u32(0).u32(0).name("a");
-    // The reply of an OPEN or an OPENDIR has 32 bytes, that of a CREATE 160. The handle is one of its new node.
+    let create = |opcode| Request::new(opcode, 5).u32(0).u32(0).u32(0).u32(0).name("a");
+    // The reply of an OPEN or an OPENDIR has 32 bytes, that of a CREATE or a TMPFILE 160. The handle is one of its new node.
     for opcode in [14, 27] {
         assert_eq!(lost(open(opcode), 31, Ok(Some(3))), Some((5, 3)));
         assert_eq!(lost(open(opcode), 32, Ok(Some(3))), None);
         assert_eq!(lost(open(opcode), 31, Ok(None)), None);
         assert_eq!(lost(open(opcode), 15, Err(io::ErrorKind::Other.into())), None);
     }
-    assert_eq!(lost(create(), 159, Ok(Some(3))), Some((9, 3)));
-    assert_eq!(lost(create(), 160, Ok(Some(3))), None);
-    assert_eq!(lost(create(), 159, Ok(None)), None);
+    for opcode in [35, 51] {
+        assert_eq!(lost(create(opcode), 159, Ok(Some(3))), Some((9, 3)));
+        assert_eq!(lost(create(opcode), 160, Ok(Some(3))), None);
+        assert_eq!(lost(create(opcode), 159, Ok(None)), None);
+    }
 }
 
 #[test]

@@ -3,10 +3,14 @@
 
 mod common;
 
-use common::diary::{each_call, Row};
-use common::{each_cutting, words, Request, WHO};
-use nizwarf::{Call, Context, Extensions, FsOptions, SecContext, SetattrValid, SetxattrFlags};
+use common::diary::{each_call, lock, Row};
+use common::{each_cutting, fault, session, words, Request, WHO};
+use nizwarf::{
+    Asked, Call, Context, Extensions, FsOptions, Offers, SecContext, Session, SetattrValid,
+    SetxattrFlags, Slot,
+};
 use std::ffi::{CStr, CString};
+use std::io::{self, IoSlice};
 
 /// Asks for the call of a request, and checks it: by a pattern, and by a condition on its variables.
 macro_rules! asks {
@@ -38,18 +42,7 @@ fn each_request_asks_for_its_call() {
     for Row { request, is, line, .. } in each_call() {
         each_cutting(FsOptions::empty(), &request.done(), |context, call| {
             assert!(is(&call), "{line}: {call:?}");
-            let has_caller = !matches!(
-                call,
-                Call::Getlk { .. }
-                    | Call::Setlk { .. }
-                    | Call::Setlkw { .. }
-                    | Call::Bmap { .. }
-                    | Call::Ioctl { .. }
-                    | Call::Poll { .. }
-                    | Call::NotifyReply { .. }
-                    | Call::Init { .. }
-                    | Call::Destroy { .. }
-            );
+            let has_caller = !matches!(call, Call::Init { .. } | Call::Destroy { .. });
             assert_eq!(context, if has_caller { WHO } else { no_one() }, "{line}");
         });
     }
@@ -270,5 +263,52 @@ fn sessions() {
         first.u32(1 << 30).u32(1).bytes(&[0; 44]), options, no_one,
         Call::Init { capable, .. } => capable == FsOptions::INIT_EXT | FsOptions::SECURITY_CTX
     );
-    asks!(Request::new(51, 5), options, no_one, Call::Tmpfile { .. } => true);
+    // The library itself does not know these.
+    let further = FsOptions::HAS_RESEND | FsOptions::REQUEST_TIMEOUT;
+    let bits = u32::try_from(further.bits() >> 32).unwrap() | 1 << 5 | 1 << 9;
+    asks!(
+        Request::new(26, 0).u32(7).u32(38).u32(0).u32(1 << 30).u32(bits).bytes(&[0; 44]),
+        options,
+        no_one,
+        Call::Init { capable, .. } => capable == FsOptions::INIT_EXT | further
+    );
+}
+
+/// The number of the call of a request, if it is unknown.
+fn unknown(session: &Session, request: Request) -> Option<u32> {
+    let request = request.done();
+    let mut slot = Slot::new();
+    let slices = [IoSlice::new(&request)];
+    match slot.ask(session, &slices, 4096) {
+        Asked::Call(pending) => match pending.call {
+            Call::Unknown { number, to } => {
+                let told = to.fail(&mut slot, &io::Error::from_raw_os_error(38));
+                assert_eq!(told.reply().bytes(), fault(38));
+                Some(number)
+            }
+            _ => None,
+        },
+        Asked::Finished(mut done) => {
+            assert_eq!(done.reply.bytes(), fault(38));
+            None
+        }
+    }
+}
+
+#[test]
+fn what_is_not_offered_is_unknown() {
+    let rows = || each_call().into_iter().map(|row| row.request);
+    let unknown_in = |session: &Session| -> Vec<u32> {
+        rows().filter_map(|request| unknown(session, request)).collect()
+    };
+    // The opcodes 52 and 53 do not exist then.
+    assert_eq!(unknown_in(&Session::default()), [31, 32, 33, 37, 39, 40, 40, 41, 51]);
+    let mut some = Session::default();
+    some.set_offers(Offers::LOCKS | Offers::IOCTL);
+    assert_eq!(unknown_in(&some), [37, 40, 40, 41, 51]);
+    assert_eq!(unknown_in(&session(FsOptions::empty())), []);
+    // So is a lock of an unknown type.
+    for opcode in [31, 32, 33] {
+        assert_eq!(unknown(&session(FsOptions::empty()), lock(opcode, 3, 0)), Some(opcode));
+    }
 }

@@ -7,7 +7,8 @@ mod common;
 use common::{words, Request};
 use nizwarf::{
     Attr, Context, DirEntry, DirectoryIterator, Entry, Extensions, FileSystem, FsOptions,
-    GetxattrReply, OpenOptions, Refusal, Server, Session, Slot, ZeroCopyReader, ZeroCopyWriter,
+    GetxattrReply, IoctlFlags, IoctlReply, Lock, Offers, OpenOptions, Refusal, Server, Session,
+    Slot, Statx, ZeroCopyReader, ZeroCopyWriter,
 };
 use std::ffi::{CStr, CString};
 use std::io::{self, IoSlice, IoSliceMut};
@@ -101,6 +102,58 @@ impl FileSystem for Counting {
         Ok((self.entry()?, None, OpenOptions::all()))
     }
 
+    fn offers(&self) -> Offers {
+        Offers::all()
+    }
+
+    fn tmpfile(
+        &self,
+        _: Context,
+        _: u64,
+        _: &CStr,
+        _: u32,
+        _: bool,
+        _: u32,
+        _: u32,
+        _: Extensions,
+    ) -> io::Result<(Entry, Option<u64>, OpenOptions)> {
+        Ok((self.entry()?, None, OpenOptions::all()))
+    }
+
+    fn getlk(&self, _: Context, _: u64, _: u64, _: u64, lock: Lock) -> io::Result<Lock> {
+        Ok(lock)
+    }
+
+    fn ioctl(
+        &self,
+        _: Context,
+        _: u64,
+        _: u64,
+        _: IoctlFlags,
+        _: u32,
+        _: u64,
+        input: &[u8],
+        output_size: u32,
+    ) -> io::Result<IoctlReply> {
+        let output = vec![b'z'; input.len().min(output_size as usize)];
+        Ok(IoctlReply::Done { result: 0, output })
+    }
+
+    fn statx(
+        &self,
+        _: Context,
+        _: u64,
+        _: Option<u64>,
+        _: u32,
+        mask: u32,
+    ) -> io::Result<(Statx, Duration)> {
+        Ok((Statx { mask, ..Statx::default() }, Duration::ZERO))
+    }
+
+    fn notify_reply(&self, _: u64, _: u64, _: u64, data: &[u8]) {
+        assert!(data.len() < 2000);
+    }
+
     fn read<W: ZeroCopyWriter>(
         &self,
         _: Context,
@@ -161,6 +214,15 @@ fn seeds() -> Vec<Vec<u8>> {
         r(5, 5),
         r(9, 5).u32(0o755).u32(0).name("dir").bytes(&blocks.concat()),
         r(35, 5).bytes(&words(&[2, 0o600, 0, 1])).name("f").bytes(&blocks.concat()),
+        r(51, 5).bytes(&words(&[2, 0o600, 0, 1])).name("/").bytes(&blocks.concat()),
+        r(31, 5).u64(8).u64(44).u64(5).u64(9).u32(1).u32(77).u32(0).u32(0),
+        r(33, 5).u64(8).u64(44).u64(5).u64(9).u32(1).u32(77).u32(1).u32(0),
+        r(37, 5).u64(6).u32(512).u32(0),
+        r(39, 5).u64(8).u32(0).u32(21).u64(22).u32(4).u32(4).bytes(b"four"),
+        r(40, 5).u64(8).u64(6).u32(1).u32(4),
+        r(41, 5).u64(0).u64(6).u32(4).u32(0).u64(0).u64(0).bytes(b"data"),
+        r(52, 5).u32(1).u32(0).u64(8).u32(0).u32(0xfff),
+        r(53, 1).u64(2).u64(3).u64(4).u64(5).u64(6).u64(7).u64(8),
         r(12, 5).u64(6).name("old").name("new"),
         moves(15),
         moves(16).bytes(&[7; 400]),
@@ -218,7 +280,7 @@ fn delivered(opcode: u32, reply: &[u8]) -> i64 {
     }
     let is_node = |entry: &[u8]| i64::from(u64::from(word(entry, 0)) == NODE);
     match opcode {
-        1 | 9 | 35 => is_node(&reply[16..]),
+        1 | 9 | 35 | 51 => is_node(&reply[16..]),
         44 => {
             let (mut at, mut count) = (16, 0);
             while at < reply.len() {

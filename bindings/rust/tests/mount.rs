@@ -1,16 +1,20 @@
 //! Mounts. They need root and /dev/fuse: without them nothing is tested, as the output says.
 
+#[path = "common/folder.rs"]
+mod folder;
+
+use folder::Folder;
 use nizwarf::{
     mount, spawn_mount, Attr, Context, Entry, Errno, FileSystem, FsOptions, GetxattrReply,
     ListxattrReply, MountOption, NoEntries, Server, SetattrIn, SetattrValid, ZeroCopyReader,
     ZeroCopyWriter, ROOT_ID,
 };
 use std::ffi::{c_void, CStr, CString};
-use std::fs::{self, File};
+use std::fs;
 use std::io;
 use std::os::raw::c_char;
 use std::os::unix::ffi::OsStrExt;
-use std::path::{Path, PathBuf};
+use std::path::Path;
 use std::process::{Command, Stdio};
 use std::sync::atomic::{AtomicU32, AtomicUsize, Ordering};
 use std::sync::{Arc, Mutex};
@@ -169,37 +173,6 @@ fn attribute(path: &Path, name: &str, size: usize) -> Result<usize, i32> {
         }
     };
     usize::try_from(len).map_err(|_| io::Error::last_os_error().raw_os_error().unwrap())
-}
-
-/// A new folder, which is removed at the end.
-struct Folder(PathBuf);
-
-impl Folder {
-    /// Returns none where nothing can be mounted.
-    fn new(name: &str) -> Option<Self> {
-        if File::options().write(true).open("/dev/fuse").is_err() {
-            eprintln!("{name}: nothing is mounted, since /dev/fuse cannot be opened.");
-            return None;
-        }
-        let path = std::env::temp_dir().join(format!("nizwarf-{name}-{}", std::process::id()));
-        fs::create_dir(&path).unwrap();
-        Some(Folder(path))
-    }
-
-    fn line(&self) -> Option<String> {
-        let lines = fs::read_to_string("/proc/self/mountinfo").unwrap();
-        let at = format!(" {} ", self.0.display());
-        lines.lines().find(|line| line.contains(&at)).map(String::from)
-    }
-}
-
-impl Drop for Folder {
-    fn drop(&mut self) {
-        if self.line().is_some() {
-            let _ = Command::new("umount").arg("-l").arg(&self.0).status();
-        }
-        let _ = fs::remove_dir(&self.0);
-    }
 }
 
 fn number<T: std::fmt::Debug>(result: io::Result<T>) -> Option<i32> {

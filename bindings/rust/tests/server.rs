@@ -69,7 +69,7 @@ fn cuttings_make_no_difference() {
     for Row { request, line, reply, .. } in each_call() {
         let request = request.done();
         for cut in 0..=200 {
-            let (done, bytes) = serve_in(&server, &request, 300, cut);
+            let (done, bytes) = serve_in(&server, &request, 400, cut);
             assert_eq!((done.outcome, &bytes), (Ok(()), &reply), "{line}, cut at {cut}");
             assert_eq!(server.file_system().take(), [line]);
         }
@@ -83,10 +83,6 @@ fn what_the_client_does_not_get_is_given_back() {
     let (done, _) = serve_in(&server, &lookup, 143, 20);
     assert_eq!((done.outcome, done.len), (Err(Refusal::EncodeMessage), 0));
     assert_eq!(server.file_system().take(), ["lookup 1 a 1000 7", "forget 50 1"]);
-    // The reply to a TMPFILE has no entry, and no handle.
-    assert_eq!(serve(&server, &Request::new(51, 5)), fault(5));
-    let released = "release 50 0 73 false false None";
-    assert_eq!(server.file_system().take(), ["tmpfile", released, "forget 50 1"]);
 }
 
 #[test]
@@ -104,6 +100,15 @@ fn a_handle_that_the_client_does_not_get_is_released() {
             Request::new(35, 5).bytes(&words(&[2, 0o600, 0o22, 0])).name("f"),
             entry_and_open,
             vec!["create 77 5 f 600 false 2 22", "release 50 2 71 false false None", "forget 50 1"],
+        ),
+        (
+            Request::new(51, 5).bytes(&words(&[2, 0o600, 0o22, 0])).name("/"),
+            entry_and_open,
+            vec![
+                "tmpfile 77 5 / 600 false 2 22",
+                "release 50 2 73 false false None",
+                "forget 50 1",
+            ],
         ),
     ] {
         let request = request.done();
@@ -213,6 +218,14 @@ fn counts_that_can_not_be_are_faults() {
     // The buffer has no space for four bytes.
     let (_, bytes) = serve_in(&server, &moves(15, 8, 100).done(), 19, 0);
     assert_eq!(bytes, fault(5));
+}
+
+#[test]
+fn a_long_copy_is_a_fault_unless_its_reply_has_64_bits() {
+    let server = Server::new(Diary::default());
+    let copy = |opcode| Request::new(opcode, 1).bytes(&[0; 40]).u64(5 << 32 | 6).u64(0);
+    assert_eq!(serve(&server, &copy(53)), reply(&words(&[6, 5])));
+    assert_eq!(serve(&server, &copy(47)), fault(5));
 }
 
 #[test]

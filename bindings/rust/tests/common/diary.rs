@@ -3,8 +3,9 @@
 use super::{fault, reply, words, Request};
 use nizwarf::{
     Attr, Call, Context, DirEntry, DirectoryIterator, Entry, Extensions, FileSystem, FsOptions,
-    GetxattrReply, ListxattrReply, OpenOptions, SetattrIn, SetattrValid, SetxattrFlags, Statvfs,
-    ZeroCopyReader, ZeroCopyWriter,
+    GetxattrReply, IoctlFlags, IoctlReply, ListxattrReply, Lock, LockType, Offers, OpenOptions,
+    PollHandle, SetattrIn, SetattrValid, SetxattrFlags, Statvfs, Statx, ZeroCopyReader,
+    ZeroCopyWriter,
 };
 use std::ffi::{CStr, CString};
 use std::fs::File;
@@ -396,44 +397,128 @@ impl FileSystem for Diary {
             "copyfilerange {inode_in} {handle_in} {offset_in} {inode_out} {handle_out} \
              {offset_out} {len} {flags}"
         ));
-        Ok(6)
+        // Of 7 bytes it copies 6, and else all.
+        Ok(usize::try_from(if len == 7 { 6 } else { len }).unwrap())
     }
 
     fn syncfs(&self, _: Context, inode: u64) -> io::Result<()> {
         self.answer(format!("syncfs {inode}"))
     }
 
-    fn getlk(&self) -> io::Result<()> {
-        self.answer("getlk".into())
+    fn offers(&self) -> Offers {
+        Offers::all()
     }
 
-    fn setlk(&self) -> io::Result<()> {
-        self.answer("setlk".into())
+    fn getlk(
+        &self,
+        _: Context,
+        inode: u64,
+        handle: u64,
+        owner: u64,
+        lock: Lock,
+    ) -> io::Result<Lock> {
+        self.write(format!("getlk {inode} {handle} {owner} {}", lock_text(lock)));
+        Ok(Lock { start: 3, end: 1 << 32, kind: LockType::Unlock, pid: 9 })
     }
 
-    fn setlkw(&self) -> io::Result<()> {
-        self.answer("setlkw".into())
+    fn setlk(
+        &self,
+        _: Context,
+        inode: u64,
+        handle: u64,
+        lock_owner: u64,
+        lock: Lock,
+        wait: bool,
+        flock: bool,
+    ) -> io::Result<()> {
+        let lock = lock_text(lock);
+        self.answer(format!("setlk {inode} {handle} {lock_owner} {lock} {wait} {flock}"))
     }
 
-    fn ioctl(&self) -> io::Result<()> {
-        self.answer("ioctl".into())
+    fn bmap(&self, _: Context, inode: u64, block: u64, block_size: u32) -> io::Result<u64> {
+        self.write(format!("bmap {inode} {block} {block_size}"));
+        Ok(1 << 40 | 2)
     }
 
-    fn bmap(&self) -> io::Result<()> {
-        self.answer("bmap".into())
+    fn ioctl(
+        &self,
+        _: Context,
+        inode: u64,
+        handle: u64,
+        flags: IoctlFlags,
+        cmd: u32,
+        arg: u64,
+        input: &[u8],
+        output_size: u32,
+    ) -> io::Result<IoctlReply> {
+        self.write(format!("ioctl {inode} {handle} {flags:?} {cmd} {arg} {input:?} {output_size}"));
+        Ok(IoctlReply::Done { result: 5, output: b"out!".to_vec() })
     }
 
-    fn poll(&self) -> io::Result<()> {
-        self.answer("poll".into())
+    fn poll(
+        &self,
+        _: Context,
+        inode: u64,
+        handle: u64,
+        wake: Option<PollHandle>,
+        events: u32,
+    ) -> io::Result<u32> {
+        self.write(format!("poll {inode} {handle} {wake:?} {events}"));
+        Ok(events | 8)
     }
 
-    fn notify_reply(&self) -> io::Result<()> {
-        self.answer("notify_reply".into())
+    fn statx(
+        &self,
+        _: Context,
+        inode: u64,
+        handle: Option<u64>,
+        flags: u32,
+        mask: u32,
+    ) -> io::Result<(Statx, Duration)> {
+        self.write(format!("statx {inode} {handle:?} {flags} {mask}"));
+        Ok((Statx { mask, size: 5, ..Statx::default() }, Duration::new(1, 2)))
     }
 
-    fn tmpfile(&self) -> io::Result<(Entry, Option<u64>, OpenOptions)> {
-        Ok((self.entry("tmpfile".into())?, Some(73), OpenOptions::empty()))
+    fn tmpfile(
+        &self,
+        ctx: Context,
+        parent: u64,
+        name: &CStr,
+        mode: u32,
+        kill_priv: bool,
+        flags: u32,
+        umask: u32,
+        _: Extensions,
+    ) -> io::Result<(Entry, Option<u64>, OpenOptions)> {
+        let (pid, name) = (ctx.pid, text(name));
+        let entry = self.entry(format!(
+            "tmpfile {pid} {parent} {name} {mode:o} {kill_priv} {flags} {umask:o}"
+        ))?;
+        Ok((entry, Some(73), OpenOptions::empty()))
     }
+
+    fn notify_reply(&self, unique: u64, inode: u64, offset: u64, data: &[u8]) {
+        self.write(format!("notify_reply {unique} {inode} {offset} {data:?}"));
+    }
+}
+
+fn lock_text(lock: Lock) -> String {
+    format!("{}..{} {:?} {}", lock.start, lock.end, lock.kind, lock.pid)
+}
+
+/// `fuse_lk_in`: a lock of the bytes 5 to 9.
+pub fn lock(opcode: u32, kind: u32, flags: u32) -> Request {
+    let request = Request::new(opcode, 5).u64(8).u64(44).u64(5).u64(9);
+    request.u32(kind).u32(77).u32(flags).u32(0)
+}
+
+/// `fuse_statx_out` of the statx of the diary.
+fn statx() -> Vec<u8> {
+    let mut bytes = words(&[1, 0, 2, 0, 0, 0, 0, 0, 0xfff]);
+    bytes.resize(32 + 40, 0);
+    bytes.extend(words(&[5, 0]));
+    bytes.resize(288, 0);
+    bytes
 }
 
 /// `fuse_read_in` and `fuse_write_in`.
@@ -487,6 +572,9 @@ macro_rules! row {
 fn is(name: &CStr, text: &str) -> bool {
     name.to_bytes() == text.as_bytes()
 }
+
+const READ: Lock = Lock { start: 5, end: 9, kind: LockType::Read, pid: 77 };
+const WRITE: Lock = Lock { start: 5, end: 9, kind: LockType::Write, pid: 77 };
 
 /// For each call a request.
 #[allow(clippy::too_many_lines)] // a table
@@ -698,9 +786,27 @@ pub fn each_call() -> Vec<Row> {
             reply(&[]),
             no.clone()
         ),
-        row!(r(31, 5), Call::Getlk { .. }, "getlk", fault(5), no.clone()),
-        row!(r(32, 5), Call::Setlk { .. }, "setlk", fault(5), no.clone()),
-        row!(r(33, 5), Call::Setlkw { .. }, "setlkw", fault(5), no.clone()),
+        row!(
+            lock(31, 1, 0),
+            Call::Getlk { node: 5, handle: 8, lock_owner: 44, lock: WRITE, .. },
+            "getlk 5 8 44 5..9 Write 77",
+            reply(&words(&[3, 0, 0, 1, 2, 9])),
+            no.clone()
+        ),
+        row!(
+            lock(32, 0, 0),
+            Call::Setlk { node: 5, handle: 8, lock_owner: 44, lock: READ, flock: false, .. },
+            "setlk 5 8 44 5..9 Read 77 false false",
+            reply(&[]),
+            no.clone()
+        ),
+        row!(
+            lock(33, 1, 1),
+            Call::Setlkw { node: 5, handle: 8, lock_owner: 44, lock: WRITE, flock: true, .. },
+            "setlk 5 8 44 5..9 Write 77 true true",
+            reply(&[]),
+            no.clone()
+        ),
         row!(
             r(34, 5).u32(4).u32(0),
             Call::Access { node: 5, mask: 4, .. },
@@ -717,10 +823,80 @@ pub fn each_call() -> Vec<Row> {
             reply(&[entry(), words(&[71, 0, 0, 0])].concat()),
             no.clone()
         ),
-        row!(r(37, 5), Call::Bmap { .. }, "bmap", fault(5), no.clone()),
-        row!(r(39, 5), Call::Ioctl { .. }, "ioctl", fault(5), no.clone()),
-        row!(r(40, 5), Call::Poll { .. }, "poll", fault(5), no.clone()),
-        row!(r(41, 5), Call::NotifyReply { .. }, "notify_reply", vec![], no.clone()),
+        row!(
+            r(37, 5).u64(6).u32(512).u32(0),
+            Call::Bmap { node: 5, block: 6, block_size: 512, .. },
+            "bmap 5 6 512",
+            reply(&words(&[2, 256])),
+            no.clone()
+        ),
+        row!(
+            r(39, 5).u64(8).u32(1 << 4 | 1 << 31).u32(21).u64(22).u32(3).u32(4).bytes(b"in!more"),
+            Call::Ioctl {
+                node: 5, handle: 8, flags: IoctlFlags::DIR, cmd: 21, arg: 22, input, output_size: 4, ..
+            } if **input == *b"in!",
+            "ioctl 5 8 {DIR} 21 22 [105, 110, 33] 4",
+            reply(&[words(&[5, 0, 0, 0]), b"out!".to_vec()].concat()), no.clone()
+        ),
+        row!(
+            r(40, 5).u64(8).u64(6).u32(1).u32(4),
+            Call::Poll { node: 5, handle: 8, wake: Some(_), events: 4, .. },
+            "poll 5 8 Some(PollHandle(6)) 4",
+            reply(&words(&[12, 0])),
+            no.clone()
+        ),
+        row!(
+            r(40, 5).u64(8).u64(6).u32(0).u32(1),
+            Call::Poll { node: 5, handle: 8, wake: None, events: 1, .. },
+            "poll 5 8 None 1",
+            reply(&words(&[9, 0])),
+            no.clone()
+        ),
+        row!(
+            r(41, 5).u64(1).u64(6).u32(2).u32(0).u64(2).u64(3).bytes(b"data"),
+            Call::NotifyReply { node: 5, offset: 6, data, .. } if *data.to_cow() == *b"da",
+            "notify_reply 7 5 6 [100, 97]", vec![], no.clone()
+        ),
+        row!(
+            r(51, 5).bytes(&words(&[2, 0o600, 0o22, 1])).name("/"),
+            Call::Tmpfile {
+                parent: 5, name, mode: 0o600, kill_priv: true, flags: 2, umask: 0o22, ..
+            } if is(name, "/"),
+            "tmpfile 77 5 / 600 true 2 22",
+            reply(&[entry(), words(&[73, 0, 0, 0])].concat()),
+            no.clone()
+        ),
+        row!(
+            r(52, 5).u32(1).u32(0).u64(8).u32(256).u32(0xfff),
+            Call::Statx { node: 5, handle: Some(8), flags: 256, mask: 0xfff, .. },
+            "statx 5 Some(8) 256 4095",
+            reply(&statx()),
+            no.clone()
+        ),
+        row!(
+            r(52, 5).u32(0).u32(0).u64(8).u32(0).u32(0xfff),
+            Call::Statx { node: 5, handle: None, flags: 0, mask: 0xfff, .. },
+            "statx 5 None 0 4095",
+            reply(&statx()),
+            no.clone()
+        ),
+        row!(
+            r(53, 1).u64(2).u64(3).u64(4).u64(5).u64(6).u64(7).u64(8),
+            Call::CopyFileRange64 {
+                node_in: 1,
+                handle_in: 2,
+                offset_in: 3,
+                node_out: 4,
+                handle_out: 5,
+                offset_out: 6,
+                len: 7,
+                flags: 8,
+                ..
+            },
+            "copyfilerange 1 2 3 4 5 6 7 8",
+            reply(&words(&[6, 0])),
+            no.clone()
+        ),
         row!(
             r(42, 0).u32(1).u32(0).u64(5).u64(3),
             Call::BatchForget { .. },

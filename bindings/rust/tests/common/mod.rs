@@ -3,7 +3,7 @@
 
 pub mod diary;
 
-use nizwarf::{Asked, Call, Context, FsOptions, Session, Slot};
+use nizwarf::{Asked, Call, Context, FsOptions, Offers, Session, Slot};
 use std::io::IoSlice;
 
 /// The caller and the number of all requests.
@@ -66,9 +66,11 @@ pub fn fault(error: i32) -> Vec<u8> {
     [words(&[16]), (-error).to_le_bytes().to_vec(), words(&[7, 0])].concat()
 }
 
+/// A session in which all calls are offered.
 pub fn session(options: FsOptions) -> Session {
     let mut session = Session::default();
     session.set_options(options);
+    session.set_offers(Offers::all());
     session
 }
 

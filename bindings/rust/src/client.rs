@@ -1,0 +1,73 @@
+//! Replies that are sent later.
+#![forbid(unsafe_code)]
+
+use crate::device::{answer_fault, is_unawaited};
+use crate::door::Reply;
+use crate::errno::Errno;
+use crate::notifier::{write_both, Notifier};
+use std::fs::File;
+use std::io;
+use std::sync::{Arc, Weak};
+
+/// The client of a server: where replies and notices go. It can be cloned and used on any thread. It does not keep a
+/// mount, or its server.
+///
+/// [`FileSystem::take`](crate::FileSystem::take) is told by what to answer a call later.
+#[derive(Clone, Debug)]
+pub struct Client {
+    device: Weak<File>,
+}
+
+impl Client {
+    pub(crate) fn new(device: &Arc<File>) -> Self {
+        Client { device: Arc::downgrade(device) }
+    }
+
+    /// Sends a reply to a call that was taken. It is dropped, without an error, if nobody waits for it any more: after
+    /// the unmount, or if the call was answered. If there is none because the answer was refused, or Linux refuses it,
+    /// the caller gets EIO.
+    ///
+    /// # Errors
+    /// Other errors of writing; EINVAL if data have to follow the reply, which [`send_with`](Self::send_with) sends.
+    pub fn send(&self, reply: Reply<'_>) -> io::Result<()> {
+        self.send_with(reply, &[])
+    }
+
+    /// Sends the reply to a READ that was taken, and its data: as many bytes as it was answered with. If it was
+    /// answered with an error, there are none, and these are not sent.
+    ///
+    /// # Errors
+    /// As [`send`](Self::send); EINVAL if there are fewer or more data.
+    pub fn send_with(&self, mut reply: Reply<'_>, data: &[u8]) -> io::Result<()> {
+        let device = match self.device.upgrade() {
+            Some(device) => device,
+            None => return Ok(()),
+        };
+        if let Some(unique) = reply.refused {
+            return answer_fault(&device, unique);
+        }
+        let data = if reply.data_len() == 0 { &[] } else { data };
+        if reply.is_empty() {
+            return Ok(());
+        }
+        let (missing, head) = (reply.data_len() != data.len(), reply.bytes());
+        let mut unique = [0; 8];
+        unique.copy_from_slice(&head[8..16]);
+        let unique = u64::from_le_bytes(unique);
+        if missing {
+            answer_fault(&device, unique)?;
+            return Err(Errno::EINVAL.into());
+        }
+        match write_both(&device, head, data) {
+            Err(error) if is_unawaited(&error) => Ok(()),
+            Err(error) if Errno::EINVAL.is(&error) => answer_fault(&device, unique),
+            sent => sent,
+        }
+    }
+
+    /// Returns what tells the client what has changed.
+    #[must_use]
+    pub fn notifier(&self) -> Notifier {
+        Notifier::new(Weak::clone(&self.device))
+    }
+}

@@ -1,0 +1,144 @@
+//! Notices: what a server tells its client without being asked.
+#![forbid(unsafe_code)]
+
+use crate::errno::Errno;
+use crate::ffi::Notice;
+use crate::further::PollHandle;
+use crate::system;
+use std::ffi::CStr;
+use std::fs::File;
+use std::io::{self, IoSlice, Write};
+use std::sync::Weak;
+
+/// The longest notice without the data that follow it: a header, the longest record, and a name.
+const LONGEST: usize = 16 + 24 + LONGEST_NAME + 1;
+const LONGEST_NAME: usize = 1023;
+
+/// Tells the client what has changed without it. It can be cloned and used on any thread and at any time.
+///
+/// After the unmount each method returns ENOTCONN. A notifier does not keep a mount, or its server.
+/// [`Mounted::notifier`](crate::Mounted::notifier), and [`FileSystem::begin`](crate::FileSystem::begin) by its
+/// [`Client`](crate::Client), return one.
+///
+/// Notices come in the order of the calls here, but one may overtake a reply that was made before it. Do not tell of a
+/// node or a directory in a call about it: Linux may wait for the end of that call. Tell of it on another thread.
+///
+/// ```no_run
+/// # use nizwarf::{FileSystem, NoEntries};
+/// # struct Nothing;
+/// # impl FileSystem for Nothing {
+/// #     type Inode = u64;
+/// #     type Handle = u64;
+/// #     type DirIter = NoEntries;
+/// # }
+/// let mounted = nizwarf::spawn_mount(Nothing, "/mnt", &[])?;
+/// let notifier = mounted.notifier();
+/// // Node 2 was changed: all that is cached of it is dropped.
+/// notifier.inval_inode(2, 0, 0)?;
+/// # Ok::<(), std::io::Error>(())
+/// ```
+#[derive(Clone, Debug)]
+pub struct Notifier {
+    device: Weak<File>,
+}
+
+// The errors are those of the kernel.
+#[allow(clippy::missing_errors_doc)]
+impl Notifier {
+    pub(crate) fn new(device: Weak<File>) -> Self {
+        Notifier { device }
+    }
+
+    /// Drops what the client caches of a node: its attributes, and `len` bytes of data from `offset` on, or all of
+    /// them if `len` is 0. If `offset` is negative, only the attributes. ENOENT if it does not know the node.
+    pub fn inval_inode(&self, node: u64, offset: i64, len: i64) -> io::Result<()> {
+        self.tell(Notice::InvalInode { node, offset, len }, &[])
+    }
+
+    /// Drops a name that the client caches, with what is below it. ENOENT if it does not know it.
+    pub fn inval_entry(&self, parent: u64, name: &CStr) -> io::Result<()> {
+        self.tell_of_name(Notice::InvalEntry { parent, flags: 0, name }, name)
+    }
+
+    /// Lets a name expire: it is looked up again when it is used. Linux has this if it offers
+    /// [`HAS_EXPIRE_ONLY`](crate::FsOptions::HAS_EXPIRE_ONLY).
+    pub fn expire_entry(&self, parent: u64, name: &CStr) -> io::Result<()> {
+        const FUSE_EXPIRE_ONLY: u32 = 1;
+        self.tell_of_name(Notice::InvalEntry { parent, flags: FUSE_EXPIRE_ONLY, name }, name)
+    }
+
+    /// Drops the name of a node that was removed, so that who watches it, as by `inotify(7)`, is told.
+    pub fn delete(&self, parent: u64, child: u64, name: &CStr) -> io::Result<()> {
+        self.tell_of_name(Notice::Delete { parent, child, name }, name)
+    }
+
+    /// Puts data into the cache of a file, from `offset` on. If they end after the file, that gets longer.
+    pub fn store(&self, node: u64, offset: u64, data: &[u8]) -> io::Result<()> {
+        let size = u32::try_from(data.len()).map_err(|_| Errno::EINVAL)?;
+        self.tell(Notice::Store { node, offset, size }, data)
+    }
+
+    /// Asks for data that the client caches of a file. They come by
+    /// [`FileSystem::notify_reply`](crate::FileSystem::notify_reply) with this number, if
+    /// [`NOTIFY_REPLY`](crate::Offers::NOTIFY_REPLY) is offered.
+    pub fn retrieve(&self, unique: u64, node: u64, offset: u64, size: u32) -> io::Result<()> {
+        self.tell(Notice::Retrieve { unique, node, offset, size }, &[])
+    }
+
+    /// Tells that an event has come for which a POLL waits: the file is polled again.
+    pub fn wake(&self, handle: PollHandle) -> io::Result<()> {
+        self.tell(Notice::Poll { handle: handle.0 }, &[])
+    }
+
+    /// Asks for all requests again that are not answered. Their numbers then have bit 63. Linux has this if it offers
+    /// [`HAS_RESEND`](crate::FsOptions::HAS_RESEND).
+    pub fn resend(&self) -> io::Result<()> {
+        self.tell(Notice::Resend, &[])
+    }
+
+    /// Lets all names expire. Linux has this from 6.16 on.
+    pub fn expire_all(&self) -> io::Result<()> {
+        self.tell(Notice::IncEpoch, &[])
+    }
+
+    /// Asks for the lookups of these nodes, if nobody uses them. Linux has this from 6.19 on.
+    pub fn prune(&self, nodes: &[u64]) -> io::Result<()> {
+        let count = u32::try_from(nodes.len()).map_err(|_| Errno::EINVAL)?;
+        let data: Vec<u8> = nodes.iter().flat_map(|node| node.to_le_bytes()).collect();
+        self.tell(Notice::Prune { count }, &data)
+    }
+
+    fn tell_of_name(&self, notice: Notice<'_>, name: &CStr) -> io::Result<()> {
+        if name.to_bytes().len() > LONGEST_NAME {
+            return Err(Errno::ENAMETOOLONG.into());
+        }
+        self.tell(notice, &[])
+    }
+
+    /// Sends a notice, and the data that follow it.
+    fn tell(&self, notice: Notice<'_>, data: &[u8]) -> io::Result<()> {
+        let device = self.device.upgrade().ok_or(Errno::ENOTCONN)?;
+        let mut head = [0; LONGEST];
+        let len = notice.put(&mut head);
+        if len == 0 {
+            return Err(Errno::EINVAL.into()); // its length has more than 32 bits
+        }
+        let sent = write_both(&device, &head[..len], data);
+        // The kernel takes some notices of what it has unmounted.
+        if system::is_connected(&device) {
+            sent
+        } else {
+            Err(Errno::ENOTCONN.into())
+        }
+    }
+}
+
+/// Writes one message to a device.
+pub(crate) fn write_both(mut device: &File, head: &[u8], data: &[u8]) -> io::Result<()> {
+    let sent = if data.is_empty() {
+        device.write(head)
+    } else {
+        device.write_vectored(&[IoSlice::new(head), IoSlice::new(data)])
+    };
+    sent.map(drop)
+}
