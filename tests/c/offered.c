@@ -228,11 +228,11 @@ static void unnamed_files(void)
 	for (i = 0; i < 4; i++) {
 		begin_with(NIZWARF_CREATE, 2, &unnamed, sizeof(unnamed));
 		add(tails[i], strlen(tails[i]) + (i != 3));
-		CHECK(ask_cut(ALL, 60, request_len, &other, &others) ==
+		CHECK(ask_cut(ALL, 57, request_len, &other, &others) ==
 			      (i == 3 ? NIZWARF_INVALID_C_STRING : NIZWARF_ASKED) ||
 		      i == 3);
 		request[4] = NIZWARF_TMPFILE;
-		CHECK((ask_cut(ALL, 60, request_len, &call, &told) == NIZWARF_ASKED) == (i != 3));
+		CHECK((ask_cut(ALL, 57, request_len, &call, &told) == NIZWARF_ASKED) == (i != 3));
 		if (i != 3)
 			other.call = NIZWARF_TMPFILE;
 		CHECK(!memcmp(&call, &other, sizeof(call)) && !memcmp(&told, &others, sizeof(told)));

@@ -589,9 +589,9 @@ int main(int count, char **words)
 	device = fuse_device_mount(&by, "news", words[1], MS_NOSUID | MS_NODEV, ",default_permissions");
 	if (device < 0 || pthread_create(&lines, NULL, obey_each, NULL))
 		return 1;
+	/* (it ends with the process) */
+	pthread_detach(lines);
 	status = fuse_device_serve(&by, device, words[1]);
-	pthread_cancel(lines);
-	pthread_join(lines, NULL);
 	for (int i = 0; i < WORKERS; i++)
 		nizwarf_end_slot(&slots[i]);
 	nizwarf_end_slot(&late_slot);

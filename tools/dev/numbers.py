@@ -131,7 +131,7 @@ hold(HEADER, enum_with("LOOKUP"), CALLS, CALL, "call")
 hold(HEADER, enum_with("QUIET"), CALLS, KIND, "kind")
 hold(HEADER, enum_with("PLUS"), CALLS, {in_header[it]: bit for it, bit in HAS.items()}, "bit")
 hold(HEADER, {**enum_with("OK"), **enum_with("ASKED")}, CODES, CODE, "code")
-hold(RUST_CALLS, numbers(r"^ +([A-Z_]+) = (\d+): \w+ {", part(RUST_CALLS, "\ncalls! {", r"\n}")), HEADER, CALL, "call")
+hold(RUST_CALLS, numbers(r"^ +([A-Z_0-9]+) = (\d+): \w+ {", part(RUST_CALLS, "\ncalls! {", r"\n}")), HEADER, CALL, "call")
 hold(RUST, constants(RUST, "has", "u32"), HEADER, HAS, "bit")
 hold(RUST, constants(RUST, "code", "i32"), HEADER, CODE, "code", False)
 
