@@ -1,2 +1,7 @@
 mod Beginning
 mod Gathering
+mod Books
+mod Rows
+mod Texts
+mod Creating
+mod OneTurn

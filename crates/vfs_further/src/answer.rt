@@ -1,9 +1,16 @@
 //! The answers of rows.
 
-ghost use Rattle.std.specs.Prelude.{◌≡◌};
-ghost use Rattle.vfs_further.specs.Fitting.{fits as fits_call, fits_ioctl as fits_ioctl_of, is_unfit as unfit_is};
+ghost use Rattle.std.specs.Prelude.{◌≡◌, ◌≤◌, length, IfSome};
+ghost use Rattle.vfs_grammar.specs.Limits.{AreLimits};
+ghost use Rattle.vfs_answer.specs.Answering.{Answers};
+ghost use Rattle.vfs_answer.specs.Kinds.{kind_told};
+ghost use Rattle.vfs_answer.specs.Told.{AnswersEachCall, AnswersEachListing};
+ghost use Rattle.vfs_further.specs.Fitting.{answer_offered as as_offered, fits as fits_call, fits_ioctl as fits_ioctl_of, is_unfit as unfit_is};
 
-use vfs_calls::{AnswerData, CallData, kind, number};
+use vfs_answer::{Answered, answer};
+use vfs_calls::{AnswerData, CallData, ItemData, kind, number};
+use vfs_grammar::Limits;
+use vfs_segments::Writer;
 use vfs_wire::ByteValued;
 use vfs_wire::parts::part_at;
 use vfs_wire_more::{IoctlIovec, IoctlOut, LkOut};
@@ -55,4 +62,35 @@ pub fn is_unfit(call: &CallData, answer: &AnswerData, text: &[u8]) -> bool
     ensures { result ≡ unfit_is call.now answer.now text.now }
 {
     call.answer == kind::TEXT && answer.error == 0 && !fits(call, text)
+}
+
+/// Answers a call of a row or of virtiofsd's table, as [`answer`] does. A text that is unfit is EIO.
+pub fn answer_offered(
+    limits: Limits,
+    call: &CallData,
+    a: &AnswerData,
+    text: &[u8],
+    items: &[ItemData<'_>],
+    w: &mut Writer,
+) -> Option<Answered>
+    requires { AreLimits limits }
+    ensures by_kind { Answers limits (kind_told call.now.answer call.now.size) call.now
+        (as_offered call.now a.now text.now) text.now items.now w.old result w.new }
+    ensures calls { AnswersEachCall limits call.now (as_offered call.now a.now text.now) text.now w.old
+        result w.new }
+    ensures listings { AnswersEachListing limits call.now (as_offered call.now a.now text.now) items.now
+        w.old result w.new }
+    ensures within { IfSome result (λ came. came.taken ≤ length items.now) }
+{
+    if is_unfit(call, a, text) {
+        return answer(
+            limits,
+            call,
+            &AnswerData { error: EIO, ..*a },
+            text,
+            items,
+            w,
+        );
+    }
+    answer(limits, call, a, text, items, w)
 }

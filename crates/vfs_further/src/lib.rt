@@ -5,9 +5,10 @@
 
 mod answer;
 mod front;
+pub mod laws;
 pub mod offers;
 mod row;
 mod uses;
 
-pub use answer::{EIO, is_unfit};
+pub use answer::{EIO, answer_offered, is_unfit};
 pub use row::{Further, what};

@@ -1,12 +1,17 @@
 //! Small callers.
 
-ghost use Rattle.std.specs.Prelude.{◌≡◌, length, pos, true};
+ghost use Rattle.std.specs.Prelude.{◌≡◌, ◌∷◌, ℕ, List, [], length, pos, true};
 ghost use Rattle.vfs_flags.specs.Flags.{fs_options_bits};
 ghost use Rattle.vfs_segments.specs.Segments.{segments_of, flat_bytes};
-ghost use Rattle.vfs_further.specs.declared.row.Further.TheVariants.{Ordinary, Row, Short, Unnamed};
+ghost use Rattle.vfs_grammar.specs.Books.{KeepsBooks};
+ghost use Rattle.vfs_grammar.specs.declared.limits.Limits.{Limits};
+ghost use Rattle.vfs_further.specs.Further.{Unnamed, what_of};
+ghost use Rattle.vfs_further.specs.declared.row.Further.TheVariants.{Ordinary, Row, Short, Unnamed as IsUnnamed};
+ghost use Rattle.vfs_further.specs.Turns.{IsOfferedTurn, OfferedTurn, created_turn};
 ghost use Rattle.vfs_further.specs.Uses.{getlk, getlk_asked, ioctl_with, tmpfile};
 
 use crate::answer::is_unfit;
+use crate::laws::offered_turns_keep_books;
 use crate::offers;
 use crate::row::{Further, what};
 use vfs_calls::{AnswerData, CallData};
@@ -57,7 +62,7 @@ fn ask_short_ioctl(
 /// A TMPFILE is asked as a CREATE, where it is offered.
 fn ask_tmpfile(options: FsOptions, request: &[&[u8]], room: usize, call: &mut CallData) -> Further
     requires { flat_bytes (segments_of request.now) ≡ tmpfile }
-    ensures { result ≡ Unnamed }
+    ensures { result ≡ IsUnnamed }
 {
     what(offers::TMPFILE, LIMITS, options, request, room, call)
 }
@@ -70,4 +75,13 @@ fn is_long_lock_unfit(call: &CallData, a: &AnswerData, lock: &[u8]) -> bool
     ensures { result ≡ true }
 {
     is_unfit(call, a, lock)
+}
+
+/// A TMPFILE is in the books as the CREATE that it was asked as, where it is offered.
+fn a_tmpfile_is_counted()
+    ensures { (limits : Limits) (options after : ℕ) (t : OfferedTurn) →
+        what_of t.offers limits t.turn.request ≡ Unnamed → IsOfferedTurn limits options t after →
+        KeepsBooks (created_turn t.turn ∷ []) }
+{
+    offered_turns_keep_books();
 }

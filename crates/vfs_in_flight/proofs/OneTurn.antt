@@ -26,15 +26,15 @@ use Rattle.vfs_in_flight.specs.OneTurn.{Happened, IsAnsweredTurn, AreOneTurn}
 use Rattle.vfs_in_flight.proofs.Asking.{IsUsual, is_usual}
 
 -- what came back through a writer, as a reader of the room's bytes sees it
-record Came (reply : Reply) (old : Written) (outcome : Result ℕ Error) (new : Written) : Type 0 where
-  room_after : List ℕ
-  leaves : Leaves old room_after new
-  says : IsReplied reply old.left outcome room_after
+pub record Came (reply : Reply) (old : Written) (outcome : Result ℕ Error) (new : Written) : Type 0 where
+  pub room_after : List ℕ
+  pub leaves : Leaves old room_after new
+  pub says : IsReplied reply old.left outcome room_after
 
 stays : (old new : Written) → new ≡ old → Leaves old old.left new
 stays old new e = rw e (record { kept = refl; same_length = refl; same_segments = refl })
 
-came_back : (reply : Reply) (old new : Written) (outcome : Result ℕ Error) → Replies reply old outcome new
+pub came_back : (reply : Reply) (old new : Written) (outcome : Result ℕ Error) → Replies reply old outcome new
     → Came reply old outcome new
 came_back (Refusal error) old new outcome h =
     record { room_after = old.left; leaves = stays old new h.1; says = (h.0, refl) }
