@@ -580,7 +580,8 @@ static int ask(struct worker *w, const struct fuse_in_header *asked, const nizwa
 	       const nizwarf_room *room, int32_t *code, size_t *len)
 {
 	struct device *d = w->of;
-	const struct kept kept = { d->by, d->worker[0].fd, *asked };
+	/* (a request is answered by the descriptor that it was read by) */
+	const struct kept kept = { d->by, w->fd, *asked };
 	struct later_source source = { &d->later, send_kept, &kept, sizeof(kept), 0 };
 
 	later_serve(&source);

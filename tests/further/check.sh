@@ -17,7 +17,7 @@ if [ "$(id -u)" != 0 ] || ! [ -w /dev/fuse ]; then
     exit 2
 fi
 folder=$(mktemp -d)
-trap 'umount -l "$folder/mounted" 2> /dev/null; rm -rf "$folder"' EXIT
+trap 'umount -lq "$folder/mounted" || true; rm -rf "$folder"' EXIT
 mkdir "$folder/mounted"
 find_library vfs_door
 
