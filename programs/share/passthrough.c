@@ -246,6 +246,24 @@ static int look_at_folder(struct passthrough *all, int root)
 	return all->numbers ? 0 : -1;
 }
 
+static void free_passthrough(struct passthrough *all)
+{
+	if (all->nodes.chains)
+		nodes_end(&all->nodes);
+	numbers_free(all->numbers);
+	for (unsigned i = 0; i < TRANSPORT_MOST_WORKERS; i++) {
+		struct worker *w = all->worker[i];
+
+		if (!w)
+			continue;
+		free(w->items);
+		free(w->names);
+		free(w->pieces);
+		free(w);
+	}
+	free(all);
+}
+
 struct passthrough *passthrough_new(int root, int proc, const struct passthrough_options *options)
 {
 	struct passthrough *all = calloc(1, sizeof(*all));
@@ -265,18 +283,18 @@ struct passthrough *passthrough_new(int root, int proc, const struct passthrough
 	for (unsigned i = 0; i < options->workers && i < TRANSPORT_MOST_WORKERS; i++) {
 		all->worker[i] = calloc(1, sizeof(struct worker));
 		if (!all->worker[i]) {
-			passthrough_end(all);
+			free_passthrough(all);
 			return NULL;
 		}
 	}
 	if (look_at_folder(all, root) ||
 	    nodes_begin(&all->nodes, root, proc, options->file_handles, options->no_devices,
 			options->most_nodes, options->other_descriptors + PASSING * options->workers)) {
-		passthrough_end(all);
+		free_passthrough(all);
 		return NULL;
 	}
 	if ((options->flock || options->posix_lock) && !(all->locks = locks_new(&all->nodes))) {
-		passthrough_end(all);
+		free_passthrough(all);
 		return NULL;
 	}
 	return all;
@@ -284,20 +302,7 @@ struct passthrough *passthrough_new(int root, int proc, const struct passthrough
 
 void passthrough_end(struct passthrough *all)
 {
-	if (!locks_free(all->locks))
-		return;
-	if (all->nodes.chains)
-		nodes_end(&all->nodes);
-	numbers_free(all->numbers);
-	for (unsigned i = 0; i < TRANSPORT_MOST_WORKERS; i++) {
-		struct worker *w = all->worker[i];
-
-		if (!w)
-			continue;
-		free(w->items);
-		free(w->names);
-		free(w->pieces);
-		free(w);
-	}
-	free(all);
+	/* (who waits for the host still uses what there is) */
+	if (!all->locks || locks_free(all->locks))
+		free_passthrough(all);
 }

