@@ -12,7 +12,7 @@
  * A function may answer later: it copies `*req->call` and what else it wants of the request, and
  * answers NIZWARF_LATER. Then nizwarf_serve_ops answers NIZWARF_ASKED, and whoever has the copy
  * answers it once, from any thread, by nizwarf_finish_ops; perhaps before nizwarf_serve_ops comes back.
- * So a lock that is waited for holds no thread. FORGET, DESTROY and INIT can't be answered later.
+ * So a lock that is waited for holds no thread. FORGET, DESTROY, INIT and READDIR can't be answered later.
  *
  * An answer that Linux refuses comes to who asked as an error, and ends nothing: EIO for the number
  * of an error below 0 or above 511, a link of more than 4095 bytes, and more bytes read, written or
@@ -904,6 +904,12 @@ static inline int32_t nizwarf_reply_ops(const nizwarf_ops *ops, const nizwarf_re
 	return code;
 }
 
+/* Whether a call of this kind of answer may be answered later. (The items of a directory are lent for a call.) */
+static inline int nizwarf_may_wait(uint32_t kind)
+{
+	return kind != NIZWARF_QUIET && kind != NIZWARF_WANT && kind != NIZWARF_DIRECTORY;
+}
+
 /* Makes the call that a request asked for, and answers it. */
 static inline int32_t nizwarf_answer_ops(const nizwarf_ops *ops, const nizwarf_req *req, nizwarf_slot *slot,
 					 nizwarf_session *session, nizwarf_call *call, nizwarf_dir *dir,
@@ -917,7 +923,7 @@ static inline int32_t nizwarf_answer_ops(const nizwarf_ops *ops, const nizwarf_r
 
 	answer.error = nizwarf_make_call(ops, req, dir, &answer);
 	/* (nothing of the call is touched from here on: who answers it may be done with it) */
-	if (answer.error == NIZWARF_LATER && call->answer != NIZWARF_QUIET && call->answer != NIZWARF_WANT)
+	if (answer.error == NIZWARF_LATER && nizwarf_may_wait(call->answer))
 		return NIZWARF_ASKED;
 	/* (what isn't offered isn't agreed on, whether or not the library serves it by itself) */
 	if (call->call == NIZWARF_INIT)

@@ -19,7 +19,7 @@
 #include "passthrough_call.h"
 #include "passthrough_locks.h"
 
-enum { CHAINS = 256, MOST_WAITERS = 1024, STACK = 65536, KICKS = 50 };
+enum { CHAINS = 256, MOST_WAITERS = 1024, STACK = 65536, KICKS = 50, TRIES = 10000 };
 
 /* Locks of one owner, in one file, of one of the two kinds. */
 struct holder {
@@ -112,12 +112,16 @@ static void put(struct locks *all, struct holder *h)
 	free(h);
 }
 
-/* A description of its own. What may be written is opened so: a lock that excludes others wants that. */
-static int open_description(const struct call *call)
+/* A description of its own. A lock of fcntl(2) that excludes others wants one that may write, if that can be had. One
+ * of flock(2) wants no such, so that is open as the client's file: a program that is open for writing can't be run. */
+static int open_description(const struct call *call, bool is_flock)
 {
 	const int of = call->file->counted.fd, flags = O_CLOEXEC | O_NONBLOCK | O_NOCTTY;
+	const int mode = fcntl(of, F_GETFL) & O_ACCMODE;
 	int fd = -1;
 
+	if (is_flock)
+		return open_again(&call->all->nodes, of, mode | flags);
 	if (!call->all->options.read_only)
 		fd = open_again(&call->all->nodes, of, O_RDWR | flags);
 	return fd >= 0 ? fd : open_again(&call->all->nodes, of, O_RDONLY | flags);
@@ -131,7 +135,7 @@ static struct holder *new_holder(const struct call *call, bool is_flock)
 
 	if (call->file->is_directory || fd_reserve(nodes, 1))
 		return NULL;
-	fd = open_description(call);
+	fd = open_description(call, is_flock);
 	if (fd >= 0)
 		h = malloc(sizeof(*h));
 	if (!h) {
@@ -284,6 +288,13 @@ int get_lock(const struct call *call)
 
 /* ---- waiting */
 
+static void let_pass(void)
+{
+	const struct timespec pause = { 0, 1000000 };
+
+	nanosleep(&pause, NULL);
+}
+
 static void unlink_waiter(struct waiter *w)
 {
 	*w->at = w->next;
@@ -291,7 +302,8 @@ static void unlink_waiter(struct waiter *w)
 		w->next->at = w->at;
 }
 
-/* Answers the request, and waits no longer. */
+/* Answers the request, and waits no longer. (If there is no memory for the reply, it tries for some ten seconds: who has
+ * the lock should know it.) */
 static void finish(struct waiter *w, int error)
 {
 	struct locks *all = w->of;
@@ -307,6 +319,10 @@ static void finish(struct waiter *w, int error)
 	w->asked.room = sizeof(reply);
 	pthread_mutex_lock(&all->replying);
 	code = nizwarf_reply(&all->slot, &session, &w->asked, &answer, &room, 1, &told);
+	for (int i = 0; i < TRIES && code == NIZWARF_OUT_OF_MEMORY; i++) {
+		let_pass();
+		code = nizwarf_reply(&all->slot, &session, &w->asked, &answer, &room, 1, &told);
+	}
 	pthread_mutex_unlock(&all->replying);
 	pthread_mutex_lock(&all->lock);
 	unlink_waiter(w);
@@ -394,13 +410,6 @@ static void kick_each(struct locks *all, const uint64_t *unique, bool keeps, boo
 	if (keeps && !*is_left)
 		nizwarf_keep_interrupt(&all->early, *unique);
 	pthread_mutex_unlock(&all->lock);
-}
-
-static void let_pass(void)
-{
-	const struct timespec pause = { 0, 1000000 };
-
-	nanosleep(&pause, NULL);
 }
 
 void locks_interrupt(struct locks *all, uint64_t unique)

@@ -448,6 +448,9 @@ try_locks() {
     flock "$work/mount/file" true || wrong "a lock of a program, with $*"
     ! flock "$work/mount/file" flock -n "$work/folder/file" true || wrong "a lock of a mount that the host does not see, with $*"
     ! flock "$work/folder/file" flock -n "$work/mount/file" true || wrong "a lock of the host that a mount does not see, with $*"
+    # (a lock of what is open for reading does not open it for writing: the program may be run)
+    cp "$(type -P true)" "$work/folder/program"
+    flock "$work/mount/program" "$work/folder/program" || wrong "a program that is locked can't be run, with $*"
     umount "$work/mount"
     wait "$server" || wrong "the server with locks ended with $?, with $*"
     server=
