@@ -88,6 +88,15 @@ with_more agreed more said = record said {
       ∷ slice_index said.unused 5 ∷ slice_index said.unused 6 ∷ [];
 }
 
+-- nothing is to be added: no further option is wanted, and no number is ours
+pub record AddsNothing (more : InitMore) : Type 0 where
+  pub want : more.want ≡ 0
+  pub max_readahead : more.max_readahead ≡ 0
+  pub max_write : more.max_write ≡ 0
+  pub time_gran : more.time_gran ≡ 0
+  pub max_background : more.max_background ≡ 0
+  pub congestion_threshold : more.congestion_threshold ≡ 0
+
 -- the reply with these further options: its header stays
 abbrev pub reply_with_more : (agreed : ℕ) → InitMore → (reply : List ℕ) → List ℕ
 reply_with_more agreed more reply =

@@ -1,7 +1,9 @@
 //! What the reply to an INIT agrees on beyond what virtiofsd's does.
 
-ghost use Rattle.std.specs.Prelude.{◌≡◌, true, false, max, min};
-ghost use Rattle.vfs_notices.specs.Init.{Agrees, further_agreed, further_offered as offered_in, in_place, lowered, reply_with_more, said_in, with_more as said_with};
+ghost use Rattle.std.specs.Prelude.{◌≡◌, ◌++◌, length, take, true, false, max, min};
+ghost use Rattle.vfs_wire.specs.Fields.{bytes_of};
+ghost use Rattle.vfs_wire.specs.Records.{init_out};
+ghost use Rattle.vfs_notices.specs.Init.{AddsNothing, Agrees, further_agreed, further_offered as offered_in, in_place, lowered, reply_with_more, said_in, with_more as said_with};
 
 use bitflags::Flags;
 use vfs_flags::{FsOptions, LEAST_MAX_BUFFER, Opcode};
@@ -96,6 +98,15 @@ fn agrees(reply: &[u8]) -> bool
     said.max_write >= LEAST_MAX_BUFFER
 }
 
+/// What a reply says, which is all of it behind its header.
+fn said(reply: &[u8]) -> InitOut
+    requires { length reply.now ≡ 80 }
+    ensures read { result ≡ said_in reply.now }
+    ensures written { take 16 reply.now ++ bytes_of init_out result ≡ reply.now }
+{
+    part_at(reply, OutHeader::SIZE)
+}
+
 /// The further options that are agreed on, by a reply with these flags.
 fn agreed_by(offered: u64, want: u64, flags: u32) -> u64
     ensures { result ≡ further_agreed offered want flags }
@@ -155,11 +166,12 @@ pub fn add_to_init(reply: &mut [u8], offered: u64, more: &InitMore) -> u64
     ensures agreed { Agrees reply.old →
         result ≡ further_agreed offered more.now.want (said_in reply.old).flags }
     ensures added { Agrees reply.old → reply.new ≡ reply_with_more result more.now reply.old }
+    ensures nothing { AddsNothing more.now → (result ≡ 0) × (reply.new ≡ reply.old) }
 {
     if !agrees(reply) {
         return 0;
     }
-    let said: InitOut = part_at(reply, OutHeader::SIZE);
+    let said = said(reply);
     let agreed = agreed_by(offered, more.want, said.flags);
     let (_header, rest) = reply.split_at_mut(OutHeader::SIZE);
     put_first(rest, &with_more(agreed, more, &said));

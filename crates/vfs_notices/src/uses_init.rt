@@ -66,6 +66,14 @@ fn agree_on_no_version(reply: &mut [u8]) -> u64
     add_to_init(reply, further::ALL, &more)
 }
 
+/// With nothing to add, any reply stays as it is, whatever is offered.
+fn add_nothing(reply: &mut [u8]) -> u64
+    ensures nothing { result ≡ 0 }
+    ensures same { reply.new ≡ reply.old }
+{
+    add_to_init(reply, further::ALL, &InitMore::default())
+}
+
 /// An open file is read by the client itself.
 #[tactic(auto, unfolding(vfs_wire::specs::Fields::little, vfs_wire::specs::Fields::number))]
 fn pass_through(reply: &mut [u8]) -> bool
