@@ -1,6 +1,6 @@
 /* Holds the calls that a file system may offer (NIZWARF_OFFER_LOCKS ..) against linux/fuse.h: by the door, where each
- * is told of a request in pieces of any lengths, where its record is cut short, and what its answer is; and by a table
- * of nizwarf_ops.h.
+ * is told of a request in pieces of any lengths, where its record is cut short, what its answer is, and how it is
+ * printed; and by a table of nizwarf_ops.h.
  *
  * tests/c/check.sh links it with the library. Status 0: all is as it should be. */
 #define _GNU_SOURCE
@@ -189,6 +189,49 @@ static void told_as_asked(size_t i)
 	code = ask_cut(0, 41, request_len, &before, &told);
 	CHECK(ask_cut(ALL & ~rows[i].offer, 41, request_len, &call, &told) == code);
 	CHECK(!memcmp(&call, &before, sizeof(call)));
+}
+
+/* The line of what is in `request` says so, after the fields of its header. */
+static void hold_line(const char *name, const char *fields)
+{
+	char line[512], expected[512];
+
+	snprintf(expected, sizeof(expected), "%s unique=%llu node=2 uid=1000 gid=1001 pid=77%s", name,
+		 (unsigned long long)unique, fields);
+	CHECK(nizwarf_print_request(request, request_len, 0, line, sizeof(line)) == strlen(expected));
+	CHECK(!strcmp(line, expected));
+}
+
+/* Each row is printed by the names of linux/fuse.h; of a record that is cut, how many bytes there are. */
+static void printed_by_name(void)
+{
+	static const struct {
+		const char *name, *fields;
+	} lines[ROWS] = {
+		{ "GETLK", " fh=4 owner=5 start=6 end=7 type=1 pid=8 lk_flags=0" },
+		{ "SETLK", " fh=4 owner=5 start=6 end=7 type=1 pid=8 lk_flags=0" },
+		{ "SETLKW", " fh=4 owner=5 start=0 end=9223372036854775807 type=0 pid=8 lk_flags=FLOCK" },
+		{ "BMAP", " block=6 blocksize=512" },
+		{ "IOCTL", " fh=4 flags=IOCTL_UNRESTRICTED cmd=0x9 arg=0xa in_size=4 out_size=100"
+			   " data[4]=\"four\"" },
+		{ "POLL", " fh=4 kh=11 flags=SCHEDULE_NOTIFY events=0x1" },
+		{ "NOTIFY_REPLY", " offset=6 size=4 data[4]=\"four\"" },
+		{ "STATX", " getattr_flags=FH fh=4 sx_flags=0x3 sx_mask=0x800" },
+		{ "COPY_FILE_RANGE_64", " fh_in=4 off_in=6 node_out=3 fh_out=5 off_out=7 len=9 flags=0xf" },
+	};
+	char cut[32];
+	size_t i;
+
+	for (i = 0; i < ROWS; i++) {
+		begin_row(i);
+		hold_line(lines[i].name, lines[i].fields);
+		begin_with(rows[i].opcode, 2, rows[i].record, rows[i].len - 1);
+		snprintf(cut, sizeof(cut), " ignored=%zu", rows[i].len - 1);
+		hold_line(lines[i].name, cut);
+	}
+	begin_with(NIZWARF_TMPFILE, 2, &unnamed, sizeof(unnamed));
+	add("/", 2);
+	hold_line("TMPFILE", " flags=02 mode=0640 umask=022 open_flags=0 name=\"/\"");
 }
 
 /* More data than there are, by as little as one byte. */
@@ -518,6 +561,7 @@ int main(void)
 
 	for (i = 0; i < ROWS; i++)
 		told_as_asked(i);
+	printed_by_name();
 	data_that_lack();
 	unnamed_files();
 	records();

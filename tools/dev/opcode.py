@@ -23,7 +23,7 @@ PAGE = "CONTRIBUTING.md"
 APART = ["docs/generated/*", "crates/vfs_sessions/std*", "crates/vfs_decode/std*", "crates/vfs_demo/std*",
          "tests/oracle/recorded/*", "tests/c/version-0.2/*", "CHANGELOG.md", PAGE, "tools/dev/opcode.py", "tools/dev/numbers.py"]
 # Where the word is a call of the system or of a client, or begins that of another opcode (COPY_FILE_RANGE_64).
-ELSEWHERE = ["crates/vfs_further/*", "programs/share/passthrough_list.c", "tests/beside/get.sh",
+ELSEWHERE = ["crates/vfs_further/*", "crates/vfs_print/src/further.rt", "programs/share/passthrough_list.c", "tests/beside/get.sh",
              "tests/suites/get.sh",
              "tests/mirror/calls.py", "tests/mount/session.sh", "tests/share/calls.py", "tests/share/load.py"]
 

@@ -12,8 +12,8 @@
 //! standard error says what is wrong with it; among the first two lines it is told what lines look like.
 //! Status 3: input could not be read or output not be written; 4: out of memory.
 //!
-//! The lines of its stored session, `stdin`, are one request of each opcode with its reply, and then
-//! requests that are refused.
+//! The lines of its stored session, `stdin`, are one request of each opcode with its reply, then
+//! requests that are refused, and then calls that only an offer brings, as one who offers them replies.
 #![tactic(auto)]
 
 mod answer;

@@ -4,6 +4,7 @@
 use crate::directory::{print_entries, print_items};
 use crate::fields::{Fields, print_alone, print_if_whole};
 use crate::flags::{Name, Set, Word};
+use crate::further::{print_handed_out, print_ioctl, print_notify_reply, print_tmpfile};
 use crate::reply::{asks_length, print_created};
 use crate::request::{
     print_init, print_link, print_name, print_named, print_pairs, print_record_and_name,
@@ -24,10 +25,10 @@ use vfs_wire::{
     Kstatfs, SetattrIn,
 };
 use vfs_wire_more::{
-    AccessIn, BmapIn, CopyfilerangeIn, CreateIn, FallocateIn, FileLock, FlushIn, FsyncIn,
-    GetxattrIn, GetxattrOut, InterruptIn, IoctlIn, LinkIn, LkIn, LseekIn, LseekOut, MkdirIn,
-    MknodIn, NotifyRetrieveIn, OpenIn, OpenOut, PollIn, ReadIn, ReleaseIn, Rename2In, RenameIn,
-    SetxattrIn, SetxattrInCompat, WriteIn, WriteOut,
+    AccessIn, BmapIn, BmapOut, CopyfilerangeIn, CreateIn, FallocateIn, FileLock, FlushIn, FsyncIn,
+    GetxattrIn, GetxattrOut, InterruptIn, IoctlIn, IoctlOut, LinkIn, LkIn, LkOut, LseekIn,
+    LseekOut, MkdirIn, MknodIn, NotifyRetrieveIn, OpenIn, OpenOut, PollIn, PollOut, ReadIn,
+    ReleaseIn, Rename2In, RenameIn, SetxattrIn, SetxattrInCompat, StatxIn, WriteIn, WriteOut,
 };
 
 /// The name that an opcode has in the kernel's `enum fuse_opcode`, without `FUSE_`.
@@ -125,10 +126,10 @@ pub fn print_parts<'a, W: Write>(
         Opcode::Getlk | Opcode::Setlk | Opcode::Setlkw => print_if_whole::<LkIn, W>(w, bytes),
         Opcode::Interrupt => print_if_whole::<InterruptIn, W>(w, bytes),
         Opcode::Bmap => print_if_whole::<BmapIn, W>(w, bytes),
-        Opcode::Ioctl => print_if_whole::<IoctlIn, W>(w, bytes),
+        Opcode::Ioctl => print_ioctl(w, bytes),
         Opcode::Poll => print_if_whole::<PollIn, W>(w, bytes),
-        Opcode::NotifyReply => print_if_whole::<NotifyRetrieveIn, W>(w, bytes),
-        Opcode::TmpFile => print_if_whole::<CreateIn, W>(w, bytes),
+        Opcode::NotifyReply => print_notify_reply(w, bytes),
+        Opcode::TmpFile => print_tmpfile(w, header, options, bytes),
         Opcode::SetupMapping | Opcode::RemoveMapping => Err(Stop::NotServed),
         Opcode::Readlink | Opcode::Statfs | Opcode::Destroy | Opcode::Syncfs => Ok(bytes),
     }
@@ -146,13 +147,17 @@ pub fn print_answer<'a, W: Write>(
         Opcode::Lookup | Opcode::Symlink | Opcode::Mknod | Opcode::Mkdir | Opcode::Link => {
             print_alone::<EntryOut, W>(w, body)
         }
-        Opcode::Create => print_created(w, body),
+        Opcode::Create | Opcode::TmpFile => print_created(w, body),
         Opcode::Getattr | Opcode::Setattr => print_alone::<AttrOut, W>(w, body),
         Opcode::Open | Opcode::Opendir => print_alone::<OpenOut, W>(w, body),
         Opcode::Write | Opcode::CopyFileRange => print_alone::<WriteOut, W>(w, body),
         Opcode::Statfs => print_alone::<Kstatfs, W>(w, body),
         Opcode::Init => print_alone::<InitOut, W>(w, body),
         Opcode::Lseek => print_alone::<LseekOut, W>(w, body),
+        Opcode::Getlk => print_alone::<LkOut, W>(w, body),
+        Opcode::Bmap => print_alone::<BmapOut, W>(w, body),
+        Opcode::Ioctl => print_handed_out(w, body),
+        Opcode::Poll => print_alone::<PollOut, W>(w, body),
         Opcode::Getxattr | Opcode::Listxattr if asks_length(record) => {
             print_alone::<GetxattrOut, W>(w, body)
         }
@@ -176,7 +181,7 @@ fn print_bytes<'a, W: Write>(w: &mut W, opcode: Opcode, body: &'a [u8]) -> Resul
 
 // The records of requests, field by field.
 
-/// Bits of `flags` of GETATTR.
+/// Bits of `flags` of GETATTR, and of `getattr_flags` of STATX.
 const GETATTR_FLAGS: &[Name] = &[("FH", GETATTR_FH)];
 
 /// Bits of `valid` of SETATTR that name no attribute.
@@ -401,7 +406,7 @@ impl Fields for CopyfilerangeIn {
     }
 }
 
-// The records of requests that the server answers without a look at them.
+// The records of requests that a server looks at only if it offers their calls.
 
 /// Prints a lock: its range, its kind as for `fcntl`, and its holder.
 pub fn print_lock<W: Write>(w: &mut W, lock: &FileLock) -> fmt::Result {
@@ -450,6 +455,15 @@ impl Fields for PollIn {
 impl Fields for NotifyRetrieveIn {
     fn print<W: Write>(&self, w: &mut W) -> fmt::Result {
         write!(w, " offset={} size={}", self.offset, self.size)
+    }
+}
+
+impl Fields for StatxIn {
+    fn print<W: Write>(&self, w: &mut W) -> fmt::Result {
+        let flags = Word(self.getattr_flags, GETATTR_FLAGS);
+        write!(w, " getattr_flags={flags} fh={}", self.fh)?;
+        write!(w, " sx_flags=0x{:x}", self.sx_flags)?;
+        write!(w, " sx_mask=0x{:x}", self.sx_mask)
     }
 }
 
@@ -521,6 +535,32 @@ impl Fields for GetxattrOut {
 impl Fields for LseekOut {
     fn print<W: Write>(&self, w: &mut W) -> fmt::Result {
         write!(w, " offset={}", self.offset)
+    }
+}
+
+impl Fields for LkOut {
+    fn print<W: Write>(&self, w: &mut W) -> fmt::Result {
+        print_lock(w, &self.lk)
+    }
+}
+
+impl Fields for BmapOut {
+    fn print<W: Write>(&self, w: &mut W) -> fmt::Result {
+        write!(w, " block={}", self.block)
+    }
+}
+
+impl Fields for IoctlOut {
+    fn print<W: Write>(&self, w: &mut W) -> fmt::Result {
+        let flags = Set(IoctlFlags::from_bits_retain(self.flags), &[]);
+        write!(w, " result={} flags={flags}", self.result)?;
+        write!(w, " in_iovs={} out_iovs={}", self.in_iovs, self.out_iovs)
+    }
+}
+
+impl Fields for PollOut {
+    fn print<W: Write>(&self, w: &mut W) -> fmt::Result {
+        write!(w, " revents=0x{:x}", self.revents)
     }
 }
 

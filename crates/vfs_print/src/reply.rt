@@ -3,6 +3,7 @@
 ghost use Rattle.std.specs.Prelude.{◌≡◌, ◌<◌, OnOk, codes, length};
 
 use crate::fields::print_alone;
+use crate::further::print_further_answer;
 use crate::opcodes::{options_of, print_answer};
 use crate::stop::{Stop, print_end};
 use crate::take::take_record;
@@ -51,13 +52,19 @@ fn print_error<W: Write>(w: &mut W, error: i32) -> fmt::Result {
     }
 }
 
+/// The number of a request's opcode, and what stands behind its header. None if it has no whole header.
+fn number_of(request: &[u8]) -> Option<(u32, &[u8])> {
+    match take_record::<InHeader>(request) {
+        Ok((header, behind)) => Some((header.opcode, behind)),
+        Err(_) => None,
+    }
+}
+
 /// The opcode of a request, and what stands behind its header. None if it has no whole header, or a
 /// number that is no opcode.
 fn opcode_of(request: &[u8]) -> Option<(Opcode, &[u8])> {
-    let Ok((header, behind)) = take_record::<InHeader>(request) else {
-        return None;
-    };
-    match Opcode::try_from(header.opcode) {
+    let (number, behind) = number_of(request)?;
+    match Opcode::try_from(number) {
         Ok(opcode) => Some((opcode, behind)),
         Err(()) => None,
     }
@@ -65,9 +72,12 @@ fn opcode_of(request: &[u8]) -> Option<(Opcode, &[u8])> {
 
 /// Prints what stands behind the header of a reply; what is left behind that.
 fn print_body<'a, W: Write>(w: &mut W, request: &[u8], body: &'a [u8]) -> Result<&'a [u8], Stop> {
-    match opcode_of(request) {
-        Some((opcode, record)) => print_answer(w, opcode, record, body),
-        None => Ok(body),
+    let Some((number, record)) = number_of(request) else {
+        return Ok(body);
+    };
+    match Opcode::try_from(number) {
+        Ok(opcode) => print_answer(w, opcode, record, body),
+        Err(()) => print_further_answer(w, number, body),
     }
 }
 

@@ -5,6 +5,7 @@ ghost use Rattle.std.specs.Prelude.{◌<◌, ◌≤◌, OnOk, codes, length};
 use crate::extensions::print_extensions;
 use crate::fields::{Fields, print_record};
 use crate::flags::Set;
+use crate::further::{print_further_parts, print_number};
 use crate::opcodes::{opcode_name, print_parts};
 use crate::stop::{Stop, print_end};
 use crate::take::{take_bytes, take_name, take_record, whole_name};
@@ -24,8 +25,8 @@ use vfs_wire_more::{SetxattrIn, SetxattrInCompat, WriteIn};
 /// other bytes are a count and the first 16 of them. `len=` is printed if the header's isn't the
 /// number of bytes, and `ignored=` says how many bytes stand behind the parts. Bytes that don't decode
 /// end the line with `refused=` and the error that a server has for them, behind what could be read; so
-/// does a request that a server answers by ENOSYS or EPROTO, whatever else it asks. What a server refuses
-/// by its limits or for want of room isn't told by the bytes, and printed whole.
+/// does a request that any server answers by ENOSYS or EPROTO, whatever else it asks. What a server refuses
+/// by its limits, for want of room, or since it doesn't offer the call isn't told by the bytes, and printed whole.
 pub fn print_request<W: Write>(w: &mut W, bytes: &[u8], options: FsOptions) -> fmt::Result
     ensures no_header { length bytes.now < 40 → OnOk result
         (W.write_str_gives w.old (codes "refused=DecodeMessage") w.new) }
@@ -36,12 +37,12 @@ pub fn print_request<W: Write>(w: &mut W, bytes: &[u8], options: FsOptions) -> f
     let opcode = Opcode::try_from(header.opcode).ok();
     match opcode {
         Some(opcode) => w.write_str(opcode_name(opcode))?,
-        None => write!(w, "opcode={}", header.opcode)?,
+        None => print_number(w, header.opcode)?,
     }
     print_header(w, &header, bytes.len())?;
     let outcome = match opcode {
         Some(opcode) => print_parts(w, opcode, &header, options, behind),
-        None => Err(Stop::NotServed),
+        None => print_further_parts(w, header.opcode, behind),
     };
     print_end(w, outcome)
 }
