@@ -173,7 +173,7 @@ typedef struct {
 	uint64_t len;
 	/* How many of these were put: all, or 16 of a READ that answered data. */
 	uint64_t put;
-	/* The options from now on. */
+	/* The options from now on: after an INIT those that its reply agreed on, the further ones too. */
 	uint64_t options;
 	/* A node of which a lookup is to be given back, since the client never got the entry of a
 	 * NIZWARF_ENTRY or a NIZWARF_CREATED. 0: none. */
@@ -591,8 +591,8 @@ typedef struct {
  * replied as EIO. What can't be is replied as EIO too: a `count` above what was asked for by a READ,
  * or of 2^32 and more where the reply has 32 bits. A link is for you to keep within the 4095 bytes
  * that Linux takes, an attribute within the `size` that is asked for. A text of 2^32 - 16 bytes or more
- * is replied as ERANGE; one of a GETLK, a STATX or an IOCTL that is no such record as EIO. Bits of `open_flags`, and of options, that the protocol doesn't have are left
- * out. */
+ * is replied as ERANGE; one of a GETLK, a STATX or an IOCTL that is no such record as EIO. Bits of
+ * `open_flags`, and of options, that the protocol doesn't have are left out. */
 typedef struct {
 	int32_t error;
 	uint32_t has_handle;
@@ -609,7 +609,8 @@ typedef struct {
 
 /* What the answer to an IOCTL begins with, as fuse_ioctl_out has it: what ioctl(2) returns; and with
  * FUSE_IOCTL_RETRY in `flags`, how many pairs of an address and a length follow, in place of what is handed out,
- * of what is to be handed in and out when it is asked again. Linux takes that of CUSE alone. */
+ * of what is to be handed in and out when it is asked again: at most 256, FUSE_IOCTL_MAX_IOV, of both together.
+ * Linux takes that of CUSE alone. */
 typedef struct {
 	int32_t result;
 	uint32_t flags, in_iovs, out_iovs;
@@ -754,7 +755,7 @@ static inline int32_t nizwarf_check_offered(const nizwarf_session *session, uint
 
 /* Writes a request as a line of text, without a newline, as snprintf(3) writes: at most `size` bytes, the last
  * of them a 0, which may cut the line. Answers how many bytes the whole line has without the 0. The line names
- * the opcode and each field; of a record that no call is told of, as GETLK's, only if it is whole. As in
+ * the opcode and each field; of a row that may be offered, as GETLK, only if its record is whole. As in
  *
  *	LOOKUP unique=3 node=1 uid=0 gid=0 pid=77 name="a"
  *
