@@ -5,3 +5,4 @@ mod Rows
 mod Texts
 mod Creating
 mod OneTurn
+mod Locks

@@ -1,12 +1,12 @@
 //! What holds of turns by both tables.
 
 ghost use Rattle.std.specs.Prelude.{◌≡◌, ℕ, List, [], None, Err};
-ghost use Rattle.vfs_grammar.specs.Books.{KeepsBooks};
-ghost use Rattle.vfs_grammar.specs.Turn.{IsTurn, Turn};
+ghost use Rattle.vfs_grammar.specs.Books.{KeepsBooks, answered};
+ghost use Rattle.vfs_grammar.specs.Turn.{IsTurn, Turn, events_in};
 ghost use Rattle.vfs_grammar.specs.declared.error.Error.TheVariants.{DecodeMessage};
 ghost use Rattle.vfs_grammar.specs.declared.limits.Limits.{Limits};
-ghost use Rattle.vfs_further.specs.Further.{Ordinary, Short, what_of};
-ghost use Rattle.vfs_further.specs.Turns.{AreOffered, AreOfferedInOrder, IsOfferedTurn, OfferedTurn, all_seen, plain};
+ghost use Rattle.vfs_further.specs.Further.{Ordinary, Short, Unnamed, what_of};
+ghost use Rattle.vfs_further.specs.Turns.{AreOffered, AreOfferedInOrder, IsOfferedTurn, OfferedTurn, all_seen, plain, seen};
 ghost use Rattle.vfs_further.specs.OneTurn.{AreOneOfferedTurn};
 
 /// Where nothing is offered, each request asks what the table of virtiofsd says; the turns are those of that
@@ -22,12 +22,14 @@ pub fn what_offers_nothing_is_virtiofsds()
 
 /// The books of lookups and forgets are kept by turns of both tables, each under the options that it was asked
 /// with, as turns in flight are, and so by turns in order. A TMPFILE is in the books as the CREATE that it is
-/// asked as: its entry counts. No other row is.
+/// asked as: its entry counts (`unnamed`). No other row is.
 pub fn offered_turns_keep_books()
     ensures each { (limits : Limits) (turns : List OfferedTurn) →
         AreOffered limits turns → KeepsBooks (all_seen limits turns) }
     ensures in_order { (limits : Limits) (options after : ℕ) (turns : List OfferedTurn) →
         AreOfferedInOrder limits options turns after → KeepsBooks (all_seen limits turns) }
+    ensures unnamed { (limits : Limits) (t : OfferedTurn) → what_of t.offers limits t.turn.request ≡ Unnamed →
+        (n : ℕ) → answered n (events_in (seen limits t)) ≡ answered n t.turn.events }
 {}
 
 /// A request that was asked by both tables, and whose call was answered, is one turn, under the options that it was
