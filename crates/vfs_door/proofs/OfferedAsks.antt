@@ -13,13 +13,14 @@ use Rattle.vfs_calls.specs.declared.call.number.TheConstants.{CREATE}
 use Rattle.vfs_ask.specs.Memory.{MayWant}
 use Rattle.vfs_ask.specs.WithOpcode.{unread_with_opcode}
 use Rattle.vfs_ask.proofs.WithOpcode.{same_length}
+use Rattle.vfs_further.specs.Turns.{as_create}
 use Rattle.vfs_further.specs.Further.{What, Ordinary, Short, Row, Unnamed, Tells, told_under, what_behind, what_of}
 use Rattle.vfs_further.specs.declared.row.Further.{Further}
 use Rattle.vfs_further.specs.declared.row.Further.TheVariants as further
 use Rattle.vfs_rooms.specs.Codes.{is_asked, number_of}
 use Rattle.vfs_door.specs.Asking.{AsksOrNot, finished}
 use Rattle.vfs_door.specs.Checking.{Checks, IsWhole}
-use Rattle.vfs_door.specs.Further.{AsksOffered, ChecksOffered, MayWantOffered, as_create}
+use Rattle.vfs_door.specs.Further.{AsksOffered, ChecksOffered, MayWantOffered}
 use Rattle.vfs_door.specs.declared.data.ToldData.{ToldData}
 
 module _ (limits : Limits) (options : ℕ) (q : List ℕ) (room : ℕ) (old mid : CallData) (result : Further) where

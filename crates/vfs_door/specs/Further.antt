@@ -10,20 +10,14 @@ use Rattle.vfs_calls.specs.declared.call.CallData.{CallData}
 use Rattle.vfs_calls.specs.declared.data.AnswerData.{AnswerData}
 use Rattle.vfs_calls.specs.declared.call.number.TheConstants as number
 use Rattle.vfs_ask.specs.Memory.{MayWant}
-use Rattle.vfs_ask.specs.WithOpcode.{unread_with_opcode, with_opcode}
+use Rattle.vfs_ask.specs.WithOpcode.{unread_with_opcode}
 use Rattle.vfs_further.specs.Further.{What, Ordinary, Short, Row, Unnamed, told_under}
+use Rattle.vfs_further.specs.OneTurn.{named_tmpfile}
+use Rattle.vfs_further.specs.Turns.{as_create}
 use Rattle.vfs_rooms.specs.Codes.{is_asked, number_of}
 use Rattle.vfs_door.specs.Asking.{AsksOrNot, finished}
 use Rattle.vfs_door.specs.Checking.{Checks}
 use Rattle.vfs_door.specs.declared.data.ToldData.{ToldData}
-
--- the bytes of a TMPFILE with CREATE's number in place of its own: they ask what it asks
-abbrev pub as_create : (request : List ℕ) → List ℕ
-as_create request = with_opcode number.CREATE request
-
--- the call of a TMPFILE, which was told as that of a CREATE
-abbrev pub named_tmpfile : CallData → CallData
-named_tmpfile told = record told { call = number.TMPFILE }
 
 -- the call of a CREATE that was told, under TMPFILE's number; where none was told, what is there stays
 abbrev pub named : (code : ℤ) → CallData → CallData

@@ -3,7 +3,7 @@
 ghost use Rattle.std.specs.Prelude.{◌≡◌, pos};
 ghost use Rattle.std.specs.Int.{w32, cast_unsigned};
 ghost use Rattle.vfs_notices.specs.Backing.{Opens, reply_with_backing};
-ghost use Rattle.vfs_notices.specs.Init.{Agrees, further_agreed, further_offered as offered_in, reply_with_more, said_in};
+ghost use Rattle.vfs_notices.specs.Init.{AddsNothing, Agrees, further_agreed, further_offered as offered_in, reply_with_more, said_in};
 
 use vfs_notices::{InitMore, add_backing, add_to_init, further_offered};
 
@@ -23,6 +23,7 @@ pub extern "C" fn nizwarf_add_to_init_at(reply: &mut [u8], offered: u64, more: &
     ensures agreed { Agrees reply.old →
         result ≡ further_agreed offered more.now.want (said_in reply.old).flags }
     ensures added { Agrees reply.old → reply.new ≡ reply_with_more result more.now reply.old }
+    ensures nothing { AddsNothing more.now → (result ≡ 0) × (reply.new ≡ reply.old) }
 {
     add_to_init(reply, offered, more)
 }
