@@ -1,0 +1,172 @@
+//! Payloads of messages.
+
+ghost use Rattle.std.specs.Prelude.{◌≡◌, ◌≤◌, length, true, IfOk};
+ghost use Rattle.vfs_vhost.specs.Messages.{are_aligned, event_of, number_fault, payload_of, rings_of, state_of, wanted as wanted_of};
+ghost use Rattle.vfs_vhost.specs.Records.{record_at, state as state_table, address as address_table};
+ghost use Rattle.vfs_vhost.specs.Requests.{has_size};
+ghost use Rattle.vfs_vhost.specs.Tables.{CanBe, alone as alone_of};
+
+use crate::message::{Message, Offer, Refusal, Rings};
+use crate::records::{Address, State};
+use crate::request::Request;
+use crate::table::table;
+use vfs_wire::bytes::u64_at;
+use vfs_wire::parts::part_at;
+
+/// A message of this request alone.
+fn alone(request: Request) -> Message
+    ensures value { result ≡ alone_of request }
+    ensures memory { CanBe result.memory }
+{
+    Message {
+        request: request as u32,
+        ..Message::NONE
+    }
+}
+
+/// Features, all of which were offered.
+#[tactic(auto, unfolding(crate::specs::Messages::wanted))]
+fn wanted(request: Request, number: u64, offered: u64) -> Result<Message, Refusal>
+    ensures value { result ≡ wanted_of request number offered }
+    ensures memory { IfOk result (λ m. CanBe m.memory) }
+{
+    if number & offered != number {
+        return Err(Refusal::NotOffered);
+    }
+    Ok(Message {
+        number,
+        ..alone(request)
+    })
+}
+
+/// Why a number of a queue can't be.
+#[tactic(auto, unfolding(crate::specs::Messages::number_fault))]
+fn fault_of_number(request: Request, number: u32) -> Option<Refusal>
+    ensures { result ≡ number_fault request number }
+{
+    match request {
+        Request::SetVringNum => {
+            if number.is_power_of_two() && number <= 32768 {
+                None
+            } else {
+                Some(Refusal::WrongQueueSize)
+            }
+        }
+        Request::SetVringBase => {
+            if number < 65536 {
+                None
+            } else {
+                Some(Refusal::WrongBase)
+            }
+        }
+        Request::SetVringEnable => {
+            if number < 2 {
+                None
+            } else {
+                Some(Refusal::WrongEnable)
+            }
+        }
+        _ => None,
+    }
+}
+
+/// A number of a queue.
+#[tactic(auto, unfolding(crate::specs::Messages::state_of))]
+fn state(request: Request, body: &[u8], queues: u64) -> Result<Message, Refusal>
+    requires { 8 ≤ length body.now }
+    ensures value { result ≡ state_of request (record_at state_table 0 body.now) queues }
+    ensures memory { IfOk result (λ m. CanBe m.memory) }
+{
+    let state: State = part_at(body, 0);
+    if u64::from(state.queue) >= queues {
+        return Err(Refusal::NoQueue);
+    }
+    if let Some(refusal) = fault_of_number(request, state.number) {
+        return Err(refusal);
+    }
+    Ok(Message {
+        queue: state.queue,
+        number: u64::from(state.number),
+        ..alone(request)
+    })
+}
+
+/// An event of a queue.
+#[tactic(auto, unfolding(crate::specs::Messages::event_of))]
+fn event(request: Request, number: u64, queues: u64) -> Result<Message, Refusal>
+    ensures value { result ≡ event_of request number queues }
+    ensures memory { IfOk result (λ m. CanBe m.memory) }
+{
+    let queue = number & 0xff;
+    if queue >= queues {
+        return Err(Refusal::NoQueue);
+    }
+    Ok(Message {
+        queue: queue as u32,
+        descriptors: u32::from(number & 0x100 == 0),
+        ..alone(request)
+    })
+}
+
+/// Whether rings begin where their entries can be.
+#[tactic(auto, unfolding(crate::specs::Messages::are_aligned))]
+fn is_aligned(address: &Address) -> bool
+    ensures { result ≡ are_aligned address.now }
+{
+    address.descriptors % 16 == 0 && address.available % 2 == 0 && address.used % 4 == 0
+}
+
+/// The rings of a queue.
+#[tactic(auto, unfolding(crate::specs::Messages::rings_of))]
+fn rings(body: &[u8], queues: u64) -> Result<Message, Refusal>
+    requires { 40 ≤ length body.now }
+    ensures value { result ≡ rings_of (record_at address_table 0 body.now) queues }
+    ensures memory { IfOk result (λ m. CanBe m.memory) }
+{
+    let address: Address = part_at(body, 0);
+    if u64::from(address.queue) >= queues {
+        return Err(Refusal::NoQueue);
+    }
+    if address.flags != 0 {
+        return Err(Refusal::Logs);
+    }
+    if !is_aligned(&address) {
+        return Err(Refusal::Misaligned);
+    }
+    Ok(Message {
+        queue: address.queue,
+        rings: Rings {
+            descriptors: address.descriptors,
+            used: address.used,
+            available: address.available,
+        },
+        ..alone(Request::SetVringAddr)
+    })
+}
+
+/// What a payload says, which has its request's size.
+#[tactic(auto, unfolding(crate::specs::Messages::payload_of, crate::specs::Requests::has_size))]
+pub fn payload(request: Request, body: &[u8], offer: &Offer) -> Result<Message, Refusal>
+    requires { has_size request (length body.now) ≡ true }
+    ensures value { result ≡ payload_of request body.now offer.now }
+    ensures memory { IfOk result (λ m. CanBe m.memory) }
+{
+    match request {
+        Request::SetFeatures => wanted(request, u64_at(body, 0), offer.features),
+        Request::SetProtocolFeatures => wanted(request, u64_at(body, 0), offer.protocol),
+        Request::SetMemTable => table(body),
+        Request::SetVringNum
+        | Request::SetVringBase
+        | Request::GetVringBase
+        | Request::SetVringEnable => state(request, body, offer.queues),
+        Request::SetVringAddr => rings(body, offer.queues),
+        Request::SetVringKick | Request::SetVringCall | Request::SetVringErr => {
+            event(request, u64_at(body, 0), offer.queues)
+        }
+        Request::GetFeatures
+        | Request::SetOwner
+        | Request::ResetOwner
+        | Request::GetProtocolFeatures
+        | Request::GetQueueNum => Ok(alone(request)),
+    }
+}

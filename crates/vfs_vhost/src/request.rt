@@ -1,0 +1,76 @@
+//! What a front end asks for.
+
+ghost use Rattle.std.specs.Prelude.{◌≡◌};
+ghost use Rattle.vfs_vhost.specs.Requests.{has_size as has_its_size, request_of};
+
+/// The requests that are served, by the protocol's names and numbers.
+#[derive(Clone, Copy, Debug)]
+pub enum Request {
+    GetFeatures = 1,
+    SetFeatures = 2,
+    SetOwner = 3,
+    ResetOwner = 4,
+    SetMemTable = 5,
+    SetVringNum = 8,
+    SetVringAddr = 9,
+    SetVringBase = 10,
+    GetVringBase = 11,
+    SetVringKick = 12,
+    SetVringCall = 13,
+    SetVringErr = 14,
+    GetProtocolFeatures = 15,
+    SetProtocolFeatures = 16,
+    GetQueueNum = 17,
+    SetVringEnable = 18,
+}
+
+/// The request of a number.
+#[tactic(auto, unfolding(crate::specs::Requests::request_of))]
+pub fn request_by(number: u32) -> Option<Request>
+    ensures { result ≡ request_of number }
+{
+    match number {
+        1 => Some(Request::GetFeatures),
+        2 => Some(Request::SetFeatures),
+        3 => Some(Request::SetOwner),
+        4 => Some(Request::ResetOwner),
+        5 => Some(Request::SetMemTable),
+        8 => Some(Request::SetVringNum),
+        9 => Some(Request::SetVringAddr),
+        10 => Some(Request::SetVringBase),
+        11 => Some(Request::GetVringBase),
+        12 => Some(Request::SetVringKick),
+        13 => Some(Request::SetVringCall),
+        14 => Some(Request::SetVringErr),
+        15 => Some(Request::GetProtocolFeatures),
+        16 => Some(Request::SetProtocolFeatures),
+        17 => Some(Request::GetQueueNum),
+        18 => Some(Request::SetVringEnable),
+        _ => None,
+    }
+}
+
+/// Whether the payload of a request has this size.
+#[tactic(auto, unfolding(crate::specs::Requests::has_size))]
+pub fn has_size(request: Request, size: u32) -> bool
+    ensures { result ≡ has_its_size request size }
+{
+    match request {
+        Request::GetFeatures
+        | Request::SetOwner
+        | Request::ResetOwner
+        | Request::GetProtocolFeatures
+        | Request::GetQueueNum => size == 0,
+        Request::SetMemTable => size >= 8 && size <= 264 && size % 32 == 8,
+        Request::SetVringAddr => size == 40,
+        Request::SetFeatures
+        | Request::SetVringNum
+        | Request::SetVringBase
+        | Request::GetVringBase
+        | Request::SetVringKick
+        | Request::SetVringCall
+        | Request::SetVringErr
+        | Request::SetProtocolFeatures
+        | Request::SetVringEnable => size == 8,
+    }
+}
