@@ -92,6 +92,8 @@ find_parts() {
         packed+=("${library[0]}")
     done
     heap=${library[1]}
+    find_border
+    [[ $border != "$here/out/unproved/"* ]] || proved=
     if [ -n "$demo" ]; then
         build_programs vfs_demo vfs_decode
         is_built vfs_demo && is_built vfs_decode || proved=
@@ -174,7 +176,7 @@ for_programs() {
 put_programs() {
     mkdir -p "$1"
     # shellcheck disable=SC2086
-    make -s -C "$1" -f "$here/programs/Makefile" $programs LIBRARY="$2" INCLUDE="$here/include" CPPFLAGS= LDLIBS= \
+    make -s -C "$1" -f "$here/programs/Makefile" $programs LIBRARY="$2" BORDER="$border" INCLUDE="$here/include" CPPFLAGS= LDLIBS= \
         CFLAGS="-O2 -Wall -Wextra -D_FORTIFY_SOURCE=2 -fstack-protector-strong -fstack-clash-protection -fPIE -pie \
             -fcf-protection -ffile-prefix-map=$here=." LDFLAGS=-Wl,-z,relro,-z,now
     for_programs strip_program "$1"

@@ -91,13 +91,13 @@ static void tell(int event)
 /* ---- chains, by workers */
 
 /* Where these bytes of the guest are: in one region, or NULL. */
-static unsigned char *bytes_at(const struct guest *g, uint64_t address, uint64_t len, int by_user)
+static unsigned char *bytes_at(const struct guest *g, uint64_t address, uint64_t len)
 {
 	for (size_t i = 0; i < g->regions; i++) {
 		const struct region *r = &g->region[i];
-		const uint64_t off = address - (by_user ? r->user : r->guest);
+		const uint64_t off = address - r->guest;
 
-		if (address >= (by_user ? r->user : r->guest) && off <= r->size && len <= r->size - off)
+		if (address >= r->guest && off <= r->size && len <= r->size - off)
 			return r->at + off;
 	}
 	return NULL;
@@ -138,7 +138,7 @@ static int add_request(struct worker *w, const unsigned char *at, size_t len)
 /* Adds a descriptor's bytes to the chain. */
 static int add_piece(struct worker *w, const struct guest *g, const struct vring_desc *d)
 {
-	unsigned char *at = bytes_at(g, d->addr, d->len, 0);
+	unsigned char *at = bytes_at(g, d->addr, d->len);
 	const int is_room = d->flags & VRING_DESC_F_WRITE;
 	const size_t left = LONGEST - (is_room ? w->room_len : w->len);
 	const size_t len = d->len < left ? d->len : left;
@@ -172,7 +172,7 @@ static int take_chain(struct worker *w, const struct guest *g, const struct queu
 		at = d.next;
 		if (d.flags & VRING_DESC_F_INDIRECT) {
 			/* The rest of the chain is a table of its own. */
-			table = bytes_at(g, d.addr, d.len, 0);
+			table = bytes_at(g, d.addr, d.len);
 			entries = d.len / sizeof(d);
 			if (!table || is_indirect++ || d.flags & VRING_DESC_F_NEXT || d.len % sizeof(d) ||
 			    entries > PIECES)
@@ -515,9 +515,13 @@ static void lose_memory(int number, siginfo_t *about, void *context)
 /* A ring of the front end's view, aligned as it must be, or NULL. */
 static void *ring_at(uint64_t address, uint64_t len, uintptr_t align)
 {
-	unsigned char *at = bytes_at(vhost_guest, address, len, 1);
+	unsigned char *at;
+	struct vhost_place place;
 
-	return at && (uintptr_t)at % align == 0 ? at : NULL;
+	if (nizwarf_vhost_user_at(vhost_guest->shared, vhost_guest->regions, address, len, &place))
+		return NULL;
+	at = vhost_guest->region[place.region].at + place.offset;
+	return (uintptr_t)at % align == 0 ? at : NULL;
 }
 
 void queue_place(struct queue *q)

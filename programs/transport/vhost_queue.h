@@ -7,15 +7,15 @@
 #include <pthread.h>
 #include <signal.h>
 #include <stdatomic.h>
+#include "border.h"
 #include "later.h"
 
 /* Queues: one of forgets, and those of requests, as many as the protocol can number. */
-enum { QUEUES = 256, REGIONS = 8 };
+enum { QUEUES = 256, REGIONS = VHOST_REGIONS };
 
-/* Memory of the guest: its address there, and that of the front end's own view, which places
- * rings. */
+/* Memory of the guest: its address there, and where it is mapped. */
 struct region {
-	uint64_t guest, user, size;
+	uint64_t guest, size;
 	unsigned char *at, *map;
 	size_t mapped;
 };
@@ -44,6 +44,8 @@ struct queue {
 struct guest {
 	struct queue queue[QUEUES];
 	struct region region[REGIONS];
+	/* The same as the front end told them. */
+	struct vhost_region shared[REGIONS];
 	size_t regions;
 	/* Is held by a worker while it has a chain, and by the calling thread, alone, while it changes
 	 * queues or memory. */

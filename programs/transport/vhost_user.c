@@ -45,30 +45,17 @@ enum {
 #define PROTOCOL_FEATURES (1ull << 30)
 #define INDIRECT_DESCRIPTORS (1ull << VIRTIO_RING_F_INDIRECT_DESC)
 enum { MANY_QUEUES = 1 << 0, REPLY_ACK = 1 << 3 };
-enum { VERSION = 1, VERSION_MASK = 3, IS_REPLY = 1 << 2, WANTS_REPLY = 1 << 3 };
-enum { NO_DESCRIPTOR = 1 << 8 };
+enum { VERSION = 1, IS_REPLY = 1 << 2 };
 
+static const struct vhost_offer offer = { VERSION_1 | PROTOCOL_FEATURES | INDIRECT_DESCRIPTORS,
+					  MANY_QUEUES | REPLY_ACK, QUEUES };
+
+/* A message as it came, and what it says. */
 struct message {
-	struct {
-		uint32_t request, flags, size;
-	} head;
-	union {
-		uint64_t number;
-		struct {
-			uint32_t queue, number;
-		} state;
-		struct {
-			uint32_t queue, flags;
-			uint64_t descriptors, used, available, log;
-		} address;
-		struct {
-			uint32_t count, padding;
-			struct {
-				uint64_t guest, size, user, offset;
-			} region[REGIONS];
-		} memory;
-	} body;
+	unsigned char head[VHOST_HEAD], body[VHOST_MOST_BODY];
+	uint32_t size;
 	int descriptor[REGIONS], descriptors;
+	struct vhost_message said;
 };
 
 /* Those queues that the front end named are before this one. */
@@ -93,47 +80,67 @@ static enum outcome wrong(const char *what)
 	return GONE;
 }
 
-static enum outcome not_served(const struct message *m)
+/* The same of a message that is refused. */
+static enum outcome refused(const struct message *m, uint32_t refusal)
 {
-	fprintf(stderr, "%s: the front end is hung up on: message %u of %u bytes is not served\n",
-		by->program, (unsigned)m->head.request, (unsigned)m->head.size);
+	static const char *const whys[VHOST_REFUSALS] = {
+		[VHOST_CUT] = "a message that is cut",
+		[VHOST_WRONG_VERSION] = "a message of another version",
+		[VHOST_IS_REPLY] = "a reply, which nobody asked for",
+		[VHOST_WRONG_SIZE] = "a message of another size",
+		[VHOST_WRONG_DESCRIPTORS] = "descriptors that are missing, or too many",
+		[VHOST_NOT_OFFERED] = "a feature that was not offered",
+		[VHOST_NO_QUEUE] = "a queue above those that GET_QUEUE_NUM told of",
+		[VHOST_WRONG_QUEUE_SIZE] = "a size of a queue that can't be",
+		[VHOST_WRONG_BASE] = "an index of a ring that can't be",
+		[VHOST_WRONG_ENABLE] = "a queue that is neither enabled nor disabled",
+		[VHOST_LOGS] = "a log, which was not offered",
+		[VHOST_MISALIGNED] = "a ring that is not aligned",
+		[VHOST_WRONG_COUNT] = "a table of memory that can't be",
+		[VHOST_EMPTY_REGION] = "a region of memory that is empty",
+		[VHOST_GUEST_RANGE] = "a region past the guest's addresses",
+		[VHOST_USER_RANGE] = "a region past the front end's addresses",
+		[VHOST_FILE_RANGE] = "a region past the end of any file",
+		[VHOST_OVERLAP] = "two regions of the same memory",
+	};
+	const char *why = refusal < VHOST_REFUSALS ? whys[refusal] : NULL;
+	uint32_t request;
+
+	if (why)
+		return wrong(why);
+	memcpy(&request, m->head, sizeof(request));
+	fprintf(stderr, "%s: the front end is hung up on: message %u is not served\n", by->program,
+		(unsigned)request);
 	return GONE;
 }
 
 /* Maps a region that the front end shares, which is the next one. */
-static enum outcome share_region(const struct message *m, uint32_t i)
+static enum outcome share_region(const struct vhost_region *shared, int descriptor)
 {
-	const uint64_t offset = m->body.memory.region[i].offset;
-	struct region *r = &vhost_guest->region[i];
+	struct region *r = &vhost_guest->region[vhost_guest->regions];
 	struct stat file;
 
-	r->guest = m->body.memory.region[i].guest;
-	r->user = m->body.memory.region[i].user;
-	r->size = m->body.memory.region[i].size;
-	if (r->size > SIZE_MAX - offset || r->guest > UINT64_MAX - r->size || r->user > UINT64_MAX - r->size)
-		return wrong("a region of memory that can't be");
-	if (fstat(m->descriptor[i], &file) || file.st_size < 0 || (uint64_t)file.st_size < r->size + offset)
+	r->guest = shared->guest;
+	r->size = shared->size;
+	r->mapped = shared->size + shared->offset;
+	if (fstat(descriptor, &file) || file.st_size < 0 || (uint64_t)file.st_size < r->mapped)
 		return wrong("a region without its memory");
-	r->mapped = r->size + offset;
-	r->map = mmap(NULL, r->mapped, PROT_READ | PROT_WRITE, MAP_SHARED, m->descriptor[i], 0);
+	r->map = mmap(NULL, r->mapped, PROT_READ | PROT_WRITE, MAP_SHARED, descriptor, 0);
 	if (r->map == MAP_FAILED)
 		return wrong("a region that can't be mapped");
-	r->at = r->map + offset;
-	vhost_guest->regions = i + 1;
+	r->at = r->map + shared->offset;
+	vhost_guest->shared[vhost_guest->regions++] = *shared;
 	return DONE;
 }
 
 /* Takes over the memory that the front end shares, in place of what it shared before. */
 static enum outcome share_memory(const struct message *m)
 {
-	const uint32_t count = m->body.memory.count;
 	enum outcome outcome = DONE;
 
 	guest_unshare(vhost_guest);
-	if (count > REGIONS || (int)count != m->descriptors)
-		return wrong("a table of memory that can't be");
-	for (uint32_t i = 0; i < count && outcome == DONE; i++)
-		outcome = share_region(m, i);
+	for (uint32_t i = 0; i < m->said.regions && outcome == DONE; i++)
+		outcome = share_region(&m->said.region[i], m->descriptor[i]);
 	for (size_t i = 0; i < queues; i++)
 		queue_place(&vhost_guest->queue[i]);
 	return outcome;
@@ -142,7 +149,7 @@ static enum outcome share_memory(const struct message *m)
 /* Takes the only descriptor of a message; -1: it has none. */
 static int take_descriptor(struct message *m)
 {
-	return !(m->body.number & NO_DESCRIPTOR) && m->descriptors > 0 ? m->descriptor[--m->descriptors] : -1;
+	return m->said.descriptors ? m->descriptor[--m->descriptors] : -1;
 }
 
 static enum outcome reply(int client, uint32_t request, void *body, uint32_t size)
@@ -165,11 +172,12 @@ static enum outcome reply_number(int client, uint32_t request, uint64_t number)
 static enum outcome receive(int client, struct message *m)
 {
 	_Alignas(struct cmsghdr) char control[CMSG_SPACE(sizeof(m->descriptor))];
-	struct iovec head = { &m->head, sizeof(m->head) };
+	struct iovec head = { m->head, sizeof(m->head) };
 	struct msghdr said = {
 		.msg_iov = &head, .msg_iovlen = 1, .msg_control = control, .msg_controllen = sizeof(control)
 	};
 	ssize_t got = recvmsg(client, &said, MSG_CMSG_CLOEXEC | MSG_WAITALL);
+	uint32_t refusal;
 
 	m->descriptors = 0;
 	if (got == 0 || (got < 0 && errno == ECONNRESET))
@@ -182,51 +190,57 @@ static enum outcome receive(int client, struct message *m)
 			memcpy(m->descriptor, CMSG_DATA(c), (size_t)m->descriptors * sizeof(int));
 		}
 	if (got != sizeof(m->head) || said.msg_flags & MSG_CTRUNC)
-		return wrong("a message that is cut");
-	if ((m->head.flags & VERSION_MASK) != VERSION || m->head.size > sizeof(m->body))
-		return not_served(m);
-	memset(&m->body, 0, sizeof(m->body));
-	got = m->head.size ? recv(client, &m->body, m->head.size, MSG_WAITALL) : 0;
-	return got == (ssize_t)m->head.size ? DONE : wrong("a message that is cut");
+		return refused(m, VHOST_CUT);
+	refusal = nizwarf_vhost_size_at(m->head, sizeof(m->head), &m->size);
+	if (refusal)
+		return refused(m, refusal);
+	got = m->size ? recv(client, m->body, m->size, MSG_WAITALL) : 0;
+	return got == (ssize_t)m->size ? DONE : refused(m, VHOST_CUT);
 }
 
-/* The queue of a number, which is NULL if there is none. */
-static struct queue *queue_of(uint64_t number)
+/* Receives a message, and finds what it says. */
+static enum outcome receive_said(int client, struct message *m)
 {
-	if (number >= QUEUES) {
-		wrong("a queue above those that GET_QUEUE_NUM told of");
-		return NULL;
-	}
-	if (number >= queues)
-		queues = number + 1;
-	return &vhost_guest->queue[number];
+	const enum outcome outcome = receive(client, m);
+	uint32_t refusal;
+
+	if (outcome != DONE)
+		return outcome;
+	refusal = nizwarf_vhost_message_at(m->head, sizeof(m->head), m->body, m->size, (size_t)m->descriptors,
+					   &offer, &m->said);
+	return refusal ? refused(m, refusal) : DONE;
+}
+
+/* The queue of a message, which is one from now on. */
+static struct queue *queue_of(const struct message *m)
+{
+	if (m->said.queue >= queues)
+		queues = m->said.queue + 1;
+	return &vhost_guest->queue[m->said.queue];
 }
 
 /* Does what a message of one queue asks. */
 static enum outcome obey_for(int client, struct message *m, struct queue *q)
 {
-	if (!q)
-		return GONE;
-	switch (m->head.request) {
+	uint32_t state[] = { m->said.queue, q->next };
+
+	switch (m->said.request) {
 	case SET_VRING_NUM:
-		if (m->body.state.number > 32768 || m->body.state.number & (m->body.state.number - 1))
-			return wrong("a size of a queue that can't be");
-		q->size = m->body.state.number;
+		q->size = (uint32_t)m->said.number;
 		queue_place(q);
 		return DONE;
 	case SET_VRING_ADDR:
-		q->descriptors_user = m->body.address.descriptors;
-		q->available_user = m->body.address.available;
-		q->used_user = m->body.address.used;
+		q->descriptors_user = m->said.ring_descriptors;
+		q->available_user = m->said.ring_available;
+		q->used_user = m->said.ring_used;
 		queue_place(q);
 		return DONE;
 	case SET_VRING_BASE:
-		q->next = q->done = (uint16_t)m->body.state.number;
+		q->next = q->done = (uint16_t)m->said.number;
 		return DONE;
 	case GET_VRING_BASE:
 		/* It stops the queue, up to its next kick. */
-		m->body.state.number = q->next;
-		if (reply(client, GET_VRING_BASE, &m->body.state, sizeof(m->body.state)) == GONE)
+		if (reply(client, GET_VRING_BASE, state, sizeof(state)) == GONE)
 			return GONE;
 		queue_kick(q, -1);
 		return REPLIED;
@@ -236,7 +250,7 @@ static enum outcome obey_for(int client, struct message *m, struct queue *q)
 		queue_call(q, take_descriptor(m));
 		return DONE;
 	default: /* SET_VRING_ENABLE */
-		q->enabled = m->body.state.number == 1;
+		q->enabled = m->said.number == 1;
 		return DONE;
 	}
 }
@@ -244,13 +258,12 @@ static enum outcome obey_for(int client, struct message *m, struct queue *q)
 /* Does what a message asks. */
 static enum outcome obey(int client, struct message *m)
 {
-	switch (m->head.request) {
+	switch (m->said.request) {
 	case GET_FEATURES:
-		return reply_number(client, GET_FEATURES,
-				    VERSION_1 | PROTOCOL_FEATURES | INDIRECT_DESCRIPTORS);
+		return reply_number(client, GET_FEATURES, offer.features);
 	case SET_FEATURES:
 		for (int i = 0; i < QUEUES; i++)
-			vhost_guest->queue[i].enabled |= !(m->body.number & PROTOCOL_FEATURES);
+			vhost_guest->queue[i].enabled |= !(m->said.number & PROTOCOL_FEATURES);
 		return DONE;
 	case SET_OWNER:
 	case RESET_OWNER:
@@ -258,31 +271,22 @@ static enum outcome obey(int client, struct message *m)
 		return DONE;
 	case SET_MEM_TABLE:
 		return share_memory(m);
-	case SET_VRING_KICK:
-	case SET_VRING_CALL:
-		return obey_for(client, m, queue_of(m->body.number & 0xff));
-	case SET_VRING_NUM:
-	case SET_VRING_ADDR:
-	case SET_VRING_BASE:
-	case GET_VRING_BASE:
-	case SET_VRING_ENABLE:
-		return obey_for(client, m, queue_of(m->body.state.queue));
 	case GET_PROTOCOL_FEATURES:
-		return reply_number(client, GET_PROTOCOL_FEATURES, MANY_QUEUES | REPLY_ACK);
+		return reply_number(client, GET_PROTOCOL_FEATURES, offer.protocol);
 	case SET_PROTOCOL_FEATURES:
-		protocol = m->body.number;
+		protocol = m->said.number;
 		return DONE;
 	case GET_QUEUE_NUM:
-		return reply_number(client, GET_QUEUE_NUM, QUEUES);
+		return reply_number(client, GET_QUEUE_NUM, offer.queues);
 	default:
-		return not_served(m);
+		return obey_for(client, m, queue_of(m));
 	}
 }
 
 /* Whether a message changes queues or memory, in which a request may wait. */
 static int changes(const struct message *m)
 {
-	switch (m->head.request) {
+	switch (m->said.request) {
 	case SET_MEM_TABLE:
 	case SET_VRING_NUM:
 	case SET_VRING_ADDR:
@@ -299,7 +303,7 @@ static int changes(const struct message *m)
 static enum outcome serve_message(int client, int signals)
 {
 	struct message m;
-	enum outcome outcome = receive(client, &m);
+	enum outcome outcome = receive_said(client, &m);
 
 	if (outcome == DONE && changes(&m))
 		queues_recall();
@@ -310,8 +314,8 @@ static enum outcome serve_message(int client, int signals)
 		queues_keep();
 		queues_go();
 	}
-	if (outcome == DONE && m.head.flags & WANTS_REPLY && protocol & REPLY_ACK)
-		outcome = reply_number(client, m.head.request, 0);
+	if (outcome == DONE && m.said.wants_reply && protocol & REPLY_ACK)
+		outcome = reply_number(client, m.said.request, 0);
 	while (m.descriptors > 0)
 		close(m.descriptor[--m.descriptors]);
 	return outcome;

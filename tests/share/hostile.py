@@ -18,6 +18,7 @@ import time
 
 sys.path[:0] = [f"{os.path.dirname(os.path.abspath(__file__))}/../{it}" for it in ("beside", "lib")]
 import generate
+import messages
 import requests
 import shapes
 from requests import line, request, transfer
@@ -345,14 +346,13 @@ def cut_memory():
 
 
 def wrong_front_ends(server):
-    """A front end that says what can't be is hung up on, and the next one is served."""
-    for said in (b"x" * 12, struct.pack("<III", 5, 1, 8) + bytes(8), struct.pack("<III", 5, 1, 8) + b"\1" + bytes(7),
-                 struct.pack("<III", 77, 1, 0), struct.pack("<III", 8, 1, 8) + struct.pack("<II", 300, 1),
-                 struct.pack("<III", 8, 1, 8) + struct.pack("<II", 1, 3), b"\1\0\0"):
-        bad = socket.socket(socket.AF_UNIX)
-        bad.connect(PATH)
-        bad.send(said)
-        bad.close()
+    """A front end that says what can't be is hung up on, and the next one is served. What it sent is closed."""
+    one = Front(server)
+    one.ask(INIT)
+    at_first = server.descriptors()
+    one.end()
+    count, wrong = messages.tell_all(PATH)
+    faults.extend(wrong)
     for number in (12, 13):
         bad = socket.socket(socket.AF_UNIX)
         bad.connect(PATH)
@@ -363,7 +363,10 @@ def wrong_front_ends(server):
     cut_memory()
     one = Front(server)
     one.hold("INIT, after front ends that said what can't be", INIT, 0)
+    if server.descriptors() != at_first:
+        faults.append(f"{server.descriptors()} descriptors after front ends that said what can't be, {at_first} before")
     one.end()
+    return count
 
 
 def main():
@@ -383,11 +386,12 @@ def main():
         count += by_chance(one, appends(one))
         given_back(server, one, at_first)
         one.end()
-        wrong_front_ends(server)
+        told = wrong_front_ends(server)
         server.end()
         if faults:
             server.fail("\n".join(faults))
-    print(f"{WHAT}: {count} hostile requests, and those of numbers that are made up, came to what they must.")
+    print(f"{WHAT}: {count} hostile requests, those of numbers that are made up, and {told} messages came to what "
+          "they must.")
 
 
 main()

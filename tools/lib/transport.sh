@@ -32,19 +32,27 @@ link_door() {
     library=("${library[0]}" "${others[@]}")
 }
 
+# Sets `border` to the static library that nizwarf-share and nizwarf-vhost want besides.
+find_border() {
+    local library
+    find_library vfs_border
+    border=${library[0]}
+}
+
 # Builds a program of programs/Makefile into a folder, with what `library` has: make_program FOLDER PROGRAM FLAGS..
 make_program() {
     need make "Install it: apt-get install make."
     make -s -B -C "$1" -f "$here/programs/Makefile" "$2" CFLAGS="-Wall -Wextra -Werror ${*:3}" \
-        LIBRARY="${library[*]}" INCLUDE="$here/include"
+        LIBRARY="${library[*]}" BORDER="${border:-}" INCLUDE="$here/include"
 }
 
 # Builds the program nizwarf-NAME with a library, and sets `transport` to it: build_transport NAME [LIBRARY
 # [FLAGS..]]. One that runs meanwhile, of another tool, stays what it is. With flags, as those of sanitizers, it is
 # another program.
 build_transport() {
-    local name=$1 of=${2:-vfs_c} folder
+    local name=$1 of=${2:-vfs_c} folder border=
     find_library "$of"
+    [ "$name" = mount ] || find_border
     if [ "$name" != share ]; then
         link_door
     elif ! cc -include seccomp.h -fsyntax-only -x c - < /dev/null 2> /dev/null; then

@@ -3,8 +3,8 @@ use Rattle.std.specs.Prelude.{◌==◌, ◌%◌, ◌&&◌, ℕ, List, length, Bo
 use Rattle.std.specs.Int.{is_power_of_two}
 use Rattle.vfs_wire.specs.Fields.{number}
 use Rattle.vfs_vhost.specs.Records.{address, head, record_at, state}
-use Rattle.vfs_vhost.specs.Requests.{has_size, request_of, number_of}
-use Rattle.vfs_vhost.specs.Tables.{alone, no_rings, table_of}
+use Rattle.vfs_vhost.specs.Requests.{has_size, request_of}
+use Rattle.vfs_vhost.specs.Tables.{alone, table_of}
 use Rattle.vfs_vhost.specs.declared.message.Message.{Message}
 use Rattle.vfs_vhost.specs.declared.message.Offer.{Offer}
 use Rattle.vfs_vhost.specs.declared.message.Rings.{Rings}

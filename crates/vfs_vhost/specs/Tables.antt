@@ -1,5 +1,5 @@
 -- Tables of memory: which can be.
-use Rattle.std.specs.Prelude.{◌==◌, ◌≡◌, ◌≤◌, ◌<◌, ◌+◌, ◌*◌, ◌^◌, ◌&&◌, ◌||◌, ℕ, List, [], ◌∷◌, length, take, replicate, Bool, false, Option, Some, None, Result, Ok, Err, if◌then◌else◌, nat_lt, nat_le, slice_index}
+use Rattle.std.specs.Prelude.{◌==◌, ◌≤◌, ◌<◌, ◌+◌, ◌*◌, ◌^◌, ◌&&◌, ◌||◌, ℕ, List, [], ◌∷◌, length, take, replicate, Bool, false, Option, Some, None, Result, Ok, Err, if◌then◌else◌, nat_lt, nat_le}
 use Rattle.std.specs.List.{All, AllPairs}
 use Rattle.vfs_wire.specs.Fields.{number}
 use Rattle.vfs_vhost.specs.Records.{record_at, region}

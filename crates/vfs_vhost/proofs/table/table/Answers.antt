@@ -1,4 +1,4 @@
-use Rattle.std.proofs.Common.{◌≡◌, ◌≤◌, ℕ, arith, subst, sym, take}
+use Rattle.std.proofs.Common.{ℕ, arith, subst, sym, take}
 use Rattle.std.specs.List.{All, AllPairs}
 use Rattle.vfs_vhost.specs.Tables.{Apart, IsRegion}
 use Rattle.vfs_vhost.proofs.table.table.Goals as goal
