@@ -518,7 +518,7 @@ static void *ring_at(uint64_t address, uint64_t len, uintptr_t align)
 	unsigned char *at;
 	struct vhost_place place;
 
-	if (nizwarf_vhost_user_at(vhost_guest->shared, vhost_guest->regions, address, len, &place))
+	if (nizwarf_vhost_user_at(vhost_guest->told, vhost_guest->regions, address, len, &place))
 		return NULL;
 	at = vhost_guest->region[place.region].at + place.offset;
 	return (uintptr_t)at % align == 0 ? at : NULL;

@@ -45,7 +45,7 @@ struct guest {
 	struct queue queue[QUEUES];
 	struct region region[REGIONS];
 	/* The same as the front end told them. */
-	struct vhost_region shared[REGIONS];
+	struct vhost_region told[REGIONS];
 	size_t regions;
 	/* Is held by a worker while it has a chain, and by the calling thread, alone, while it changes
 	 * queues or memory. */

@@ -129,7 +129,7 @@ static enum outcome share_region(const struct vhost_region *shared, int descript
 	if (r->map == MAP_FAILED)
 		return wrong("a region that can't be mapped");
 	r->at = r->map + shared->offset;
-	vhost_guest->shared[vhost_guest->regions++] = *shared;
+	vhost_guest->told[vhost_guest->regions++] = *shared;
 	return DONE;
 }
 

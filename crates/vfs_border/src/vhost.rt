@@ -1,8 +1,8 @@
 //! Messages of a vhost-user front end. Each function answers 0, or the number of a refusal: then nothing is told.
 
-ghost use Rattle.std.specs.Prelude.{◌≡◌};
+ghost use Rattle.std.specs.Prelude.{◌≡◌, ◌<◌, ◌≤◌};
 ghost use Rattle.vfs_vhost.specs.Messages.{message_of, size_in};
-ghost use Rattle.vfs_vhost.specs.Tables.{CanBe};
+ghost use Rattle.vfs_vhost.specs.Tables.{HasMemory};
 ghost use Rattle.vfs_border.specs.Told.{IsFound, IsTold};
 
 use vfs_vhost::{Message, Offer, Place, Region, View, payload_size, place_of, read_message};
@@ -10,7 +10,8 @@ use vfs_vhost::{Message, Offer, Place, Region, View, payload_size, place_of, rea
 /// Tells how many bytes of payload follow the 12 bytes of a header.
 #[unsafe(no_mangle)]
 pub extern "C" fn nizwarf_vhost_size_at(head: &[u8], size: &mut u32) -> u32
-    ensures { IsTold (size_in head.now) size.old result size.new }
+    ensures told { IsTold (size_in head.now) size.old result size.new }
+    ensures few { result ≡ 0 → size.new ≤ 264 }
 {
     match payload_size(head) {
         Ok(told) => {
@@ -33,8 +34,10 @@ pub extern "C" fn nizwarf_vhost_message_at(
     ensures told { IsTold (message_of head.now body.now descriptors offer.now)
         message.old result message.new }
 
-    // Each region of memory can be, and no two have an address of the guest in common.
-    ensures memory { result ≡ 0 → CanBe message.new.memory }
+    // What C goes by: a queue is one, and each region of memory can be and came with a descriptor.
+    ensures queue { result ≡ 0 → 0 < offer.now.queues → message.new.queue < offer.now.queues }
+    ensures memory { result ≡ 0 → HasMemory message.new }
+    ensures descriptors { result ≡ 0 → message.new.descriptors ≡ descriptors }
 {
     match read_message(head, body, descriptors, offer) {
         Ok(told) => {

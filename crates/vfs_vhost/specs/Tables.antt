@@ -101,6 +101,11 @@ pub record CanBe (t : Table) : Type 0 where
   pub are : All IsRegion (shared t)
   pub apart : AllPairs Apart (shared t)
 
+-- The memory of a message: it can be, and each region came with a descriptor.
+pub record HasMemory (m : Message) : Type 0 where
+  pub can_be : CanBe m.memory
+  pub with_descriptors : m.memory.count ≤ m.descriptors
+
 -- ---- tables
 
 -- a region of a table's bytes; one past its end is none

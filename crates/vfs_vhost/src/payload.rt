@@ -1,10 +1,10 @@
 //! Payloads of messages.
 
-ghost use Rattle.std.specs.Prelude.{◌≡◌, ◌≤◌, length, true, IfOk};
+ghost use Rattle.std.specs.Prelude.{◌≡◌, ◌≤◌, ◌<◌, length, true, IfOk};
 ghost use Rattle.vfs_vhost.specs.Messages.{are_aligned, event_of, number_fault, payload_of, rings_of, state_of, wanted as wanted_of};
 ghost use Rattle.vfs_vhost.specs.Records.{record_at, state as state_table, address as address_table};
 ghost use Rattle.vfs_vhost.specs.Requests.{has_size};
-ghost use Rattle.vfs_vhost.specs.Tables.{CanBe, alone as alone_of};
+ghost use Rattle.vfs_vhost.specs.Tables.{HasMemory, alone as alone_of};
 
 use crate::message::{Message, Offer, Refusal, Rings};
 use crate::records::{Address, State};
@@ -16,7 +16,8 @@ use vfs_wire::parts::part_at;
 /// A message of this request alone.
 fn alone(request: Request) -> Message
     ensures value { result ≡ alone_of request }
-    ensures memory { CanBe result.memory }
+    ensures memory { HasMemory result }
+    ensures queue { result.queue ≡ 0 }
 {
     Message {
         request: request as u32,
@@ -28,7 +29,8 @@ fn alone(request: Request) -> Message
 #[tactic(auto, unfolding(crate::specs::Messages::wanted))]
 fn wanted(request: Request, number: u64, offered: u64) -> Result<Message, Refusal>
     ensures value { result ≡ wanted_of request number offered }
-    ensures memory { IfOk result (λ m. CanBe m.memory) }
+    ensures memory { IfOk result HasMemory }
+    ensures queue { IfOk result (λ m. m.queue ≡ 0) }
 {
     if number & offered != number {
         return Err(Refusal::NotOffered);
@@ -75,7 +77,8 @@ fn fault_of_number(request: Request, number: u32) -> Option<Refusal>
 fn state(request: Request, body: &[u8], queues: u64) -> Result<Message, Refusal>
     requires { 8 ≤ length body.now }
     ensures value { result ≡ state_of request (record_at state_table 0 body.now) queues }
-    ensures memory { IfOk result (λ m. CanBe m.memory) }
+    ensures memory { IfOk result HasMemory }
+    ensures queue { IfOk result (λ m. m.queue < queues) }
 {
     let state: State = part_at(body, 0);
     if u64::from(state.queue) >= queues {
@@ -95,7 +98,8 @@ fn state(request: Request, body: &[u8], queues: u64) -> Result<Message, Refusal>
 #[tactic(auto, unfolding(crate::specs::Messages::event_of))]
 fn event(request: Request, number: u64, queues: u64) -> Result<Message, Refusal>
     ensures value { result ≡ event_of request number queues }
-    ensures memory { IfOk result (λ m. CanBe m.memory) }
+    ensures memory { IfOk result HasMemory }
+    ensures queue { IfOk result (λ m. m.queue < queues) }
 {
     let queue = number & 0xff;
     if queue >= queues {
@@ -121,7 +125,8 @@ fn is_aligned(address: &Address) -> bool
 fn rings(body: &[u8], queues: u64) -> Result<Message, Refusal>
     requires { 40 ≤ length body.now }
     ensures value { result ≡ rings_of (record_at address_table 0 body.now) queues }
-    ensures memory { IfOk result (λ m. CanBe m.memory) }
+    ensures memory { IfOk result HasMemory }
+    ensures queue { IfOk result (λ m. m.queue < queues) }
 {
     let address: Address = part_at(body, 0);
     if u64::from(address.queue) >= queues {
@@ -149,7 +154,8 @@ fn rings(body: &[u8], queues: u64) -> Result<Message, Refusal>
 pub fn payload(request: Request, body: &[u8], offer: &Offer) -> Result<Message, Refusal>
     requires { has_size request (length body.now) ≡ true }
     ensures value { result ≡ payload_of request body.now offer.now }
-    ensures memory { IfOk result (λ m. CanBe m.memory) }
+    ensures memory { IfOk result HasMemory }
+    ensures queue { IfOk result (λ m. 0 < offer.now.queues → m.queue < offer.now.queues) }
 {
     match request {
         Request::SetFeatures => wanted(request, u64_at(body, 0), offer.features),

@@ -1,9 +1,9 @@
 //! Messages.
 
-ghost use Rattle.std.specs.Prelude.{◌≡◌, true, IfOk};
+ghost use Rattle.std.specs.Prelude.{◌≡◌, ◌<◌, ◌≤◌, true, IfOk};
 ghost use Rattle.vfs_vhost.specs.Messages.{asked_by, message_of, size_in};
 ghost use Rattle.vfs_vhost.specs.Requests.{has_size as has_its_size};
-ghost use Rattle.vfs_vhost.specs.Tables.{CanBe};
+ghost use Rattle.vfs_vhost.specs.Tables.{HasMemory};
 
 use crate::message::{Message, Offer, Refusal};
 use crate::payload::payload;
@@ -25,6 +25,7 @@ const WANTS_BIT: u32 = 8;
 fn asked(head: &Head) -> Result<Request, Refusal>
     ensures value { result ≡ asked_by head.now }
     ensures sized { IfOk result (λ r. has_its_size r head.now.size ≡ true) }
+    ensures few { IfOk result (λ _. head.now.size ≤ 264) }
 {
     if head.flags & VERSION_BITS != VERSION {
         return Err(Refusal::WrongVersion);
@@ -45,7 +46,8 @@ fn asked(head: &Head) -> Result<Request, Refusal>
 /// How many bytes of payload follow these bytes of a header.
 #[tactic(auto, unfolding(crate::specs::Messages::size_in))]
 pub fn payload_size(head: &[u8]) -> Result<u32, Refusal>
-    ensures { result ≡ size_in head.now }
+    ensures value { result ≡ size_in head.now }
+    ensures few { IfOk result (λ n. n ≤ 264) }
 {
     if head.len() != Head::SIZE {
         return Err(Refusal::Cut);
@@ -66,7 +68,9 @@ pub fn read_message(
     offer: &Offer,
 ) -> Result<Message, Refusal>
     ensures value { result ≡ message_of head.now body.now descriptors offer.now }
-    ensures memory { IfOk result (λ m. CanBe m.memory) }
+    ensures memory { IfOk result HasMemory }
+    ensures descriptors { IfOk result (λ m. m.descriptors ≡ descriptors) }
+    ensures queue { IfOk result (λ m. 0 < offer.now.queues → m.queue < offer.now.queues) }
 {
     if head.len() != Head::SIZE {
         return Err(Refusal::Cut);

@@ -1,6 +1,6 @@
 //! What a front end asks for.
 
-ghost use Rattle.std.specs.Prelude.{◌≡◌};
+ghost use Rattle.std.specs.Prelude.{◌≡◌, ◌≤◌, true};
 ghost use Rattle.vfs_vhost.specs.Requests.{has_size as has_its_size, request_of};
 
 /// The requests that are served, by the protocol's names and numbers.
@@ -53,7 +53,8 @@ pub fn request_by(number: u32) -> Option<Request>
 /// Whether the payload of a request has this size.
 #[tactic(auto, unfolding(crate::specs::Requests::has_size))]
 pub fn has_size(request: Request, size: u32) -> bool
-    ensures { result ≡ has_its_size request size }
+    ensures value { result ≡ has_its_size request size }
+    ensures few { result ≡ true → size ≤ 264 }
 {
     match request {
         Request::GetFeatures

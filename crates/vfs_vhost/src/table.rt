@@ -2,7 +2,7 @@
 
 ghost use Rattle.std.specs.Prelude.{◌≡◌, ◌≤◌, ◌<◌, length, false, IfNone, IfOk};
 ghost use Rattle.std.specs.List.{All, AllPairs};
-ghost use Rattle.vfs_vhost.specs.Tables.{Apart, CanBe, IsRegion, fault_among, fault_of, meet as meet_of, meets_any as meets_one, overlap, region_in, regions_in, table_of};
+ghost use Rattle.vfs_vhost.specs.Tables.{Apart, HasMemory, IsRegion, fault_among, fault_of, meet as meet_of, meets_any as meets_one, overlap, region_in, regions_in, table_of};
 
 use crate::message::{Message, Refusal, Table};
 use crate::records::Region;
@@ -112,7 +112,8 @@ fn regions_at(body: &[u8]) -> [Region; 8]
 pub fn table(body: &[u8]) -> Result<Message, Refusal>
     requires { 8 ≤ length body.now }
     ensures value { result ≡ table_of body.now }
-    ensures memory { IfOk result (λ m. CanBe m.memory) }
+    ensures memory { IfOk result HasMemory }
+    ensures queue { IfOk result (λ m. m.queue ≡ 0) }
 {
     let count = u32_at(body, 0);
     if count > 8 || body.len() != 8 + 32 * count as usize {

@@ -9,7 +9,10 @@ returns-clause-memory c =
     let Are : ℕ → Type 0 = λ n. All IsRegion (take n regions) in
     let Lie : ℕ → Type 0 = λ n. AllPairs Apart (take n regions) in
     record {
-      few = omega (arith, c.if-count-gt8.false, c.from.ensures);
-      are = subst Are (sym c.from.ensures) c.in_default.ensures.are;
-      apart = subst Lie (sym c.from.ensures) (c.any_meet.ensures.apart c.if-any_meet.false);
+      can_be = record {
+        few = omega (arith, c.if-count-gt8.false, c.from.ensures);
+        are = subst Are (sym c.from.ensures) c.in_default.ensures.are;
+        apart = subst Lie (sym c.from.ensures) (c.any_meet.ensures.apart c.if-any_meet.false);
+      };
+      with_descriptors = omega (arith, c.from.ensures);
     }
