@@ -1,8 +1,8 @@
 /* Queues of a virtio-fs device, and their workers: vhost_queue.h.
  *
  * The guest may write all of its memory at any time. So a descriptor is copied before it is checked,
- * and a request before it is handed on: both once. The room is not read. Every address and length is
- * checked against the memory that the front end shared. */
+ * and a request before it is handed on: both once. The room is not read. What a descriptor is, and where in the
+ * memory that the front end shared, the library says: nizwarf_chain.h. */
 #define _GNU_SOURCE
 #include <errno.h>
 #include <fcntl.h>
@@ -90,19 +90,6 @@ static void tell(int event)
 
 /* ---- chains, by workers */
 
-/* Where these bytes of the guest are: in one region, or NULL. */
-static unsigned char *bytes_at(const struct guest *g, uint64_t address, uint64_t len)
-{
-	for (size_t i = 0; i < g->regions; i++) {
-		const struct region *r = &g->region[i];
-		const uint64_t off = address - r->guest;
-
-		if (address >= r->guest && off <= r->size && len <= r->size - off)
-			return r->at + off;
-	}
-	return NULL;
-}
-
 /* Copies the next bytes of a request, until so many are copied. */
 static void copy_up_to(struct worker *w, size_t most, const unsigned char **at, size_t *len)
 {
@@ -135,18 +122,16 @@ static int add_request(struct worker *w, const unsigned char *at, size_t len)
 	return 0;
 }
 
-/* Adds a descriptor's bytes to the chain. */
-static int add_piece(struct worker *w, const struct guest *g, const struct vring_desc *d)
+/* Adds bytes of the guest to the chain. */
+static int add_piece(struct worker *w, unsigned char *at, const nizwarf_piece *piece)
 {
-	unsigned char *at = bytes_at(g, d->addr, d->len);
-	const int is_room = d->flags & VRING_DESC_F_WRITE;
-	const size_t left = LONGEST - (is_room ? w->room_len : w->len);
-	const size_t len = d->len < left ? d->len : left;
+	const size_t left = LONGEST - (piece->writable ? w->room_len : w->len);
+	const size_t len = piece->len < left ? piece->len : left;
 
-	if (!at || (is_room ? w->rooms == PIECES : w->rooms > 0))
-		return -1;
-	if (!is_room)
+	if (!piece->writable)
 		return add_request(w, at, len);
+	if (w->rooms == PIECES)
+		return -1;
 	w->room[w->rooms++] = (nizwarf_room){ at, len };
 	w->room_len += len;
 	return 0;
@@ -156,34 +141,29 @@ static int add_piece(struct worker *w, const struct guest *g, const struct vring
 static int take_chain(struct worker *w, const struct guest *g, const struct queue *q, uint16_t head)
 {
 	const unsigned char *table = q->descriptors;
-	uint32_t entries = q->size, at = head, seen = 0;
-	int is_indirect = 0;
-	struct vring_desc d;
+	uint64_t word[sizeof(struct vring_desc) / sizeof(uint64_t)];
+	unsigned char *at;
+	nizwarf_walk walk;
+	nizwarf_piece piece;
+	int step = nizwarf_chain_begin_at(q->size, PIECES, head, &walk);
 
 	w->len = w->copied = w->rooms = w->room_len = 0;
 	w->segments = 1;
 	w->segment[0] = (nizwarf_segment){ w->request, 0 };
-	do {
-		if (at >= entries || seen++ == entries)
-			return -1;
-		memcpy(&d, table + at * sizeof(d), sizeof(d));
+	while (step == NIZWARF_CHAIN_MORE || step == NIZWARF_CHAIN_TABLE) {
+		memcpy(word, table + (size_t)walk.at * sizeof(word), sizeof(word));
 		/* What is checked is what was copied. */
 		__atomic_signal_fence(__ATOMIC_SEQ_CST);
-		at = d.next;
-		if (d.flags & VRING_DESC_F_INDIRECT) {
-			/* The rest of the chain is a table of its own. */
-			table = bytes_at(g, d.addr, d.len);
-			entries = d.len / sizeof(d);
-			if (!table || is_indirect++ || d.flags & VRING_DESC_F_NEXT || d.len % sizeof(d) ||
-			    entries > PIECES)
-				return -1;
-			at = seen = 0;
-			d.flags = VRING_DESC_F_NEXT;
-		} else if (add_piece(w, g, &d)) {
+		step = nizwarf_chain_step_at(&walk, word[0], word[1], g->shared, g->regions, &piece);
+		if (step > NIZWARF_CHAIN_TABLE)
+			break;
+		at = g->region[piece.region].at + piece.offset;
+		if (step == NIZWARF_CHAIN_TABLE)
+			table = at;
+		else if (add_piece(w, at, &piece))
 			return -1;
-		}
-	} while (d.flags & VRING_DESC_F_NEXT);
-	return 0;
+	}
+	return step == NIZWARF_CHAIN_LAST ? 0 : -1;
 }
 
 /* What is kept of a chain whose request is answered later. */
@@ -273,16 +253,18 @@ void queue_look(struct queue *q)
 /* Takes the number of the next chain; -1: none waits. A queue that says what can't be is left. */
 static int take_head(struct queue *q)
 {
-	uint16_t waiting, head;
+	int32_t waiting;
+	uint16_t head;
 
 	if (!q->available || !q->enabled || q->kick < 0)
 		return -1;
-	waiting = (uint16_t)(__atomic_load_n(&q->available->idx, __ATOMIC_ACQUIRE) - q->next);
+	waiting = nizwarf_ring_waiting_at(__atomic_load_n(&q->available->idx, __ATOMIC_ACQUIRE), q->next,
+					  q->size);
 	if (!waiting)
 		return -1;
 	FROM_GUEST();
-	head = __atomic_load_n(&q->available->ring[q->next % q->size], __ATOMIC_RELAXED);
-	if (waiting > q->size || head >= q->size) {
+	head = __atomic_load_n(&q->available->ring[nizwarf_ring_slot_at(q->next, q->size)], __ATOMIC_RELAXED);
+	if (waiting < 0 || head >= q->size) {
 		fprintf(stderr, "%s: a queue that is none\n", by->program);
 		q->available = NULL;
 		return -1;
@@ -299,7 +281,7 @@ static int complete(struct queue *q, uint16_t head, uint32_t len)
 {
 	if (!q->available)
 		return 0;
-	q->used->ring[q->done % q->size] = (struct vring_used_elem){ head, len };
+	q->used->ring[nizwarf_ring_slot_at(q->done, q->size)] = (struct vring_used_elem){ head, len };
 	q->done++;
 	TO_GUEST();
 	/* (the guest sets the flag, and then looks at the number: one of both sees what the other did) */
@@ -512,7 +494,7 @@ static void lose_memory(int number, siginfo_t *about, void *context)
 
 /* ---- queues and workers, by the calling thread */
 
-/* A ring of the front end's view, aligned as it must be, or NULL. */
+/* A ring of the front end's view, in one region and aligned as it must be, or NULL. */
 static void *ring_at(uint64_t address, uint64_t len, uintptr_t align)
 {
 	unsigned char *at;

@@ -9,13 +9,13 @@
 #include <stdatomic.h>
 #include "border.h"
 #include "later.h"
+#include "chain.h"
 
 /* Queues: one of forgets, and those of requests, as many as the protocol can number. */
 enum { QUEUES = 256, REGIONS = VHOST_REGIONS };
 
-/* Memory of the guest: its address there, and where it is mapped. */
+/* Memory of the guest, where it is mapped. */
 struct region {
-	uint64_t guest, size;
 	unsigned char *at, *map;
 	size_t mapped;
 };
@@ -44,8 +44,9 @@ struct queue {
 struct guest {
 	struct queue queue[QUEUES];
 	struct region region[REGIONS];
-	/* The same as the front end told them. */
+	/* The same as the front end told them, and as the guest has them, for the walk of chains. */
 	struct vhost_region told[REGIONS];
+	nizwarf_region shared[REGIONS];
 	size_t regions;
 	/* Is held by a worker while it has a chain, and by the calling thread, alone, while it changes
 	 * queues or memory. */

@@ -120,8 +120,6 @@ static enum outcome share_region(const struct vhost_region *shared, int descript
 	struct region *r = &vhost_guest->region[vhost_guest->regions];
 	struct stat file;
 
-	r->guest = shared->guest;
-	r->size = shared->size;
 	r->mapped = shared->size + shared->offset;
 	if (fstat(descriptor, &file) || file.st_size < 0 || (uint64_t)file.st_size < r->mapped)
 		return wrong("a region without its memory");
@@ -129,6 +127,7 @@ static enum outcome share_region(const struct vhost_region *shared, int descript
 	if (r->map == MAP_FAILED)
 		return wrong("a region that can't be mapped");
 	r->at = r->map + shared->offset;
+	vhost_guest->shared[vhost_guest->regions] = (nizwarf_region){ shared->guest, shared->size };
 	vhost_guest->told[vhost_guest->regions++] = *shared;
 	return DONE;
 }

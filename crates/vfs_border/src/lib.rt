@@ -3,4 +3,5 @@
 //! gives a pointer to what is there, never NULL. A slice is a pointer and then a length to C.
 #![tactic(auto)]
 
+mod chains;
 mod vhost;

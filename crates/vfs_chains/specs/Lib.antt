@@ -1,0 +1,4 @@
+pub mod Descriptors
+pub mod Regions
+pub mod Rings
+pub mod Walks
