@@ -1,3 +1,4 @@
+pub mod Chains
 pub mod Descriptors
 pub mod Regions
 pub mod Rings

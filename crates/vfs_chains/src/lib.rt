@@ -6,11 +6,13 @@
 #![tactic(auto)]
 
 mod descriptor;
+mod laws;
 mod regions;
 mod rings;
 mod walk;
 
 pub use descriptor::{Descriptor, flag};
+pub use laws::steps_are_within;
 pub use regions::{Place, Region, find};
 pub use rings::{slot, waiting};
 pub use walk::{LAST, MORE, MOST_BYTES, Piece, Refusal, Step, TABLE, Walk, begin, take_step};
