@@ -1,20 +1,19 @@
 -- What each step of a walk is, by the tests that lead to it.
-use Rattle.std.proofs.Common.{◌≡◌, ◌≢◌, ◌≤◌, ◌<◌, ◌+◌, ◌-◌, ◌*◌, ◌/◌, ◌%◌, ℕ, Bool, true, false, List, [], ◌∷◌, refl, ap, sym, subst, arith, nat_le, nat_lt, Option, Some, None, inl, inr}
-use Rattle.std.specs.Prelude.{◌==◌, ◌&&◌, ◌||◌, not, if◌then◌else◌, ⊤}
+use Rattle.std.proofs.Common.{◌≡◌, ◌≢◌, ◌⊎◌, ◌∙◌, ◌≤◌, ◌<◌, ◌+◌, ◌-◌, ◌*◌, ◌/◌, ◌%◌, ℕ, Bool, true, false, List, [], ◌∷◌, refl, sym, subst, arith, nat_le, nat_lt, Option, Some, None, inl, inr}
+use Rattle.std.specs.Prelude.{◌==◌, ◌&&◌, ◌||◌, not, if◌then◌else◌, is_some, ⊤}
 use Rattle.std.proofs.lemmas.Bool.Decides.{nat_tests}
-use Rattle.vfs_chains.specs.Chains.{Lie, IsWithin}
+use Rattle.vfs_chains.specs.Chains.{Lie, IsReason, IsWithin}
 use Rattle.vfs_chains.specs.Descriptors.{goes_on, is_writable, is_table}
 use Rattle.vfs_chains.specs.Regions.{holds, place_from, place_of}
-use Rattle.vfs_chains.specs.Walks.{entry_size, unplaced, piece_at, gone_on, at_place, piece_step, entered, at_table, table_step, step_at}
+use Rattle.vfs_chains.specs.Walks.{entry_size, piece_at, gone_on, at_place, piece_step, at_table, table_step, step_at}
 use Rattle.vfs_chains.specs.declared.descriptor.Descriptor.{Descriptor}
 use Rattle.vfs_chains.specs.declared.regions.Region.{Region}
 use Rattle.vfs_chains.specs.declared.regions.Place.{Place}
-use Rattle.vfs_chains.specs.declared.walk.Piece.{Piece}
 use Rattle.vfs_chains.specs.declared.walk.Walk.{Walk}
 use Rattle.vfs_chains.specs.declared.walk.Refusal.{Refusal}
-use Rattle.vfs_chains.specs.declared.walk.Refusal.TheVariants.{OutsideTable, LongerThanTable, ReadableAfterWritable, TooManyBytes, TableInTable, TableGoesOn, TableSize, TooManyEntries}
+use Rattle.vfs_chains.specs.declared.walk.Refusal.TheVariants.{OutsideTable, LongerThanTable, Outside, PastEnd, ReadableAfterWritable, TooManyBytes, TableInTable, TableGoesOn, TableSize, TooManyEntries}
 use Rattle.vfs_chains.specs.declared.walk.Step.{Step}
-use Rattle.vfs_chains.specs.declared.walk.Step.TheVariants.{Last, More, Table, Refused}
+use Rattle.vfs_chains.specs.declared.walk.Step.TheVariants.{Last, More, Refused}
 
 -- what holds of both branches holds of the choice
 pub split : {S : Type 0} (P : S → Type 0) (b : Bool) (x y : S) → (b ≡ true → P x) → (b ≡ false → P y)
@@ -123,28 +122,65 @@ pub record LedToTable (w : Walk) (d : Descriptor) : Type 0 where
   pub size : (d.len == 0 || not (d.len % entry_size == 0)) ≡ false
   pub few : nat_lt w.most (d.len / entry_size) ≡ false
 
--- what holds of every refusal, and of both kinds of steps by what led to them, holds of a step
+pub both_left : (a b : Bool) → (a && b) ≡ true → a ≡ true
+both_left true b is = refl
+both_left false b is = is
+
+pub both_right : (a b : Bool) → (a && b) ≡ true → b ≡ true
+both_right true b is = is
+both_right false b is = absurd (cc)
+
+pub not_true : (a : Bool) → not a ≡ true → a ≡ false
+not_true true is = absurd (cc)
+not_true false is = refl
+
+pub le_is : (a b : ℕ) → nat_le a b ≡ true → a ≤ b
+le_is a b is = grind (arith, nat_tests, is)
+
+pub lt_is : (a b : ℕ) → nat_lt a b ≡ true → a < b
+lt_is a b is = grind (arith, nat_tests, is)
+
+wrong_size : (a b : Bool) (x y : ℕ) → a ≡ (x == 0) → b ≡ (y == 0) → (a || not b) ≡ true → (x ≡ 0) ⊎ (y ≢ 0)
+wrong_size true b x y zero_is whole_is is = inl (eq_is x 0 (sym zero_is))
+wrong_size false b x y zero_is whole_is is = inr (eq_not y 0 (sym whole_is ∙ not_true b is))
+
+-- what holds of a refusal for its reason, and of both kinds of steps by what led to them, holds of a step
 pub by_tests : (P : Step → Type 0) (w : Walk) (d : Descriptor) (rs : List Region)
-    → ((r : Refusal) → P (Refused r))
+    → ((r : Refusal) → IsReason rs w d r → P (Refused r))
     → (LedToPiece w d → P (at_place w d rs (place_of rs d.addr d.len)))
     → (LedToTable w d → P (at_table w d rs (place_of rs d.addr d.len)))
     → P (step_at w d rs)
 by_tests P w d rs no_chain piece table =
     split P (is_table d) (table_step w d rs) (piece_step w d rs)
-    (λ t. split P w.indirect (Refused TableInTable) (after_outside w d rs) (λ h. no_chain TableInTable)
-    (λ o. split P (goes_on d) (Refused TableGoesOn) (after_alone w d rs) (λ h. no_chain TableGoesOn)
+    (λ t. split P w.indirect (Refused TableInTable) (after_outside w d rs) (λ h. no_chain TableInTable (t, h))
+    (λ o. split P (goes_on d) (Refused TableGoesOn) (after_alone w d rs) (λ h. no_chain TableGoesOn (t, h))
     (λ a. split P (d.len == 0 || not (d.len % entry_size == 0)) (Refused TableSize) (after_size w d rs)
-    (λ h. no_chain TableSize)
+    (λ h. no_chain TableSize (
+      t,
+      wrong_size (d.len == 0) (d.len % entry_size == 0) d.len (d.len % entry_size) refl refl h,
+    ))
     (λ s. split P (nat_lt w.most (d.len / entry_size)) (Refused TooManyEntries)
-    (at_table w d rs (place_of rs d.addr d.len)) (λ h. no_chain TooManyEntries)
+    (at_table w d rs (place_of rs d.addr d.len)) (λ h. no_chain TooManyEntries (t, lt_is w.most (d.len / entry_size) h))
     (λ f. table (record { table = t; outside = o; alone = a; size = s; few = f }))))))
     (λ t. split P (w.writable && not (is_writable d)) (Refused ReadableAfterWritable) (after_order w d rs)
-    (λ h. no_chain ReadableAfterWritable)
-    (λ o. split P (nat_lt w.rest d.len) (Refused TooManyBytes) (after_bytes w d rs) (λ h. no_chain TooManyBytes)
+    (λ h. no_chain ReadableAfterWritable (
+      t,
+      both_left w.writable (not (is_writable d)) h,
+      not_true (is_writable d) (both_right w.writable (not (is_writable d)) h),
+    ))
+    (λ o. split P (nat_lt w.rest d.len) (Refused TooManyBytes) (after_bytes w d rs) (λ h. no_chain TooManyBytes (t, lt_is w.rest d.len h))
     (λ b. split P (goes_on d && nat_le w.left 1) (Refused LongerThanTable) (after_left w d rs)
-    (λ h. no_chain LongerThanTable)
+    (λ h. no_chain LongerThanTable (
+      t,
+      both_left (goes_on d) (nat_le w.left 1) h,
+      le_is w.left 1 (both_right (goes_on d) (nat_le w.left 1) h),
+    ))
     (λ l. split P (goes_on d && nat_le w.entries d.next) (Refused OutsideTable)
-    (at_place w d rs (place_of rs d.addr d.len)) (λ h. no_chain OutsideTable)
+    (at_place w d rs (place_of rs d.addr d.len)) (λ h. no_chain OutsideTable (
+      t,
+      both_left (goes_on d) (nat_le w.entries d.next) h,
+      le_is w.entries d.next (both_right (goes_on d) (nat_le w.entries d.next) h),
+    ))
     (λ n. piece (record { piece = t; order = o; bytes = b; left = l; next = n }))))))
 
 -- ---- each step is within what its walk may
@@ -155,9 +191,14 @@ left_more w d led g = le_not w.left 1 (both_not (goes_on d) (nat_le w.left 1) le
 pub next_inside : (w : Walk) (d : Descriptor) → LedToPiece w d → goes_on d ≡ true → d.next < w.entries
 next_inside w d led g = le_not w.entries d.next (both_not (goes_on d) (nat_le w.entries d.next) led.next g)
 
+why_unplaced : (rs : List Region) (w : Walk) (d : Descriptor) (o : Option Place) → place_of rs d.addr d.len ≡ None
+    → place_of rs d.addr 1 ≡ o → IsReason rs w d (if is_some o then PastEnd else Outside)
+why_unplaced rs w d None is first = (is, first)
+why_unplaced rs w d (Some p) is first = (is, p, first)
+
 piece_within : (rs : List Region) (w : Walk) (d : Descriptor) → LedToPiece w d → (o : Option Place)
     → place_of rs d.addr d.len ≡ o → IsWithin rs w d (at_place w d rs o)
-piece_within rs w d led None is = tt
+piece_within rs w d led None is = why_unplaced rs w d (place_of rs d.addr 1) is refl
 piece_within rs w d led (Some p) is =
     let lie = lie_there rs d.addr d.len p is in
     split (λ s. IsWithin rs w d s) (goes_on d) (More (piece_at d p) (gone_on w d)) (Last (piece_at d p))
@@ -167,27 +208,33 @@ piece_within rs w d led (Some p) is =
 
 pub size_is : (w : Walk) (d : Descriptor) → LedToTable w d
     → (d.len ≢ 0) × (d.len % entry_size ≡ 0) × (d.len / entry_size ≤ w.most)
-size_is w d led =
-    (eq_not d.len 0 (neither_left (d.len == 0) (not (d.len % entry_size == 0)) led.size),
-    eq_is (d.len % entry_size) 0 (not_false (d.len % entry_size == 0)
-    (neither_right (d.len == 0) (not (d.len % entry_size == 0)) led.size)),
-    lt_not w.most (d.len / entry_size) led.few)
+size_is w d led = (
+  eq_not d.len 0 (neither_left (d.len == 0) (not (d.len % entry_size == 0)) led.size),
+  eq_is (d.len % entry_size) 0 (not_false (d.len % entry_size == 0)
+      (neither_right (d.len == 0) (not (d.len % entry_size == 0)) led.size)),
+  lt_not w.most (d.len / entry_size) led.few,
+)
 
 pub has_entries : (len : ℕ) → len ≢ 0 → len % 16 ≡ 0 → 0 < len / 16
 has_entries len some whole = omega arith
 
 table_within : (rs : List Region) (w : Walk) (d : Descriptor) → LedToTable w d → (o : Option Place)
     → place_of rs d.addr d.len ≡ o → IsWithin rs w d (at_table w d rs o)
-table_within rs w d led None is = tt
+table_within rs w d led None is = why_unplaced rs w d (place_of rs d.addr 1) is refl
 table_within rs w d led (Some p) is =
     let lie : Lie rs d.addr d.len p.region p.offset = lie_there rs d.addr d.len p is in
     let size : (d.len ≢ 0) × (d.len % entry_size ≡ 0) × (d.len / entry_size ≤ w.most) = size_is w d led in
-    let whole : d.len ≡ d.len / entry_size * entry_size = omega (arith, size.1) in
-    (subst (λ n. Lie rs d.addr n p.region p.offset) whole lie,
-    has_entries d.len size.0 size.1, size.2, refl, led.outside, refl)
+    let whole : d.len ≡ d.len / entry_size * entry_size = omega (arith, size.1) in (
+      subst (λ n. Lie rs d.addr n p.region p.offset) whole lie,
+      has_entries d.len size.0 size.1,
+      size.2,
+      refl,
+      led.outside,
+      refl,
+    )
 
 pub within : (rs : List Region) (w : Walk) (d : Descriptor) → IsWithin rs w d (step_at w d rs)
 within rs w d =
-    by_tests (λ s. IsWithin rs w d s) w d rs (λ r. tt)
+    by_tests (λ s. IsWithin rs w d s) w d rs (λ r why. why)
     (λ led. piece_within rs w d led (place_of rs d.addr d.len) refl)
     (λ led. table_within rs w d led (place_of rs d.addr d.len) refl)

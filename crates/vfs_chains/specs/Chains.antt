@@ -1,6 +1,6 @@
 -- A chain of descriptors: virtio 1.2, section 2.7, as a relation on the bytes of its tables. A table is the bytes
 -- that were copied of it; of an entry that was not copied nothing is said.
-use Rattle.std.specs.Prelude.{◌≡◌, ◌≢◌, ◌≤◌, ◌<◌, ◌+◌, ◌-◌, ◌*◌, ◌/◌, ◌%◌, ◌⊎◌, ℕ, Bool, true, false, ⊤, List, [], ◌∷◌, length, Option, Some, None}
+use Rattle.std.specs.Prelude.{◌≡◌, ◌≢◌, ◌≤◌, ◌<◌, ◌+◌, ◌-◌, ◌*◌, ◌/◌, ◌%◌, ◌⊎◌, ℕ, Bool, true, false, ⊤, List, [], ◌∷◌, Some, None}
 use Rattle.vfs_chains.specs.Descriptors.{descriptor_from, goes_on, is_writable, is_table}
 use Rattle.vfs_chains.specs.Regions.{place_of}
 use Rattle.vfs_chains.specs.Walks.{entry_size, piece_at, step_at}
@@ -9,6 +9,8 @@ use Rattle.vfs_chains.specs.declared.regions.Region.{Region}
 use Rattle.vfs_chains.specs.declared.regions.Place.{Place}
 use Rattle.vfs_chains.specs.declared.walk.Piece.{Piece}
 use Rattle.vfs_chains.specs.declared.walk.Walk.{Walk}
+use Rattle.vfs_chains.specs.declared.walk.Refusal.{Refusal}
+use Rattle.vfs_chains.specs.declared.walk.Refusal.TheVariants.{OutsideTable, LongerThanTable, Outside, PastEnd, ReadableAfterWritable, TooManyBytes, TableInTable, TableGoesOn, TableSize, TooManyEntries}
 use Rattle.vfs_chains.specs.declared.walk.TheConstants.{MOST_BYTES}
 use Rattle.vfs_chains.specs.declared.walk.Step.{Step}
 use Rattle.vfs_chains.specs.declared.walk.Step.TheVariants.{Last, More, Table, Refused}
@@ -21,6 +23,21 @@ Lie [] addr len region offset = ⊥
 Lie (r ∷ rs) addr len region offset =
     ((region ≡ 0) × (r.address + offset ≡ addr) × (offset + len ≤ r.size))
     ⊎ ((before : ℕ) × (region ≡ 1 + before) × Lie rs addr len before offset)
+
+-- what a refusal says of the descriptor at which the walk is
+abbrev pub IsReason : List Region → Walk → Descriptor → Refusal → Type 0
+IsReason regions w d OutsideTable = (is_table d ≡ false) × (goes_on d ≡ true) × (w.entries ≤ d.next)
+IsReason regions w d LongerThanTable = (is_table d ≡ false) × (goes_on d ≡ true) × (w.left ≤ 1)
+IsReason regions w d Outside = (place_of regions d.addr d.len ≡ None) × (place_of regions d.addr 1 ≡ None)
+IsReason regions w d PastEnd =
+    (place_of regions d.addr d.len ≡ None) × (place : Place) × (place_of regions d.addr 1 ≡ Some place)
+IsReason regions w d ReadableAfterWritable =
+    (is_table d ≡ false) × (w.writable ≡ true) × (is_writable d ≡ false)
+IsReason regions w d TooManyBytes = (is_table d ≡ false) × (w.rest < d.len)
+IsReason regions w d TableInTable = (is_table d ≡ true) × (w.indirect ≡ true)
+IsReason regions w d TableGoesOn = (is_table d ≡ true) × (goes_on d ≡ true)
+IsReason regions w d TableSize = (is_table d ≡ true) × ((d.len ≡ 0) ⊎ (d.len % entry_size ≢ 0))
+IsReason regions w d TooManyEntries = (is_table d ≡ true) × (w.most < d.len / entry_size)
 
 -- A step is within what its walk may: a piece, and a table, lie in one region, at the descriptor's address; the
 -- next descriptor is one of its table; and the walk gets shorter, or is in an indirect table, of which there is one.
@@ -35,7 +52,7 @@ IsWithin regions w d (Table place next) =
     Lie regions d.addr (next.entries * entry_size) place.region place.offset
     × (next.at < next.entries) × (next.entries ≤ w.most) × (next.left ≡ next.entries)
     × (w.indirect ≡ false) × (next.indirect ≡ true)
-IsWithin regions w d (Refused refusal) = ⊤
+IsWithin regions w d (Refused refusal) = IsReason regions w d refusal
 
 -- ---- the chain
 

@@ -9,10 +9,11 @@ mod descriptor;
 mod laws;
 mod regions;
 mod rings;
+mod uses;
 mod walk;
 
 pub use descriptor::{Descriptor, flag};
-pub use laws::steps_are_within;
+pub use laws::{steps_are_within, walks_are_chains, words_are_bytes};
 pub use regions::{Place, Region, find};
 pub use rings::{slot, waiting};
 pub use walk::{LAST, MORE, MOST_BYTES, Piece, Refusal, Step, TABLE, Walk, begin, take_step};
