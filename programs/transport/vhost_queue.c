@@ -109,9 +109,12 @@ static int add_request(struct worker *w, const unsigned char *at, size_t len)
 	uint32_t opcode = 0;
 
 	w->len += len;
-	copy_up_to(w, OPCODE_END, &at, &len);
-	if (by->writes_in_place && w->copied >= OPCODE_END)
-		memcpy(&opcode, w->request + OPCODE_END - sizeof(opcode), sizeof(opcode));
+	if (by->writes_in_place) {
+		if (w->copied < OPCODE_END)
+			copy_up_to(w, OPCODE_END, &at, &len);
+		if (w->copied >= OPCODE_END)
+			memcpy(&opcode, w->request + OPCODE_END - sizeof(opcode), sizeof(opcode));
+	}
 	copy_up_to(w, opcode == OPCODE_WRITE ? WRITE_HEAD : LONGEST, &at, &len);
 	w->segment[0].len = w->copied;
 	if (!len)
@@ -204,7 +207,7 @@ static void send_kept(void *about, int32_t code, const void *reply, size_t len)
 		memcpy(late->reply, reply, len);
 	pthread_mutex_lock(&kept->q->lock);
 	late->next = kept->q->late;
-	kept->q->late = late;
+	__atomic_store_n(&kept->q->late, late, __ATOMIC_RELAXED);
 	pthread_mutex_unlock(&kept->q->lock);
 	queue_look(kept->q);
 }
@@ -212,12 +215,14 @@ static void send_kept(void *about, int32_t code, const void *reply, size_t len)
 /* Hands a chain to `serve`, which may keep it, if it can be called back. Answers whether it does. */
 static int ask(struct worker *w, struct guest *g, struct queue *q, uint16_t head, int32_t *code, size_t *len)
 {
-	struct kept kept = { .q = q, .head = head, .rooms = w->rooms };
+	struct kept kept;
 	struct later_source source = { &g->later, send_kept, &kept, sizeof(kept), 0 };
 	const int can_keep = by->recall && w->rooms <= KEPT_ROOMS;
 
-	if (can_keep)
+	if (can_keep) {
+		kept = (struct kept){ .q = q, .head = head, .rooms = w->rooms };
 		memcpy(kept.room, w->room, w->rooms * sizeof(*w->room));
+	}
 	later_serve(can_keep ? &source : NULL);
 	*code = by->serve(by->user, w->number, w->segment, w->segments, w->room, w->rooms, len);
 	later_serve(NULL);
@@ -304,6 +309,12 @@ static void call_guest(struct queue *q)
 	pthread_mutex_unlock(&q->lock);
 }
 
+/* Whether an answer came late. (Who leaves one has the queue looked at then.) */
+static int has_late(struct queue *q)
+{
+	return __atomic_load_n(&q->late, __ATOMIC_RELAXED) != NULL;
+}
+
 /* Takes the next answer that came late; NULL: there is none. */
 static struct late *take_late(struct queue *q)
 {
@@ -312,7 +323,7 @@ static struct late *take_late(struct queue *q)
 	pthread_mutex_lock(&q->lock);
 	late = q->late;
 	if (late)
-		q->late = late->next;
+		__atomic_store_n(&q->late, late->next, __ATOMIC_RELAXED);
 	pthread_mutex_unlock(&q->lock);
 	return late;
 }
@@ -427,7 +438,7 @@ static void serve_queue(struct worker *w, uint32_t number)
 		do {
 			/* (between two chains a message may have its turn) */
 			pthread_rwlock_rdlock(&g->in_flight);
-			more = serve_late(g, q) || serve_next(w, g, q);
+			more = (has_late(q) && serve_late(g, q)) || serve_next(w, g, q);
 			pthread_rwlock_unlock(&g->in_flight);
 		} while (more);
 		if (number < QUEUES)
