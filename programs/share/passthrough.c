@@ -166,8 +166,7 @@ int32_t passthrough_serve(void *user, unsigned worker, const nizwarf_segment *re
 	ssize_t pieces = 0;
 	int32_t code;
 
-	code = ask(w, &session, OFFERS | (all->locks ? NIZWARF_OFFER_LOCKS : 0), request, segments, room,
-		   rooms, &asked, &told);
+	code = ask(w, &session, all->offers, request, segments, room, rooms, &asked, &told);
 	if (told.interrupts && all->locks)
 		locks_interrupt(all->locks, told.interrupts);
 	if (code != NIZWARF_ASKED) {
@@ -242,6 +241,11 @@ static int look_at_folder(struct passthrough *all, int root)
 	all->is_local = told.f_type == EXT4_SUPER_MAGIC || told.f_type == XFS_SUPER_MAGIC ||
 			told.f_type == BTRFS_SUPER_MAGIC || told.f_type == TMPFS_MAGIC;
 	all->local_device = seen.st_dev;
+	/* (where one will do, the mount may be below another file system) */
+	all->stack_depth = told.f_type == OVERLAYFS_SUPER_MAGIC || told.f_type == ECRYPTFS_SUPER_MAGIC ||
+					   told.f_type == FUSE_SUPER_MAGIC ?
+				   2 :
+				   1;
 	all->numbers = numbers_new(seen.st_dev);
 	return all->numbers ? 0 : -1;
 }
@@ -261,22 +265,36 @@ static void free_passthrough(struct passthrough *all)
 		free(w->pieces);
 		free(w);
 	}
+	backings_free(all->backings);
 	free(all);
+}
+
+/* Says how long a client may remember names and attributes. */
+static void set_times(struct passthrough *all)
+{
+	const struct passthrough_options *options = &all->options;
+	const uint64_t time = options->cache == CACHE_NEVER ? NO_TIME :
+			      options->cache == CACHE_AUTO  ? SHORT_TIME :
+							      LONG_TIME;
+
+	all->entry_time = options->entry_time == AS_CACHE_SAYS ? time : options->entry_time;
+	all->attr_time = options->attr_time == AS_CACHE_SAYS ? time : options->attr_time;
+	all->file_time = all->attr_time;
+	/* (what it writes by itself to a mapping doesn't change the times that it remembers) */
+	if (options->passthrough && options->attr_time == AS_CACHE_SAYS && time > SHORT_TIME)
+		all->file_time = SHORT_TIME;
 }
 
 struct passthrough *passthrough_new(int root, int proc, const struct passthrough_options *options)
 {
 	struct passthrough *all = calloc(1, sizeof(*all));
-	uint64_t time;
 
 	if (!all)
 		return NULL;
 	all->options = *options;
-	time = options->cache == CACHE_NEVER ? NO_TIME :
-	       options->cache == CACHE_AUTO  ? SHORT_TIME :
-					       LONG_TIME;
-	all->entry_time = options->entry_time == AS_CACHE_SAYS ? time : options->entry_time;
-	all->attr_time = options->attr_time == AS_CACHE_SAYS ? time : options->attr_time;
+	set_times(all);
+	all->offers = OFFERS | (options->flock || options->posix_lock ? NIZWARF_OFFER_LOCKS : 0) |
+		      (options->passthrough ? NIZWARF_OFFER_INIT : 0);
 	/* What is not remembered is not written later: the kernel would tell of times that are not so. */
 	if (options->cache == CACHE_NEVER || options->cache == CACHE_METADATA)
 		all->options.writeback = false;
@@ -293,7 +311,8 @@ struct passthrough *passthrough_new(int root, int proc, const struct passthrough
 		free_passthrough(all);
 		return NULL;
 	}
-	if ((options->flock || options->posix_lock) && !(all->locks = locks_new(&all->nodes))) {
+	if (((options->flock || options->posix_lock) && !(all->locks = locks_new(&all->nodes))) ||
+	    (options->passthrough && !(all->backings = backings_new(options->backing)))) {
 		free_passthrough(all);
 		return NULL;
 	}

@@ -39,6 +39,10 @@ struct passthrough_options {
 	bool xattr, posix_acl;
 	/* Locks of flock(2), and of fcntl(2), are the host's; else they are the client's alone. */
 	bool flock, posix_lock;
+	/* The client reads and writes files by itself, which a process names that this socket leads to, and that is closed
+	 * with it (fuse_backing_start). */
+	bool passthrough;
+	int backing;
 	/* What would change something is EROFS. */
 	bool read_only;
 	/* Directories are listed with attributes. */

@@ -242,7 +242,7 @@ bool is_local(const struct call *call)
 }
 
 /* Answers an open file, whose handle is told. */
-static void tell_open(const struct call *call, bool is_directory)
+static void tell_open(const struct call *call, bool is_directory, int fd, const struct backing *backing)
 {
 	nizwarf_answer *answer = call->answer;
 
@@ -260,10 +260,23 @@ static void tell_open(const struct call *call, bool is_directory)
 	case CACHE_AUTO:
 		break;
 	}
+	backing_tell(call, backing, fd);
 	/* (what was only read has nothing to flush but locks, and a client that writes later flushes all the same) */
 	if (!is_directory && !call->all->locks &&
 	    ((call->asked->flags & O_ACCMODE) == O_RDONLY || is_local(call)))
 		answer->open_flags |= FOPEN_NOFLUSH;
+}
+
+/* Answers an open file, which has the descriptor then, and the open of `backing`: 0, or an error. (Who guesses its
+ * number may have released it by then.) */
+static int add_file(const struct call *call, int fd, int flags, struct backing *backing)
+{
+	tell_open(call, flags & O_DIRECTORY, fd, backing);
+	call->answer->handle = file_add(&call->all->nodes, fd, flags, backing);
+	if (call->answer->handle)
+		return 0;
+	backing_put(backing);
+	return ENOMEM;
 }
 
 static int open_file(const struct call *call)
@@ -271,6 +284,7 @@ static int open_file(const struct call *call)
 	const bool is_directory = call->asked->call == NIZWARF_OPENDIR;
 	const int flags = is_directory ? O_RDONLY | O_DIRECTORY : flags_of(call);
 	struct nodes *nodes = &call->all->nodes;
+	struct backing *backing = NULL;
 	int fd, error = fd_reserve(nodes, 1);
 
 	if (error)
@@ -283,13 +297,13 @@ static int open_file(const struct call *call)
 		fd_give_back(nodes, 1);
 		return error;
 	}
-	call->answer->handle = file_add(nodes, fd, flags);
-	if (!call->answer->handle) {
+	if (!is_directory)
+		error = backing_take(call, call->asked->node, fd, &backing);
+	if (!error)
+		error = add_file(call, fd, flags, backing);
+	if (error)
 		fd_let_go(nodes, fd);
-		return ENOMEM;
-	}
-	tell_open(call, is_directory);
-	return 0;
+	return error;
 }
 
 /* Opens what was just made of a name with O_PATH: by the name, which costs less, or if that leads to another
@@ -337,20 +351,20 @@ static int tell_new(const struct call *call, const char *name, int fd, int path)
 {
 	const struct found found = found_in(&call->node, name);
 	struct nodes *nodes = &call->all->nodes;
-	nizwarf_answer *answer = call->answer;
-	int error = path < 0 ? errno : enter(call, &found, path, &answer->entry, NULL);
+	const nizwarf_entry *entry = &call->answer->entry;
+	int error = path < 0 ? errno : enter(call, &found, path, &call->answer->entry, NULL);
+	struct backing *backing;
 
 	if (path < 0)
 		node_give_back(nodes);
 	if (error)
 		return error;
-	answer->handle = file_add(nodes, fd, flags_of(call));
-	if (answer->handle) {
-		tell_open(call, false);
-		return 0;
-	}
-	node_forget(nodes, answer->entry.node, 1);
-	return ENOMEM;
+	error = backing_take(call, entry->node, fd, &backing);
+	if (!error)
+		error = add_file(call, fd, flags_of(call), backing);
+	if (error)
+		node_forget(nodes, entry->node, 1);
+	return error;
 }
 
 /* A file without a name, which a LINK may give it one. */
@@ -602,6 +616,24 @@ static uint64_t wanted(const struct passthrough *all)
 	return wants;
 }
 
+/* Asks for files that the client reads and writes by itself, if they are wanted and it has such. */
+static void want_further(const struct call *call)
+{
+	struct passthrough *all = call->all;
+	const nizwarf_init_more more = { .want = NIZWARF_PASSTHROUGH, .max_stack_depth = all->stack_depth };
+
+	if (!all->backings)
+		return;
+	if (!(nizwarf_init_further(call->asked) & NIZWARF_PASSTHROUGH)) {
+		fputs("nizwarf-share: --passthrough: Linux has it from 6.9 on: files are served by requests\n",
+		      stderr);
+		return;
+	}
+	memcpy(call->worker->text, &more, sizeof(more));
+	call->answer->text = (const uint8_t *)call->worker->text;
+	call->answer->text_len = sizeof(more);
+}
+
 /* INIT: of a new client, or of one that began anew. */
 static int agree(const struct call *call)
 {
@@ -618,6 +650,7 @@ static int agree(const struct call *call)
 		return EPROTO;
 	}
 	nizwarf_answer_options(call->answer, wanted(all) & offered);
+	want_further(call);
 	return 0;
 }
 

@@ -5,6 +5,7 @@
 #include <linux/capability.h>
 #include <sys/uio.h>
 #include "passthrough.h"
+#include "passthrough_backing.h"
 #include "passthrough_locks.h"
 #include "passthrough_nodes.h"
 #include "passthrough_numbers.h"
@@ -38,19 +39,25 @@ struct worker {
 
 struct passthrough {
 	struct passthrough_options options;
+	/* The rows that are offered. */
+	uint32_t offers;
 	struct nodes nodes;
 	struct numbers *numbers;
 	/* NULL: locks are the client's. */
 	struct locks *locks;
+	/* NULL: files are read and written by requests. */
+	struct backings *backings;
 	/* The options that are agreed on with the client. */
 	atomic_ullong agreed;
 	/* It was said that the client has no access control lists. */
 	atomic_bool lacks_lists;
-	/* For how many milliseconds it may remember names and attributes. */
-	uint64_t entry_time, attr_time;
+	/* For how many milliseconds it may remember names and attributes, and those of regular files. */
+	uint64_t entry_time, attr_time, file_time;
 	/* The device of the folder, if its file system is a local one: ext4, xfs, btrfs or tmpfs. */
 	bool is_local;
 	uint64_t local_device;
+	/* How many file systems may be over one another, of which files the client has by itself, with the mount. */
+	uint32_t stack_depth;
 	struct worker *worker[TRANSPORT_MOST_WORKERS];
 };
 

@@ -40,12 +40,16 @@ static nizwarf_attr attr_of(const struct statx *seen)
 	};
 }
 
-/* A client that writes later does not ask for the mode of a file that it truncated, and that lost its
+/* A client that writes later, or by itself, does not ask for the mode of a file that it changed, and that lost its
  * set-user-ID bit so: with one attributes do not hold. */
 void tell_attr(const struct call *call, const struct statx *seen, bool is_apart, nizwarf_entry *entry)
 {
-	const bool may_lose = seen->stx_mode & (S_ISUID | S_ISGID) && S_ISREG(seen->stx_mode);
-	const uint64_t time = may_lose && call->all->options.writeback ? 0 : call->all->attr_time;
+	const struct passthrough *all = call->all;
+	const bool is_file = S_ISREG(seen->stx_mode);
+	const bool may_lose = is_file && seen->stx_mode & (S_ISUID | S_ISGID);
+	const uint64_t time = may_lose && (all->options.writeback || all->backings) ? 0 :
+			      is_file						    ? all->file_time :
+										      all->attr_time;
 
 	entry->attr = attr_of(seen);
 	entry->attr.ino = inode_of(call, device_of(seen), seen->stx_ino, is_apart);

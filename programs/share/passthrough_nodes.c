@@ -10,6 +10,7 @@
 #include <sys/resource.h>
 #include <sys/syscall.h>
 #include <unistd.h>
+#include "passthrough_backing.h"
 #include "passthrough_mounts.h"
 
 enum { FIRST_SLOTS = 1024, FIRST_CHAINS = 1024, NO_SLOT = 0 };
@@ -604,7 +605,7 @@ void nodes_end(struct nodes *all)
 
 /* ---- open files */
 
-uint64_t file_add(struct nodes *all, int fd, int flags)
+uint64_t file_add(struct nodes *all, int fd, int flags, struct backing *backing)
 {
 	struct open_file *file = calloc(1, sizeof(*file));
 	uint64_t number = 0;
@@ -615,6 +616,7 @@ uint64_t file_add(struct nodes *all, int fd, int flags)
 		file->counted.fd = fd;
 		file->is_directory = flags & O_DIRECTORY;
 		file->at_end = flags & O_APPEND;
+		file->backing = backing;
 		pthread_mutex_init(&file->lock, NULL);
 		pthread_rwlock_init(&file->writing, NULL);
 		pthread_rwlock_wrlock(&all->files.lock);
@@ -639,6 +641,7 @@ void file_put(struct open_file *file)
 		return;
 	if (file->buffer)
 		atomic_fetch_sub(&file->of->buffers, 1);
+	backing_put(file->backing);
 	fd_let_go(file->of, file->counted.fd);
 	pthread_mutex_destroy(&file->lock);
 	pthread_rwlock_destroy(&file->writing);

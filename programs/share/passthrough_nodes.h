@@ -24,6 +24,7 @@ enum file_handles {
 	HANDLES_ALONE,
 };
 
+struct backing;
 struct nodes;
 
 /* What a number leads to, before the fields of its kind. `users` are the table, and each call that
@@ -87,6 +88,8 @@ struct open_file {
 	/* Of a file: whether its descriptor has O_APPEND, which stays so while that is written by. */
 	bool at_end;
 	pthread_rwlock_t writing;
+	/* NULL: the client was not told that it may have the file by itself. */
+	struct backing *backing;
 	/* Of a directory: what was read and not told yet, and the offset of that. */
 	pthread_mutex_t lock;
 	char *buffer;
@@ -199,8 +202,8 @@ int open_by_name(struct nodes *all, struct node *node, int flags);
 int open_again(const struct nodes *all, int fd, int flags);
 
 /* The number of a new open file, which has the descriptor from then on, for which one was reserved, and which
- * was opened with these flags; 0: there is no memory, and the descriptor stays the caller's. */
-uint64_t file_add(struct nodes *all, int fd, int flags);
+ * was opened with these flags, and an open of `backing`, if there is one; 0: there is no memory, and both stay the caller's. */
+uint64_t file_add(struct nodes *all, int fd, int flags, struct backing *backing);
 /* Takes an open file in hand, or NULL. */
 struct open_file *file_get(struct nodes *all, uint64_t number);
 void file_put(struct open_file *file);

@@ -29,7 +29,7 @@
 enum { LARGE_TABLE = 65536 };
 /* Descriptors besides those of the folder's files: of a mount, with a device and a pipe for each worker; of
  * a socket, with two for each queue, if there are as many as workers. */
-enum { OF_MOUNT = 13, OF_MOUNT_WORKER = 3, OF_SOCKET = 24, OF_SOCKET_WORKER = 2 };
+enum { OF_MOUNT = 14, OF_MOUNT_WORKER = 3, OF_SOCKET = 24, OF_SOCKET_WORKER = 2 };
 
 static int failed(const char *what)
 {
@@ -247,9 +247,12 @@ static int mount_folder(void *user)
 		 words.allow_other);
 	error = fuse_device_mount_on(&by, device, words.source ? words.source : words.folder,
 				     words.mount_point, words.flags, options);
-	/* (a device that others have too doesn't end with the server) */
-	if (words.sandbox != SANDBOX_NONE)
+	/* (a device that others have too doesn't end with the server, nor a process that a socket leads to) */
+	if (words.sandbox != SANDBOX_NONE) {
 		close(device);
+		if (words.files.backing >= 0)
+			close(words.files.backing);
+	}
 	return error;
 }
 
@@ -257,6 +260,13 @@ static int unmount_folder(void *user)
 {
 	(void)user;
 	return fuse_device_unmount(&by, words.mount_point);
+}
+
+/* The same of the process that names files to Linux. */
+static int limit_backing(void *user)
+{
+	(void)user;
+	return sandbox_filter_backing((enum calls_filter)words.filter);
 }
 
 /* Leaves the process what it needs to serve. -1: it failed, and said why. */
@@ -373,6 +383,9 @@ int main(int count, char **given)
 	if (!words.mount_point)
 		listener = listen_on_socket(&by);
 	if (words.daemonizes && (starter = go_to_background()) < 0)
+		return 1;
+	if (words.files.passthrough &&
+	    (words.files.backing = fuse_backing_start(&by, device, limit_backing)) < 0)
 		return 1;
 	outside.socket_path = words.socket_path;
 	outside.ready = tell_ready;

@@ -17,6 +17,7 @@
 #include <linux/fuse.h>
 #include <seccomp.h>
 #include <sys/ioctl.h>
+#include "fuse_backing.h"
 #endif
 #include "share_sandbox.h"
 #include "transport.h"
@@ -413,19 +414,59 @@ static int let(scmp_filter_ctx rules, const char *const *names, size_t count)
 	return error;
 }
 
-int sandbox_filter(enum calls_filter filter, bool mounts, bool handles)
+/* No rules: what isn't let through comes to what is said. NULL: it failed, and said why. */
+static scmp_filter_ctx begin_rules(enum calls_filter filter)
 {
 	const uint32_t otherwise = filter == FILTER_KILL ? SCMP_ACT_KILL_PROCESS :
 				   filter == FILTER_TRAP ? SCMP_ACT_TRAP :
 							   SCMP_ACT_LOG;
-	scmp_filter_ctx rules;
+	scmp_filter_ctx rules = seccomp_init(otherwise);
+
+	if (!rules)
+		failed("--seccomp");
+	return rules;
+}
+
+/* Has the process go by rules, if there was no error. */
+static int end_rules(scmp_filter_ctx rules, int error)
+{
+	if (!error)
+		error = seccomp_load(rules);
+	seccomp_release(rules);
+	errno = -error;
+	return error ? failed("--seccomp") : 0;
+}
+
+/* What the process calls that names files; and by ioctl and fcntl, of the device and of what it was given. */
+static const char *const backing_calls[] = { "close",  "exit_group", "recvmsg",
+					     "sendto", "statx",	     "restart_syscall" };
+
+int sandbox_filter_backing(enum calls_filter filter)
+{
+	static const uint32_t asked[] = { BACKING_OPEN, BACKING_CLOSE };
+	scmp_filter_ctx rules = filter == FILTER_NONE ? NULL : begin_rules(filter);
 	int error;
 
-	if (filter == FILTER_NONE)
-		return 0;
-	rules = seccomp_init(otherwise);
 	if (!rules)
-		return failed("--seccomp");
+		return filter == FILTER_NONE ? 0 : -1;
+	error = let(rules, backing_calls, sizeof(backing_calls) / sizeof(*backing_calls));
+	for (size_t i = 0; i < sizeof(asked) / sizeof(*asked) && !error; i++)
+		error = seccomp_rule_add(rules, SCMP_ACT_ALLOW, SCMP_SYS(ioctl), 2,
+					 SCMP_A0(SCMP_CMP_EQ, BACKING_DEVICE),
+					 SCMP_A1(SCMP_CMP_MASKED_EQ, UINT32_MAX, asked[i]));
+	if (!error)
+		error = seccomp_rule_add(rules, SCMP_ACT_ALLOW, SCMP_SYS(fcntl), 1,
+					 SCMP_A1(SCMP_CMP_MASKED_EQ, UINT32_MAX, F_GETFL));
+	return end_rules(rules, error);
+}
+
+int sandbox_filter(enum calls_filter filter, bool mounts, bool handles)
+{
+	scmp_filter_ctx rules = filter == FILTER_NONE ? NULL : begin_rules(filter);
+	int error;
+
+	if (!rules)
+		return filter == FILTER_NONE ? 0 : -1;
 	error = let(rules, calls, sizeof(calls) / sizeof(*calls));
 	if (!error && handles)
 		error = let(rules, handle_calls, sizeof(handle_calls) / sizeof(*handle_calls));
@@ -439,14 +480,15 @@ int sandbox_filter(enum calls_filter filter, bool mounts, bool handles)
 					 SCMP_A0(SCMP_CMP_EQ, CLONE_FS));
 	if (!error && mounts)
 		error = seccomp_rule_add(rules, SCMP_ACT_ALLOW, SCMP_SYS(umount2), 0);
-	if (!error)
-		error = seccomp_load(rules);
-	seccomp_release(rules);
-	errno = -error;
-	return error ? failed("--seccomp") : 0;
+	return end_rules(rules, error);
 }
 #else
 const bool has_filter = false;
+
+int sandbox_filter_backing(enum calls_filter filter)
+{
+	return sandbox_filter(filter, false, false);
+}
 
 int sandbox_filter(enum calls_filter filter, bool mounts, bool handles)
 {

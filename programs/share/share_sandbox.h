@@ -53,4 +53,7 @@ int sandbox_enter(enum sandbox sandbox, const char *folder, int *root, int *proc
  * `mounts` it may unmount, with `handles` open files by handles. -1: it failed, and said why. */
 int sandbox_filter(enum calls_filter filter, bool mounts, bool handles);
 
+/* The same of the process that names files to Linux (fuse_backing_start), which calls little. */
+int sandbox_filter_backing(enum calls_filter filter);
+
 #endif

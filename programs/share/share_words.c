@@ -4,6 +4,7 @@
 #include <errno.h>
 #include <getopt.h>
 #include <limits.h>
+#include <linux/capability.h>
 #include <stdio.h>
 #include <stdlib.h>
 #include <string.h>
@@ -44,6 +45,8 @@ static const char usage[] =
 	"  --flock                   locks of flock(2) are the host's, which other clients and programs\n"
 	"                            of the host see; without it the client keeps them to itself\n"
 	"  --posix-lock              so are those of fcntl(2)\n"
+	"  --passthrough             over a mount: its kernel reads and writes files by itself (Linux\n"
+	"                            6.9), which a process of its own names, with CAP_SYS_ADMIN\n"
 	"  --readonly                nothing is changed\n"
 	"  --no-readdirplus          directories are listed without attributes\n"
 	"  --announce-submounts      a machine is told where something is mounted below the folder\n"
@@ -79,6 +82,7 @@ static const char usage[] =
 /* What is so without a word. */
 struct share_words words = {
 	.files = { .cache = CACHE_AUTO,
+		   .backing = -1,
 		   .readdirplus = true,
 		   .file_handles = HANDLES_NEVER,
 		   .announce_submounts = true,
@@ -363,6 +367,7 @@ enum word {
 	POSIX_ACL,
 	FLOCK,
 	POSIX_LOCK,
+	PASSTHROUGH,
 	READONLY,
 	NO_READDIRPLUS,
 	ANNOUNCE,
@@ -396,6 +401,7 @@ static const struct option known_words[] = {
 	{ "posix-acl", no_argument, NULL, POSIX_ACL },
 	{ "flock", no_argument, NULL, FLOCK },
 	{ "posix-lock", no_argument, NULL, POSIX_LOCK },
+	{ "passthrough", no_argument, NULL, PASSTHROUGH },
 	{ "readonly", no_argument, NULL, READONLY },
 	{ "no-readdirplus", no_argument, NULL, NO_READDIRPLUS },
 	{ "announce-submounts", no_argument, NULL, ANNOUNCE },
@@ -495,6 +501,9 @@ static void take_word(int word)
 		break;
 	case POSIX_LOCK:
 		words.files.posix_lock = true;
+		break;
+	case PASSTHROUGH:
+		words.files.passthrough = true;
 		break;
 	case READONLY:
 		words.files.read_only = true;
@@ -599,6 +608,13 @@ static void hold_together(void)
 	if ((words.uids.count || words.gids.count) &&
 	    (geteuid() == 0 || (words.sandbox >= 0 && words.sandbox != SANDBOX_NAMESPACE)))
 		refuse("who isn't root has --uid-map and --gid-map, and with --sandbox=namespace", "");
+	if (words.files.passthrough && !is_mount())
+		refuse("--passthrough is of a mount: a machine's kernel has no file of the host", "");
+	if (words.files.passthrough && words.files.writeback)
+		refuse("--passthrough and --writeback are not both wanted: Linux has one of them", "");
+	/* (Linux opens for writing what the server may have opened for reading alone) */
+	if (words.files.passthrough && words.files.fewer_capabilities & UINT64_C(1) << CAP_DAC_OVERRIDE)
+		refuse("--passthrough takes dac_override, which --modcaps takes away", "");
 	if (words.filter > FILTER_NONE && !has_filter)
 		refuse("--seccomp: it was built without libseccomp", "");
 }

@@ -172,6 +172,18 @@ ssize_t fuse_device_write_to(int fd, uint64_t offset, size_t size);
 int fuse_device_notify(transport_notices *notices, const void *notice, size_t len, const void *data,
 		       size_t data_len);
 
+/* Starts a process that names files to Linux which it reads and writes by itself (nizwarf_answer_backing), by the device
+ * that is or will be mounted: it keeps CAP_SYS_ADMIN alone, which that takes. `limit` is called there with `user`, last:
+ * not 0 ends it. Answers a socket to it, or -1: it said why. It ends once each copy of the socket is closed. */
+int fuse_backing_start(const transport *by, int device, int (*limit)(void *user));
+
+/* The number of an open file, above 0, which is to be closed once no open of the client's has it; or an error below 0.
+ * -EPIPE: there is no such process any more, and none is to be asked again. EPERM: Linux lets none. One thread may
+ * ask at a time. */
+int fuse_backing_open(int socket, int fd);
+/* From any thread. -1: there is no such process any more. */
+int fuse_backing_close(int socket, int number);
+
 /* Listens on a new socket of this path, in place of one on which nobody listens. Answers its
  * descriptor, or -1: it failed; -2: the path can't be that of a socket. It said why. */
 int vhost_user_listen(const transport *by, const char *path);
