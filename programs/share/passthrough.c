@@ -11,9 +11,10 @@
 #include <time.h>
 #include <unistd.h>
 #include "passthrough_call.h"
+#include "passthrough_watch.h"
 
 /* How long a client may remember, in milliseconds. */
-enum { NO_TIME = 0, SHORT_TIME = 1000, LONG_TIME = 86400000 };
+enum { NO_TIME = 0, LONG_TIME = 86400000 };
 /* The rows that are offered, besides locks. */
 enum { OFFERS = NIZWARF_OFFER_STATX | NIZWARF_OFFER_COPY_64 | NIZWARF_OFFER_TMPFILE };
 /* How many descriptors a call of a worker opens and closes again: of two nodes, and one more. */
@@ -195,10 +196,15 @@ int passthrough_begin(void *user, unsigned worker)
 		fputs("nizwarf-share: a worker: no memory\n", stderr);
 		return 1;
 	}
-	if (!begin_worker(all->worker[worker], &all->options))
-		return 0;
-	fprintf(stderr, "nizwarf-share: a worker: %s\n", strerror(errno));
-	return 1;
+	if (begin_worker(all->worker[worker], &all->options)) {
+		fprintf(stderr, "nizwarf-share: a worker: %s\n", strerror(errno));
+		return 1;
+	}
+	if (!worker && all->nodes.watch && (errno = watch_start(all->nodes.watch))) {
+		fprintf(stderr, "nizwarf-share: --watch: %s\n", strerror(errno));
+		return 1;
+	}
+	return 0;
 }
 
 void passthrough_finish(void *user, unsigned worker)
@@ -254,6 +260,7 @@ static void free_passthrough(struct passthrough *all)
 {
 	if (all->nodes.chains)
 		nodes_end(&all->nodes);
+	watch_free(all->nodes.watch);
 	numbers_free(all->numbers);
 	for (unsigned i = 0; i < TRANSPORT_MOST_WORKERS; i++) {
 		struct worker *w = all->worker[i];
@@ -317,6 +324,25 @@ struct passthrough *passthrough_new(int root, int proc, const struct passthrough
 		return NULL;
 	}
 	return all;
+}
+
+int passthrough_watch(struct passthrough *all)
+{
+	const struct passthrough_options *options = &all->options;
+	struct watch *watch;
+
+	if (!options->notices)
+		return 0;
+	watch = watch_new(all->nodes.proc, options->notices, options->negative_time != 0);
+	if (!watch)
+		return -1;
+	/* (others may change a file of another kind where nobody here sees it) */
+	if (!all->is_local)
+		fputs("nizwarf-share: --watch: the folder is on no ext4, xfs, btrfs or tmpfs: names and attributes "
+		      "are remembered for a second\n",
+		      stderr);
+	nodes_watch(&all->nodes, watch, all->is_local ? all->local_device : 0);
+	return 0;
 }
 
 void passthrough_end(struct passthrough *all)

@@ -43,6 +43,8 @@ struct passthrough_options {
 	 * with it (fuse_backing_start). */
 	bool passthrough;
 	int backing;
+	/* Where what others change is told, for passthrough_watch(); NULL: nowhere. */
+	transport_notices *notices;
 	/* What would change something is EROFS. */
 	bool read_only;
 	/* Directories are listed with attributes. */
@@ -74,6 +76,9 @@ struct passthrough;
  * that as its working directory while it serves, and a umask of 0. NULL: errno says why. */
 struct passthrough *passthrough_new(int root, int proc, const struct passthrough_options *options);
 void passthrough_end(struct passthrough *all);
+
+/* Watches the files that the client knows, which are not held by handles, if there are notices. 0, or -1 with errno. */
+int passthrough_watch(struct passthrough *all);
 
 /* Leaves the calling thread, if it is root, the capabilities alone that a worker has. 0, or -1 with
  * errno: EPERM, if it hasn't one that it is to have besides. */

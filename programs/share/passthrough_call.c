@@ -241,6 +241,13 @@ bool is_local(const struct call *call)
 	return call->all->is_local && call->node.node->on->device == call->all->local_device;
 }
 
+/* Whether what is opened is watched. (What is made has nothing that is remembered.) */
+static bool is_watched(const struct call *call)
+{
+	return (call->asked->call == NIZWARF_OPEN || call->asked->call == NIZWARF_OPENDIR) &&
+	       call->node.node->watched;
+}
+
 /* Answers an open file, whose handle is told. */
 static void tell_open(const struct call *call, bool is_directory, int fd, const struct backing *backing)
 {
@@ -260,6 +267,9 @@ static void tell_open(const struct call *call, bool is_directory, int fd, const 
 	case CACHE_AUTO:
 		break;
 	}
+	/* (of what isn't watched nobody says when it is old) */
+	if (call->all->nodes.watch && !is_watched(call))
+		answer->open_flags &= ~(uint32_t)(FOPEN_KEEP_CACHE | FOPEN_CACHE_DIR);
 	backing_tell(call, backing, fd);
 	/* (what was only read has nothing to flush but locks, and a client that writes later flushes all the same) */
 	if (!is_directory && !call->all->locks &&

@@ -14,6 +14,8 @@
 enum { HEADER = 16, LONGEST_VALUE = 65536 };
 /* What is asked of a file. */
 enum { WANTED = STATX_BASIC_STATS | STATX_MNT_ID };
+/* For how many milliseconds a client remembers for a short time. */
+enum { SHORT_TIME = 1000 };
 
 /* What a worker uses again from one call to the next. */
 struct worker {
@@ -91,6 +93,8 @@ const char *name_of(const struct call *call, nizwarf_range range);
 bool is_plain(const char *name);
 /* What is told of a node that has a lookup more. */
 void tell_entry(const struct call *call, uint64_t number, const struct statx *seen, nizwarf_entry *entry);
+/* For how many milliseconds a name in a directory may be remembered, if it is so many where all names are. */
+uint64_t name_time(const struct call *call, const struct node *directory, uint64_t time);
 /* Tells attributes, and how long they hold. `is_apart` is that of the node. */
 void tell_attr(const struct call *call, const struct statx *seen, bool is_apart, nizwarf_entry *entry);
 /* The inode number that is told. */

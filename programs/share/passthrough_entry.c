@@ -8,6 +8,7 @@
 #include <unistd.h>
 #include "passthrough_call.h"
 #include "passthrough_mounts.h"
+#include "passthrough_watch.h"
 
 /* Whether the client is told where something is mounted, and has a device of its own for it then. */
 static bool announces(const struct call *call)
@@ -40,6 +41,22 @@ static nizwarf_attr attr_of(const struct statx *seen)
 	};
 }
 
+/* Whether a client is told if the attributes change that it gets by this answer: the file is watched, and one that it
+ * has already, of which it takes no answer that was under way then. */
+static bool is_told_of(const struct call *call)
+{
+	return (call->asked->call == NIZWARF_GETATTR || call->asked->call == NIZWARF_STATX) &&
+	       call->node.node->watched;
+}
+
+uint64_t name_time(const struct call *call, const struct node *directory, uint64_t time)
+{
+	const struct watch *watch = call->all->nodes.watch;
+	const uint64_t most = !watch ? UINT64_MAX : directory->watched ? watch_longest(watch) : SHORT_TIME;
+
+	return time < most ? time : most;
+}
+
 /* A client that writes later, or by itself, does not ask for the mode of a file that it changed, and that lost its
  * set-user-ID bit so: with one attributes do not hold. */
 void tell_attr(const struct call *call, const struct statx *seen, bool is_apart, nizwarf_entry *entry)
@@ -47,9 +64,12 @@ void tell_attr(const struct call *call, const struct statx *seen, bool is_apart,
 	const struct passthrough *all = call->all;
 	const bool is_file = S_ISREG(seen->stx_mode);
 	const bool may_lose = is_file && seen->stx_mode & (S_ISUID | S_ISGID);
-	const uint64_t time = may_lose && (all->options.writeback || all->backings) ? 0 :
-			      is_file						    ? all->file_time :
-										      all->attr_time;
+	uint64_t time = is_file ? all->file_time : all->attr_time;
+
+	if (may_lose && (all->options.writeback || all->backings))
+		time = 0;
+	if (time > SHORT_TIME && all->nodes.watch && !is_told_of(call))
+		time = SHORT_TIME;
 
 	entry->attr = attr_of(seen);
 	entry->attr.ino = inode_of(call, device_of(seen), seen->stx_ino, is_apart);
@@ -63,11 +83,16 @@ void tell_entry(const struct call *call, uint64_t number, const struct statx *se
 	/* (a LINK is of the file's own node) */
 	const struct node *node = call->node.node;
 	const bool across = is_across(node, seen), is_directory = S_ISDIR(seen->stx_mode);
+	const bool is_link = call->asked->call == NIZWARF_LINK;
+	uint64_t time = name_time(call, is_link ? call->other.node : node, all->entry_time);
 
+	/* (nobody says that it is mounted no longer) */
+	if (across && all->nodes.watch && time > SHORT_TIME)
+		time = SHORT_TIME;
 	*entry = (nizwarf_entry){
 		.node = number,
-		.entry_seconds = all->entry_time / 1000,
-		.entry_nanoseconds = (uint32_t)(all->entry_time % 1000) * 1000000,
+		.entry_seconds = time / 1000,
+		.entry_nanoseconds = (uint32_t)(time % 1000) * 1000000,
 	};
 	tell_attr(call, seen, node->is_apart || (across && !is_directory), entry);
 	if (across && is_directory && announces(call))

@@ -48,7 +48,7 @@ static struct statx made_by(const struct call *call)
 
 int find_name(const struct call *call, const char *name)
 {
-	const uint64_t time = call->all->options.negative_time;
+	const uint64_t time = name_time(call, call->node.node, call->all->options.negative_time);
 	atomic_bool *lists_names = &call->node.node->lists_names;
 	const struct found found = found_in(&call->node, name);
 	const int error = look_up(call, &found, &call->answer->entry);

@@ -12,6 +12,7 @@
 #include <unistd.h>
 #include "passthrough_backing.h"
 #include "passthrough_mounts.h"
+#include "passthrough_watch.h"
 
 enum { FIRST_SLOTS = 1024, FIRST_CHAINS = 1024, NO_SLOT = 0 };
 
@@ -171,6 +172,8 @@ static void free_node(struct node *node)
 	if (!node || atomic_fetch_sub(&node->counted.users, 1) > 1)
 		return;
 	all = node->on->of;
+	if (node->watched)
+		watch_remove(all->watch, node->watched, node->counted.fd);
 	if (node->counted.fd >= 0)
 		fd_let_go(all, node->counted.fd);
 	else
@@ -360,6 +363,8 @@ static uint64_t add_lookup(struct nodes *all, const struct statx *seen, const st
 		(*made)->next = *chain;
 		*chain = *made;
 		number = (*made)->counted.number;
+		if ((*made)->watched)
+			watch_name((*made)->watched, number);
 		*made = NULL;
 	}
 	pthread_rwlock_unlock(&all->nodes.lock);
@@ -400,6 +405,24 @@ static size_t name_size(const struct nodes *all, const struct found *found, cons
 		       0;
 }
 
+/* Has a node watched that holds its file, if it can be. */
+static void watch_node(struct nodes *all, struct node *node)
+{
+	if (all->watch && all->watched_device && node->on->device == all->watched_device)
+		node->watched = watch_add(all->watch, node->counted.fd, node->type == S_IFDIR);
+}
+
+void nodes_watch(struct nodes *all, struct watch *watch, uint64_t device)
+{
+	struct node *root = (struct node *)thing_of(&all->nodes, ROOT_NODE);
+
+	all->watch = watch;
+	all->watched_device = device;
+	watch_node(all, root);
+	if (root->watched)
+		watch_name(root->watched, ROOT_NODE);
+}
+
 /* Makes a node of a file, which has its handle, if there is one that opens, or else the descriptor: that is
  * the node's from then on, and so is what was reserved. 0, or an error. */
 static int make(struct nodes *all, const struct found *found, int fd, const struct statx *seen,
@@ -437,6 +460,8 @@ static int make(struct nodes *all, const struct found *found, int fd, const stru
 	}
 	if (is_held)
 		fd_let_go(all, fd);
+	else
+		watch_node(all, node);
 	return 0;
 }
 

@@ -26,6 +26,8 @@ enum file_handles {
 
 struct backing;
 struct nodes;
+struct watch;
+struct watched;
 
 /* What a number leads to, before the fields of its kind. `users` are the table, and each call that
  * has it in hand. */
@@ -65,6 +67,8 @@ struct node {
 	struct host_mount *on;
 	/* The next one in its chain. */
 	struct node *next;
+	/* NULL: nobody tells of what others change. */
+	struct watched *watched;
 	/* Where it was found first, by the name that is kept; 0: none is. What was no longer there once is not
 	 * looked for again. */
 	uint64_t directory;
@@ -117,6 +121,9 @@ struct nodes {
 	atomic_flag said_most;
 	/* How many open directories have a buffer. */
 	atomic_uint buffers;
+	/* NULL: no file is watched. Those of this device are, where they can be; 0: none. */
+	struct watch *watch;
+	uint64_t watched_device;
 	bool handles_alone;
 	/* The mount whose files may be opened by their names; 0: none. */
 	uint64_t named_mount;
@@ -143,6 +150,9 @@ struct grip {
 int nodes_begin(struct nodes *all, int root, int proc, enum file_handles handles, bool no_devices,
 		unsigned most, unsigned others);
 void nodes_end(struct nodes *all);
+/* From now on files of this device are watched, which are held by descriptors; 0: none can be. It is to be ended behind
+ * the nodes. */
+void nodes_watch(struct nodes *all, struct watch *watch, uint64_t device);
 
 /* Reserves descriptors that are to be kept, before they are opened: so a call that makes a name has
  * those of its answer. 0, or EMFILE. What takes a descriptor over takes its reservation too. */

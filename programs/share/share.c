@@ -29,7 +29,7 @@
 enum { LARGE_TABLE = 65536 };
 /* Descriptors besides those of the folder's files: of a mount, with a device and a pipe for each worker; of
  * a socket, with two for each queue, if there are as many as workers. */
-enum { OF_MOUNT = 14, OF_MOUNT_WORKER = 3, OF_SOCKET = 24, OF_SOCKET_WORKER = 2 };
+enum { OF_MOUNT = 16, OF_MOUNT_WORKER = 3, OF_SOCKET = 24, OF_SOCKET_WORKER = 2 };
 
 static int failed(const char *what)
 {
@@ -236,6 +236,7 @@ static transport by = { .program = "nizwarf-share",
 			.left = remove_socket,
 			.serve = passthrough_serve };
 static int device = -1;
+static transport_notices notices = TRANSPORT_NO_NOTICES;
 
 static int mount_folder(void *user)
 {
@@ -270,15 +271,18 @@ static int limit_backing(void *user)
 }
 
 /* Leaves the process what it needs to serve. -1: it failed, and said why. */
-static int limit(void)
+static int limit(struct passthrough *all)
 {
 	const bool mounts = words.mount_point && words.sandbox == SANDBOX_NONE;
 
 	/* (to unmount takes more than the files do, and each worker limits itself) */
 	if ((!mounts && passthrough_limit(&words.files)) || prctl(PR_SET_NO_NEW_PRIVS, 1, 0, 0, 0))
 		return failed("privileges");
-	return sandbox_filter((enum calls_filter)words.filter, mounts,
-			      words.files.file_handles != HANDLES_NEVER);
+	if (passthrough_watch(all))
+		return failed("--watch");
+	return sandbox_filter((enum calls_filter)words.filter,
+			      (mounts ? MAY_UNMOUNT : 0) | (words.files.notices ? MAY_WATCH : 0) |
+				      (words.files.file_handles != HANDLES_NEVER ? MAY_OPEN_HANDLES : 0));
 }
 
 /* Mounts, from within the sandbox if there is one. */
@@ -318,7 +322,7 @@ static int serve(int listener)
 	by.user = all;
 	by.descriptors = proc;
 	if (!begin_mount()) {
-		if (!limit()) {
+		if (!limit(all)) {
 			tell_outside();
 			status = words.mount_point ? fuse_device_serve(&by, device, unmounts) :
 						     vhost_user_serve(&by, listener);
@@ -363,6 +367,8 @@ int main(int count, char **given)
 	words.files.other_descriptors = is_mount() ? OF_MOUNT + OF_MOUNT_WORKER * by.workers :
 						     OF_SOCKET + OF_SOCKET_WORKER * by.workers;
 	by.quiet = !words.says_more;
+	if (words.watches)
+		by.notices = words.files.notices = &notices;
 	if (words.says_more && *words.allow_other && is_mount() && !words.files.posix_acl)
 		fputs("nizwarf-share: access control lists of the folder are not looked at: --posix-acl\n",
 		      stderr);

@@ -16,6 +16,7 @@
 #ifdef WITH_SECCOMP
 #include <linux/fuse.h>
 #include <seccomp.h>
+#include <sys/fanotify.h>
 #include <sys/ioctl.h>
 #include "fuse_backing.h"
 #endif
@@ -441,6 +442,18 @@ static int end_rules(scmp_filter_ctx rules, int error)
 static const char *const backing_calls[] = { "close",  "exit_group", "recvmsg",
 					     "sendto", "statx",	     "restart_syscall" };
 
+/* Lets it watch single files, by a group that is there, and get their handles. */
+static int let_watch(scmp_filter_ctx rules)
+{
+	static const uint32_t how[] = { FAN_MARK_ADD, FAN_MARK_REMOVE };
+	int error = seccomp_rule_add(rules, SCMP_ACT_ALLOW, SCMP_SYS(name_to_handle_at), 0);
+
+	for (size_t i = 0; i < sizeof(how) / sizeof(*how) && !error; i++)
+		error = seccomp_rule_add(rules, SCMP_ACT_ALLOW, SCMP_SYS(fanotify_mark), 1,
+					 SCMP_A1(SCMP_CMP_MASKED_EQ, UINT32_MAX, how[i]));
+	return error;
+}
+
 int sandbox_filter_backing(enum calls_filter filter)
 {
 	static const uint32_t asked[] = { BACKING_OPEN, BACKING_CLOSE };
@@ -460,7 +473,7 @@ int sandbox_filter_backing(enum calls_filter filter)
 	return end_rules(rules, error);
 }
 
-int sandbox_filter(enum calls_filter filter, bool mounts, bool handles)
+int sandbox_filter(enum calls_filter filter, unsigned may)
 {
 	scmp_filter_ctx rules = filter == FILTER_NONE ? NULL : begin_rules(filter);
 	int error;
@@ -468,7 +481,7 @@ int sandbox_filter(enum calls_filter filter, bool mounts, bool handles)
 	if (!rules)
 		return filter == FILTER_NONE ? 0 : -1;
 	error = let(rules, calls, sizeof(calls) / sizeof(*calls));
-	if (!error && handles)
+	if (!error && may & MAY_OPEN_HANDLES)
 		error = let(rules, handle_calls, sizeof(handle_calls) / sizeof(*handle_calls));
 	/* (others of ioctl would let it type at a terminal) */
 	for (size_t i = 0; i < sizeof(controls) / sizeof(*controls) && !error; i++)
@@ -478,7 +491,9 @@ int sandbox_filter(enum calls_filter filter, bool mounts, bool handles)
 	if (!error)
 		error = seccomp_rule_add(rules, SCMP_ACT_ALLOW, SCMP_SYS(unshare), 1,
 					 SCMP_A0(SCMP_CMP_EQ, CLONE_FS));
-	if (!error && mounts)
+	if (!error && may & MAY_WATCH)
+		error = let_watch(rules);
+	if (!error && may & MAY_UNMOUNT)
 		error = seccomp_rule_add(rules, SCMP_ACT_ALLOW, SCMP_SYS(umount2), 0);
 	return end_rules(rules, error);
 }
@@ -487,13 +502,12 @@ const bool has_filter = false;
 
 int sandbox_filter_backing(enum calls_filter filter)
 {
-	return sandbox_filter(filter, false, false);
+	return sandbox_filter(filter, 0);
 }
 
-int sandbox_filter(enum calls_filter filter, bool mounts, bool handles)
+int sandbox_filter(enum calls_filter filter, unsigned may)
 {
-	(void)mounts;
-	(void)handles;
+	(void)may;
 	if (filter == FILTER_NONE)
 		return 0;
 	fputs("nizwarf-share: --seccomp: it was built without libseccomp\n", stderr);

@@ -49,9 +49,12 @@ void sandbox_ready(void);
  * either one, where there is a sandbox. -1: it failed, and said why. */
 int sandbox_enter(enum sandbox sandbox, const char *folder, int *root, int *proc, bool *no_devices);
 
-/* Ends the process, or does what else is said, at a system call that serving doesn't make. With
- * `mounts` it may unmount, with `handles` open files by handles. -1: it failed, and said why. */
-int sandbox_filter(enum calls_filter filter, bool mounts, bool handles);
+/* What a process may besides serving: unmount, open files by handles, watch files. */
+enum { MAY_UNMOUNT = 1, MAY_OPEN_HANDLES = 2, MAY_WATCH = 4 };
+
+/* Ends the process, or does what else is said, at a system call that serving doesn't make. -1: it failed, and said
+ * why. */
+int sandbox_filter(enum calls_filter filter, unsigned may);
 
 /* The same of the process that names files to Linux (fuse_backing_start), which calls little. */
 int sandbox_filter_backing(enum calls_filter filter);

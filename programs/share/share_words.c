@@ -47,6 +47,8 @@ static const char usage[] =
 	"  --posix-lock              so are those of fcntl(2)\n"
 	"  --passthrough             over a mount: its kernel reads and writes files by itself (Linux\n"
 	"                            6.9), which a process of its own names, with CAP_SYS_ADMIN\n"
+	"  --watch                   over a mount: what others change in the folder is told to its\n"
+	"                            kernel, so that --cache=always is right\n"
 	"  --readonly                nothing is changed\n"
 	"  --no-readdirplus          directories are listed without attributes\n"
 	"  --announce-submounts      a machine is told where something is mounted below the folder\n"
@@ -368,6 +370,7 @@ enum word {
 	FLOCK,
 	POSIX_LOCK,
 	PASSTHROUGH,
+	WATCH,
 	READONLY,
 	NO_READDIRPLUS,
 	ANNOUNCE,
@@ -402,6 +405,7 @@ static const struct option known_words[] = {
 	{ "flock", no_argument, NULL, FLOCK },
 	{ "posix-lock", no_argument, NULL, POSIX_LOCK },
 	{ "passthrough", no_argument, NULL, PASSTHROUGH },
+	{ "watch", no_argument, NULL, WATCH },
 	{ "readonly", no_argument, NULL, READONLY },
 	{ "no-readdirplus", no_argument, NULL, NO_READDIRPLUS },
 	{ "announce-submounts", no_argument, NULL, ANNOUNCE },
@@ -504,6 +508,9 @@ static void take_word(int word)
 		break;
 	case PASSTHROUGH:
 		words.files.passthrough = true;
+		break;
+	case WATCH:
+		words.watches = true;
 		break;
 	case READONLY:
 		words.files.read_only = true;
@@ -615,6 +622,14 @@ static void hold_together(void)
 	/* (Linux opens for writing what the server may have opened for reading alone) */
 	if (words.files.passthrough && words.files.fewer_capabilities & UINT64_C(1) << CAP_DAC_OVERRIDE)
 		refuse("--passthrough takes dac_override, which --modcaps takes away", "");
+	if (words.watches && !is_mount())
+		refuse("--watch is of a mount: a machine takes no notices", "");
+	if (words.watches && words.files.writeback)
+		refuse("--watch and --writeback are not both wanted: a client that writes later knows the size itself",
+		       "");
+	if (words.watches && words.files.file_handles != HANDLES_NEVER)
+		refuse("--watch and --inode-file-handles are not both wanted: what is watched stays open",
+		       "");
 	if (words.filter > FILTER_NONE && !has_filter)
 		refuse("--seccomp: it was built without libseccomp", "");
 }

@@ -14,7 +14,7 @@ struct share_words {
 	unsigned long flags, max_read, most_files;
 	int fd, sandbox, filter;
 	struct id_map uids, gids;
-	bool says_more, is_off, daemonizes, traces;
+	bool says_more, is_off, daemonizes, traces, watches;
 	/* --rlimit-nofile was given. */
 	bool wants_files;
 };

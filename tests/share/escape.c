@@ -98,7 +98,7 @@ int main(int count, char **given)
 	if (name_to_handle_at(AT_FDCWD, given[4], handle, &id, 0) ||
 	    sandbox_fork(sandbox, &own, &own, &outside) ||
 	    sandbox_enter(sandbox, given[3], &root, &proc, &no_devices) || passthrough_limit(&options) ||
-	    prctl(PR_SET_NO_NEW_PRIVS, 1, 0, 0, 0) || sandbox_filter(filter, false, false)) {
+	    prctl(PR_SET_NO_NEW_PRIVS, 1, 0, 0, 0) || sandbox_filter(filter, 0)) {
 		perror("escape");
 		return 2;
 	}
