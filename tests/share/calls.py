@@ -33,12 +33,18 @@ def for_user(user, may, group=0, mask=7):
     return acl((1, 6, NO_ONE), (2, may, user), (4, group, NO_ONE), (16, mask, NO_ONE), (32, 0, NO_ONE))
 
 
+def words_for(is_plain_mount):
+    """The further words, without those that a client has which writes later, or a machine."""
+    return [word for word in WORDS if is_plain_mount or word not in ("--passthrough", "--watch")]
+
+
 class Mount:
     """A share of a folder at a mount point."""
     def __init__(self, folder, *words, name="mount"):
         self.at = f"{WORK}/{name}"
         os.makedirs(self.at, exist_ok=True)
-        self.server = subprocess.Popen([SHARE, *words, *WORDS, folder, self.at], stderr=subprocess.PIPE, text=True)
+        more = words_for("--writeback" not in words)
+        self.server = subprocess.Popen([SHARE, *words, *more, folder, self.at], stderr=subprocess.PIPE, text=True)
         while not os.path.ismount(self.at) and self.server.poll() is None:
             time.sleep(0.02)
 
@@ -312,7 +318,7 @@ def machines():
     asked.append((9, struct.pack("<II", 0o777, 0o027) + b"made\0"))
     lines = (f"16+128 {struct.pack('<IIQQIIIHH', 40 + len(body), opcode, 1, 1, 0, 0, 1, 0, 0).hex()}{body.hex()}\n"
              for opcode, body in asked)
-    server = subprocess.Popen([SHARE, "--posix-acl", "--log-level=warn", *WORDS, f"--socket-path={path}", folder],
+    server = subprocess.Popen([SHARE, "--posix-acl", "--log-level=warn", *words_for(False), f"--socket-path={path}", folder],
                               stderr=subprocess.PIPE, text=True)
     came = subprocess.run([ASK, path], input="".join(lines), capture_output=True, text=True, timeout=60,
                           check=False).stdout

@@ -29,11 +29,11 @@ wrong() {
     status=1
 }
 
-# How many descriptors the server has, which is the child of what stands by its sandbox.
+# How many descriptors the server has, which is the last child of what stands by its sandbox.
 descriptors() {
-    local child
-    child=$(cat "/proc/$server/task/$server/children")
-    find "/proc/$((${child:-$server}))/fd" -mindepth 1 | wc -l
+    local children
+    read -ra children < "/proc/$server/task/$server/children" || true
+    find "/proc/${children[-1]:-$server}/fd" -mindepth 1 | wc -l
 }
 
 # Until it is mounted.
@@ -114,7 +114,8 @@ try_escape() {
     ! "$share" --version | grep -q "with libseccomp" || seccomp=(-DWITH_SECCOMP)
     [ "${#seccomp[@]}" = 0 ] || links=(-lseccomp)
     cc -std=c11 -O2 -Wall -Wextra -Werror -pthread "${seccomp[@]}" -I "$here/include" -I "$here/programs/transport" -o "$work/escape" \
-        "$here/tests/share/escape.c" "$from/share_sandbox.c" "$from/share_users.c" "$from/passthrough_who.c" "${links[@]}"
+        "$here/tests/share/escape.c" "$from/share_sandbox.c" "$from/share_users.c" "$from/passthrough_who.c" \
+        "$from/../transport/fuse_backing.c" "$from/../transport/fuse_mount.c" "${links[@]}"
     mkdir -p "$work/folder"
     touch "$work/outside"
     for sandbox in namespace chroot; do
@@ -345,6 +346,10 @@ try_words() {
         "--node-limit=1 $work/folder $work/mount" \
         "--modcaps=sys_admin $work/folder $work/mount" "--modcaps=+some $work/folder $work/mount" \
         "--inode-file-handles=auto $work/folder $work/mount" "--uid-map=:0:1:1: $work/folder $work/mount" \
+        "--passthrough --socket-path=$work/socket $work/folder" "--watch --socket-path=$work/socket $work/folder" \
+        "--passthrough --writeback $work/folder $work/mount" "--watch --writeback $work/folder $work/mount" \
+        "--passthrough --modcaps=-dac_override $work/folder $work/mount" \
+        "--watch --inode-file-handles=prefer $work/folder $work/mount" \
         "--socket-path= $work/folder" "-o =5 $work/folder $work/mount" "-o fsname= $work/folder $work/mount"; do
         came=0
         # shellcheck disable=SC2086
@@ -459,6 +464,25 @@ try_locks() {
     echo "Locks are those of the folder${*:+, with $*}."
 }
 
+# Files that the mount's kernel has by itself are as in the folder: try_apart WORDS
+try_apart() {
+    mkdir "$work/apart"
+    timeout 300 python3 -B "$here/tests/share/apart.py" "$share" "$work/apart" "$@" > "$work/said" 2>&1 ||
+        { cat "$work/said" >&2 && wrong "tests/share/apart.py with $*"; }
+    rm -rf "$work/apart"
+    tail -n 1 "$work/said"
+    echo "Files that a mount reads and writes by itself are those of the folder${*:+, with $*}."
+}
+
+# What others change is seen, where all is remembered for an hour: try_watched WORDS
+try_watched() {
+    mkdir "$work/watched"
+    timeout 300 python3 -B "$here/tests/share/watched.py" "$share" "$work/watched" "$@" > "$work/said" 2>&1 ||
+        { cat "$work/said" >&2 && wrong "tests/share/watched.py with $*"; }
+    rm -rf "$work/watched"
+    echo "What others change is seen${*:+, with $*}."
+}
+
 # Asks a server over vhost-user: ask_hostile WHAT-IT-IS WORDS
 ask_hostile() {
     python3 -B "$here/tests/share/hostile.py" "$ask" "$work" "$1" "$share" "${@:2}" || wrong "$1 over vhost-user"
@@ -483,6 +507,8 @@ try_sanitizers() {
     try_mount --thread-pool-size=4 --xattr --log-level=error "${words[@]}"
     try_calls "${words[@]}"
     try_locks "${words[@]}"
+    try_apart "${words[@]}"
+    try_watched --passthrough "${words[@]}"
     try_ends "${words[@]}"
     share=$plain
 }
@@ -521,6 +547,8 @@ part "a session with file handles"
 try_mount --inode-file-handles=prefer --xattr
 part "a session with file handles alone"
 try_mount --inode-file-handles=mandatory -o entry_timeout=0.5,attr_timeout=0 --sandbox=chroot
+part "a session with files that the mount has by itself, and a watch"
+try_mount --passthrough --watch --cache=always
 part "a session with few descriptors"
 try_mount --inode-file-handles=prefer --rlimit-nofile=100
 part "a session with access control lists"
@@ -538,6 +566,12 @@ part "without standard descriptors"
 try_closed
 part "calls, beside a plain folder"
 try_calls
+try_calls --passthrough --watch
+part "files that a mount has by itself"
+try_apart
+part "what others change"
+try_watched
+try_watched --passthrough --sandbox=chroot
 part "locks"
 try_locks
 try_locks --cache=always --writeback --inode-file-handles=prefer

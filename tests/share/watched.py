@@ -58,7 +58,7 @@ class Server:
             return self.process.pid if name.read() == "nizwarf-backing\n" else int(last)
 
     def end(self, what=""):
-        subprocess.run(["umount", "-l", MOUNT], check=False)
+        subprocess.run(["umount", "-l", MOUNT], stderr=subprocess.DEVNULL, check=False)
         said = self.process.communicate(timeout=60)[1]
         hold(self.process.returncode == 0, f"a server ended with {self.process.returncode}: {said} {what}")
         return said
@@ -196,8 +196,8 @@ def without():
         change()
     time.sleep(0.2)
     differ = [what for what, names, _ in STEPS if any(look(name) != plain(name) for name in names)]
-    hold(len(differ) >= len(STEPS) - 2, f"without --watch it is remembered no longer: {differ}")
     server.end()
+    return None if len(differ) >= len(STEPS) - 2 else f"without --watch it is remembered no longer: {differ}"
 
 
 def own():
@@ -221,11 +221,12 @@ def own():
         hold(len(got(MOUNT + "/list/own")) == 409600, "what was written, by another name")
     time.sleep(0.1)
     asked = [line.split()[0] for line in said[before:] if not line.startswith("->")]
-    hold(asked.count("READ") == 0 and asked.count("LOOKUP") <= 1, f"it forgets what the client did itself: {asked}")
     subprocess.run(["umount", "-l", MOUNT], check=False)
     server.process.wait(60)
     reader.join()
     hold(server.process.returncode == 0, f"a server that traces ended with {server.process.returncode}")
+    is_kept = asked.count("READ") == 0 and asked.count("LOOKUP") <= 1
+    return None if is_kept else f"it forgets what the client did itself: {asked}"
 
 
 def many():
@@ -286,9 +287,9 @@ def at_once(end):
 
 
 def few():
-    """In a namespace of users where few files may be watched."""
+    """In a namespace of users where few files may be watched, and Linux names none (apart.py)."""
     make_folder()
-    inside = f"echo 3 > /proc/sys/user/max_fanotify_marks && exec {SHARE} --cache=always {HOUR} --watch --sandbox=none" \
+    inside = f"echo 3 > /proc/sys/user/max_fanotify_marks && exec {SHARE} --cache=always {HOUR} --watch --passthrough --sandbox=none" \
              f" --seccomp=none --log-level=warn {FOLDER} {MOUNT}"
     process = subprocess.Popen(["unshare", "--user", "--map-root-user", "--mount", "sh", "-c", inside],
                                stderr=subprocess.PIPE, text=True)
@@ -316,10 +317,27 @@ def few():
     finally:
         process.terminate()
         said = process.communicate(timeout=60)[1]
-        hold("not all files can be watched" in said or not place, f"it doesn't say that few files are watched: {said}")
+        hold(not place or ("not all files can be watched" in said and "files are served by requests" in said),
+             f"it doesn't say that few files are watched, and none named: {said}")
+
+
+def remembers(part):
+    """Of three times once: the machine may have dropped its caches meanwhile."""
+    for _ in range(3):
+        fault = part()
+        if not fault:
+            return
+    hold(False, fault)
 
 
 os.makedirs(MOUNT, exist_ok=True)
-for part in (steps, without, own, many, lambda: at_once(None), lambda: at_once(signal.SIGTERM), few):
-    part()
+steps()
+# (what it reads by itself it doesn't remember)
+if "--passthrough" not in WORDS:
+    remembers(without)
+remembers(own)
+many()
+at_once(None)
+at_once(signal.SIGTERM)
+few()
 sys.exit(bool(faults))
