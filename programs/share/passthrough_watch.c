@@ -411,10 +411,9 @@ static void take_record(struct watch *all, uint64_t mask, const struct file_hand
 
 /* Takes an event: its records are of a file, or of a directory with a name in it; or of both, where the file is
  * watched. */
-static void take_event(struct watch *all, const struct fanotify_event_metadata *event)
+static void take_event(struct watch *all, const struct fanotify_event_metadata *event, const char *at,
+		       const char *end)
 {
-	const char *at = (const char *)event + event->metadata_len,
-		   *end = (const char *)event + event->event_len;
 	const bool is_entry = event->mask & IN_DIRECTORY;
 
 	if (event->mask & FAN_Q_OVERFLOW)
@@ -440,11 +439,15 @@ static void take_event(struct watch *all, const struct fanotify_event_metadata *
 static bool take_events(struct watch *all)
 {
 	const ssize_t got = read(all->group, all->events, sizeof(all->events));
-	const struct fanotify_event_metadata *event = (const void *)all->events;
-	size_t left = got < 0 ? 0 : (size_t)got;
+	const char *at = all->events, *end = got < 0 ? at : at + got;
+	struct fanotify_event_metadata event;
 
-	for (; FAN_EVENT_OK(event, left); event = FAN_EVENT_NEXT(event, left))
-		take_event(all, event);
+	while ((size_t)(end - at) >= sizeof(event)) {
+		/* (it may begin at any multiple of 4) */
+		memcpy(&event, at, sizeof(event));
+		take_event(all, &event, at + event.metadata_len, at + event.event_len);
+		at += event.event_len;
+	}
 	return got > 0;
 }
 
