@@ -29,7 +29,7 @@
 #include "passthrough_mounts.h"
 #include "passthrough_watch.h"
 
-enum { PARTS = 64, FIRST_CHAINS = 64, EVENTS = 65536, MOST_ALIKE = 8, CHANGED = 4096, EACH = 256 };
+enum { PARTS = 64, FIRST_CHAINS = 64, EVENTS = 65536, MOST_ALIKE = 64, CHANGED = 4096, EACH = 256 };
 /* In milliseconds: how long events gather; how long it rests once some were lost; how often it looks whether there is a
  * client; and how long names hold where they can't be dropped all at once. */
 enum { GATHER = 1, REST = 100, LOOK = 20, MINUTE = 60000 };

@@ -595,6 +595,26 @@ bool is_mount(void)
 	return !words.socket_path && words.fd < 0;
 }
 
+/* Refuses words of a mount, by which its kernel does something, that can't be together. */
+static void hold_mount_together(void)
+{
+	if (words.files.passthrough && !is_mount())
+		refuse("--passthrough is of a mount: a machine's kernel has no file of the host", "");
+	if (words.files.passthrough && words.files.writeback)
+		refuse("--passthrough and --writeback are not both wanted: Linux has one of them", "");
+	/* (Linux opens for writing what the server may have opened for reading alone) */
+	if (words.files.passthrough && words.files.fewer_capabilities & UINT64_C(1) << CAP_DAC_OVERRIDE)
+		refuse("--passthrough takes dac_override, which --modcaps takes away", "");
+	if (words.watches && !is_mount())
+		refuse("--watch is of a mount: a machine takes no notices", "");
+	if (words.watches && words.files.writeback)
+		refuse("--watch and --writeback are not both wanted: a client that writes later knows the size itself",
+		       "");
+	if (words.watches && words.files.file_handles != HANDLES_NEVER)
+		refuse("--watch and --inode-file-handles are not both wanted: what is watched stays open",
+		       "");
+}
+
 /* Refuses words that can't be together. */
 static void hold_together(void)
 {
@@ -615,21 +635,7 @@ static void hold_together(void)
 	if ((words.uids.count || words.gids.count) &&
 	    (geteuid() == 0 || (words.sandbox >= 0 && words.sandbox != SANDBOX_NAMESPACE)))
 		refuse("who isn't root has --uid-map and --gid-map, and with --sandbox=namespace", "");
-	if (words.files.passthrough && !is_mount())
-		refuse("--passthrough is of a mount: a machine's kernel has no file of the host", "");
-	if (words.files.passthrough && words.files.writeback)
-		refuse("--passthrough and --writeback are not both wanted: Linux has one of them", "");
-	/* (Linux opens for writing what the server may have opened for reading alone) */
-	if (words.files.passthrough && words.files.fewer_capabilities & UINT64_C(1) << CAP_DAC_OVERRIDE)
-		refuse("--passthrough takes dac_override, which --modcaps takes away", "");
-	if (words.watches && !is_mount())
-		refuse("--watch is of a mount: a machine takes no notices", "");
-	if (words.watches && words.files.writeback)
-		refuse("--watch and --writeback are not both wanted: a client that writes later knows the size itself",
-		       "");
-	if (words.watches && words.files.file_handles != HANDLES_NEVER)
-		refuse("--watch and --inode-file-handles are not both wanted: what is watched stays open",
-		       "");
+	hold_mount_together();
 	if (words.filter > FILTER_NONE && !has_filter)
 		refuse("--seccomp: it was built without libseccomp", "");
 }

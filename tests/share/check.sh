@@ -6,13 +6,14 @@
 # four, with a cache of what is written later, with file handles, with few descriptors; after each the descriptors of
 # the server are counted. A file that came after a remembered name is opened by who may alone. calls.py asks it what it
 # asks a plain folder. escape.c tries to leave the sandbox from within, and the server's capabilities and directories
-# are looked at. Files of several file systems below the folder are told apart, and how many are known is bounded; what
-# a node takes is printed (nodes.py). Over vhost-user it is asked the hostile requests of tests/beside, and more that
-# are made up, under sanitizers and in its sandbox (hostile.py); a machine that goes away is followed by another. Locks
-# are those of the folder, and what waits for one holds nothing up (waits.py).
+# are looked at. Files that the mount's kernel has by itself are as in the folder (apart.py), and what others change is
+# seen where all is remembered (watched.py). Files of several file systems below the folder are told apart, and how many
+# are known is bounded; what a node takes is printed (nodes.py). Over vhost-user it is asked the hostile requests of
+# tests/beside, and more that are made up, under sanitizers and in its sandbox (hostile.py); a machine that goes away is
+# followed by another. Locks are those of the folder, and what waits for one holds nothing up (waits.py).
 # Last, tools/dev/lint.sh holds its sources against clang-tidy and cppcheck, if they are installed.
 #
-# It takes three minutes, and wants root, /dev/fuse, python3, a C compiler and the Rattle toolchain. It links the proved
+# It takes four minutes, and wants root, /dev/fuse, python3, a C compiler and the Rattle toolchain. It links the proved
 # library if that is built and no source is newer; otherwise tools/lib/unproved.sh builds it without a proof.
 # Status 0: all was right; 1: not so; 2: it could not start.
 set -euo pipefail
