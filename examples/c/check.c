@@ -13,7 +13,7 @@
  * - what needs no file system, as an opcode that is none, with the reply of nizwarf_ask;
  * - a request that says another length than it has, and a WRITE of more bytes than it has, with EIO,
  *   though nizwarf_check takes both;
- * - locks, BMAP, IOCTL, POLL and TMPFILE, with ENOSYS: nobody looked at their arguments.
+ * - what nobody looks at, as SETUPMAPPING, with ENOSYS.
  *
  * The options are those of the program's reply to INIT. Nothing is handed on before that came, nor behind
  * a DESTROY, nor a second INIT: as numbers of requests are the peer's, no reply could be told from that of
@@ -34,6 +34,13 @@
 #include "nizwarf.h"
 
 enum { PAYLOAD = 1 << 20, LONGEST = PAYLOAD + 4096 };
+
+/* The rows that the program may have besides: it answers ENOSYS itself to others. */
+enum {
+	OFFERS = NIZWARF_OFFER_LOCKS | NIZWARF_OFFER_BMAP | NIZWARF_OFFER_IOCTL | NIZWARF_OFFER_POLL |
+		 NIZWARF_OFFER_STATX | NIZWARF_OFFER_COPY_64 | NIZWARF_OFFER_TMPFILE |
+		 NIZWARF_OFFER_NOTIFY_REPLY
+};
 
 /* What becomes of a request: it is handed on, or answered here with some bytes, or none. */
 enum { HAND_ON = -1 };
@@ -60,7 +67,7 @@ static ssize_t refuse(const struct fuse_in_header *asked, int error)
 	const struct fuse_out_header reply = { sizeof(reply), -error, asked->unique };
 
 	if (asked->opcode == FUSE_FORGET || asked->opcode == FUSE_BATCH_FORGET ||
-	    asked->opcode == FUSE_INTERRUPT)
+	    asked->opcode == FUSE_INTERRUPT || asked->opcode == FUSE_NOTIFY_REPLY)
 		return 0;
 	memcpy(room, &reply, sizeof(reply));
 	return sizeof(reply);
@@ -92,7 +99,7 @@ static ssize_t judge(size_t size)
 	memcpy(&asked, request, sizeof(asked));
 	if (asked.len != size || size > sizeof(request))
 		return refuse(&asked, EIO);
-	code = nizwarf_check(&session, request, size, LONGEST, &call, &interrupts);
+	code = nizwarf_check_offered(&session, OFFERS, request, size, LONGEST, &call, &interrupts);
 	if (code == NIZWARF_OK)
 		return interrupts && state == AGREED ? HAND_ON : finish(size);
 	if (code != NIZWARF_ASKED)

@@ -16,9 +16,10 @@ BODIES = {
     28: struct.pack("<QQIIQII", 0, 0, 4096, 0, 0, 0, 0), 29: bytes(24), 30: bytes(16), 31: bytes(48), 32: bytes(48),
     33: bytes(48), 34: bytes(8), 35: struct.pack("<IIII", 2, 0o100644, 0, 0) + b"name\0", 36: struct.pack("<Q", 99),
     37: bytes(16), 39: struct.pack("<QIIQII", 0, 0, 0, 0, 4, 4) + b"four", 40: bytes(24),
-    41: struct.pack("<QQQII", 0, 0, 0, 0, 0), 42: struct.pack("<IIQQQQ", 2, 0, 2, 1, 3, 1), 43: bytes(32),
+    41: struct.pack("<QQIIQQ", 0, 0, 4, 0, 0, 0) + b"four", 42: struct.pack("<IIQQQQ", 2, 0, 2, 1, 3, 1), 43: bytes(32),
     44: struct.pack("<QQIIQII", 0, 0, 4096, 0, 0, 0, 0),
-    45: struct.pack("<QII", 1, 0, 0) + b"name\0other\0", 46: bytes(24), 47: bytes(56), 50: bytes(8), 51: bytes(16),
+    45: struct.pack("<QII", 1, 0, 0) + b"name\0other\0", 46: bytes(24), 47: bytes(56), 50: bytes(8), 51: bytes(16) + b"/\0",
+    52: bytes(24), 53: bytes(56),
 }
 EDGES = 0, 1, 7, 8, 39, 40, 4095, 4096, 65535, 1 << 20, (1 << 20) + 1, 2**31 - 1, 2**31, 2**32 - 1
 
@@ -49,7 +50,7 @@ def broken(made, chance):
 
 
 def some_request(chance):
-    opcode = chance.choice((*BODIES, *BODIES, 0, 7, 26, 38, 48, 49, 52, 53, 99, 4096, 2**32 - 1))
+    opcode = chance.choice((*BODIES, *BODIES, 0, 7, 26, 38, 48, 49, 99, 4096, 2**32 - 1))
     if opcode == 26:
         made = requests.init(7, chance.choice((45, 38, 36, 31, 27)), flags2=11)
     else:

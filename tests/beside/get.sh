@@ -47,7 +47,7 @@ build_libfuse() {
     number=${number:-${version%%-*}}
     IFS=. read -r major minor patch <<< "$number"
     printf '#define HAVE_%s 1\n' FORK FSTATAT OPENAT READLINKAT PIPE2 SPLICE VMSPLICE POSIX_FALLOCATE FDATASYNC \
-        UTIMENSAT COPY_FILE_RANGE FALLOCATE SETXATTR STRUCT_STAT_ST_ATIM CUSTOM_IO > "$folder/made/fuse_config.h"
+        UTIMENSAT COPY_FILE_RANGE FALLOCATE SETXATTR STRUCT_STAT_ST_ATIM CUSTOM_IO STATX > "$folder/made/fuse_config.h"
     printf '#define PACKAGE_VERSION "%s"\n' "$number" >> "$folder/made/fuse_config.h"
     printf '#define FUSE_%s_VERSION %s\n' MAJOR "$major" MINOR "$minor" HOTFIX "${patch:-0}" RC '""' \
         > "$folder/made/libfuse_config.h"

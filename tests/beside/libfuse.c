@@ -9,6 +9,7 @@
 #define _DEFAULT_SOURCE
 #define FUSE_USE_VERSION 317
 #include <errno.h>
+#include <fcntl.h>
 #include <fuse_lowlevel.h>
 #include <sanitizer/asan_interface.h>
 #include <stdio.h>
@@ -169,6 +170,71 @@ static void on_ioctl(fuse_req_t req, fuse_ino_t ino, unsigned int cmd, void *arg
 	fuse_reply_err(req, ENOTTY);
 }
 
+static void on_getlk(fuse_req_t req, fuse_ino_t ino, struct fuse_file_info *fi, struct flock *lock)
+{
+	(void)ino, (void)fi;
+	lock->l_type = F_UNLCK;
+	fuse_reply_lock(req, lock);
+}
+
+static void on_setlk(fuse_req_t req, fuse_ino_t ino, struct fuse_file_info *fi, struct flock *lock, int sleep)
+{
+	(void)ino, (void)fi, (void)sleep;
+	see((const char *)lock, sizeof(*lock));
+	fuse_reply_err(req, EAGAIN);
+}
+
+static void on_flock(fuse_req_t req, fuse_ino_t ino, struct fuse_file_info *fi, int op)
+{
+	(void)ino, (void)fi, (void)op;
+	fuse_reply_err(req, EAGAIN);
+}
+
+static void on_bmap(fuse_req_t req, fuse_ino_t ino, size_t blocksize, uint64_t idx)
+{
+	(void)ino, (void)blocksize;
+	fuse_reply_bmap(req, idx);
+}
+
+static void on_poll(fuse_req_t req, fuse_ino_t ino, struct fuse_file_info *fi, struct fuse_pollhandle *ph)
+{
+	(void)ino;
+	if (ph)
+		fuse_pollhandle_destroy(ph);
+	fuse_reply_poll(req, fi->poll_events);
+}
+
+static void on_copy(fuse_req_t req, fuse_ino_t ino_in, off_t off_in, struct fuse_file_info *fi_in,
+		    fuse_ino_t ino_out, off_t off_out, struct fuse_file_info *fi_out, size_t len, int flags)
+{
+	(void)ino_in, (void)off_in, (void)fi_in, (void)ino_out, (void)off_out, (void)fi_out, (void)flags;
+	fuse_reply_write(req, len);
+}
+
+static void on_retrieve_reply(fuse_req_t req, void *cookie, fuse_ino_t ino, off_t offset,
+			      struct fuse_bufvec *bufv)
+{
+	(void)cookie, (void)ino, (void)offset;
+	see(bufv->buf[0].mem, bufv->buf[0].size);
+	fuse_reply_none(req);
+}
+
+/* Since 3.17 it has these. */
+#if FUSE_VERSION >= FUSE_MAKE_VERSION(3, 17)
+static void on_tmpfile(fuse_req_t req, fuse_ino_t parent, mode_t mode, struct fuse_file_info *fi)
+{
+	(void)parent, (void)mode, (void)fi;
+	fuse_reply_err(req, EROFS);
+}
+#endif
+#if FUSE_VERSION >= FUSE_MAKE_VERSION(3, 18)
+static void on_statx(fuse_req_t req, fuse_ino_t ino, int flags, int mask, struct fuse_file_info *fi)
+{
+	(void)ino, (void)flags, (void)mask, (void)fi;
+	fuse_reply_err(req, ENOENT);
+}
+#endif
+
 static const struct fuse_lowlevel_ops ops = {
 	.getattr = on_getattr,
 	.setattr = on_setattr,
@@ -192,6 +258,19 @@ static const struct fuse_lowlevel_ops ops = {
 	.forget = on_forget,
 	.forget_multi = on_forget_multi,
 	.ioctl = on_ioctl,
+	.getlk = on_getlk,
+	.setlk = on_setlk,
+	.flock = on_flock,
+	.bmap = on_bmap,
+	.poll = on_poll,
+	.copy_file_range = on_copy,
+	.retrieve_reply = on_retrieve_reply,
+#if FUSE_VERSION >= FUSE_MAKE_VERSION(3, 17)
+	.tmpfile = on_tmpfile,
+#endif
+#if FUSE_VERSION >= FUSE_MAKE_VERSION(3, 18)
+	.statx = on_statx,
+#endif
 };
 
 static ssize_t take(int fd, void *at, size_t size, void *user)

@@ -152,6 +152,90 @@ static void on_forget(const nizwarf_req *req, uint64_t ino, uint64_t nlookup)
 	seen += (unsigned)(ino + nlookup);
 }
 
+/* ---- what virtiofsd has not */
+
+static int on_getlk(const nizwarf_req *req, uint64_t ino, const nizwarf_file_info *fi, nizwarf_lock *lock)
+{
+	(void)req, (void)ino;
+	see(fi, sizeof(*fi));
+	see(lock, sizeof(*lock));
+	lock->type = F_UNLCK;
+	return 0;
+}
+
+static int on_setlk(const nizwarf_req *req, uint64_t ino, const nizwarf_file_info *fi,
+		    const nizwarf_lock *lock, int sleep)
+{
+	(void)req, (void)ino, (void)fi, (void)sleep;
+	see(lock, sizeof(*lock));
+	return EAGAIN;
+}
+
+static int on_flock(const nizwarf_req *req, uint64_t ino, const nizwarf_file_info *fi, int op)
+{
+	(void)req, (void)ino, (void)fi, (void)op;
+	return EAGAIN;
+}
+
+static int on_bmap(const nizwarf_req *req, uint64_t ino, size_t blocksize, uint64_t idx, uint64_t *block)
+{
+	(void)req, (void)ino, (void)blocksize;
+	*block = idx;
+	return 0;
+}
+
+static int on_ioctl(const nizwarf_req *req, uint64_t ino, uint32_t cmd, uint64_t arg,
+		    const nizwarf_file_info *fi, uint32_t flags, const void *in_buf, size_t in_size,
+		    nizwarf_ioctl *out, void *out_buf, size_t out_size, size_t *len)
+{
+	(void)req, (void)ino, (void)cmd, (void)arg, (void)fi, (void)flags, (void)out;
+	see(in_buf, in_size);
+	memset(out_buf, 0, out_size);
+	*len = out_size;
+	return 0;
+}
+
+static int on_poll(const nizwarf_req *req, uint64_t ino, const nizwarf_file_info *fi, uint32_t events,
+		   uint64_t kh, int notify, uint32_t *revents)
+{
+	(void)req, (void)ino, (void)fi, (void)kh, (void)notify;
+	*revents = events;
+	return 0;
+}
+
+static int on_tmpfile(const nizwarf_req *req, uint64_t parent, uint32_t mode, nizwarf_file_info *fi,
+		      nizwarf_entry_param *e)
+{
+	(void)req, (void)parent, (void)mode, (void)fi, (void)e;
+	return EROFS;
+}
+
+static int on_statx(const nizwarf_req *req, uint64_t ino, uint32_t flags, uint32_t mask,
+		    const nizwarf_file_info *fi, nizwarf_statx *statx, struct timespec *timeout)
+{
+	(void)req, (void)ino, (void)flags, (void)fi, (void)timeout;
+	statx->mask = mask;
+	statx->mode = S_IFDIR | 0755;
+	return 0;
+}
+
+static int on_copy(const nizwarf_req *req, uint64_t ino_in, uint64_t off_in, const nizwarf_file_info *fi_in,
+		   uint64_t ino_out, uint64_t off_out, const nizwarf_file_info *fi_out, uint64_t size,
+		   uint64_t flags, size_t *len)
+{
+	(void)req, (void)ino_in, (void)off_in, (void)fi_in, (void)ino_out, (void)off_out, (void)fi_out;
+	(void)flags;
+	*len = size;
+	return 0;
+}
+
+static void on_retrieve_reply(const nizwarf_req *req, uint64_t cookie, uint64_t ino, uint64_t offset,
+			      const void *data, size_t size)
+{
+	(void)req, (void)cookie, (void)ino, (void)offset;
+	see(data, size);
+}
+
 static const nizwarf_ops ops = {
 	.getattr = on_getattr,
 	.setattr = on_setattr,
@@ -172,6 +256,16 @@ static const nizwarf_ops ops = {
 	.setxattr = on_setxattr,
 	.getxattr = on_getxattr,
 	.forget = on_forget,
+	.getlk = on_getlk,
+	.setlk = on_setlk,
+	.flock = on_flock,
+	.bmap = on_bmap,
+	.ioctl = on_ioctl,
+	.poll = on_poll,
+	.tmpfile = on_tmpfile,
+	.statx = on_statx,
+	.copy_file_range = on_copy,
+	.retrieve_reply = on_retrieve_reply,
 };
 
 /* The end of LONGEST bytes behind which nothing can be read. */

@@ -26,6 +26,7 @@ import collections
 import concurrent.futures
 import datetime
 import errno
+import itertools
 import re
 import select
 import socket
@@ -64,7 +65,8 @@ def flat(line):
 def known_sessions():
     """Each with its name, its requests, and how many of its beginning are not judged."""
     seen = set()
-    for items, skipped in requests.sessions():
+    further = (([requests.FIRST, it, requests.LAST], 1) for it in requests.further())
+    for items, skipped in itertools.chain(requests.sessions(), further):
         asked = [flat(line) for _, line in items[:-1]]
         if tuple(asked) not in seen:
             seen.add(tuple(asked))
