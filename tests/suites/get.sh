@@ -2,7 +2,7 @@
 # Gets what a suite wants from Debian's packages, and builds it if it is a source.
 #
 # Usage: tests/suites/get.sh WHAT FOLDER
-# WHAT is a suite of tests/suites/run.sh, or passthrough_ll or bindfs. Packages that the machine doesn't
+# WHAT is a suite of tests/suites/run.sh, or passthrough_ll, bindfs or libfuse. Packages that the machine doesn't
 # have are downloaded by apt-get and unpacked below FOLDER, and never installed: programs and libraries in
 # FOLDER/root, CPython with its tests in FOLDER/cpython, coreutils as built in FOLDER/coreutils.
 # FOLDER/have-WHAT has the version. Nothing is done if it is there already. tests/suites/run.sh calls it.
@@ -90,6 +90,20 @@ get_test_syscalls() {
         "$(find "$work" -name test_syscalls.c | sed -n 1p)"
 }
 
+# Its tests, and the clients of their examples.
+get_libfuse() {
+    local name
+    sources fuse3 sid
+    rm -rf "$there/libfuse"
+    mv "$(find "$work" -maxdepth 1 -name 'fuse-*' -type d)" "$there/libfuse"
+    cd "$there/libfuse"
+    mkdir -p built/example built/test built/util
+    : > built/fuse_config.h
+    for name in example/poll_client example/ioctl_client test/test_syscalls test/readdir_inode; do
+        cc -w -O1 -D_GNU_SOURCE -D_FILE_OFFSET_BITS=64 -I built -o "built/$name" "$name.c"
+    done
+}
+
 # libfuse's own passthrough, an example of its package, with all calls that it can have.
 get_passthrough_ll() {
     have libfuse3-dev fuse3
@@ -129,16 +143,16 @@ case $what in
     pgbench) package=postgresql ;;
     cp | names) package=coreutils ;;
 esac
-# (that of go-fuse is its source's)
+# (that of go-fuse and of libfuse's tests is their source's)
 version=
-[ "$what" = posixtest ] || version=$(version_of "$package")
+[[ $what == posixtest || $what == libfuse ]] || version=$(version_of "$package")
 case $what in
-    cpython | coreutils | test_syscalls | passthrough_ll | posixtest) "get_$what" ;;
+    cpython | coreutils | test_syscalls | passthrough_ll | posixtest | libfuse) "get_$what" ;;
     stress-ng | fio | git | rsync | bindfs | sqlite | pgbench) have "$package" ;;
     tar | cp | names) ;;
     *) echo "There is no $what here." >&2 && exit 2 ;;
 esac
-if [ "$what" = posixtest ]; then
-    version=$(find "$work" -maxdepth 1 -name 'golang-github-hanwen-go-fuse_*.orig.tar.*' | sed -nE 's/.*_(.*)\.orig.*/\1/p' | sed -n 1p)
+if [ -z "$version" ]; then
+    version=$(find "$work" -maxdepth 1 -name '*.orig.tar.*' | sed -nE 's/.*_(.*)\.orig.*/\1/p' | sed -n 1p)
 fi
 echo "${version#*:}" > "$there/have-$what"
