@@ -14,10 +14,13 @@ set -euo pipefail
 . "$(dirname "$0")/../../tools/lib/debian.sh"
 . "$(dirname "$0")/../../tools/lib/mounts.sh"
 
-flags=()
+flags=() words=()
 case $#:${1:-}:${2:-} in
     0::) ;;
-    2:--sanitizer:address,undefined | 2:--sanitizer:thread) flags=(-g -O1 "-fsanitize=$2" -fno-sanitize-recover=all) ;;
+    2:--sanitizer:address,undefined | 2:--sanitizer:thread)
+        # (what a sanitizer asks of the kernel the filter doesn't have)
+        flags=(-g -O1 "-fsanitize=$2" -fno-sanitize-recover=all) words=(--sandbox=none --seccomp=none)
+        ;;
     *) echo "Usage: tests/further/libfuse.sh [--sanitizer address,undefined|thread]" >&2 && exit 2 ;;
 esac
 need_root "It mounts"
@@ -41,7 +44,7 @@ for name in ioctl poll invalidate_path notify_{inval_inode,inval_entry,store_ret
 done
 for name in passthrough_ll passthrough_hp; do
     # shellcheck disable=SC2016
-    printf '#!/bin/sh\nexec "%s" "%s" "$0" "$@"\n' "$here/tests/further/passthrough.sh" "$transport" > "$built/example/$name"
+    printf '#!/bin/sh\nexec "%s" "%s" "$0" %s "$@"\n' "$here/tests/further/passthrough.sh" "$transport" "${words[*]}" > "$built/example/$name"
 done
 # (what it asks of fusermount3 is to unmount, and of printcap, what the kernel can)
 # shellcheck disable=SC2016

@@ -1,12 +1,14 @@
 #!/usr/bin/env python3
 """Locks as programs see them, the same on any file system that keeps them.
 
-Usage: tests/further/locks.py [--no-ofd-close] FILE
+Usage: tests/further/locks.py [--no-ofd-close] [--cases] FILE [OTHER]
 
 It locks FILE by flock(2) and fcntl(2), from processes of its own: shared and exclusive, ranges that split and join,
-F_GETLK, waiting, which a signal or a kill ends, and what a close or an exit gives up. It prints a line for each step,
-`ok` or `WRONG`, and their count. With --no-ofd-close the last step is left out: Linux tells a FUSE server of no close of
-a description that has a lock of F_OFD_SETLK. Status 0: all are as POSIX and Linux say; 1: some are not.
+F_GETLK, waiting, which a signal or a kill ends, and what a close or an exit gives up. Whom it locks out opens OTHER, if
+that is another path of the file, as on a second mount. It prints a line for each step, `ok` or `WRONG`, and their count;
+with --cases its number and name, a tab, and `ok` or what it came to. With --no-ofd-close the last step is left out: Linux
+tells a FUSE server of no close of a description that has a lock of F_OFD_SETLK. Status 0: all are as POSIX and Linux say;
+1: some are not.
 """
 import errno
 import fcntl
@@ -21,6 +23,7 @@ EXCLUSIVE, SHARED, AT_ONCE, UNLOCK = fcntl.LOCK_EX, fcntl.LOCK_SH, fcntl.LOCK_NB
 OFD_SETLK = 37
 LATER, LONG = 0.2, 5
 counts = {"ok": 0, "WRONG": 0}
+as_cases = False
 
 
 class Alarm(Exception):
@@ -30,6 +33,9 @@ class Alarm(Exception):
 def step(what, got, wanted):
     word = "ok" if got == wanted else "WRONG"
     counts[word] += 1
+    if as_cases:
+        print(f"{sum(counts.values()):02} {what}\t{word if word == 'ok' else f'failed: {got}'}", flush=True)
+        return
     print(word, what, got, "" if word == "ok" else f"in place of {wanted}", flush=True)
 
 
@@ -120,17 +126,17 @@ def setlkw(fd):
 
 
 class Locks:
-    def __init__(self, path):
-        self.path = path
+    def __init__(self, path, other):
+        self.path, self.others = path, other
         self.fd = os.open(path, os.O_RDWR)
 
     def other(self, does):
         """What another process comes to that opens the file."""
-        return ended(started(self.path, lambda fd, _: does(fd)))
+        return ended(started(self.others, lambda fd, _: does(fd)))
 
     def waiting(self, lock, release):
         """What another process comes to that waits for what is released meanwhile."""
-        process = started(self.path, waits(lock))
+        process = started(self.others, waits(lock))
         os.read(process[1], 1)
         time.sleep(2 * LATER)
         release()
@@ -167,11 +173,11 @@ class Locks:
 
     def interrupts(self):
         step("all", setlk(self.fd, WRITE), "got")
-        step("waiting interrupted", ended(started(self.path, interrupted(setlkw))), "interrupted late")
+        step("waiting interrupted", ended(started(self.others, interrupted(setlkw))), "interrupted late")
         step("flock", flock(self.fd, EXCLUSIVE), "got")
-        said = ended(started(self.path, interrupted(lambda fd: flock(fd, EXCLUSIVE))))
+        said = ended(started(self.others, interrupted(lambda fd: flock(fd, EXCLUSIVE))))
         step("waiting for flock interrupted", said, "interrupted late")
-        process = started(self.path, waits(setlkw))
+        process = started(self.others, waits(setlkw))
         os.read(process[1], 1)
         time.sleep(2 * LATER)
         os.kill(process[0], signal.SIGKILL)
@@ -191,7 +197,7 @@ class Locks:
         step("fcntl after a close", self.other(lambda fd: setlk(fd, WRITE)), "got")
 
     def descriptions(self, with_close):
-        one, other = os.open(self.path, os.O_RDWR), os.open(self.path, os.O_RDWR)
+        one, other = os.open(self.path, os.O_RDWR), os.open(self.others, os.O_RDWR)
         step("a description's lock", setlk(one, WRITE, command=OFD_SETLK), "got")
         step("by another description", setlk(other, WRITE, 5, 1, OFD_SETLK), "EAGAIN")
         if with_close:
@@ -203,19 +209,21 @@ class Locks:
 
 
 def main():
+    global as_cases
     words = sys.argv[1:]
-    with_close = "--no-ofd-close" not in words
-    words = [word for word in words if word != "--no-ofd-close"]
-    if len(words) != 1 or words[0].startswith("-"):
+    with_close, as_cases = "--no-ofd-close" not in words, "--cases" in words
+    words = [word for word in words if word not in ("--no-ofd-close", "--cases")]
+    if len(words) not in (1, 2) or words[0].startswith("-"):
         print(__doc__.strip())
         return 0 if words in (["-h"], ["--help"]) else 2
-    locks = Locks(words[0])
+    locks = Locks(words[0], words[-1])
     locks.flocks()
     locks.ranges()
     locks.interrupts()
     locks.closes()
     locks.descriptions(with_close)
-    print(f"{counts['ok'] + counts['WRONG']} steps, {counts['WRONG']} wrong")
+    if not as_cases:
+        print(f"{counts['ok'] + counts['WRONG']} steps, {counts['WRONG']} wrong")
     return 1 if counts["WRONG"] else 0
 
 

@@ -15,6 +15,7 @@ for word in "${@:3}"; do
         --nocache) words+=(--cache=never) ;;
         timeout=0) words+=(-o "$at_once") ;;
         writeback) words+=(--writeback) ;;
+        --sandbox=* | --seccomp=*) words+=("$word") ;;
         -*) ;;
         *) folders+=("$word") ;;
     esac

@@ -130,6 +130,20 @@ get_posixtest() {
         CGO_ENABLED=0 "$root/bin/go" test -c -p 1 -o "$there/posixtest" ./posixtest
 }
 
+# ping_pong is Samba's; of the modules there are tests in their sources.
+get_locks() {
+    local name
+    [ -e "$there/have-cpython" ] || "$0" cpython "$there"
+    have stress-ng libfile-fcntllock-perl
+    unpack_packages "$work/ctdb" ctdb
+    cp "$work/ctdb/usr/bin/ping_pong" "$there"
+    for name in FcntlLock NFSLock; do
+        sources "libfile-${name,,}-perl"
+        rm -rf "$there/File-$name"
+        mv "$(find "$work" -maxdepth 1 -name "File-$name-*" -type d)" "$there/File-$name"
+    done
+}
+
 # The version of a package that is installed, or would be.
 version_of() {
     apt-cache "${apt[@]}" policy "$1" | sed -nE 's/^ *(Installed|Candidate): ([^ (]*).*/\2/p' | grep . | sed -n 1p
@@ -142,13 +156,19 @@ case $what in
     sqlite) package=sqlite3 ;;
     pgbench) package=postgresql ;;
     cp | names) package=coreutils ;;
+    locks) package=stress-ng ;;
+    two-mounts) package=sqlite3 ;;
 esac
 # (that of go-fuse and of libfuse's tests is their source's)
 version=
 [[ $what == posixtest || $what == libfuse ]] || version=$(version_of "$package")
 case $what in
-    cpython | coreutils | test_syscalls | passthrough_ll | posixtest | libfuse) "get_$what" ;;
+    cpython | coreutils | test_syscalls | passthrough_ll | posixtest | libfuse | locks) "get_$what" ;;
     stress-ng | fio | git | rsync | bindfs | sqlite | pgbench) have "$package" ;;
+    two-mounts)
+        have sqlite3 postgresql
+        [ -e "$there/have-locks" ] || "$0" locks "$there"
+        ;;
     tar | cp | names) ;;
     *) echo "There is no $what here." >&2 && exit 2 ;;
 esac

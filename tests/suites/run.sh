@@ -46,7 +46,7 @@ given=("$@")
 need python3 "Install it: apt-get install python3."
 suites=("$here/tests/suites/suites.py")
 mapfile -t all < <(python3 -B "${suites[0]}" --list | sed 's/ .*//')
-only=() more=() folders=() words=() flags=() what='' on='' jobs=1
+only=() more=() folders=() words=() flags=() of_sanitizer=() what='' on='' jobs=1
 while [ $# -gt 0 ]; do
     case $1 in
         --list) exec python3 -B "${suites[0]}" --list ;;
@@ -68,7 +68,8 @@ while [ $# -gt 0 ]; do
             ;;
         --sanitizer)
             [[ ${2:-} =~ ^(address|undefined|address,undefined|thread)$ ]] || usage "--sanitizer wants its name."
-            flags=(-g -O1 "-fsanitize=$2" -fno-sanitize-recover=all)
+            # (what a sanitizer asks of the kernel the filter doesn't have)
+            flags=(-g -O1 "-fsanitize=$2" -fno-sanitize-recover=all) of_sanitizer=(--sandbox=none --seccomp=none)
             shift
             ;;
         --share | --tree)
@@ -137,7 +138,7 @@ column() {
 # Adds a column of a shared folder, with words: share_column NAME WORDS..
 share_column() {
     column "$1" "fuse.nizwarf-share $1" judged mount "$transport" -o allow_other,suid,dev --xattr --log-level=warn \
-        "${@:2}" FOLDER MOUNT
+        "${of_sanitizer[@]}" "${@:2}" FOLDER MOUNT
 }
 
 case $what in
@@ -172,6 +173,8 @@ case $what in
         ;;
 esac
 [ ${#only[@]} -gt 0 ] || only=("${all[@]}")
+# (two mounts of a tree are two trees)
+[ "$what" != --tree ] || mapfile -t only < <(printf '%s\n' "${only[@]}" | grep -vx two-mounts)
 run=()
 for name in "${only[@]}"; do
     [ -e "$there/have-$name" ] || echo "Getting what $name wants .." >&2

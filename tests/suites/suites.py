@@ -17,7 +17,8 @@ from pathlib import Path
 
 HERE = Path(__file__).resolve().parent
 SECONDS = {"cpython": 900, "coreutils": 1200, "test_syscalls": 60, "posixtest": 120, "stress-ng": 600, "fio": 240,
-           "sqlite": 240, "pgbench": 300, "git": 300, "rsync": 180, "tar": 180, "cp": 180, "names": 600}
+           "sqlite": 240, "pgbench": 300, "git": 300, "rsync": 180, "tar": 180, "cp": 180, "names": 600, "locks": 600,
+           "two-mounts": 600}
 ABOUT = {
     "cpython": "CPython's tests of files, of its package libpython3-testsuite, case by case",
     "coreutils": "the checks of GNU coreutils that make files, script by script",
@@ -32,7 +33,17 @@ ABOUT = {
     "tar": "tar of the same, and what it kept",
     "cp": "cp -a of the same, and what it kept",
     "names": "100,000 names in a directory",
+    "locks": "flock(2) and fcntl(2): tests/further/locks.py, stress-ng, CPython, two Perl modules, Samba's ping_pong",
+    "two-mounts": "locks.py, ping_pong, sqlite and PostgreSQL over two mounts of one share",
 }
+# What a share has for a suite besides: a descriptor for each file may be more than there can be; locks are the host's;
+# and who has a lock sees what was written before it.
+OF_SHARE = {"names": ["--inode-file-handles=prefer"], "locks": ["--flock", "--posix-lock"],
+            "two-mounts": ["--flock", "--posix-lock", "--cache=never"]}
+# Those that want a second mount. A folder is beside itself.
+TWO = {"two-mounts"}
+# Those that are left out where they are only shown: passthrough_ll does not come to their end.
+LOCKS = {"locks", "two-mounts"}
 NOBODY = ["setpriv", "--reuid=65534", "--regid=65534", "--clear-groups"]
 # What is started so does not outlive this program.
 ENDS_WITH_THIS = ["setpriv", "--pdeathsig=KILL"]
@@ -41,8 +52,8 @@ ENDS_WITH_THIS = ["setpriv", "--pdeathsig=KILL"]
 # What a suite has while it runs.
 
 class Run:
-    def __init__(self, folder, there, quick):
-        self.folder, self.there, self.quick = Path(folder), Path(there), quick
+    def __init__(self, folder, second, there, quick):
+        self.folder, self.second, self.there, self.quick = Path(folder), Path(second), Path(there), quick
         root = self.there / "root"
         programs = [f"{root}/{folder}" for folder in ("usr/bin", "usr/sbin", "bin", "sbin")]
         path = ":".join([*programs, os.environ["PATH"], "/usr/sbin", "/sbin"])
@@ -90,15 +101,15 @@ CPYTHON = """test_os test_posix test_shutil test_pathlib test_glob test_mmap tes
 CPYTHON_QUICK = "test_os test_posix test_shutil test_pathlib test_mmap test_fcntl test_tempfile test_tarfile".split()
 
 
-def cpython(run):
+def cpython(run, modules=None, those=()):
     python = run.there / "cpython/usr/bin/python3"
-    modules = CPYTHON_QUICK if run.quick else CPYTHON
+    modules = modules or (CPYTHON_QUICK if run.quick else CPYTHON)
     cases = run.folder / "cases.xml"
     env = dict(run.env)
     del env["LD_LIBRARY_PATH"]
     _, text = run.call([python, "-m", "test", "-j2", "--timeout=200", f"--tempdir={run.folder}", "-u",
                         "all,-largefile,-network,-urlfetch,-audio,-gui,-cpu", "--ignore", "*LargeMmapTests*",
-                        f"--junit-xml={cases}", *modules],
+                        f"--junit-xml={cases}", *(f"--match={one}" for one in those), *modules],
                        SECONDS["cpython"], said="always", env=env)
     told = Counter()
     worst = ["ok", "skipped", "failed"]
@@ -185,11 +196,19 @@ def posixtest(run):
 STRESS_BUT = {"binderfs", "bind-mount", "ramfs", "quota"}
 
 
-def stress_ng(run):
+def stressors(run):
     _, text = run.call(["stress-ng", "--class", "filesystem?"], 20, said=False)
-    stressors = [name for name in text.split(":", 1)[1].split() if name not in STRESS_BUT]
-    for name in stressors[::4] if run.quick else stressors:
-        status, text = run.call(["stress-ng", f"--{name}", "1", "--timeout", "1s", "--verify", "--oomable",
+    return [name for name in text.split(":", 1)[1].split() if name not in STRESS_BUT]
+
+
+def stress_ng(run):
+    every = stressors(run)
+    stress(run, every[::4] if run.quick else every, 1, 1)
+
+
+def stress(run, names, instances, seconds):
+    for name in names:
+        status, text = run.call(["stress-ng", f"--{name}", instances, "--timeout", f"{seconds}s", "--verify", "--oomable",
                                  "--temp-path", run.folder], 60, said=False)
         came = "ok"
         if status:
@@ -251,50 +270,207 @@ def kill_all(name):
             pass
 
 
+class Postgres:
+    """A server of PostgreSQL, run by nobody, whose folder each of its calls names."""
+
+    def __init__(self, run):
+        self.run, self.own = run, run.folder / "postgres"
+        self.own.mkdir()
+        # Its socket is elsewhere: a socket in the folder is a case of other suites.
+        self.sockets = Path(tempfile.mkdtemp(prefix="nizwarf-"))
+        for folder in (self.own, self.sockets):
+            os.chown(folder, 65534, 65534)
+        bins = [*Path("/usr/lib/postgresql").glob("*/bin"), *(run.there / "root/usr/lib/postgresql").glob("*/bin")]
+        run.env |= {"PATH": f"{sorted(bins)[-1]}:{run.env['PATH']}", "PGHOST": str(self.sockets), "PGUSER": "postgres",
+                    "PGDATABASE": "postgres"}
+        self.client = {"env": run.env, "cwd": self.own}
+
+    def as_nobody(self, name, words, wanted=None, own=None):
+        return self.run.step(name, " ".join([*NOBODY, words]), wanted, 120, **self.client | {"cwd": own or self.own})
+
+    def query(self, name, text, wanted):
+        self.run.step(name, f'psql -AtX -c "{text}"', wanted, 60, **self.client)
+
+    def init(self):
+        return self.as_nobody("init", "initdb -D data -U postgres -A trust --data-checksums > made")
+
+    def starting(self, sockets=None, said="said"):
+        return (f"pg_ctl -w -t 60 -D data -l {said} -o '-k {sockets or self.sockets} -c listen_addresses= "
+                "-c shared_buffers=16MB -c max_connections=20' start > started")
+
+    def start(self, name, own=None):
+        return self.as_nobody(name, self.starting(), own=own)
+
+    def fill(self, scale):
+        self.run.step("pgbench -i", f"pgbench -i -q -s {scale} > filled 2>&1", **self.client)
+
+    def load(self, seconds):
+        return subprocess.Popen(["bash", "-c", f"pgbench -n -c 4 -j 2 -T {seconds} > {self.sockets}/ran 2>&1"],
+                                stdin=subprocess.DEVNULL, **self.client)
+
+    def sums(self):
+        for table in ("accounts", "branches", "tellers"):
+            self.query(f"sum of {table}", f"SELECT (SELECT sum({table[0]}balance) FROM pgbench_{table}) = "
+                       "(SELECT coalesce(sum(delta), 0) FROM pgbench_history)", "t")
+
+    def done(self):
+        """How many transactions the load came to."""
+        done = [line for line in (self.sockets / "ran").read_text().splitlines() if "actually processed" in line]
+        return int(done[0].split(":")[1].split("/")[0]) if done else 0
+
+    def committed(self):
+        done = self.done()
+        self.query("nothing committed is lost", f"SELECT count(*) >= {done} AND {done} > 0 FROM pgbench_history", "t")
+
+    def stop(self, own=None):
+        self.as_nobody("stop", "pg_ctl -w -D data -m fast stop > stopped", own=own)
+
+    def checksums(self):
+        self.as_nobody("checksums", "pg_checksums --check -D data > checked")
+
+
 def pgbench(run):
-    own = run.folder / "postgres"
-    own.mkdir()
-    os.chown(own, 65534, 65534)
-    # Its socket is elsewhere: a socket in the folder is a case of other suites.
-    sockets = Path(tempfile.mkdtemp(prefix="nizwarf-"))
-    os.chown(sockets, 65534, 65534)
-    bins = sorted([*Path("/usr/lib/postgresql").glob("*/bin"), *(run.there / "root/usr/lib/postgresql").glob("*/bin")])
-    run.env |= {"PATH": f"{bins[-1]}:{run.env['PATH']}", "PGHOST": str(sockets), "PGUSER": "postgres",
-                "PGDATABASE": "postgres"}
-    client = {"env": run.env, "cwd": own}
-
-    def as_nobody(name, words, wanted=None):
-        return run.step(name, " ".join([*NOBODY, words]), wanted, 120, **client)
-
-    def query(name, text, wanted):
-        run.step(name, f'psql -AtX -c "{text}"', wanted, 60, **client)
-
-    def start(name):
-        return as_nobody(name, f"pg_ctl -w -t 60 -D data -l said -o '-k {sockets} -c listen_addresses= "
-                         "-c shared_buffers=16MB -c max_connections=20' start > started")
-
-    run.step("init", " ".join([*NOBODY, "initdb -D data -U postgres -A trust --data-checksums > made"]), **client)
-    if not start("start"):
+    server = Postgres(run)
+    server.init()
+    if not server.start("start"):
         return
-    scale = 1 if run.quick else 3
-    run.step("pgbench -i", f"pgbench -i -q -s {scale} > filled 2>&1", **client)
-    with subprocess.Popen(["bash", "-c", f"pgbench -n -c 4 -j 2 -T {4 if run.quick else 12} > {sockets}/ran 2>&1"],
-                          stdin=subprocess.DEVNULL, **client) as load:
+    server.fill(1 if run.quick else 3)
+    with server.load(4 if run.quick else 12) as load:
         time.sleep(2 if run.quick else 8)
         kill_all("postgres")
         load.wait(60)
-    done = [line for line in (sockets / "ran").read_text().splitlines() if "actually processed" in line]
-    done = int(done[0].split(":")[1].split("/")[0]) if done else 0
     time.sleep(0.5)
-    if not start("recovery"):
+    if not server.start("recovery"):
         return
-    query("nothing committed is lost", f"SELECT count(*) >= {done} AND {done} > 0 FROM pgbench_history", "t")
-    for table in ("accounts", "branches", "tellers"):
-        query(f"sum of {table}", f"SELECT (SELECT sum({table[0]}balance) FROM pgbench_{table}) = "
-              "(SELECT coalesce(sum(delta), 0) FROM pgbench_history)", "t")
-    query("vacuum", "VACUUM FULL pgbench_accounts", "VACUUM")
-    as_nobody("stop", "pg_ctl -w -D data -m fast stop > stopped")
-    as_nobody("checksums", "pg_checksums --check -D data > checked")
+    server.committed()
+    server.sums()
+    server.query("vacuum", "VACUUM FULL pgbench_accounts", "VACUUM")
+    server.stop()
+    server.checksums()
+
+
+# Locks.
+
+def locks_py(run, *words):
+    """Each step of tests/further/locks.py, by one path of a file or by two."""
+    prefix = "locks.py" if len(words) == 1 else "two: locks.py"
+    words[0].touch()
+    _, text = run.call([sys.executable, "-B", HERE.parent / "further/locks.py", "--cases", *words], 100, said="always")
+    for line in text.splitlines():
+        if "\t" in line:
+            name, came = line.split("\t")
+            run.case(f"{prefix} {name}", came.split(":")[0])
+
+
+def ping_pong(run, name, words, one, other):
+    """Two processes that hand a lock of fcntl(2) on to each other, by two paths of a file, until they are told to end."""
+    one.touch()
+    line = "timeout -s INT {} {} {} '{}' 3"
+    texts = []
+    with ThreadPoolExecutor(2) as pool:
+        for status, text in pool.map(lambda path: run.call(line.format(4, run.there / "ping_pong", words, path), 20,
+                                                           said="always"), (one, other)):
+            rates = [int(word) for word in text.replace("\r", " ").split() if word.isdigit()]
+            texts.append(text if status == 124 and any(rate > 100 for rate in rates) and "failed" not in text else "")
+    ok = all(texts) and ("w" not in words or all("increment = 2" in text for text in texts))
+    run.case(name, "ok" if ok else "failed")
+
+
+def perl(run, module, libraries):
+    words = [f"-I{folder}" for folder in libraries]
+
+    def check(test):
+        with open(test, encoding="utf-8") as lines:
+            tainted = ["-T"] if " -T" in lines.readline() else []
+        return run.call(["perl", *tainted, *words, test], 100)[0]
+
+    tests = sorted((run.there / module / "t").glob("*.t"))
+    with ThreadPoolExecutor(4) as pool:
+        for test, status in zip(tests, pool.map(check, tests)):
+            run.case(f"{module} {test.name}", "ok" if status == 0 else "failed")
+
+
+LOCKING = "flock lease locka lockf lockofd lockmix fd-race".split()
+
+
+def locks(run):
+    locks_py(run, run.folder / "file")
+    ping_pong(run, "ping_pong", "-c", run.folder / "ping", run.folder / "ping")
+    ping_pong(run, "ping_pong, data", "-rw", run.folder / "pong", run.folder / "pong")
+    found = stressors(run)
+    stress(run, [name for name in LOCKING if name in found], 4, 1 if run.quick else 4)
+    perl(run, "File-FcntlLock", (run.there / "root/usr/lib/x86_64-linux-gnu/perl5").glob("*"))
+    perl(run, "File-NFSLock", [run.there / "File-NFSLock/lib"])
+    cpython(run, ["test_fcntl", "test_mailbox"], ["test_fcntl*", "*lock*"])
+
+
+TRANSFER = """BEGIN IMMEDIATE; UPDATE n SET i=i+1; INSERT INTO a SELECT i, hex(randomblob(200)) FROM n;
+DELETE FROM a WHERE i%7=0; COMMIT;"""
+
+
+def two_sqlite(run, name, mode, one, other):
+    """Two processes, each by its own path of a database, write in turns as its locks let them."""
+    count = 20 if run.quick else 100
+    run.call(["sqlite3", one, f"PRAGMA journal_mode={mode}; CREATE TABLE n(i); INSERT INTO n VALUES(0); "
+              "CREATE TABLE a(i, t); CREATE INDEX b ON a(t);"])
+    line = "for i in $(seq {}); do echo '{}'; done | sqlite3 -bail -cmd '.timeout 30000' '{}'"
+    with ThreadPoolExecutor(4) as pool:
+        came = list(pool.map(lambda path: run.call(line.format(count, TRANSFER, path), 100)[0], (one, other) * 2))
+    run.case(f"{name}, written", "ok" if not any(came) else "failed")
+    for path, which in ((one, "one"), (other, "the other")):
+        run.step(f"{name}, by {which}", f"sqlite3 '{path}' 'SELECT i, (SELECT count(*) FROM a) FROM n; "
+                 "PRAGMA integrity_check;'", f"{4 * count}|{4 * count - 4 * count // 7}\nok")
+
+
+def two_exclusive(run, one, other):
+    """A write-ahead log without memory that is shared: who has the database locks out the other."""
+    run.call(["sqlite3", one, "PRAGMA locking_mode=EXCLUSIVE; PRAGMA journal_mode=WAL; CREATE TABLE a(i);"])
+    alone = "PRAGMA locking_mode=EXCLUSIVE; INSERT INTO a VALUES({});"
+    with subprocess.Popen(["sqlite3", one], stdin=subprocess.PIPE, stdout=subprocess.PIPE, cwd=run.folder, env=run.env,
+                          text=True) as holder:
+        holder.stdin.write(alone.format(1) + "\nSELECT 'has it';\n")
+        holder.stdin.flush()
+        while holder.stdout.readline().strip() not in ("has it", ""):
+            pass
+        status, text = run.call(["sqlite3", other, alone.format(2)], said="always")
+        run.case("wal, exclusive: the other is locked out", "ok" if status and "locked" in text else "failed")
+        holder.stdin.close()
+        holder.wait(60)
+    run.step("wal, exclusive: then it writes", f"sqlite3 '{other}' '{alone.format(3)} SELECT count(*) FROM a; "
+             "PRAGMA integrity_check;'", "exclusive\n2\nok")
+
+
+def two_postgres(run):
+    """A server by one path; a second one by the other is refused while it runs, and serves the same after it."""
+    server, second = Postgres(run), run.second / "postgres"
+    server.init()
+    if not server.start("start"):
+        return
+    server.fill(1)
+    with server.load(3 if run.quick else 6) as load:
+        status, _ = run.call(" ".join([*NOBODY, server.starting(f"{server.sockets} -p 5433", "second")]), 90, said=False,
+                             **server.client | {"cwd": second})
+        text = (second / "second").read_text()
+        run.case("a second server is refused", "ok" if status and 'lock file "postmaster.pid"' in text else "failed")
+        load.wait(60)
+    server.committed()
+    server.stop()
+    if not server.start("start by the other", second):
+        return
+    server.committed()
+    server.sums()
+    server.stop(second)
+    server.checksums()
+
+
+def two_mounts(run):
+    locks_py(run, run.folder / "file", run.second / "file")
+    ping_pong(run, "ping_pong", "-c", run.folder / "ping", run.second / "ping")
+    ping_pong(run, "ping_pong, data", "-rw", run.folder / "pong", run.second / "pong")
+    for mode in ("delete", "truncate", "persist", "wal"):
+        two_sqlite(run, mode, mode, run.folder / f"{mode}.db", run.second / f"{mode}.db")
+    two_exclusive(run, run.folder / "alone.db", run.second / "alone.db")
+    two_postgres(run)
 
 
 def git(run):
@@ -471,73 +647,76 @@ class Column:
         # (as long as the others, since a test may count on how long paths are)
         self.home = Path(work) / f"column{number}"
         self.word = "".join(letter if letter.isalnum() else "_" for letter in self.name)
-        self.server = None
+        self.servers, self.mounts = [], []
 
     def start(self, suite):
-        """The folder for a suite, with a server of its own if it is mounted here."""
+        """The folder for a suite, and by its second mount, with servers of its own if it is mounted here."""
         if self.how == "folder":
             folder = Path(self.words[0]) / f"nizwarf-{suite}-{os.getpid()}"
             folder.mkdir()
-            return folder
+            return folder, folder
         self.home.mkdir(exist_ok=True)
-        at = self.home / suite
-        at.mkdir()
-        for name in ("folder", "mount"):
-            (at / name).mkdir()
-            (at / name).chmod(0o755)
-        self.at = at
+        self.at = self.home / suite
+        self.at.mkdir()
+        self.servers, self.mounts = [], [self.at / "mount"]
+        if self.how == "mount" and suite in TWO:
+            self.mounts.append(self.at / "other")
+        for folder in (self.at / "folder", *self.mounts):
+            folder.mkdir()
+            folder.chmod(0o755)
         if self.how == "tmpfs":
-            subprocess.run(["mount", "-t", "tmpfs", "-o", "mode=755", "none", at / "mount"], check=True)
+            subprocess.run(["mount", "-t", "tmpfs", "-o", "mode=755", "none", self.mounts[0]], check=True)
         elif self.how == "mount":
-            words = [word.replace("FOLDER", f"{at}/folder").replace("MOUNT", f"{at}/mount") for word in self.words]
-            # (a descriptor for each of its files may be more than there can be)
-            if suite == "names" and self.kind.startswith("fuse.nizwarf-share"):
-                words.insert(1, "--inode-file-handles=prefer")
-            self.log = open(at / "said", "wb")
-            self.server = subprocess.Popen([*ENDS_WITH_THIS, *words], stdin=subprocess.DEVNULL, stdout=self.log,
-                                           stderr=self.log, start_new_session=True)
-            until = time.monotonic() + 30
-            while not os.path.ismount(at / "mount"):
-                if self.server.poll() is not None or time.monotonic() > until:
-                    raise RuntimeError(f"{self.name} was not mounted: {(at / 'said').read_text()}")
-                time.sleep(0.02)
-        folder = at / "mount" / "suite"
-        folder.mkdir()
-        return folder
+            for mount in self.mounts:
+                self.serve(suite, mount)
+        (self.mounts[0] / "suite").mkdir()
+        return self.mounts[0] / "suite", self.mounts[-1] / "suite"
+
+    def serve(self, suite, mount):
+        words = [word.replace("FOLDER", f"{self.at}/folder").replace("MOUNT", str(mount)) for word in self.words]
+        if self.kind.startswith("fuse.nizwarf-share"):
+            words[1:1] = OF_SHARE.get(suite, [])
+        with open(self.at / "said", "ab") as log:
+            server = subprocess.Popen([*ENDS_WITH_THIS, *words], stdin=subprocess.DEVNULL, stdout=log, stderr=log,
+                                      start_new_session=True)
+        self.servers.append(server)
+        until = time.monotonic() + 30
+        while not os.path.ismount(mount):
+            if server.poll() is not None or time.monotonic() > until:
+                raise RuntimeError(f"{self.name} was not mounted: {(self.at / 'said').read_text()}")
+            time.sleep(0.02)
 
     def end(self, suite, folder, ended):
-        """Takes away what was made, and says what is wrong with the server, if anything is."""
+        """Takes away what was made, and says what is wrong with a server, if anything is."""
         if self.how == "folder":
             if ended:
                 subprocess.run(["rm", "-rf", folder], stderr=subprocess.DEVNULL)
             return ""
         wrong = ""
-        mount = self.at / "mount"
-        if self.server and ended:
-            if self.server.poll() is None:
-                # (what was removed goes before the mount does)
-                wrong = self.left(folder)
-            else:
-                wrong = f"ended meanwhile, with {self.server.returncode}"
-        subprocess.run(["umount", mount], stderr=subprocess.DEVNULL)
-        if os.path.ismount(mount):
-            subprocess.run(["umount", "-l", mount], stderr=subprocess.DEVNULL)
-        if self.server:
+        if self.servers and ended:
+            gone = [server.returncode for server in self.servers if server.poll() is not None]
+            # (what was removed goes before the mount does)
+            wrong = f"ended meanwhile, with {gone[0]}" if gone else self.left(folder)
+        for mount in self.mounts:
+            subprocess.run(["umount", mount], stderr=subprocess.DEVNULL)
+            if os.path.ismount(mount):
+                subprocess.run(["umount", "-l", mount], stderr=subprocess.DEVNULL)
+        for server in self.servers:
             try:
-                status = self.server.wait(60)
+                status = server.wait(60)
                 if status and ended and not wrong:
                     wrong = f"ended with {status}"
             except subprocess.TimeoutExpired:
-                self.server.kill()
-                self.server.wait()
+                server.kill()
+                server.wait()
                 wrong = wrong or "did not end after it was unmounted"
-            self.log.close()
+        if self.servers:
             text = (self.at / "said").read_text(errors="replace")
             if "Sanitizer" in text or "runtime error" in text:
                 wrong = "a sanitizer found something"
             if text and self.is_judged:
                 print(f"{self.name}, {suite}, said:\n{text[-2000:]}", file=sys.stderr)
-        self.server = None
+        self.servers = []
         subprocess.run(["rm", "-rf", "--one-file-system", self.at])
         return wrong
 
@@ -549,31 +728,35 @@ class Column:
         return f"{folder.name} could not be removed" if folder.exists() else ""
 
     def give_up(self):
-        """Ends a server on which something hangs, and its connection to the kernel, so that nothing does."""
-        if not self.server:
+        """Ends servers on which something hangs, and their connections to the kernel, so that nothing does."""
+        if not self.servers:
             return
         with open("/proc/self/mountinfo", encoding="utf-8") as mounts:
             for line in mounts:
                 words = line.split()
-                if words[4] == str(self.at / "mount"):
+                if words[4] in map(str, self.mounts):
                     file = Path("/sys/fs/fuse/connections") / words[2].split(":")[1] / "abort"
                     if file.exists():
                         file.write_text("1")
-        self.server.kill()
+        for server in self.servers:
+            server.kill()
 
 
 def run_one(column, suite, options):
     """What each case came to, and a case for the server if that is wrong."""
+    if not column.is_judged and suite in LOCKS:
+        return {"the suite": "left out"}, 0
     limit = SECONDS[suite] // (4 if options.quick else 1)
     began = time.monotonic()
     try:
-        folder = column.start(suite)
+        folder, second = column.start(suite)
     except (OSError, RuntimeError) as error:
         return {"the mount": f"failed: {error}"}, 0
     logs = Path(options.logs)
     came, log = logs / f"{suite}.{column.word}.cases", logs / f"{suite}.{column.word}.log"
     words = [*ENDS_WITH_THIS, "unshare", "--mount", "--propagation=slave", "--pid", "--fork", "--kill-child=KILL",
-             "--mount-proc", sys.executable, "-B", __file__, "--one", suite, str(folder), "--there", options.there]
+             "--mount-proc", sys.executable, "-B", __file__, "--one", suite, str(folder), str(second), "--there",
+             options.there]
     if options.quick:
         words.append("--quick")
     ended = True
@@ -671,7 +854,7 @@ def main():
     options = argparse.ArgumentParser()
     for word in ("--there", "--columns", "--work", "--logs", "--suites", "--reasons"):
         options.add_argument(word)
-    options.add_argument("--one", nargs=2)
+    options.add_argument("--one", nargs=3)
     options.add_argument("--quick", action="store_true")
     options.add_argument("--list", action="store_true")
     options.add_argument("--sample", action="store_true")
@@ -685,8 +868,8 @@ def main():
         if child := os.fork():
             return reap(child)
         os.umask(0o022)
-        suite, folder = options.one
-        globals()[suite.replace("-", "_")](Run(folder, options.there, options.quick))
+        suite, folder, second = options.one
+        globals()[suite.replace("-", "_")](Run(folder, second, options.there, options.quick))
         return 0
     there = Path(options.there)
     if not (there / "trusted").exists() or not (there / "sample/made").exists():
