@@ -1,0 +1,73 @@
+#!/usr/bin/env python3
+"""Makes fuse_lowlevel.c over the door: of a package's own file, without what is replaced, and the files beside this one.
+
+Usage: bindings/libfuse/make.py FUSE_LOWLEVEL_C
+It writes that to the standard output, and to the standard error how many lines were left out. Status 1: the file is of
+a version whose functions have other names, so that what is to be replaced isn't there.
+"""
+import re
+import sys
+
+# Functions of which each must be there: those on which the door stands.
+REPLACED = """send_reply_iov send_notify_iov fuse_reply_data fuse_lowlevel_notify_store do_lookup do_forget do_read do_write_buf
+do_setattr do_interrupt do_notify_reply opname""".split()
+# What only those call, and others of the same kind: every function that decodes a request, but an INIT's and a DESTROY's.
+CALLED = r"(?:_?do_(?!init\b|destroy\b|fuse_)\w+|copy_file_range_common|convert_attr|fuse_req_opcode_sanity_ok|fuse_session_in2req" \
+         r"|fuse_req_check_allow_root|fuse_session_process_uring_cqe)"
+# What a version has: a word for the preprocessor, and where that shows.
+HAS = {
+    "HAVE_SEND_REQ": r"int fuse_send_msg\([^;{]*fuse_req_t req\)",
+    "HAVE_WANT_EXT": r"conn\.want_ext",
+    "HAVE_KILL_SUIDGID": r"kill_suidgid",
+    "HAVE_TMPFILE": r"op\.tmpfile",
+    "HAVE_STATX_OP": r"op\.statx",
+    "HAVE_COPY_64": r"is_copy_file_range_64",
+    "HAVE_NO_INTERRUPT": r"conn\.no_interrupt",
+}
+PROCESS = r"fuse_session_process_buf_int(?:ernal)?"
+
+
+def definition(name):
+    """A pattern for the definition of a function, with what follows it up to its last brace."""
+    return rf"^(?:static\b[^;{{}}=#]*?|int |void |[a-z_]+ )\b{name}\([^;{{}}]*\)\n\{{.*?^\}}\n"
+
+
+def drop(source, pattern, needed):
+    """The source without what the pattern finds, and how many lines that were."""
+    left, count = re.subn(pattern, "", source, flags=re.S | re.M)
+    if needed and not count:
+        sys.exit(f"fuse_lowlevel.c has nothing like {needed}: it is of a version that isn't known here.")
+    return left
+
+
+def main():
+    if len(sys.argv) != 2 or sys.argv[1] in ("-h", "--help"):
+        print(__doc__.strip())
+        sys.exit(0 if len(sys.argv) == 2 else 2)
+    with open(sys.argv[1], encoding="utf-8") as file:
+        source = file.read()
+    words = [word for word, sign in HAS.items() if re.search(sign, source, re.S)]
+    process = re.search(rf"^void ({PROCESS})\(", source, re.M)
+    kept = source
+    for name in REPLACED:
+        kept = drop(kept, definition(name), name)
+    kept = drop(kept, definition(PROCESS), "fuse_session_process_buf_int")
+    kept = drop(kept, definition(CALLED), "do_getattr")
+    kept = drop(kept, r"^static struct \{\n\tvoid \(\*func\).*?^\} fuse_ll_ops2?\[\][^\n]*\n.*?^\};\n", "fuse_ll_ops")
+    for name, with_door in (("fuse_session", "door_session"), ("fuse_req", "door_req")):
+        kept, count = re.subn(rf"calloc\(1, sizeof\(struct {name}\)\)", f"calloc(1, sizeof(struct {with_door}))", kept)
+        if count != 1:
+            sys.exit(f"fuse_lowlevel.c doesn't allocate its struct {name} as is known here.")
+    kept, count = re.subn(r'(#include "mount_util\.h"\n)', r'\1#include "door.h"\n', kept)
+    if count != 1:
+        sys.exit("fuse_lowlevel.c doesn't include what is known here.")
+    print("\n".join(f"#define {word} 1" for word in words))
+    print(f"#define PROCESS_BUF {process.group(1)}")
+    print(kept)
+    for part in ("replies.h", "notices.h", "requests.h"):
+        print(f'#include "{part}"')
+    lines = source.count("\n")
+    print(f"{lines - kept.count(chr(10))} of {lines} lines of libfuse's fuse_lowlevel.c are left out.", file=sys.stderr)
+
+
+main()

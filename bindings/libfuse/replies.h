@@ -1,0 +1,494 @@
+/* Replies. libfuse's fuse_reply_* lay the record of an answer out in memory, as fuse.h has it, and hand it to
+ * send_reply_iov. Here the door is told what it says, and the reply is what the door puts. So what a file system
+ * answers is held against the call that it was asked: a record of another kind, a number that is no error, a text
+ * that is too long come to the caller as an error, where the kernel would refuse the reply, and the caller wait. */
+
+/* Memory of a thread: a slot, and a room for a reply that has no data. */
+struct door_thread {
+	nizwarf_slot slot;
+	uint8_t *room;
+	size_t size;
+};
+
+enum {
+	/* The largest payload before an INIT. */
+	FIRST_BUFFER = 1 << 20,
+	/* The longest text of a link that Linux takes. */
+	LONGEST_LINK = 4095,
+	HEADER = sizeof(struct fuse_out_header),
+	/* Of a reply without a text: the longest is CREATE's. */
+	SMALL_ROOM = HEADER + sizeof(struct fuse_entry_out) + sizeof(struct fuse_open_out),
+};
+
+static pthread_key_t door_key;
+static __thread __attribute__((tls_model("initial-exec"))) struct door_thread *door_mine;
+
+static void end_thread(void *at)
+{
+	struct door_thread *t = at;
+
+	nizwarf_end_slot(&t->slot);
+	free(t->room);
+	free(t);
+	door_mine = NULL;
+}
+
+static __attribute__((constructor)) void begin_door(void)
+{
+	pthread_key_create(&door_key, end_thread);
+}
+
+static __attribute__((destructor)) void end_door(void)
+{
+	pthread_key_delete(door_key);
+}
+
+/* This thread's memory, with a room of so many bytes at least. NULL: there is none. */
+static struct door_thread *door_thread(size_t size)
+{
+	struct door_thread *t = door_mine;
+	uint8_t *room;
+
+	if (!t) {
+		t = calloc(1, sizeof(*t));
+		if (!t || pthread_setspecific(door_key, t)) {
+			free(t);
+			return NULL;
+		}
+		door_mine = t;
+	}
+	if (t->size < size) {
+		room = realloc(t->room, size);
+		if (!room)
+			return NULL;
+		t->room = room;
+		t->size = size;
+	}
+	return t;
+}
+
+/* The session as it is now: an INIT may be answered meanwhile, if the client isn't a kernel. */
+static nizwarf_session session_of(struct fuse_session *se)
+{
+	struct door_session *door = door_of(se);
+	const uint32_t agreed = __atomic_load_n(&door->max_buffer, __ATOMIC_RELAXED);
+	const nizwarf_session session = {
+		.options = __atomic_load_n(&door->options, __ATOMIC_RELAXED),
+		.page_size = (uint32_t)pagesize,
+		.max_buffer = agreed ? agreed : FIRST_BUFFER,
+	};
+
+	return session;
+}
+
+/* Copies pieces together, if they are as long as that in all. */
+static int gather(void *to, size_t size, const struct iovec *iov, int count)
+{
+	size_t at = 0;
+	int i;
+
+	if (iov_length(iov, count) != size)
+		return 0;
+	for (i = 0; i < count; i++) {
+		if (iov[i].iov_len)
+			memcpy((char *)to + at, iov[i].iov_base, iov[i].iov_len);
+		at += iov[i].iov_len;
+	}
+	return 1;
+}
+
+/* ---- The answers, by their kinds: each tells whether the record is one of that kind --------------- */
+
+/* An INIT's: what libfuse and the file system agreed on, of what the client offers. */
+struct door_init {
+	uint32_t major, minor, max_readahead, flags;
+	uint16_t max_background, congestion_threshold;
+	uint32_t max_write, time_gran;
+	uint16_t max_pages, map_alignment;
+	uint32_t flags2, max_stack_depth;
+	uint16_t request_timeout, unused[11];
+};
+
+enum {
+	/* What Linux has where a server says 0, which the door can't say. */
+	KERNEL_BACKGROUND = 12,
+	KERNEL_CONGESTION = 9,
+	/* The largest payload of a READ where MAX_PAGES isn't agreed on. */
+	LEAST_BUFFER = FUSE_DEFAULT_MAX_PAGES_PER_REQ * 4096,
+	MOST_BUFFER = 134217728,
+};
+
+static int tell_init(fuse_req_t req, nizwarf_answer *answer, nizwarf_init_more *more, const struct iovec *iov,
+		     int count)
+{
+	struct door_init said;
+	uint64_t buffer, flags;
+
+	if (!gather(&said, sizeof(said), iov, count))
+		return 0;
+	flags = said.flags | (uint64_t)said.flags2 << 32;
+	memset(more, 0, sizeof(*more));
+	more->want = flags;
+	/* (less than a page is none) */
+	more->max_readahead = said.max_readahead ? said.max_readahead : 1;
+	more->max_write = said.max_write;
+	more->max_background = said.max_background ? said.max_background : KERNEL_BACKGROUND;
+	more->congestion_threshold =
+		said.congestion_threshold ? said.congestion_threshold : KERNEL_CONGESTION;
+	more->time_gran = said.time_gran;
+	more->max_stack_depth = said.max_stack_depth;
+	more->request_timeout = said.request_timeout;
+	buffer = ((uint64_t)said.max_write + pagesize - 1) / pagesize * pagesize;
+	if (buffer < LEAST_BUFFER)
+		buffer = LEAST_BUFFER;
+	if (buffer > MOST_BUFFER)
+		buffer = MOST_BUFFER;
+	__atomic_store_n(&door_of(req->se)->max_buffer, (uint32_t)buffer, __ATOMIC_RELAXED);
+	nizwarf_init_keep(call_of(req), flags);
+	nizwarf_answer_options(answer, flags);
+	answer->text = (const uint8_t *)more;
+	answer->text_len = sizeof(*more);
+	return 1;
+}
+
+static int tell_entry(nizwarf_answer *answer, const struct iovec *iov, int count)
+{
+	_Static_assert(sizeof(answer->entry) == sizeof(struct fuse_entry_out), "an entry as fuse.h has it");
+	return gather(&answer->entry, sizeof(answer->entry), iov, count);
+}
+
+static int tell_attr(nizwarf_answer *answer, const struct iovec *iov, int count)
+{
+	struct fuse_attr_out attr;
+
+	if (!gather(&attr, sizeof(attr), iov, count))
+		return 0;
+	answer->entry.attr_seconds = attr.attr_valid;
+	answer->entry.attr_nanoseconds = attr.attr_valid_nsec;
+	memcpy(&answer->entry.attr, &attr.attr, sizeof(answer->entry.attr));
+	return 1;
+}
+
+static void tell_handle(nizwarf_answer *answer, const struct fuse_open_out *open)
+{
+	int32_t backing;
+
+	/* (of libfuse 3.14 that is padding, which it sets to 0) */
+	memcpy(&backing, (const char *)open + 12, sizeof(backing));
+	answer->has_handle = 1;
+	answer->handle = open->fh;
+	answer->open_flags = open->open_flags;
+	nizwarf_answer_backing(answer, backing > 0 ? (uint32_t)backing : 0);
+}
+
+static int tell_opened(nizwarf_answer *answer, const struct iovec *iov, int count)
+{
+	struct fuse_open_out open;
+
+	if (!gather(&open, sizeof(open), iov, count))
+		return 0;
+	tell_handle(answer, &open);
+	return 1;
+}
+
+static int tell_created(nizwarf_answer *answer, const struct iovec *iov, int count)
+{
+	struct {
+		nizwarf_entry entry;
+		struct fuse_open_out open;
+	} created;
+
+	if (!gather(&created, sizeof(created), iov, count))
+		return 0;
+	answer->entry = created.entry;
+	tell_handle(answer, &created.open);
+	return 1;
+}
+
+static int tell_statistics(nizwarf_answer *answer, const struct iovec *iov, int count)
+{
+	struct fuse_statfs_out out;
+
+	if (!gather(&out, sizeof(out), iov, count))
+		return 0;
+	answer->statfs.bsize = out.st.bsize;
+	answer->statfs.frsize = out.st.frsize;
+	answer->statfs.blocks = out.st.blocks;
+	answer->statfs.bfree = out.st.bfree;
+	answer->statfs.bavail = out.st.bavail;
+	answer->statfs.files = out.st.files;
+	answer->statfs.ffree = out.st.ffree;
+	answer->statfs.namemax = out.st.namelen;
+	return 1;
+}
+
+/* Numbers, of 32 bits with padding after them: of a WRITE, a POLL, or of the length of an attribute. */
+static int tell_number(nizwarf_answer *answer, const struct iovec *iov, int count)
+{
+	uint32_t number[2];
+
+	if (!gather(number, sizeof(number), iov, count))
+		return 0;
+	answer->count = number[0];
+	return 1;
+}
+
+/* Bytes, which are put together in the thread's room: a reply may overlap its text. */
+static int tell_text(const nizwarf_call *call, nizwarf_answer *answer, const struct iovec *iov, int count)
+{
+	const size_t len = iov_length(iov, count);
+	/* (as large as the reply's: a larger one is elsewhere) */
+	struct door_thread *t = door_thread(SMALL_ROOM + len);
+	nizwarf_ioctl record;
+
+	if (!t) {
+		answer->error = ENOMEM;
+		return 1;
+	}
+	gather(t->room, len, iov, count);
+	answer->text = t->room;
+	answer->text_len = len;
+	if (call->call == NIZWARF_READLINK)
+		return len <= LONGEST_LINK;
+	if (call->call == NIZWARF_IOCTL && len >= sizeof(record)) {
+		memcpy(&record, t->room, sizeof(record));
+		return record.flags & FUSE_IOCTL_RETRY || len - sizeof(record) <= call->size;
+	}
+	if (call->answer == NIZWARF_TEXT_OR_COUNT && len > call->size)
+		answer->error = ERANGE;
+	return 1;
+}
+
+static int tell_attribute(const nizwarf_call *call, nizwarf_answer *answer, const struct iovec *iov,
+			  int count)
+{
+	if (call->size)
+		return tell_text(call, answer, iov, count);
+	answer->has_count = 1;
+	return tell_number(answer, iov, count);
+}
+
+static int tell(fuse_req_t req, nizwarf_answer *answer, nizwarf_init_more *more, const struct iovec *iov,
+		int count)
+{
+	const nizwarf_call *call = call_of(req);
+
+	switch (call->answer) {
+	case NIZWARF_DONE:
+		return !iov_length(iov, count);
+	case NIZWARF_WANT:
+		return tell_init(req, answer, more, iov, count);
+	case NIZWARF_ENTRY:
+		return tell_entry(answer, iov, count);
+	case NIZWARF_ATTR:
+		return tell_attr(answer, iov, count);
+	case NIZWARF_OPENED:
+		return tell_opened(answer, iov, count);
+	case NIZWARF_CREATED:
+		return tell_created(answer, iov, count);
+	case NIZWARF_STATISTICS:
+		return tell_statistics(answer, iov, count);
+	case NIZWARF_TEXT:
+		return tell_text(call, answer, iov, count);
+	case NIZWARF_TEXT_OR_COUNT:
+		return tell_attribute(call, answer, iov, count);
+	case NIZWARF_OFFSET:
+		return gather(&answer->count, sizeof(answer->count), iov, count);
+	case NIZWARF_WRITTEN:
+		return tell_number(answer, iov, count);
+	default:
+		return 0;
+	}
+}
+
+/* ---- To reply --------------------------------------------------------------------------------------- */
+
+/* A header alone, of what the door has no reply for: a request that it refused, a DESTROY, and where it has no
+ * memory. */
+static int send_header(fuse_req_t req, int error)
+{
+	struct iovec iov[1];
+	int res = fuse_send_reply_iov_nofree(req, error, iov, 1);
+
+	fuse_free_req(req);
+	return res;
+}
+
+/* Sends what the door put, with data after it: `iov` has a place for that in front. */
+static int send_put(fuse_req_t req, uint8_t *put, size_t len, struct iovec *iov, int count)
+{
+	int res;
+
+	iov[0].iov_base = put;
+	iov[0].iov_len = len;
+	res = fuse_send_msg(req->se, req->ch, iov, count SEND_OF(req));
+	fuse_free_req(req);
+	return res;
+}
+
+/* Answers a call by an answer that has no data. */
+static int send_answer(fuse_req_t req, const nizwarf_answer *answer)
+{
+	const nizwarf_session session = session_of(req->se);
+	const size_t size = SMALL_ROOM + (answer->error ? 0 : answer->text_len);
+	struct door_thread *t = door_thread(size);
+	nizwarf_call *call = call_of(req);
+	nizwarf_told told;
+	nizwarf_room room;
+	struct iovec iov[1];
+	int32_t code;
+
+	if (!t)
+		return send_header(req, -ENOMEM);
+	/* (it has as much room as it needs, so that a slot needs no more) */
+	call->room = size;
+	room.at = t->room;
+	room.len = size;
+	code = nizwarf_reply(&t->slot, &session, call, answer, &room, 1, &told);
+	if (code != NIZWARF_OK || !told.len) {
+		fuse_log(FUSE_LOG_ERR, "fuse: no reply to call %u: %d\n", call->call, code);
+		send_header(req, code == NIZWARF_OUT_OF_MEMORY ? -ENOMEM : -EIO);
+		/* what libfuse says where a client never gets an entry: its lookup is to be given back */
+		return told.give_back ? -ENOENT : -EIO;
+	}
+	if (call->call == NIZWARF_INIT && !answer->error)
+		__atomic_store_n(&door_of(req->se)->options, told.options, __ATOMIC_RELAXED);
+	return send_put(req, t->room, told.put, iov, 1);
+}
+
+static int send_error(fuse_req_t req, int error)
+{
+	nizwarf_answer answer = NIZWARF_NO_ANSWER;
+
+	answer.error = error;
+	return send_answer(req, &answer);
+}
+
+/* The header of a reply with `len` bytes of data, which the door doesn't see: those of a READ, or records of a
+ * directory. 0: there is no memory. A header that says an error has no data. */
+static size_t put_data_header(fuse_req_t req, uint64_t len, uint8_t *header)
+{
+	const nizwarf_session session = session_of(req->se);
+	nizwarf_answer answer = NIZWARF_NO_ANSWER;
+	struct door_thread *t = door_thread(HEADER);
+	nizwarf_call call = *call_of(req);
+	nizwarf_told told;
+
+	if (!t)
+		return 0;
+	memset(&told, 0, sizeof(told));
+	told.options = call.options;
+	/* A listing is told as bytes: libfuse has them in records already. */
+	call.call = NIZWARF_READ;
+	call.answer = NIZWARF_DATA;
+	call.length = call.size;
+	call.has = 0;
+	answer.error = 0;
+	answer.count = len;
+	if (nizwarf_answer_at(&t->slot, &session, &call, &answer, header, 0,
+			      (const nizwarf_item *)(void *)&answer, 0, &told) != NIZWARF_OK)
+		return 0;
+	nizwarf_copy_slot_at(&t->slot, 0, header, HEADER);
+	return told.len;
+}
+
+/* Whether records of a directory are whole, and what Linux takes. */
+static int are_records(const nizwarf_call *call, const char *at, size_t len)
+{
+	const size_t front = call->has & NIZWARF_PLUS ? sizeof(struct fuse_entry_out) : 0;
+	struct fuse_dirent record;
+	size_t whole;
+
+	while (len) {
+		if (len < front + FUSE_NAME_OFFSET)
+			return 0;
+		memcpy(&record, at + front, FUSE_NAME_OFFSET);
+		whole = front + FUSE_DIRENT_ALIGN(FUSE_NAME_OFFSET + (uint64_t)record.namelen);
+		if (!record.namelen || whole > len ||
+		    memchr(at + front + FUSE_NAME_OFFSET, 0, record.namelen))
+			return 0;
+		at += whole;
+		len -= whole;
+	}
+	return 1;
+}
+
+/* A reply with data, which are sent from where they are. */
+static int send_data(fuse_req_t req, struct iovec *iov, int count)
+{
+	const nizwarf_call *call = call_of(req);
+	const size_t len = iov_length(iov + 1, count - 1);
+	_Alignas(struct fuse_out_header) uint8_t header[HEADER];
+	size_t whole;
+
+	if (call->answer == NIZWARF_DIRECTORY && len &&
+	    (count != 2 || !are_records(call, iov[1].iov_base, len)))
+		return send_error(req, EIO);
+	whole = put_data_header(req, len, header);
+	if (!whole)
+		return send_header(req, -ENOMEM);
+	return send_put(req, header, HEADER, iov, whole > HEADER ? count : 1);
+}
+
+/* Each reply but those of fuse_reply_data. `iov` has a place for the header in front. */
+static int send_reply_iov(fuse_req_t req, int error, struct iovec *iov, int count)
+{
+	const nizwarf_call *call = call_of(req);
+	nizwarf_answer answer = NIZWARF_NO_ANSWER;
+	nizwarf_init_more more;
+
+	if (!call->call || call->call == NIZWARF_DESTROY)
+		return send_header(req, error);
+	if (call->answer == NIZWARF_QUIET) {
+		fuse_free_req(req);
+		return 0;
+	}
+	if (error)
+		return send_error(req, -error);
+	if (call->answer == NIZWARF_DATA || call->answer == NIZWARF_DIRECTORY)
+		return send_data(req, iov, count);
+	answer.error = 0;
+	if (!tell(req, &answer, &more, iov + 1, count - 1)) {
+		fuse_log(FUSE_LOG_ERR, "fuse: what was answered is no answer to call %u\n", call->call);
+		return send_error(req, EIO);
+	}
+	return send_answer(req, &answer);
+}
+
+/* Data by descriptors, where the call isn't a READ. */
+static int reply_flat(fuse_req_t req, struct fuse_bufvec *bufv)
+{
+	struct fuse_bufvec flat = FUSE_BUFVEC_INIT(fuse_buf_size(bufv));
+	ssize_t res;
+
+	flat.buf[0].mem = malloc(flat.buf[0].size + 1);
+	if (!flat.buf[0].mem)
+		return fuse_reply_err(req, ENOMEM);
+	res = fuse_buf_copy(&flat, bufv, 0);
+	res = res < 0 ? fuse_reply_err(req, (int)-res) : fuse_reply_buf(req, flat.buf[0].mem, (size_t)res);
+	free(flat.buf[0].mem);
+	return (int)res;
+}
+
+/* Data that may be in files or pipes go to the client without a copy. Where a file ends before them, libfuse says
+ * how many they were, in the length of the header: that is known only when the header is in the pipe. */
+int fuse_reply_data(fuse_req_t req, struct fuse_bufvec *bufv, enum fuse_buf_copy_flags flags)
+{
+	_Alignas(struct fuse_out_header) uint8_t header[HEADER];
+	struct iovec iov[2];
+	size_t whole;
+	int res;
+
+	if (call_of(req)->answer != NIZWARF_DATA || !call_of(req)->call)
+		return reply_flat(req, bufv);
+	whole = put_data_header(req, fuse_buf_size(bufv), header);
+	if (whole <= HEADER)
+		return whole ? send_put(req, header, HEADER, iov, 1) : send_header(req, -ENOMEM);
+	iov[0].iov_base = header;
+	iov[0].iov_len = HEADER;
+	res = fuse_send_data_iov(req->se, req->ch, iov, 1, bufv, flags SEND_OF(req));
+	if (res > 0)
+		return fuse_reply_err(req, res);
+	fuse_free_req(req);
+	return res;
+}

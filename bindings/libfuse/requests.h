@@ -1,0 +1,899 @@
+/* Requests. The door reads each, and tells its call; what it refuses comes to no file system. */
+
+/* All rows are offered: a call that the file system doesn't have is answered ENOSYS, as libfuse does. */
+#define DOOR_OFFERS                                                                            \
+	(NIZWARF_OFFER_LOCKS | NIZWARF_OFFER_BMAP | NIZWARF_OFFER_IOCTL | NIZWARF_OFFER_POLL | \
+	 NIZWARF_OFFER_STATX | NIZWARF_OFFER_COPY_64 | NIZWARF_OFFER_TMPFILE | NIZWARF_OFFER_NOTIFY_REPLY)
+
+enum {
+	/* The longest reply of a request that needs no file system. */
+	LONGEST_FINISHED = 80,
+	/* As much of a request as is read out of a pipe before it's known whether its data may stay there. */
+	WRITE_FRONT = sizeof(struct fuse_in_header) + sizeof(struct fuse_write_in),
+	ABSENT = 1 << 16,
+	MOST_SEGMENTS = 64,
+	BIT_KILLPRIV_V2 = 28,
+};
+
+/* A request as it came, and what of it is in memory: all of it, but for data that stay in a pipe. */
+struct door_message {
+	const struct fuse_buf *buf;
+	struct fuse_chan *ch;
+	const char *in;
+	size_t len;
+	/* Memory that is to be freed. */
+	char *own;
+};
+
+/* Stands for data that are in a pipe, of which the door asks the length alone. */
+static const char door_absent[ABSENT];
+
+#define ABSENT_OP(req) ((void)fuse_reply_err(req, ENOSYS))
+/* Calls a function of the file system, if it has that. */
+#define CALL(req, function, ...) \
+	((req)->se->op.function ? (req)->se->op.function(req, __VA_ARGS__) : ABSENT_OP(req))
+
+typedef void door_call(fuse_req_t req, const nizwarf_call *c, const struct door_message *m);
+
+static const char *bytes_at(const struct door_message *m, nizwarf_range range)
+{
+	return m->in + range.at;
+}
+
+/* A handle, with what else a call tells of it. */
+static struct fuse_file_info file_of(const nizwarf_call *c)
+{
+	struct fuse_file_info file;
+
+	memset(&file, 0, sizeof(file));
+	file.fh = c->handle;
+	return file;
+}
+
+static void kill_privileges(struct fuse_file_info *file, const nizwarf_call *c)
+{
+#ifdef HAVE_KILL_SUIDGID
+	if (c->options >> BIT_KILLPRIV_V2 & 1)
+		file->kill_suidgid = (c->has & NIZWARF_KILL_PRIV) != 0;
+#else
+	(void)file, (void)c;
+#endif
+}
+
+/* ---- Names ------------------------------------------------------------------------------------------ */
+
+static void on_lookup(fuse_req_t req, const nizwarf_call *c, const struct door_message *m)
+{
+	CALL(req, lookup, c->node, bytes_at(m, c->name));
+}
+
+static void on_mknod(fuse_req_t req, const nizwarf_call *c, const struct door_message *m)
+{
+	req->ctx.umask = c->umask;
+	CALL(req, mknod, c->node, bytes_at(m, c->name), c->mode, c->rdev);
+}
+
+static void on_mkdir(fuse_req_t req, const nizwarf_call *c, const struct door_message *m)
+{
+	req->ctx.umask = c->umask;
+	CALL(req, mkdir, c->node, bytes_at(m, c->name), c->mode);
+}
+
+static void on_unlink(fuse_req_t req, const nizwarf_call *c, const struct door_message *m)
+{
+	CALL(req, unlink, c->node, bytes_at(m, c->name));
+}
+
+static void on_rmdir(fuse_req_t req, const nizwarf_call *c, const struct door_message *m)
+{
+	CALL(req, rmdir, c->node, bytes_at(m, c->name));
+}
+
+static void on_symlink(fuse_req_t req, const nizwarf_call *c, const struct door_message *m)
+{
+	CALL(req, symlink, bytes_at(m, nizwarf_symlink_text(c)), c->node, bytes_at(m, c->name));
+}
+
+static void on_rename(fuse_req_t req, const nizwarf_call *c, const struct door_message *m)
+{
+	CALL(req, rename, c->node, bytes_at(m, c->name), c->other_node, bytes_at(m, c->other_name), c->flags);
+}
+
+static void on_link(fuse_req_t req, const nizwarf_call *c, const struct door_message *m)
+{
+	CALL(req, link, c->node, c->other_node, bytes_at(m, c->name));
+}
+
+static void on_create(fuse_req_t req, const nizwarf_call *c, const struct door_message *m)
+{
+	struct fuse_file_info file = file_of(c);
+
+	file.flags = (int)c->flags;
+	req->ctx.umask = c->umask;
+	kill_privileges(&file, c);
+	CALL(req, create, c->node, bytes_at(m, c->name), c->mode, &file);
+}
+
+#ifdef HAVE_TMPFILE
+static void on_tmpfile(fuse_req_t req, const nizwarf_call *c, const struct door_message *m)
+{
+	struct fuse_file_info file = file_of(c);
+
+	(void)m;
+	file.flags = (int)c->flags;
+	req->ctx.umask = c->umask;
+	CALL(req, tmpfile, c->node, c->mode, &file);
+}
+#endif
+
+static void on_readlink(fuse_req_t req, const nizwarf_call *c, const struct door_message *m)
+{
+	(void)m;
+	if (req->se->op.readlink)
+		req->se->op.readlink(req, c->node);
+	else
+		ABSENT_OP(req);
+}
+
+/* ---- Lookups that are given back --------------------------------------------------------------------- */
+
+static void on_forget(fuse_req_t req, const nizwarf_call *c, const struct door_message *m)
+{
+	(void)m;
+	if (req->se->op.forget)
+		req->se->op.forget(req, c->node, nizwarf_forget_lookups(c));
+	else
+		fuse_reply_none(req);
+}
+
+/* Gives one back by a request of its own, which the file system ends. */
+static int forget_one(fuse_req_t req, const struct fuse_forget_data *one)
+{
+	struct fuse_req *each = fuse_ll_alloc_req(req->se);
+
+	if (!each)
+		return 0;
+	each->unique = req->unique;
+	each->ctx = req->ctx;
+	req->se->op.forget(each, one->ino, one->nlookup);
+	return 1;
+}
+
+static void on_batch_forget(fuse_req_t req, const nizwarf_call *c, const struct door_message *m)
+{
+	const uint64_t pairs = nizwarf_batch_forget_pairs(c);
+	const char *at = bytes_at(m, c->data);
+	struct fuse_forget_data one;
+	uint64_t i;
+
+	if (req->se->op.forget_multi) {
+		req->se->op.forget_multi(req, pairs, (struct fuse_forget_data *)(void *)(uintptr_t)at);
+		return;
+	}
+	for (i = 0; req->se->op.forget && i < pairs; i++) {
+		memcpy(&one, at + i * sizeof(one), sizeof(one));
+		if (!forget_one(req, &one))
+			break;
+	}
+	fuse_reply_none(req);
+}
+
+/* ---- Attributes -------------------------------------------------------------------------------------- */
+
+static void on_getattr(fuse_req_t req, const nizwarf_call *c, const struct door_message *m)
+{
+	struct fuse_file_info file = file_of(c);
+
+	(void)m;
+	CALL(req, getattr, c->node, c->has & NIZWARF_HAS_HANDLE ? &file : NULL);
+}
+
+static void on_setattr(fuse_req_t req, const nizwarf_call *c, const struct door_message *m)
+{
+	const int fields = FUSE_SET_ATTR_MODE | FUSE_SET_ATTR_UID | FUSE_SET_ATTR_GID | FUSE_SET_ATTR_SIZE |
+			   FUSE_SET_ATTR_ATIME | FUSE_SET_ATTR_MTIME | FUSE_SET_ATTR_KILL_SUID |
+			   FUSE_SET_ATTR_KILL_SGID | FUSE_SET_ATTR_ATIME_NOW | FUSE_SET_ATTR_MTIME_NOW |
+			   FUSE_SET_ATTR_CTIME;
+	struct fuse_file_info file = file_of(c);
+	struct stat st;
+
+	(void)m;
+	memset(&st, 0, sizeof(st));
+	st.st_mode = c->attr.mode;
+	st.st_uid = c->attr.uid;
+	st.st_gid = c->attr.gid;
+	st.st_size = (off_t)c->attr.size;
+	st.st_atim.tv_sec = (time_t)c->attr.atime;
+	st.st_mtim.tv_sec = (time_t)c->attr.mtime;
+	st.st_ctim.tv_sec = (time_t)c->attr.ctime;
+	st.st_atim.tv_nsec = c->attr.atimensec;
+	st.st_mtim.tv_nsec = c->attr.mtimensec;
+	st.st_ctim.tv_nsec = c->attr.ctimensec;
+	CALL(req, setattr, c->node, &st, (int)nizwarf_setattr_fields(c) & fields,
+	     c->has & NIZWARF_HAS_HANDLE ? &file : NULL);
+}
+
+static void on_access(fuse_req_t req, const nizwarf_call *c, const struct door_message *m)
+{
+	(void)m;
+	CALL(req, access, c->node, (int)nizwarf_access_mask(c));
+}
+
+static void on_setxattr(fuse_req_t req, const nizwarf_call *c, const struct door_message *m)
+{
+	CALL(req, setxattr, c->node, bytes_at(m, c->name), bytes_at(m, c->data), c->data.len, (int)c->flags);
+}
+
+static void on_getxattr(fuse_req_t req, const nizwarf_call *c, const struct door_message *m)
+{
+	CALL(req, getxattr, c->node, bytes_at(m, c->name), c->size);
+}
+
+static void on_listxattr(fuse_req_t req, const nizwarf_call *c, const struct door_message *m)
+{
+	(void)m;
+	CALL(req, listxattr, c->node, c->size);
+}
+
+static void on_removexattr(fuse_req_t req, const nizwarf_call *c, const struct door_message *m)
+{
+	CALL(req, removexattr, c->node, bytes_at(m, c->name));
+}
+
+#ifdef HAVE_STATX_OP
+static void on_statx(fuse_req_t req, const nizwarf_call *c, const struct door_message *m)
+{
+	struct fuse_file_info file = file_of(c);
+
+	(void)m;
+	CALL(req, statx, c->node, (int)c->flags, (int)nizwarf_statx_mask(c),
+	     c->has & NIZWARF_HAS_HANDLE ? &file : NULL);
+}
+#endif
+
+static void on_statfs(fuse_req_t req, const nizwarf_call *c, const struct door_message *m)
+{
+	const struct statvfs none = { .f_namemax = 255, .f_bsize = 512 };
+
+	(void)m;
+	if (req->se->op.statfs)
+		req->se->op.statfs(req, c->node);
+	else
+		fuse_reply_statfs(req, &none);
+}
+
+/* ---- Files ------------------------------------------------------------------------------------------- */
+
+/* An OPEN or an OPENDIR: one that a file system doesn't have is done, unless it asked to be spared of it. */
+static void open_by(fuse_req_t req, const nizwarf_call *c, uint64_t spared,
+		    void (*function)(fuse_req_t, fuse_ino_t, struct fuse_file_info *))
+{
+	struct fuse_file_info file = file_of(c);
+
+	file.flags = (int)c->flags;
+	if (c->call == NIZWARF_OPEN)
+		kill_privileges(&file, c);
+	if (function)
+		function(req, c->node, &file);
+	else if (WANTED(req->se) & spared)
+		ABSENT_OP(req);
+	else
+		fuse_reply_open(req, &file);
+}
+
+static void on_open(fuse_req_t req, const nizwarf_call *c, const struct door_message *m)
+{
+	(void)m;
+	open_by(req, c, FUSE_CAP_NO_OPEN_SUPPORT, req->se->op.open);
+}
+
+static void on_opendir(fuse_req_t req, const nizwarf_call *c, const struct door_message *m)
+{
+	(void)m;
+	open_by(req, c, FUSE_CAP_NO_OPENDIR_SUPPORT, req->se->op.opendir);
+}
+
+static void on_read(fuse_req_t req, const nizwarf_call *c, const struct door_message *m)
+{
+	struct fuse_file_info file = file_of(c);
+
+	(void)m;
+	file.flags = (int)c->flags;
+	file.lock_owner = c->lock_owner;
+	CALL(req, read, c->node, c->size, (off_t)c->offset, &file);
+}
+
+/* Data that are in a pipe stay there: the file system moves them on. */
+static void write_buffers(fuse_req_t req, const nizwarf_call *c, const struct door_message *m,
+			  struct fuse_file_info *file)
+{
+	struct fuse_bufvec bufv = { .count = 1, .buf[0] = *m->buf };
+	const int in_pipe = m->len < m->buf->size;
+	struct fuse_session *se = req->se;
+
+	bufv.buf[0].size = c->size;
+	if (!in_pipe) {
+		bufv.buf[0].flags = 0;
+		bufv.buf[0].mem = (char *)(uintptr_t)bytes_at(m, c->data);
+	}
+	se->op.write_buf(req, c->node, &bufv, (off_t)c->offset, file);
+	if (in_pipe && bufv.idx < bufv.count)
+		fuse_ll_clear_pipe(se);
+}
+
+static void on_write(fuse_req_t req, const nizwarf_call *c, const struct door_message *m)
+{
+	struct fuse_file_info file = file_of(c);
+
+	file.flags = (int)c->flags;
+	file.lock_owner = c->lock_owner;
+	file.writepage = (c->has & NIZWARF_DELAYED) != 0;
+	kill_privileges(&file, c);
+	if (c->data.len < c->size) {
+		fuse_reply_err(req, EIO);
+		if (m->len < m->buf->size)
+			fuse_ll_clear_pipe(req->se);
+	} else if (req->se->op.write_buf) {
+		write_buffers(req, c, m, &file);
+	} else {
+		CALL(req, write, c->node, bytes_at(m, c->data), c->size, (off_t)c->offset, &file);
+	}
+}
+
+static void on_flush(fuse_req_t req, const nizwarf_call *c, const struct door_message *m)
+{
+	struct fuse_file_info file = file_of(c);
+
+	(void)m;
+	file.flush = 1;
+	file.lock_owner = c->lock_owner;
+	CALL(req, flush, c->node, &file);
+}
+
+/* A RELEASE or a RELEASEDIR: one that a file system doesn't have is done. */
+static void release_by(fuse_req_t req, const nizwarf_call *c,
+		       void (*function)(fuse_req_t, fuse_ino_t, struct fuse_file_info *))
+{
+	struct fuse_file_info file = file_of(c);
+
+	file.flags = (int)c->flags;
+	file.lock_owner = c->lock_owner;
+	file.flush = (c->has & NIZWARF_FLUSHES) != 0;
+	file.flock_release = (c->has & NIZWARF_FLOCK_RELEASE) != 0;
+	if (function)
+		function(req, c->node, &file);
+	else
+		fuse_reply_err(req, 0);
+}
+
+static void on_release(fuse_req_t req, const nizwarf_call *c, const struct door_message *m)
+{
+	(void)m;
+	release_by(req, c, req->se->op.release);
+}
+
+static void on_releasedir(fuse_req_t req, const nizwarf_call *c, const struct door_message *m)
+{
+	(void)m;
+	release_by(req, c, req->se->op.releasedir);
+}
+
+static void on_fsync(fuse_req_t req, const nizwarf_call *c, const struct door_message *m)
+{
+	struct fuse_file_info file = file_of(c);
+
+	(void)m;
+	CALL(req, fsync, c->node, (c->has & NIZWARF_DATASYNC) != 0, &file);
+}
+
+static void on_fsyncdir(fuse_req_t req, const nizwarf_call *c, const struct door_message *m)
+{
+	struct fuse_file_info file = file_of(c);
+
+	(void)m;
+	CALL(req, fsyncdir, c->node, (c->has & NIZWARF_DATASYNC) != 0, &file);
+}
+
+static void on_readdir(fuse_req_t req, const nizwarf_call *c, const struct door_message *m)
+{
+	struct fuse_file_info file = file_of(c);
+
+	(void)m;
+	if (c->has & NIZWARF_PLUS)
+		CALL(req, readdirplus, c->node, c->size, (off_t)c->offset, &file);
+	else
+		CALL(req, readdir, c->node, c->size, (off_t)c->offset, &file);
+}
+
+static void on_fallocate(fuse_req_t req, const nizwarf_call *c, const struct door_message *m)
+{
+	struct fuse_file_info file = file_of(c);
+
+	(void)m;
+	CALL(req, fallocate, c->node, (int)c->mode, (off_t)c->offset, (off_t)c->length, &file);
+}
+
+static void on_lseek(fuse_req_t req, const nizwarf_call *c, const struct door_message *m)
+{
+	struct fuse_file_info file = file_of(c);
+
+	(void)m;
+	CALL(req, lseek, c->node, (off_t)c->offset, (int)nizwarf_lseek_whence(c), &file);
+}
+
+static void on_copy(fuse_req_t req, const nizwarf_call *c, const struct door_message *m)
+{
+	/* the most that COPY's reply can say, in whole pages */
+	const uint64_t most = c->call == NIZWARF_COPY ? 0xfffff000 : UINT64_MAX;
+	struct fuse_file_info from = file_of(c), to = file_of(c);
+
+	(void)m;
+	to.fh = c->other_handle;
+#ifdef HAVE_COPY_64
+	req->flags.is_copy_file_range_64 = c->call == NIZWARF_COPY_64;
+#else
+	if (c->call == NIZWARF_COPY_64) {
+		ABSENT_OP(req);
+		return;
+	}
+#endif
+	CALL(req, copy_file_range, c->node, (off_t)c->offset, &from, c->other_node, (off_t)c->other_offset,
+	     &to, c->length < most ? c->length : most, (int)nizwarf_copy_flags(c));
+}
+
+/* ---- Locks, and what devices do ----------------------------------------------------------------------- */
+
+static struct flock lock_of(const nizwarf_call *c)
+{
+	const nizwarf_lock asked = nizwarf_lock_asked(c);
+	struct fuse_file_lock record = {
+		.start = asked.start, .end = asked.end, .type = asked.type, .pid = asked.pid
+	};
+	struct flock lock;
+
+	convert_fuse_file_lock(&record, &lock);
+	return lock;
+}
+
+static void on_getlk(fuse_req_t req, const nizwarf_call *c, const struct door_message *m)
+{
+	struct fuse_file_info file = file_of(c);
+	struct flock lock = lock_of(c);
+
+	(void)m;
+	file.lock_owner = c->lock_owner;
+	CALL(req, getlk, c->node, &file, &lock);
+}
+
+static void on_setlk(fuse_req_t req, const nizwarf_call *c, const struct door_message *m)
+{
+	const int waits = c->call == NIZWARF_SETLKW;
+	struct fuse_file_info file = file_of(c);
+	struct flock lock = lock_of(c);
+	int op = 0;
+
+	(void)m;
+	file.lock_owner = c->lock_owner;
+	if (!(c->has & NIZWARF_HAS_FLOCK)) {
+		CALL(req, setlk, c->node, &file, &lock, waits);
+		return;
+	}
+	if (lock.l_type == F_RDLCK)
+		op = LOCK_SH;
+	else if (lock.l_type == F_WRLCK)
+		op = LOCK_EX;
+	else if (lock.l_type == F_UNLCK)
+		op = LOCK_UN;
+	CALL(req, flock, c->node, &file, waits ? op : op | LOCK_NB);
+}
+
+static void on_bmap(fuse_req_t req, const nizwarf_call *c, const struct door_message *m)
+{
+	(void)m;
+	CALL(req, bmap, c->node, c->size, c->offset);
+}
+
+static void on_ioctl(fuse_req_t req, const nizwarf_call *c, const struct door_message *m)
+{
+	const char *in = c->data.len ? bytes_at(m, c->data) : NULL;
+	struct fuse_file_info file = file_of(c);
+
+	if (c->flags & FUSE_IOCTL_DIR && !(WANTED(req->se) & FUSE_CAP_IOCTL_DIR))
+		fuse_reply_err(req, ENOTTY);
+	else
+		CALL(req, ioctl, c->node, nizwarf_ioctl_command(c),
+		     (void *)(uintptr_t)nizwarf_ioctl_argument(c), &file, c->flags, in, c->data.len, c->size);
+}
+
+static void on_poll(fuse_req_t req, const nizwarf_call *c, const struct door_message *m)
+{
+	struct fuse_file_info file = file_of(c);
+	struct fuse_pollhandle *handle = NULL;
+
+	(void)m;
+	file.poll_events = nizwarf_poll_events(c);
+	if (req->se->op.poll && c->flags & FUSE_POLL_SCHEDULE_NOTIFY) {
+		handle = malloc(sizeof(*handle));
+		if (!handle) {
+			fuse_reply_err(req, ENOMEM);
+			return;
+		}
+		handle->kh = nizwarf_poll_number(c);
+		handle->se = req->se;
+	}
+	CALL(req, poll, c->node, &file, handle);
+}
+
+/* What a notice asked for has come. */
+static void on_notify_reply(fuse_req_t req, const nizwarf_call *c, const struct door_message *m)
+{
+	const struct fuse_in_header *in = (const void *)m->in;
+	struct fuse_session *se = req->se;
+	struct fuse_notify_req *asked;
+	struct fuse_buf buf = *m->buf;
+
+	buf.size -= sizeof(*in);
+	pthread_mutex_lock(&se->lock);
+	for (asked = se->notify_list.next; asked != &se->notify_list; asked = asked->next)
+		if (asked->unique == c->unique) {
+			list_del_nreq(asked);
+			break;
+		}
+	pthread_mutex_unlock(&se->lock);
+	if (asked != &se->notify_list) {
+		asked->reply(asked, req, c->node, in + 1, &buf);
+		return;
+	}
+	fuse_reply_none(req);
+	if (m->len < m->buf->size)
+		fuse_ll_clear_pipe(se);
+}
+
+/* ---- A session ---------------------------------------------------------------------------------------- */
+
+/* What is agreed on is libfuse's to say: its own function reads the record, which the door found whole. */
+static void on_init(fuse_req_t req, const nizwarf_call *c, const struct door_message *m)
+{
+	_Alignas(uint64_t) char record[NIZWARF_INIT_FRONT] = { 0 };
+	const size_t len = m->len - sizeof(struct fuse_in_header);
+
+	memcpy(record, m->in + sizeof(struct fuse_in_header), len < sizeof(record) ? len : sizeof(record));
+	do_init(req, c->node, record);
+}
+
+static void on_destroy(fuse_req_t req, const nizwarf_call *c, const struct door_message *m)
+{
+	__atomic_store_n(&door_of(req->se)->options, 0, __ATOMIC_RELAXED);
+	do_destroy(req, c->node, m->in + m->len);
+}
+
+static door_call *const door_calls[] = {
+	[NIZWARF_LOOKUP] = on_lookup,
+	[NIZWARF_FORGET] = on_forget,
+	[NIZWARF_GETATTR] = on_getattr,
+	[NIZWARF_SETATTR] = on_setattr,
+	[NIZWARF_READLINK] = on_readlink,
+	[NIZWARF_SYMLINK] = on_symlink,
+	[NIZWARF_MKNOD] = on_mknod,
+	[NIZWARF_MKDIR] = on_mkdir,
+	[NIZWARF_UNLINK] = on_unlink,
+	[NIZWARF_RMDIR] = on_rmdir,
+	[NIZWARF_RENAME] = on_rename,
+	[NIZWARF_LINK] = on_link,
+	[NIZWARF_OPEN] = on_open,
+	[NIZWARF_READ] = on_read,
+	[NIZWARF_WRITE] = on_write,
+	[NIZWARF_STATFS] = on_statfs,
+	[NIZWARF_RELEASE] = on_release,
+	[NIZWARF_FSYNC] = on_fsync,
+	[NIZWARF_SETXATTR] = on_setxattr,
+	[NIZWARF_GETXATTR] = on_getxattr,
+	[NIZWARF_LISTXATTR] = on_listxattr,
+	[NIZWARF_REMOVEXATTR] = on_removexattr,
+	[NIZWARF_FLUSH] = on_flush,
+	[NIZWARF_INIT] = on_init,
+	[NIZWARF_OPENDIR] = on_opendir,
+	[NIZWARF_READDIR] = on_readdir,
+	[NIZWARF_RELEASEDIR] = on_releasedir,
+	[NIZWARF_FSYNCDIR] = on_fsyncdir,
+	[NIZWARF_GETLK] = on_getlk,
+	[NIZWARF_SETLK] = on_setlk,
+	[NIZWARF_SETLKW] = on_setlk,
+	[NIZWARF_ACCESS] = on_access,
+	[NIZWARF_CREATE] = on_create,
+	[NIZWARF_BMAP] = on_bmap,
+	[NIZWARF_DESTROY] = on_destroy,
+	[NIZWARF_IOCTL] = on_ioctl,
+	[NIZWARF_POLL] = on_poll,
+	[NIZWARF_NOTIFY_REPLY] = on_notify_reply,
+	[NIZWARF_BATCH_FORGET] = on_batch_forget,
+	[NIZWARF_FALLOCATE] = on_fallocate,
+	[NIZWARF_LSEEK] = on_lseek,
+	[NIZWARF_COPY] = on_copy,
+#ifdef HAVE_TMPFILE
+	[NIZWARF_TMPFILE] = on_tmpfile,
+#endif
+#ifdef HAVE_STATX_OP
+	[NIZWARF_STATX] = on_statx,
+#endif
+	[NIZWARF_COPY_64] = on_copy,
+};
+
+/* ---- From a message to its call ------------------------------------------------------------------------ */
+
+/* Moves bytes out of the pipe that a message is in. */
+static int take_bytes(const struct door_message *m, struct fuse_bufvec *pipe, char *to, size_t len)
+{
+	struct fuse_bufvec memory = FUSE_BUFVEC_INIT(len);
+
+	(void)m;
+	memory.buf[0].mem = to;
+	return fuse_ll_copy_from_pipe(&memory, pipe) >= 0;
+}
+
+/* Whether what follows the front of a message may stay in a pipe. */
+static int may_stay(const struct fuse_session *se, const struct door_message *m)
+{
+	const struct fuse_in_header *in = (const void *)m->in;
+
+	if (m->len < sizeof(*in) || m->buf->size - m->len > (size_t)(MOST_SEGMENTS - 1) * ABSENT)
+		return 0;
+	return (in->opcode == FUSE_WRITE && se->op.write_buf) || in->opcode == FUSE_NOTIFY_REPLY;
+}
+
+/* Takes of a message into memory what the door is to read. 0: the message is lost. */
+static int take_message(struct fuse_session *se, struct door_message *m)
+{
+	struct fuse_bufvec pipe = { .count = 1, .buf[0] = *m->buf };
+	const size_t size = m->buf->size;
+	char *whole;
+
+	m->in = m->buf->mem;
+	m->len = size;
+	if (!(m->buf->flags & FUSE_BUF_IS_FD))
+		return 1;
+	m->len = size < WRITE_FRONT ? size : WRITE_FRONT;
+	m->own = malloc(WRITE_FRONT);
+	m->in = m->own;
+	if (!m->own || !take_bytes(m, &pipe, m->own, m->len))
+		return 0;
+	if (m->len == size || may_stay(se, m))
+		return 1;
+	whole = realloc(m->own, size);
+	if (!whole)
+		return 0;
+	m->own = whole;
+	m->in = whole;
+	if (!take_bytes(m, &pipe, whole + m->len, size - m->len))
+		return 0;
+	m->len = size;
+	return 1;
+}
+
+/* Asks the door for the call of a message. */
+static int32_t ask(struct door_thread *t, struct fuse_session *se, const struct door_message *m,
+		   nizwarf_call *call, nizwarf_told *told)
+{
+	const nizwarf_session session = session_of(se);
+	nizwarf_segment segments[MOST_SEGMENTS];
+	size_t left = m->buf->size - m->len, count = 1;
+	int32_t code;
+
+	memset(told, 0, sizeof(*told));
+	told->options = session.options;
+	segments[0].at = m->in;
+	segments[0].len = m->len;
+	for (; left; left -= segments[count++].len) {
+		segments[count].at = door_absent;
+		segments[count].len = left < ABSENT ? left : ABSENT;
+	}
+	code = nizwarf_ask_offered_at(&t->slot, &session, DOOR_OFFERS, segments, count,
+				      session.max_buffer + FUSE_BUFFER_HEADER_SIZE, call, told);
+	if (code == NIZWARF_ASKED && call->call == NIZWARF_INIT)
+		call->other_offset = nizwarf_init_offered_at(
+			(const uint8_t *)m->in, m->len < NIZWARF_INIT_FRONT ? m->len : NIZWARF_INIT_FRONT);
+	return code;
+}
+
+/* Ends a request that comes to no file system by an error, if a client waits for a reply. */
+static void refuse(fuse_req_t req, const struct door_message *m, int error)
+{
+	const struct fuse_in_header *in = (const void *)m->in;
+
+	call_of(req)->call = 0;
+	if (m->len < sizeof(*in) || in->opcode == FUSE_FORGET || in->opcode == FUSE_BATCH_FORGET ||
+	    in->opcode == FUSE_INTERRUPT || in->opcode == FUSE_NOTIFY_REPLY) {
+		fuse_reply_none(req);
+		return;
+	}
+	req->unique = in->unique;
+	fuse_reply_err(req, error);
+}
+
+/* Interrupts a request, or keeps that, if the request has not come yet. */
+static void interrupt(fuse_req_t req, uint64_t unique)
+{
+	struct fuse_session *se = req->se;
+
+	req->u.i.unique = unique;
+	pthread_mutex_lock(&se->lock);
+	if (find_interrupted(se, req)) {
+		fuse_chan_put(req->ch);
+		req->ch = NULL;
+		destroy_req(req);
+	} else {
+		list_add_req(req, &se->interrupts);
+	}
+	pthread_mutex_unlock(&se->lock);
+}
+
+static int has_interrupts(const struct fuse_session *se)
+{
+#ifdef HAVE_NO_INTERRUPT
+	return !se->conn.no_interrupt;
+#else
+	(void)se;
+	return 1;
+#endif
+}
+
+/* Ends a request that needs no file system. */
+static void finish(fuse_req_t req, struct door_thread *t, const struct door_message *m,
+		   const nizwarf_told *told)
+{
+	const struct fuse_in_header *in = (const void *)m->in;
+	_Alignas(struct fuse_out_header) uint8_t reply[LONGEST_FINISHED];
+	struct iovec iov[1];
+
+	call_of(req)->call = 0;
+	req->unique = m->len < sizeof(*in) ? 0 : in->unique;
+	if (told->interrupts && has_interrupts(req->se)) {
+		interrupt(req, told->interrupts);
+		return;
+	}
+	if (told->interrupts) {
+		/* (it says that there are none, and Linux sends no more) */
+		fuse_reply_err(req, ENOSYS);
+		return;
+	}
+	if (told->len) {
+		iov[0].iov_base = reply;
+		iov[0].iov_len = nizwarf_copy_slot_at(&t->slot, 0, reply,
+						      told->put < sizeof(reply) ? told->put : sizeof(reply));
+		fuse_send_msg(req->se, req->ch, iov, 1 SEND_OF(req));
+	}
+	fuse_reply_none(req);
+}
+
+/* With -o allow_root, whoever is neither the owner nor root may go on with what is open alone. */
+static int is_denied(const struct fuse_session *se, const nizwarf_call *c)
+{
+	if (!se->deny_others || c->uid == se->owner || c->uid == 0)
+		return 0;
+	switch (c->call) {
+	case NIZWARF_INIT:
+	case NIZWARF_READ:
+	case NIZWARF_WRITE:
+	case NIZWARF_FSYNC:
+	case NIZWARF_RELEASE:
+	case NIZWARF_READDIR:
+	case NIZWARF_FSYNCDIR:
+	case NIZWARF_RELEASEDIR:
+	case NIZWARF_NOTIFY_REPLY:
+		return 0;
+	default:
+		return 1;
+	}
+}
+
+/* Makes the call that a request asks for. */
+static void make_call(fuse_req_t req, const struct door_message *m)
+{
+	const size_t known = sizeof(door_calls) / sizeof(*door_calls);
+	const nizwarf_call *c = call_of(req);
+	struct fuse_session *se = req->se;
+	struct fuse_req *early = NULL;
+
+	req->unique = c->unique;
+	req->ctx.uid = c->uid;
+	req->ctx.gid = c->gid;
+	req->ctx.pid = c->pid;
+	if (has_interrupts(se)) {
+		pthread_mutex_lock(&se->lock);
+		early = check_interrupt(se, req);
+		list_add_req(req, &se->list);
+		pthread_mutex_unlock(&se->lock);
+	}
+	/* (an interrupt that has overtaken its request: Linux sends it again) */
+	if (early)
+		fuse_reply_err(early, EAGAIN);
+	if (c->call < known && door_calls[c->call])
+		door_calls[c->call](req, c, m);
+	else
+		ABSENT_OP(req);
+}
+
+static void clear_pipe(struct fuse_session *se, const struct door_message *m)
+{
+	if (m->buf->flags & FUSE_BUF_IS_FD)
+		fuse_ll_clear_pipe(se);
+}
+
+static void serve(fuse_req_t req, struct door_thread *t, const struct door_message *m)
+{
+	nizwarf_call *call = call_of(req);
+	struct fuse_session *se = req->se;
+	nizwarf_told told;
+	char line[512];
+	int32_t code;
+
+	code = ask(t, se, m, call, &told);
+	if (se->debug) {
+		nizwarf_print_request(m->in, m->len, session_of(se).options, line, sizeof(line));
+		fuse_log(FUSE_LOG_DEBUG, "%s\n", line);
+	}
+	if (code == NIZWARF_OK) {
+		finish(req, t, m, &told);
+		clear_pipe(se, m);
+	} else if (code != NIZWARF_ASKED) {
+		refuse(req, m, code == NIZWARF_OUT_OF_MEMORY ? ENOMEM : EIO);
+		clear_pipe(se, m);
+	} else if (se->got_init == (call->call == NIZWARF_INIT)) {
+		refuse(req, m, EIO);
+		clear_pipe(se, m);
+	} else if (is_denied(se, call)) {
+		refuse(req, m, EACCES);
+		clear_pipe(se, m);
+	} else {
+		make_call(req, m);
+	}
+}
+
+/* A character device begins by a request that the door doesn't know. */
+static void begin_device(fuse_req_t req, const struct door_message *m)
+{
+	const struct fuse_in_header *in = (const void *)m->in;
+
+	if (m->len < sizeof(*in) + sizeof(struct cuse_init_in) || in->opcode != CUSE_INIT) {
+		refuse(req, m, EIO);
+		clear_pipe(req->se, m);
+		return;
+	}
+	req->unique = in->unique;
+	cuse_lowlevel_init(req, in->nodeid, in + 1);
+}
+
+/* Says that there is no memory for a request. */
+static void send_no_memory(struct fuse_session *se, const struct door_message *m)
+{
+	const struct fuse_in_header *in = (const void *)m->in;
+	struct fuse_out_header out = { .error = -ENOMEM };
+	struct iovec iov[1] = { { &out, sizeof(out) } };
+
+	if (!m->in || m->len < sizeof(*in) || in->opcode == FUSE_FORGET || in->opcode == FUSE_BATCH_FORGET ||
+	    in->opcode == FUSE_INTERRUPT || in->opcode == FUSE_NOTIFY_REPLY)
+		return;
+	out.unique = in->unique;
+	fuse_send_msg(se, m->ch, iov, 1 SEND_OF(NULL));
+}
+
+void PROCESS_BUF(struct fuse_session *se, const struct fuse_buf *buf, struct fuse_chan *ch)
+{
+	struct door_message m = { .buf = buf, .ch = ch };
+	struct door_thread *t = door_thread(SMALL_ROOM);
+	struct fuse_req *req = NULL;
+
+	if (take_message(se, &m) && t)
+		req = fuse_ll_alloc_req(se);
+	if (!req) {
+		send_no_memory(se, &m);
+		clear_pipe(se, &m);
+	} else {
+		req->ch = ch ? fuse_chan_get(ch) : NULL;
+		if (se->cuse_data && !se->got_init)
+			begin_device(req, &m);
+		else
+			serve(req, t, &m);
+	}
+	free(m.own);
+}

@@ -1,0 +1,159 @@
+#!/usr/bin/env bash
+# Builds libfuse's library with the protocol layer here in place of its own: programs that link libfuse3 have it without
+# a change.
+#
+# Usage: tools/libfuse.sh [--unmodified] [--all] [--sanitize WHAT] [--suite SUITE] [FOLDER]
+#        tools/libfuse.sh --check [--suite SUITE] [FOLDER]
+# It leaves libfuse3.so.3 in the folder `lib` of FOLDER, which is out/libfuse if none is given, and prints where; by
+# LD_LIBRARY_PATH a program finds it there. It is built again if a source is newer, and never installed.
+#
+# libfuse's sources are a package of Debian, fuse3 of the machine's own suite, or of another one, as sid: apt-get
+# downloads them by lists of its own, with Debian's changes. bindings/libfuse/make.py leaves what is replaced out of
+# lib/fuse_lowlevel.c, and puts the files beside it there; lib/meson.build links the library of the door. No other
+# file changes. Known are the versions 3.14.0 and 3.18.3.
+#
+# With --unmodified it builds libfuse as it is, into FOLDER/unmodified. With --all it builds libfuse's examples and
+# tests too. With --sanitize both are built with sanitizers, as address,undefined or thread, into a folder of their own.
+#
+# With --check tests/libfuse/check.sh holds the two libraries side by side.
+#
+# It wants apt-get, a C compiler, meson, ninja, pkg-config, patch and xz, of which it names the packages, and the Rattle
+# toolchain. It links the proved library if that is built and no source is newer; otherwise tools/lib/unproved.sh builds
+# it without a proof, which takes a minute more.
+# Status 0: it was built, and with --check all came to what it must; 1: not so; 2: it could not start.
+set -euo pipefail
+. "$(dirname "$0")/lib/usage.sh"
+. "$(dirname "$0")/lib/transport.sh"
+. "$(dirname "$0")/lib/debian.sh"
+
+usage() {
+    echo "Usage: tools/libfuse.sh [--check | --unmodified] [--all] [--sanitize WHAT] [--suite SUITE] [FOLDER]" >&2
+    exit 2
+}
+
+if [ "${1:-}" = --check ]; then
+    exec "$here/tests/libfuse/check.sh" "${@:2}"
+fi
+suite=$(sed -n 's/^VERSION_CODENAME=//p' /etc/os-release)
+folder='' kind=nizwarf sanitize=none all=''
+while [ $# != 0 ]; do
+    case $1 in
+        --unmodified) kind=unmodified ;;
+        --all) all=yes ;;
+        --sanitize | --suite)
+            if ! [[ ${2:-} =~ ^[a-z,-]+$ ]]; then usage; fi
+            if [ "$1" = --suite ]; then suite=$2; else sanitize=$2; fi
+            shift
+            ;;
+        -*) usage ;;
+        *)
+            [ -z "$folder" ] || usage
+            folder=$1
+            ;;
+    esac
+    shift
+done
+for command in apt-get apt-cache patch xz; do
+    need "$command" "Install it: apt-get install patch xz-utils."
+done
+for command in cc meson ninja pkg-config; do
+    need "$command" "Install it: apt-get install gcc g++ libc6-dev meson ninja-build pkg-config."
+done
+need python3 "Install it: apt-get install python3."
+folder=$(realpath -m "${folder:-$here/out/libfuse}")
+mkdir -p "$folder"
+[ "$kind" = unmodified ] || find_library vfs_door
+
+# The sources of the package, with Debian's changes.
+fetch() {
+    local part=$folder/part change
+    rm -rf "$part"
+    mkdir -p "$part/tree"
+    use_suite "$suite" "$part/apt"
+    sed 's/^Types: deb$/Types: deb-src/' "$part/apt/sources/debian.sources" > "$part/apt/sources/source.sources"
+    apt-get "${apt[@]}" update
+    (cd "$part" && apt-get "${apt[@]}" --download-only source fuse3)
+    tar -C "$part/tree" --strip-components=1 -xf "$part"/fuse3_*.orig.tar.?z
+    tar -C "$part" -xf "$part"/fuse3_*.debian.tar.xz
+    while read -r change; do
+        patch -s -d "$part/tree" -p1 < "$part/debian/patches/$change"
+    done < <(sed '/^ *#/d; /^ *$/d' "$part/debian/patches/series" 2> /dev/null)
+    basename "$part"/fuse3_*.dsc .dsc | sed 's/^fuse3_//' > "$part/tree/debian-version"
+    mv "$part/tree" "$folder/source-$suite"
+    rm -rf "$part"
+}
+
+source=$folder/source-$suite
+if [ ! -e "$source" ]; then
+    echo "Downloading the sources of libfuse .." >&2
+    quietly "$folder/said" fetch || {
+        echo "Debian's package fuse3 of $suite can't be had by apt-get here." >&2
+        exit 2
+    }
+fi
+number=$(sed -nE "s/^project\('libfuse3'.*version: '([0-9.]+)[^']*'.*/\1/p" "$source/meson.build")
+[ -n "$number" ] || number=$(sed 's/-.*//' "$source/debian-version")
+work=$folder/$suite-$kind
+[ "$sanitize" = none ] || work=$work-${sanitize//,/-}
+lib=$folder/lib
+if [ "$suite $kind $sanitize" != "$(sed -n 's/^VERSION_CODENAME=//p' /etc/os-release) nizwarf none" ]; then
+    lib=$work/lib
+fi
+
+# Copies a file if the other is not the same, so that its time stays where nothing changed.
+renew() {
+    cmp -s "$1" "$2" || cp "$1" "$2"
+}
+
+# Puts what is here into the copy of libfuse's sources.
+replace() {
+    local file archives
+    "$here/bindings/libfuse/make.py" "$source/lib/fuse_lowlevel.c" > "$work/fuse_lowlevel.c" 2> "$work/left-out"
+    renew "$work/fuse_lowlevel.c" "$work/tree/lib/fuse_lowlevel.c"
+    for file in "$here"/bindings/libfuse/*.h "$here"/include/nizwarf.h "$here"/include/nizwarf_tree.h; do
+        renew "$file" "$work/tree/lib/${file##*/}"
+    done
+    for file in "${library[@]}"; do
+        renew "$file" "$work/tree/lib/${file##*/}"
+    done
+    archives="'$work/tree/lib/${library[0]##*/}', '$work/tree/lib/${library[1]##*/}'"
+    sed -E "s#link_args: \['-Wl,--version-script,'#link_args: [$archives, '-Wl,--version-script,'#
+        s#link_depends: 'fuse_versionscript'#link_depends: ['fuse_versionscript', '${library[0]##*/}']#" \
+        "$source/lib/meson.build" > "$work/meson.build"
+    if ! grep -q libvfs_door "$work/meson.build"; then
+        echo "libfuse's lib/meson.build links in a way that isn't known here." >&2
+        return 1
+    fi
+    renew "$work/meson.build" "$work/tree/lib/meson.build"
+}
+
+build() {
+    local options=(--prefix=/usr -Duseroot=false "-Dudevrulesdir=$work/udev" "-Db_sanitize=$sanitize" -Db_lundef=false)
+    local option known
+    known=$(cat "$source"/meson_options.txt "$source"/meson.options 2> /dev/null || true)
+    # What a version has besides: a ring of the kernel's, which the layer doesn't serve, and sessions over sockets.
+    for option in enable-io-uring=false enable-custom-io=true; do
+        [[ $known != *"'${option%=*}'"* ]] || options+=("-D$option")
+    done
+    mkdir -p "$work"
+    [ -e "$work/tree" ] || cp -R "$source" "$work/tree"
+    [ "$kind" = unmodified ] || replace
+    [ -e "$work/build/build.ninja" ] || meson setup "$work/build" "$work/tree" "${options[@]}" || return 1
+    if [ -n "$all" ]; then
+        ninja -j "${JOBS:-2}" -C "$work/build"
+    else
+        ninja -j "${JOBS:-2}" -C "$work/build" "lib/libfuse3.so.$number"
+    fi
+}
+
+echo "Building libfuse $(cat "$source/debian-version") of $suite, $kind .." >&2
+quietly "$folder/said" build || exit 1
+[ "$kind" = unmodified ] || cat "$work/left-out" >&2
+mkdir -p "$lib"
+# A program that runs stays what it is.
+for it in "$work"/build/lib/libfuse3.so.*[0-9]; do
+    name=$(readelf -d "$it" | sed -nE 's/.*SONAME.*\[(.*)\].*/\1/p')
+    cp "$it" "$lib/$name.new"
+    mv "$lib/$name.new" "$lib/$name"
+done
+echo "$lib"
