@@ -4,6 +4,7 @@
 #define DOOR_H
 
 #include <nizwarf.h>
+#include <time.h>
 
 /* A session and a request of libfuse, with what the door wants of them behind: whoever has the first has both. */
 struct door_session {

@@ -24,6 +24,7 @@ HAS = {
     "HAVE_COPY_64": r"is_copy_file_range_64",
     "HAVE_NO_INTERRUPT": r"conn\.no_interrupt",
 }
+SHORT = r'^\tif \((?:\(size_t\) ?)?res < sizeof\(struct fuse_in_header\)\) \{\n[^\n]*"short [^\n]*\n\t\treturn -EIO;\n\t\}\n'
 PROCESS = r"fuse_session_process_buf_int(?:ernal)?"
 
 
@@ -58,11 +59,16 @@ def main():
         kept, count = re.subn(rf"calloc\(1, sizeof\(struct {name}\)\)", f"calloc(1, sizeof(struct {with_door}))", kept)
         if count != 1:
             sys.exit(f"fuse_lowlevel.c doesn't allocate its struct {name} as is known here.")
+    # A message that is shorter than a header ends no session: the door refuses it.
+    kept, count = re.subn(SHORT, "", kept, flags=re.M)
+    if count != 2:
+        sys.exit("fuse_lowlevel.c doesn't receive messages as is known here.")
     kept, count = re.subn(r'(#include "mount_util\.h"\n)', r'\1#include "door.h"\n', kept)
     if count != 1:
         sys.exit("fuse_lowlevel.c doesn't include what is known here.")
     print("\n".join(f"#define {word} 1" for word in words))
     print(f"#define PROCESS_BUF {process.group(1)}")
+    print(f"#define REQ_COUNT {'ref_cnt' if 'req->ref_cnt' in source else 'ctr'}")
     print(kept)
     for part in ("replies.h", "notices.h", "requests.h"):
         print(f'#include "{part}"')

@@ -338,8 +338,10 @@ static int send_answer(fuse_req_t req, const nizwarf_answer *answer)
 	struct iovec iov[1];
 	int32_t code;
 
-	if (!t)
-		return send_header(req, -ENOMEM);
+	if (!t) {
+		send_header(req, -ENOMEM);
+		return -ENOENT;
+	}
 	/* (it has as much room as it needs, so that a slot needs no more) */
 	call->room = size;
 	room.at = t->room;
@@ -348,8 +350,8 @@ static int send_answer(fuse_req_t req, const nizwarf_answer *answer)
 	if (code != NIZWARF_OK || !told.len) {
 		fuse_log(FUSE_LOG_ERR, "fuse: no reply to call %u: %d\n", call->call, code);
 		send_header(req, code == NIZWARF_OUT_OF_MEMORY ? -ENOMEM : -EIO);
-		/* what libfuse says where a client never gets an entry: its lookup is to be given back */
-		return told.give_back ? -ENOENT : -EIO;
+		/* what libfuse says where a client never gets an entry or a handle: they are to be given back */
+		return -ENOENT;
 	}
 	if (call->call == NIZWARF_INIT && !answer->error)
 		__atomic_store_n(&door_of(req->se)->options, told.options, __ATOMIC_RELAXED);

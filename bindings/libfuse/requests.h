@@ -12,6 +12,8 @@ enum {
 	WRITE_FRONT = sizeof(struct fuse_in_header) + sizeof(struct fuse_write_in),
 	ABSENT = 1 << 16,
 	MOST_SEGMENTS = 64,
+	/* In milliseconds. */
+	MOST_WAITS = 1000,
 	BIT_KILLPRIV_V2 = 28,
 };
 
@@ -146,34 +148,29 @@ static void on_forget(fuse_req_t req, const nizwarf_call *c, const struct door_m
 		fuse_reply_none(req);
 }
 
-/* Gives one back by a request of its own, which the file system ends. */
-static int forget_one(fuse_req_t req, const struct fuse_forget_data *one)
-{
-	struct fuse_req *each = fuse_ll_alloc_req(req->se);
-
-	if (!each)
-		return 0;
-	each->unique = req->unique;
-	each->ctx = req->ctx;
-	req->se->op.forget(each, one->ino, one->nlookup);
-	return 1;
-}
-
+/* The file system ends a request with each call. So one stands for all of them: that wants no memory. */
 static void on_batch_forget(fuse_req_t req, const nizwarf_call *c, const struct door_message *m)
 {
 	const uint64_t pairs = nizwarf_batch_forget_pairs(c);
+	struct fuse_session *se = req->se;
 	const char *at = bytes_at(m, c->data);
 	struct fuse_forget_data one;
 	uint64_t i;
 
-	if (req->se->op.forget_multi) {
-		req->se->op.forget_multi(req, pairs, (struct fuse_forget_data *)(void *)(uintptr_t)at);
+	if (se->op.forget_multi) {
+		se->op.forget_multi(req, pairs, (struct fuse_forget_data *)(void *)(uintptr_t)at);
 		return;
 	}
-	for (i = 0; req->se->op.forget && i < pairs; i++) {
-		memcpy(&one, at + i * sizeof(one), sizeof(one));
-		if (!forget_one(req, &one))
-			break;
+	if (se->op.forget) {
+		pthread_mutex_lock(&se->lock);
+		list_del_req(req);
+		list_init_req(req);
+		req->REQ_COUNT += (int)pairs;
+		pthread_mutex_unlock(&se->lock);
+		for (i = 0; i < pairs; i++) {
+			memcpy(&one, at + i * sizeof(one), sizeof(one));
+			se->op.forget(req, one.ino, one.nlookup);
+		}
 	}
 	fuse_reply_none(req);
 }
@@ -819,6 +816,20 @@ static void clear_pipe(struct fuse_session *se, const struct door_message *m)
 		fuse_ll_clear_pipe(se);
 }
 
+/* Waits for memory where a file system is never told again what it is told now: of lookups that are given back.
+ * 0: it's not so, or was waited for too long. */
+static int wait_for_memory(const struct door_message *m, int *tries)
+{
+	const struct fuse_in_header *in = (const void *)m->in;
+	const struct timespec pause = { 0, 1000000 };
+
+	if (!in || m->len < sizeof(*in) || (in->opcode != FUSE_FORGET && in->opcode != FUSE_BATCH_FORGET) ||
+	    ++*tries > MOST_WAITS)
+		return 0;
+	nanosleep(&pause, NULL);
+	return 1;
+}
+
 static void serve(fuse_req_t req, struct door_thread *t, const struct door_message *m)
 {
 	nizwarf_call *call = call_of(req);
@@ -826,8 +837,11 @@ static void serve(fuse_req_t req, struct door_thread *t, const struct door_messa
 	nizwarf_told told;
 	char line[512];
 	int32_t code;
+	int tries = 0;
 
-	code = ask(t, se, m, call, &told);
+	do
+		code = ask(t, se, m, call, &told);
+	while (code == NIZWARF_OUT_OF_MEMORY && wait_for_memory(m, &tries));
 	if (se->debug) {
 		nizwarf_print_request(m->in, m->len, session_of(se).options, line, sizeof(line));
 		fuse_log(FUSE_LOG_DEBUG, "%s\n", line);
@@ -880,11 +894,17 @@ static void send_no_memory(struct fuse_session *se, const struct door_message *m
 void PROCESS_BUF(struct fuse_session *se, const struct fuse_buf *buf, struct fuse_chan *ch)
 {
 	struct door_message m = { .buf = buf, .ch = ch };
-	struct door_thread *t = door_thread(SMALL_ROOM);
+	const int taken = take_message(se, &m);
+	struct door_thread *t = NULL;
 	struct fuse_req *req = NULL;
+	int tries = 0;
 
-	if (take_message(se, &m) && t)
-		req = fuse_ll_alloc_req(se);
+	do {
+		if (!t)
+			t = door_thread(SMALL_ROOM);
+		if (taken && t)
+			req = fuse_ll_alloc_req(se);
+	} while (taken && !req && wait_for_memory(&m, &tries));
 	if (!req) {
 		send_no_memory(se, &m);
 		clear_pipe(se, &m);
