@@ -7,7 +7,6 @@ is there. Without --watch it sees what was. The client's own changes are remembe
 is lost, and a mount in use ends at once. Where few files may be watched the others are remembered for a second."""
 import mmap
 import os
-import re
 import signal
 import subprocess
 import sys

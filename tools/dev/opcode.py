@@ -25,7 +25,8 @@ APART = ["docs/generated/*", "crates/vfs_sessions/std*", "crates/vfs_decode/std*
 # Where the word is a call of the system or of a client, or begins that of another opcode (COPY_FILE_RANGE_64).
 ELSEWHERE = ["crates/vfs_further/*", "crates/vfs_print/src/further.rt", "programs/share/passthrough_list.c", "tests/beside/get.sh",
              "tests/suites/get.sh",
-             "tests/mirror/calls.py", "tests/mount/session.sh", "tests/share/calls.py", "tests/share/load.py"]
+             "tests/mirror/calls.py", "tests/mount/session.sh", "tests/share/apart.py", "tests/share/calls.py", "tests/share/load.py",
+             "bindings/libfuse/make.py", "tests/beside/libfuse.c", "tests/beside/nizwarf.c", "tests/beside/requests.py"]
 
 
 def read(path):
