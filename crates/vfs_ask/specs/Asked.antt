@@ -5,15 +5,17 @@ use Rattle.vfs_flags.specs.declared.opcode.Opcode.TheVariants.{Interrupt}
 use Rattle.vfs_segments.specs.Written.{Written}
 use Rattle.vfs_wire.specs.Records.{in_header, out_header, init_out}
 use Rattle.vfs_wire.specs.declared.headers.InHeader.{InHeader}
+use Rattle.vfs_wire.specs.declared.init.InitInCompat.{InitInCompat}
 use Rattle.vfs_wire_more.specs.Locks.{interrupt_in}
 use Rattle.vfs_wire_more.specs.declared.locks.InterruptIn.{InterruptIn}
-use Rattle.vfs_files.specs.Calls.{Call, Lookup, Symlink, Mknod, Mkdir, Unlink, Rmdir, Rename, Link, Read, Write, Setxattr, Getxattr, Removexattr, Readdir, Create, BatchForget}
+use Rattle.vfs_files.specs.Calls.{Call, Init, Lookup, Symlink, Mknod, Mkdir, Unlink, Rmdir, Rename, Link, Read, Write, Setxattr, Getxattr, Removexattr, Readdir, Create, BatchForget}
 use Rattle.vfs_messages.specs.Rooms.{Replies}
 use Rattle.vfs_grammar.specs.Ask.{ask}
 use Rattle.vfs_grammar.specs.Forms.{Ask, Ends, Asks, Lists, WithMemory, Listing, pairs_of}
 use Rattle.vfs_grammar.specs.Limits.{max_len}
 use Rattle.vfs_grammar.specs.Records.{size_of, record_of, pair_size}
-use Rattle.vfs_grammar.specs.Reply.{Reply, Refusal, Echo}
+use Rattle.vfs_grammar.specs.Options.{options_offered}
+use Rattle.vfs_grammar.specs.Reply.{Reply, Refusal, Echo, echo_of}
 use Rattle.vfs_grammar.specs.declared.limits.Limits.{Limits}
 use Rattle.vfs_grammar.specs.declared.error.Error.{Error}
 use Rattle.vfs_grammar.specs.declared.error.Error.TheVariants.{OutOfMemory}
@@ -56,6 +58,12 @@ told_of_listing options room echo l =
     record (told_of options room echo (Readdir l.ctx l.parent l.handle l.size l.offset)) {
       has = bit l.plus has.PLUS;
     }
+
+-- the call of an INIT with this header and this record
+abbrev pub init_told : InHeader → InitInCompat → (flags2 options room : ℕ) → CallData
+init_told h r flags2 options room =
+    told_of options room (record (echo_of h) { max_readahead = r.max_readahead })
+    (Init (options_offered r.flags flags2))
 
 -- a range without its place
 abbrev pub long_range : Range → Range

@@ -4,13 +4,14 @@ ghost use Rattle.std.specs.Prelude.{◌≡◌, ℕ, List};
 ghost use Rattle.vfs_flags.specs.Flags.{fs_options_bits};
 ghost use Rattle.vfs_grammar.specs.Forms.{Versions, ask_form, ask_version};
 ghost use Rattle.vfs_calls.specs.Shapes.{nothing};
-ghost use Rattle.vfs_ask.specs.Asked.{Tells};
+ghost use Rattle.vfs_ask.specs.Asked.{Tells, init_told};
+ghost use Rattle.vfs_ask.specs.declared.asked.Asked.TheVariants.{Call as IsCall};
 
 use crate::asked::Asked;
 use bitflags::Flags;
 use vfs_calls::{CallData, kind, number};
-use vfs_flags::{Errno, FsOptions, KERNEL_VERSION, MIN_KERNEL_MINOR_VERSION};
-use vfs_messages::{offered_options, read_record, read_second_flags, reply_failed, reply_version};
+use vfs_flags::FsOptions;
+use vfs_messages::{offered_options, read_record, read_second_flags, reply_unserved};
 use vfs_segments::{Reader, Writer};
 use vfs_wire::{InHeader, InitInCompat};
 
@@ -38,7 +39,7 @@ pub fn ask_init(
     }
 }
 
-// What an INIT of this version asks: an older one is refused, and a newer major one is told ours.
+// What an INIT of this version asks: it is refused, or told ours, where it isn't served.
 fn ask_of_version(
     header: &InHeader,
     init_in: &InitInCompat,
@@ -52,15 +53,25 @@ fn ask_of_version(
     ensures { (request : List ℕ) → Tells ⊥ request (fs_options_bits options) 0 room
         (ask_version header.now init_in.now flags2) w.old result w.new call.new }
 {
-    if init_in.major < KERNEL_VERSION {
-        return Asked::finished(reply_failed(Some(Errno::EPROTO), header.unique, w));
+    match reply_unserved(header, init_in, w) {
+        Some(outcome) => Asked::finished(outcome),
+        None => tell_init(header, init_in, flags2, options, room, call),
     }
-    if init_in.major > KERNEL_VERSION {
-        return Asked::finished(reply_version(header.unique, w));
-    }
-    if init_in.minor < MIN_KERNEL_MINOR_VERSION {
-        return Asked::finished(reply_failed(Some(Errno::EPROTO), header.unique, w));
-    }
+}
+
+// The call of an INIT that is served.
+fn tell_init(
+    header: &InHeader,
+    init_in: &InitInCompat,
+    flags2: u32,
+    options: FsOptions,
+    room: usize,
+    call: &mut CallData,
+) -> Asked
+    requires { call.old ≡ nothing }
+    ensures asked { result ≡ IsCall }
+    ensures told { call.new ≡ init_told header.now init_in.now flags2 (fs_options_bits options) room }
+{
     call.call = number::INIT;
     call.answer = kind::WANT;
     call.unique = header.unique;
