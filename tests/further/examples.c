@@ -71,15 +71,10 @@ static nizwarf_slot slots[WORKERS];
 
 /* ---- what changes, under the lock */
 
-static void set_text(struct file *f, const char *format, uint64_t number)
-{
-	f->len = (size_t)snprintf(f->text, sizeof(f->text), format, number);
-}
-
 static void change_text(void)
 {
 	snprintf(files[0].name, sizeof(files[0].name), "current_time");
-	set_text(&files[0], "It is the time %020" PRIu64 "\n", ticks);
+	files[0].len = (size_t)snprintf(files[0].text, LONGEST, "It is the time %020" PRIu64 "\n", ticks);
 }
 
 static void change_both(void)
@@ -101,7 +96,7 @@ static void change_name(void)
 static void change_hello(void)
 {
 	snprintf(files[0].name, sizeof(files[0].name), "hello");
-	set_text(&files[0], "Hello World!\n", 0);
+	files[0].len = (size_t)snprintf(files[0].text, LONGEST, "Hello World!\n");
 }
 
 static void change_ioctl(void)
