@@ -370,8 +370,8 @@ def ping_pong(run, name, words, one, other):
     with ThreadPoolExecutor(2) as pool:
         for status, text in pool.map(lambda path: run.call(line.format(4, run.there / "ping_pong", words, path), 20,
                                                            said="always"), (one, other)):
-            rates = [int(word) for word in text.replace("\r", " ").split() if word.isdigit()]
-            texts.append(text if status == 124 and any(rate > 100 for rate in rates) and "failed" not in text else "")
+            rates = [int(part.split()[-1]) for part in text.split(" locks/sec")[:-1]]
+            texts.append(text if status == 124 and any(rates) and "failed" not in text else "")
     ok = all(texts) and ("w" not in words or all("increment = 2" in text for text in texts))
     run.case(name, "ok" if ok else "failed")
 
