@@ -9,8 +9,9 @@
 # are looked at. Files that the mount's kernel has by itself are as in the folder (apart.py), and what others change is
 # seen where all is remembered (watched.py). Files of several file systems below the folder are told apart, and how many
 # are known is bounded; what a node takes is printed (nodes.py). Over vhost-user it is asked the hostile requests of
-# tests/beside, and more that are made up, under sanitizers and in its sandbox (hostile.py); a machine that goes away is
-# followed by another. Locks are those of the folder, and what waits for one holds nothing up (waits.py).
+# tests/beside, and more that are made up, and told messages that can't be (messages.py), under sanitizers and in its
+# sandbox (hostile.py); a machine that goes away is followed by another. Locks are those of the folder, and what waits
+# for one holds nothing up (waits.py).
 # Last, tools/dev/lint.sh holds its sources against clang-tidy and cppcheck, if they are installed.
 #
 # It takes four minutes, and wants root, /dev/fuse, python3, a C compiler and the Rattle toolchain. It links the proved
