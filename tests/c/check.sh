@@ -33,7 +33,7 @@ folder=$(mktemp -d)
 trap 'rm -rf "$folder"' EXIT
 if [ "${1:-}" = --prove ]; then
     need_toolchain
-    for name in vfs_c vfs_door; do
+    for name in vfs_c vfs_door vfs_border; do
         echo "Proving and building the library $name .." >&2
         (cd "$here/crates/$name" && rt lib) > "$folder/said" 2>&1 || { tail -n 20 "$folder/said" >&2 && exit 1; }
     done
