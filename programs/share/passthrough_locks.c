@@ -327,8 +327,9 @@ static void finish(struct waiter *w, int error)
 	pthread_mutex_lock(&all->lock);
 	unlink_waiter(w);
 	pthread_mutex_unlock(&all->lock);
-	transport_complete(w->later, code, reply, told.len);
+	/* (before it is answered: who closes the file then gives its locks up at once) */
 	put(all, w->holder);
+	transport_complete(w->later, code, reply, told.len);
 	free(w);
 	pthread_mutex_lock(&all->lock);
 	all->waiting--;
@@ -353,7 +354,7 @@ static int start_waiter(const struct call *call, struct holder *h)
 	struct locks *all = call->all->locks;
 	struct waiter *w = calloc(1, sizeof(*w));
 	pthread_attr_t attributes;
-	bool is_started = false, are_too_many;
+	bool is_started = false, is_interrupted;
 
 	if (!w)
 		return ENOMEM;
@@ -364,9 +365,8 @@ static int start_waiter(const struct call *call, struct holder *h)
 	pthread_attr_setdetachstate(&attributes, PTHREAD_CREATE_DETACHED);
 	pthread_attr_setstacksize(&attributes, STACK < PTHREAD_STACK_MIN ? PTHREAD_STACK_MIN : STACK);
 	pthread_mutex_lock(&all->lock);
-	are_too_many = all->waiting == MOST_WAITERS;
-	if (!are_too_many && !nizwarf_take_interrupt(&all->early, w->asked.unique) &&
-	    (w->later = transport_keep())) {
+	is_interrupted = nizwarf_take_interrupt(&all->early, w->asked.unique);
+	if (!is_interrupted && all->waiting < MOST_WAITERS && (w->later = transport_keep())) {
 		w->at = &all->waiters;
 		w->next = all->waiters;
 		if (w->next)
@@ -384,10 +384,10 @@ static int start_waiter(const struct call *call, struct holder *h)
 	if (is_started)
 		/* cppcheck-suppress memleak */
 		return LOCK_WAITS;
-	/* (while a machine pauses nothing waits) */
+	/* (as many wait as may, or nothing may while a machine pauses) */
 	if (!w->later) {
 		free(w);
-		return are_too_many ? ENOLCK : EINTR;
+		return is_interrupted ? EINTR : ENOLCK;
 	}
 	put(all, h);
 	transport_complete(w->later, NIZWARF_OUT_OF_MEMORY, NULL, 0);

@@ -21,6 +21,7 @@
 #include <sys/stat.h>
 #include <sys/un.h>
 #include <unistd.h>
+#include "fuse_ring.h"
 #include "passthrough.h"
 #include "share_sandbox.h"
 #include "share_words.h"
@@ -29,7 +30,9 @@
 enum { LARGE_TABLE = 65536 };
 /* Descriptors besides those of the folder's files: of a mount, with a device and a pipe for each worker; of
  * a socket, with two for each queue, if there are as many as workers. */
-enum { OF_MOUNT = 16, OF_MOUNT_WORKER = 3, OF_SOCKET = 24, OF_SOCKET_WORKER = 2 };
+enum { OF_MOUNT = 16, OF_MOUNT_WORKER = 3, OF_RING_WORKER = 2, OF_SOCKET = 24, OF_SOCKET_WORKER = 2 };
+/* How many requests of each processor may wait for locks over io_uring. */
+enum { MOST_WAITING = 63 };
 
 static int failed(const char *what)
 {
@@ -237,6 +240,42 @@ static transport by = { .program = "nizwarf-share",
 			.serve = passthrough_serve };
 static int device = -1;
 static transport_notices notices = TRANSPORT_NO_NOTICES;
+/* How many queues it has over io_uring, and workers. */
+static unsigned queues, ring_workers;
+
+/* Looks how a mount may be served over io_uring. (In the sandbox Linux doesn't tell.) */
+static void look_for_rings(void)
+{
+	if (!words.by_ring || device < 0)
+		return;
+	by.ring_workers = by.workers;
+	by.most_kept = words.files.flock || words.files.posix_lock ? MOST_WAITING : 0;
+	by.wants_ring = 1;
+	queues = fuse_ring.count();
+	ring_workers = queues ? fuse_ring.count_workers(&by, queues) : 0;
+}
+
+/* Makes rings, while they can be: from within the sandbox, and before its filter. */
+static void make_rings(void)
+{
+	if (queues)
+		by.rings = fuse_ring.make(&by, device, queues);
+	if (by.rings)
+		by.ring = &fuse_ring;
+	else if (words.by_ring && device >= 0)
+		fputs("nizwarf-share: there is no io_uring here: requests come by read(2)\n", stderr);
+}
+
+/* How many workers there are at most, and descriptors besides those of files. */
+static void count_workers(void)
+{
+	const unsigned of_socket = OF_SOCKET + OF_SOCKET_WORKER * by.workers;
+	const unsigned of_mount = OF_MOUNT + OF_MOUNT_WORKER * by.workers + OF_RING_WORKER * ring_workers;
+
+	words.files.other_descriptors = is_mount() ? of_mount : of_socket;
+	if (words.files.workers < 1 + ring_workers)
+		words.files.workers = 1 + ring_workers;
+}
 
 static int mount_folder(void *user)
 {
@@ -282,7 +321,8 @@ static int limit(struct passthrough *all)
 		return failed("--watch");
 	return sandbox_filter((enum calls_filter)words.filter,
 			      (mounts ? MAY_UNMOUNT : 0) | (words.files.notices ? MAY_WATCH : 0) |
-				      (words.files.file_handles != HANDLES_NEVER ? MAY_OPEN_HANDLES : 0));
+				      (words.files.file_handles != HANDLES_NEVER ? MAY_OPEN_HANDLES : 0) |
+				      (by.ring ? MAY_USE_RINGS : 0));
 }
 
 /* Mounts, from within the sandbox if there is one. */
@@ -322,6 +362,7 @@ static int serve(int listener)
 	by.user = all;
 	by.descriptors = proc;
 	if (!begin_mount()) {
+		make_rings();
 		if (!limit(all)) {
 			tell_outside();
 			status = words.mount_point ? fuse_device_serve(&by, device, unmounts) :
@@ -364,8 +405,6 @@ int main(int count, char **given)
 	take_words(count, given);
 	by.workers = words.files.workers;
 	words.files.payload = is_mount() ? FUSE_DEVICE_PIPED : TRANSPORT_PAYLOAD;
-	words.files.other_descriptors = is_mount() ? OF_MOUNT + OF_MOUNT_WORKER * by.workers :
-						     OF_SOCKET + OF_SOCKET_WORKER * by.workers;
 	by.quiet = !words.says_more;
 	if (words.watches)
 		by.notices = words.files.notices = &notices;
@@ -388,6 +427,8 @@ int main(int count, char **given)
 		return 1;
 	if (!words.mount_point)
 		listener = listen_on_socket(&by);
+	look_for_rings();
+	count_workers();
 	if (words.daemonizes && (starter = go_to_background()) < 0)
 		return 1;
 	if (words.files.passthrough &&

@@ -15,6 +15,7 @@
 #include <unistd.h>
 #ifdef WITH_SECCOMP
 #include <linux/fuse.h>
+#include <linux/io_uring.h>
 #include <seccomp.h>
 #include <sys/fanotify.h>
 #include <sys/ioctl.h>
@@ -402,6 +403,9 @@ static const char *const calls[] = {
 /* And to hold files by handles. By a handle that is made up any file of the file system is opened. */
 static const char *const handle_calls[] = { "name_to_handle_at", "open_by_handle_at" };
 
+/* And to use rings that are there. (By a ring that it made it would call what it likes.) */
+static const char *const ring_calls[] = { "io_uring_enter", "sched_setaffinity" };
+
 /* And by ioctl: a worker's descriptor of the device; whether what is written to is a terminal. */
 static const uint32_t controls[] = { FUSE_DEV_IOC_CLONE, TCGETS };
 
@@ -413,6 +417,16 @@ static int let(scmp_filter_ctx rules, const char *const *names, size_t count)
 	for (size_t i = 0; i < count && !error; i++)
 		error = seccomp_rule_add(rules, SCMP_ACT_ALLOW, seccomp_syscall_resolve_name(names[i]), 0);
 	return error;
+}
+
+static int let_rings(scmp_filter_ctx rules)
+{
+	const int error = let(rules, ring_calls, sizeof(ring_calls) / sizeof(*ring_calls));
+
+	return error ? error :
+		       seccomp_rule_add(
+			       rules, SCMP_ACT_ALLOW, SCMP_SYS(io_uring_register), 1,
+			       SCMP_A1(SCMP_CMP_MASKED_EQ, UINT32_MAX, IORING_REGISTER_ENABLE_RINGS));
 }
 
 /* No rules: what isn't let through comes to what is said. NULL: it failed, and said why. */
@@ -483,6 +497,8 @@ int sandbox_filter(enum calls_filter filter, unsigned may)
 	error = let(rules, calls, sizeof(calls) / sizeof(*calls));
 	if (!error && may & MAY_OPEN_HANDLES)
 		error = let(rules, handle_calls, sizeof(handle_calls) / sizeof(*handle_calls));
+	if (!error && may & MAY_USE_RINGS)
+		error = let_rings(rules);
 	/* (others of ioctl would let it type at a terminal) */
 	for (size_t i = 0; i < sizeof(controls) / sizeof(*controls) && !error; i++)
 		error = seccomp_rule_add(rules, SCMP_ACT_ALLOW, SCMP_SYS(ioctl), 1,

@@ -28,7 +28,10 @@ static const char usage[] =
 	"                            async, dirsync, atime, noatime, nodiratime, relatime, and\n"
 	"                            entry_timeout=SECONDS, attr_timeout=SECONDS: how long names\n"
 	"                            and attributes are remembered; negative_timeout=SECONDS: how\n"
-	"                            long, that there is no such name (0); or virtiofsd's, as managers\n"
+	"                            long, that there is no such name (0); io_uring, no_io_uring:\n"
+	"                            requests come by io_uring where Linux offers it, which is quicker\n"
+	"                            for names and slower for data, or by read and write alone (the\n"
+	"                            default); or virtiofsd's, as managers\n"
 	"                            of machines write them: source=FOLDER, cache=WHAT, sandbox=HOW,\n"
 	"                            modcaps=LIST, loglevel=LEVEL, xattr, posix_acl, writeback,\n"
 	"                            readdirplus, flock, posix_lock, no_xattr ..\n"
@@ -62,7 +65,8 @@ static const char usage[] =
 	"                            that file system\n"
 	"  --modcaps=LIST            capabilities that root's server has besides, or lacks, as\n"
 	"                            +sys_admin:-mknod; by +sys_admin attributes of trusted.* are served\n"
-	"  --thread-pool-size=N      how many requests are served at once, 1 to 64 (4)\n"
+	"  --thread-pool-size=N      how many requests are served at once, 1 to 64 (4); over io_uring so\n"
+	"                            many of each processor\n"
 	"  --rlimit-nofile=N         the most open files; 0: as it is (1000000, or what may be)\n"
 	"  --sandbox=HOW             namespace (the default), chroot or none: what else than the\n"
 	"                            folder the server sees\n"
@@ -319,6 +323,8 @@ static void take_option(const char *key, char *value)
 		return;
 	if (!value && !strcmp(key, "allow_other"))
 		words.allow_other = ",allow_other";
+	else if (!value && (!strcmp(key, "io_uring") || !strcmp(key, "no_io_uring")))
+		words.by_ring = *key == 'i';
 	else if (value && *value && !strcmp(key, "fsname"))
 		words.source = value;
 	else if (!strcmp(key, "max_read"))

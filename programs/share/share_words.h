@@ -15,6 +15,8 @@ struct share_words {
 	int fd, sandbox, filter;
 	struct id_map uids, gids;
 	bool says_more, is_off, daemonizes, traces, watches;
+	/* Requests of a mount come by io_uring where Linux offers it. */
+	bool by_ring;
 	/* --rlimit-nofile was given. */
 	bool wants_files;
 };

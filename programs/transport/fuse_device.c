@@ -99,8 +99,9 @@ struct device {
 	atomic_int stop, failed;
 	/* How many workers the first one has started, each counted once its thread is there. */
 	atomic_uint others;
-	/* Those over io_uring, which the first one starts in place of others; NULL: there are none. */
-	struct fuse_rings *rings;
+	/* Those over io_uring, which the first one starts in place of others, and those that were made before; NULL: there
+	 * are none. */
+	struct fuse_rings *rings, *made;
 	/* How many read now, and how many requests were taken. */
 	atomic_uint readers;
 	atomic_ulong taken;
@@ -533,20 +534,35 @@ static int is_device(int fd)
 	return !fstat(fd, &seen) && S_ISCHR(seen.st_mode);
 }
 
-/* Starts the workers over io_uring, if the INIT that the first one took offers it and its reply can say so. */
-static void start_rings(struct worker *w, size_t got, size_t len)
+/* The rings for this device, if there can be any. (Who made them before can make no others.) */
+static struct fuse_rings *take_rings(struct device *d, int fd)
+{
+	const struct fuse_ring_calls *ring = d->by->ring;
+	struct fuse_rings *made = d->made;
+
+	d->made = NULL;
+	return d->by->rings ? made : ring->make(d->by, fd, ring->count());
+}
+
+/* Starts the workers over io_uring, if they can be and the reply to INIT can say so. That was answered with this
+ * outcome, and with so many bytes; `offered`: by whether it offers io_uring. */
+static void start_rings(struct worker *w, int offered, int32_t code, size_t len)
 {
 	struct device *d = w->of;
-	const struct fuse_ring_start with = { d->by, d, w->fd, d->over };
-	const struct fuse_ring_calls *ring = d->by->ring;
-	struct fuse_rings *rings;
+	const transport *by = d->by;
+	struct fuse_rings *rings = NULL;
 
-	if (!ring || d->rings || !is_device(w->fd) || !(rings = ring->start(&with, w->request, got)))
+	if (!by->ring || d->rings || code != NIZWARF_OK)
 		return;
-	if (ring->agree(w->room, len))
-		ring->end(rings);
-	else
-		d->rings = rings;
+	if (offered && is_device(w->fd))
+		rings = take_rings(d, w->fd);
+	if (rings && by->ring->start(rings, d, d->over, w->room, len)) {
+		by->ring->end(rings);
+		rings = NULL;
+	}
+	d->rings = rings;
+	if (!rings && by->wants_ring)
+		fprintf(stderr, "%s: Linux offers no io_uring here: requests come by read(2)\n", by->program);
 }
 
 /* What is kept of a request that is answered later. */
@@ -627,7 +643,7 @@ static enum outcome serve_one(struct worker *w, uint32_t *opcode)
 	nizwarf_room room = { w->room, LONGEST };
 	const transport *by = w->of->by;
 	struct fuse_in_header asked;
-	int is_kept;
+	int is_kept, offered;
 	size_t len = 0;
 	int32_t code;
 
@@ -643,6 +659,7 @@ static enum outcome serve_one(struct worker *w, uint32_t *opcode)
 	}
 	memcpy(&asked, w->request, sizeof(asked));
 	*opcode = asked.opcode;
+	offered = asked.opcode == FUSE_INIT && by->ring && by->ring->is_offered(w->request, (size_t)got);
 	transport_withhold(by, w->request, (size_t)got);
 	room.len = fuse_device_room(&asked, w->request + sizeof(asked), (size_t)got - sizeof(asked));
 	call_if_late(w, &asked, room.len);
@@ -657,7 +674,7 @@ static enum outcome serve_one(struct worker *w, uint32_t *opcode)
 		w->written = 0;
 	}
 	if (asked.opcode == FUSE_INIT && w->number == 0)
-		start_rings(w, (size_t)got, len);
+		start_rings(w, offered, code, len);
 	w->writes = asked.opcode == FUSE_WRITE && asked.len >= BEFORE_WRITE + LEAST_PIPED;
 	if (!len && w->piped)
 		close_pipe(w);
@@ -1062,9 +1079,14 @@ int fuse_device_serve(const transport *by, int device, const char *folder)
 		pthread_cond_init(&d->call, NULL);
 		pthread_mutex_init(&d->reading, NULL);
 		d->folder = folder;
+		d->made = by->rings;
 		is_wrong = serve(d, device, own[0]);
+		if (d->made)
+			by->ring->end(d->made);
 	} else {
 		say(by, "signalfd and eventfd");
+		if (by->rings)
+			by->ring->end(by->rings);
 		close(device);
 	}
 	if (is_wrong && folder)

@@ -1,36 +1,35 @@
 /* Requests of /dev/fuse over io_uring: fuse_ring.h. Linux has it from 6.14 on, where root set
  * /sys/module/fuse/parameters/enable_uring.
  *
- * The kernel has a queue for each processor, of the requests that are made there. Here each queue has an
- * entry, which is memory for one request and its reply, and a worker, which has a ring and stays on the
- * processor of the queue. So who asks and who answers are on one processor, and no other one has to be woken;
- * and those on several processors wait for one another only in `serve`.
+ * The kernel has a queue for each processor, of the requests that are made there. Each queue has workers here, of which
+ * each has a ring and an entry, which is memory for one request and its reply, and stays on the processor of the queue.
+ * So who asks and who answers are on one processor, and no other one has to be woken. The kernel takes the entry that
+ * came back last, and so one worker of a queue, unless that has a request.
  *
  * A command hands an entry to the kernel, and completes once a request stands in it. The next one hands it
  * back, with the reply. One system call does that, and waits for the next request.
+ *
+ * A request that is kept keeps its entry, in which its reply is put by whoever completes it. The ring is its worker's
+ * alone, so that is told by an event to hand the entry back. A worker that has no other entry makes one. But the kernel
+ * takes what waits in a queue only when an entry comes back, and gives it to no new one. So the last worker of a queue
+ * begins with as many more entries as may be kept, and one of the queue's is always left that comes back by itself.
  *
  * The kernel reads ahead of one who reads many data: then both have work at once. So a worker leaves its
  * processor as long as that goes on, and there alone. */
 #define _GNU_SOURCE
 #include <errno.h>
-#include <linux/io_uring.h>
 #include <pthread.h>
 #include <sched.h>
 #include <stdatomic.h>
 #include <stdio.h>
 #include <stdlib.h>
 #include <sys/mman.h>
-#include <sys/syscall.h>
 #include <sys/uio.h>
 #include <unistd.h>
 #include "fuse_ring.h"
+#include "later.h"
+#include "uring.h"
 
-/* What headers before Linux 6.14 lack. */
-#ifndef IORING_SETUP_NO_SQARRAY
-#define IORING_SETUP_NO_SQARRAY (1U << 16)
-#endif
-/* The bit 41 of INIT's flags, of which the second field has those from 32 on. */
-enum { OVER_IO_URING = 1 << 9 };
 enum { REGISTER = 1, COMMIT_AND_FETCH = 2 };
 
 /* Where a request and its reply stand: the header of either, the record of the request, and what is told of
@@ -50,28 +49,19 @@ struct command {
 	uint8_t padding[6];
 };
 
-enum { PAGE = 4096, COMMAND = 128, OWN_PART = 48, HEAD = sizeof(struct fuse_out_header) };
+enum { PAGE = 4096, HEAD = sizeof(struct fuse_out_header) };
 /* How many bytes are many data, and how many requests in turn for such, more than others, let a worker leave
  * its processor. */
 enum { BULK = 1 << 16, BULKS = 8 };
 
-/* A header, and behind it, a page from its beginning, the payload. */
+/* A header, and behind it, a page from its beginning, the payload. One whose request is kept belongs to who completes
+ * that, and then, in a list, to its worker. */
 struct entry {
+	struct worker *of;
 	struct header *header;
 	struct iovec memory[2];
 	uint16_t queue;
-};
-
-struct ring {
-	int fd;
-	void *queues, *commands;
-	size_t queues_len, commands_len;
-	/* The commands that it has for the kernel, and those that were completed. */
-	_Atomic uint32_t *tail, *head, *done;
-	uint32_t mask, done_mask;
-	const struct io_uring_cqe *completions;
-	/* How many commands the kernel has not taken yet. */
-	unsigned waiting;
+	struct entry *next;
 };
 
 struct worker {
@@ -79,112 +69,49 @@ struct worker {
 	unsigned number, bulks;
 	int roams;
 	pthread_t thread;
-	struct ring ring;
-	unsigned count;
+	struct uring ring;
+	/* How many entries there may be, how many there are, and of how many the request isn't kept. */
+	unsigned most, count, left;
 	struct entry *entries;
+	/* Those whose requests were kept, and have a reply now. */
+	pthread_mutex_t lock;
+	struct entry *completed;
 };
 
 struct fuse_rings {
-	struct fuse_ring_start with;
+	const transport *by;
+	struct device *of;
+	int device, over;
 	unsigned queues, workers, started;
+	/* Of each queue, the requests that are answered later. */
+	struct later_list *later;
 	/* Where a worker may run that has left its processor. */
 	cpu_set_t anywhere;
 	atomic_int stop, failed;
-	/* The last worker that was asked for many data. */
+	/* The last queue that was asked for many data. */
 	atomic_uint bulky;
 	/* How many workers are ready to begin, or can't be. */
 	pthread_mutex_t lock;
 	pthread_cond_t change;
-	unsigned ready, broken;
+	unsigned ready, broken, handed_over;
 	int begun;
 	struct worker worker[];
 };
 
 static int say(const struct fuse_rings *r, int error)
 {
-	fprintf(stderr, "%s: io_uring: %s\n", r->with.by->program, strerror(error));
+	fprintf(stderr, "%s: io_uring: %s\n", r->by->program, strerror(error));
 	return -1;
 }
 
-static void *map(int fd, size_t len, off_t at)
-{
-	void *memory = mmap(NULL, len, PROT_READ | PROT_WRITE,
-			    fd < 0 ? MAP_PRIVATE | MAP_ANONYMOUS : MAP_SHARED, fd, at);
-
-	return memory == MAP_FAILED ? NULL : memory;
-}
-
-static void unmap(void *memory, size_t len)
-{
-	if (memory)
-		munmap(memory, len);
-}
-
-/* Makes a ring for so many commands at once, whose one file is the device. It is the calling thread's. 0, or
- * -1. */
-static int make_ring(struct ring *r, unsigned commands, int device)
-{
-	struct io_uring_params made = { .flags = IORING_SETUP_SQE128 | IORING_SETUP_NO_SQARRAY |
-						 IORING_SETUP_SINGLE_ISSUER | IORING_SETUP_DEFER_TASKRUN };
-	unsigned char *queues;
-
-	r->fd = (int)syscall(SYS_io_uring_setup, commands, &made);
-	if (r->fd < 0)
-		return -1;
-	r->queues_len = made.cq_off.cqes + made.cq_entries * sizeof(struct io_uring_cqe);
-	r->queues = queues = map(r->fd, r->queues_len, IORING_OFF_SQ_RING);
-	r->commands_len = (size_t)made.sq_entries * COMMAND;
-	r->commands = map(r->fd, r->commands_len, IORING_OFF_SQES);
-	if (!queues || !r->commands ||
-	    syscall(SYS_io_uring_register, r->fd, IORING_REGISTER_FILES, &device, 1))
-		return -1;
-	r->tail = (_Atomic uint32_t *)(void *)(queues + made.sq_off.tail);
-	r->mask = made.sq_entries - 1;
-	r->head = (_Atomic uint32_t *)(void *)(queues + made.cq_off.head);
-	r->done = (_Atomic uint32_t *)(void *)(queues + made.cq_off.tail);
-	r->done_mask = made.cq_entries - 1;
-	r->completions = (const struct io_uring_cqe *)(void *)(queues + made.cq_off.cqes);
-	return 0;
-}
-
-static void free_ring(struct ring *r)
-{
-	unmap(r->queues, r->queues_len);
-	unmap(r->commands, r->commands_len);
-	if (r->fd >= 0)
-		close(r->fd);
-}
-
 /* Puts a command about an entry into the ring, which has room for one for each. */
-static void put_command(struct worker *w, unsigned number, uint32_t what)
+static void put_command(struct worker *w, const struct entry *e, uint32_t what)
 {
-	struct entry *e = &w->entries[number];
-	const uint32_t tail = atomic_load_explicit(w->ring.tail, memory_order_relaxed);
-	unsigned char *at = (unsigned char *)w->ring.commands + (size_t)(tail & w->ring.mask) * COMMAND;
-	struct io_uring_sqe sqe = {
-		.opcode = IORING_OP_URING_CMD, .flags = IOSQE_FIXED_FILE, .cmd_op = what, .user_data = number
-	};
-	struct command own = { .commit = e->header->commit, .queue = e->queue };
+	const struct command own = { .commit = e->header->commit, .queue = e->queue };
+	const int registers = what == REGISTER;
 
-	if (what == REGISTER) {
-		sqe.addr = (uintptr_t)e->memory;
-		sqe.len = sizeof(e->memory) / sizeof(*e->memory);
-	}
-	memset(at, 0, COMMAND);
-	memcpy(at, &sqe, OWN_PART);
-	memcpy(at + OWN_PART, &own, sizeof(own));
-	atomic_store_explicit(w->ring.tail, tail + 1, memory_order_release);
-	w->ring.waiting++;
-}
-
-/* Hands commands over, and waits until one has been completed, or for a signal. 0, or -1 with errno. */
-static int enter(struct ring *r)
-{
-	const long taken = syscall(SYS_io_uring_enter, r->fd, r->waiting, 1, IORING_ENTER_GETEVENTS, NULL, 0);
-
-	if (taken > 0)
-		r->waiting -= (unsigned)taken;
-	return taken >= 0 || errno == EINTR || errno == EAGAIN || errno == EBUSY ? 0 : -1;
+	uring_put(&w->ring, what, (uint64_t)(e - w->entries), registers ? e->memory : NULL,
+		  registers ? sizeof(e->memory) / sizeof(*e->memory) : 0, &own, sizeof(own));
 }
 
 /* Has a worker stay on the processors of its queues, or leave them to who asks there, as far as it may run so. */
@@ -210,7 +137,7 @@ static void count_bulk(struct worker *w, const struct fuse_in_header *asked, siz
 {
 	if (asked->opcode != FUSE_READ || room < BULK)
 		w->bulks -= w->bulks > 0;
-	else if (atomic_exchange(&w->of->bulky, w->number) != w->number)
+	else if (atomic_exchange(&w->of->bulky, w->entries->queue) != w->entries->queue)
 		w->bulks = 0;
 	else
 		w->bulks += w->bulks < 2 * BULKS;
@@ -218,36 +145,121 @@ static void count_bulk(struct worker *w, const struct fuse_in_header *asked, siz
 		roam(w, !w->roams);
 }
 
-/* Hands a request to `serve`, whose reply is in two pieces. Answers the length of the reply. */
-static size_t serve_request(struct worker *w, const struct entry *e, const struct fuse_in_header *asked,
-			    size_t record, struct fuse_out_header *reply)
+/* What is kept of a request that is answered later. */
+struct kept {
+	struct entry *entry;
+	struct fuse_in_header asked;
+};
+
+/* Completes it, on any thread: the entry goes back by its worker. (The kernel looks at the reply, and completes a
+ * request by an error whose reply is wrong.) */
+static void send_kept(void *about, int32_t code, const void *reply, size_t len)
 {
-	unsigned char *payload = e->memory[1].iov_base;
+	const struct kept *kept = about;
+	struct entry *e = kept->entry;
+	struct worker *w = e->of;
+	struct fuse_out_header refused = { HEAD, -EIO, kept->asked.unique };
+
+	if (code != NIZWARF_OK)
+		fuse_device_refuse(w->of->by, &kept->asked, code, &refused);
+	if (code != NIZWARF_OK || len < HEAD || len - HEAD > TRANSPORT_PAYLOAD) {
+		reply = &refused;
+		len = HEAD;
+	}
+	memcpy(e->header->in_out, reply, HEAD);
+	memcpy(e->memory[1].iov_base, (const unsigned char *)reply + HEAD, len - HEAD);
+	e->header->payload = (uint32_t)(len - HEAD);
+	pthread_mutex_lock(&w->lock);
+	e->next = w->completed;
+	w->completed = e;
+	pthread_mutex_unlock(&w->lock);
+	uring_tell(&w->ring);
+}
+
+/* Hands back the entries whose requests were kept, and have a reply now. */
+static void hand_back(struct worker *w)
+{
+	struct entry *e;
+
+	uring_clear(&w->ring);
+	pthread_mutex_lock(&w->lock);
+	e = w->completed;
+	w->completed = NULL;
+	pthread_mutex_unlock(&w->lock);
+	for (; e; e = e->next) {
+		put_command(w, e, COMMIT_AND_FETCH);
+		w->left++;
+	}
+}
+
+/* Hands a request to `serve`, whose reply is in two pieces. Answers the length of the reply, or -1: it is kept, and the
+ * entry with it. */
+static ssize_t serve_request(struct worker *w, struct entry *e, const struct fuse_in_header *asked,
+			     size_t record, struct fuse_out_header *reply)
+{
+	const struct kept kept = { e, *asked };
+	struct later_source source = { &w->of->later[e->queue], send_kept, &kept, sizeof(kept), 0 };
+	unsigned char *payload = e->memory[1].iov_base, *front = payload - record - sizeof(*asked);
 	const size_t wanted = fuse_device_room(asked, e->header->record, record) - HEAD;
-	const nizwarf_segment request[] = { { asked, sizeof(*asked) },
-					    { e->header->record, record },
-					    { payload, e->header->payload } };
+	const nizwarf_segment request = { front, sizeof(*asked) + record + e->header->payload };
 	const nizwarf_room rooms[] = { { reply, HEAD },
 				       { payload, wanted < TRANSPORT_PAYLOAD ? wanted : TRANSPORT_PAYLOAD } };
 	size_t len = 0;
 	int32_t code;
 
+	/* (there is a page before the payload, of which its header takes the first bytes) */
+	memcpy(front, asked, sizeof(*asked));
+	memcpy(front + sizeof(*asked), e->header->record, record);
 	count_bulk(w, asked, rooms[1].len);
-	code = fuse_device_ask(w->of->with.of, w->number, request, 3, rooms, 2, &len);
-	return code == NIZWARF_OK ? len : fuse_device_refuse(w->of->with.by, asked, code, reply);
+	later_serve(&source);
+	code = fuse_device_ask(w->of->of, w->number, &request, 1, rooms, 2, &len);
+	later_serve(NULL);
+	/* (whatever is answered besides: who completes it may have the entry already) */
+	if (source.is_kept)
+		return -1;
+	return (ssize_t)(code == NIZWARF_OK ? len : fuse_device_refuse(w->of->by, asked, code, reply));
 }
 
-/* Answers the request in an entry. 0, or -1: it said why.
+/* Makes an entry of a queue, if there may be one more. 0, or -1. */
+static int make_entry(struct worker *w, unsigned queue)
+{
+	struct entry *e = &w->entries[w->count];
+	unsigned char *memory = MAP_FAILED;
+
+	if (w->count < w->most)
+		memory = mmap(NULL, PAGE + TRANSPORT_PAYLOAD, PROT_READ | PROT_WRITE,
+			      MAP_PRIVATE | MAP_ANONYMOUS | MAP_NORESERVE, -1, 0);
+	if (memory == MAP_FAILED)
+		return -1;
+	e->of = w;
+	e->header = (struct header *)(void *)memory;
+	e->memory[0] = (struct iovec){ memory, sizeof(struct header) };
+	e->memory[1] = (struct iovec){ memory + PAGE, TRANSPORT_PAYLOAD };
+	e->queue = (uint16_t)queue;
+	w->count++;
+	w->left++;
+	return 0;
+}
+
+/* A request is kept, and its entry with it: another one takes its place, unless the worker has one left. (Where there is
+ * no memory others of the queue serve.) */
+static void replace(struct worker *w, unsigned queue)
+{
+	if (!--w->left && !make_entry(w, queue))
+		put_command(w, &w->entries[w->count - 1], REGISTER);
+}
+
+/* Answers the request in an entry, or keeps both. 0, or -1: it said why.
  *
  * The space of a file that was removed is free once it was forgotten, which comes by read(2), and who has
  * removed it counts on that. So that is read before space is told, and before it is said that there is none. */
-static int answer(struct worker *w, unsigned number)
+static int answer(struct worker *w, struct entry *e)
 {
-	const struct entry *e = &w->entries[number];
 	struct header *h = e->header;
 	struct fuse_out_header reply = { 0 };
 	struct fuse_in_header asked;
-	size_t record, len;
+	size_t record;
+	ssize_t len;
 
 	memcpy(&asked, h->in_out, sizeof(asked));
 	record = asked.len - sizeof(asked) - h->payload;
@@ -255,11 +267,15 @@ static int answer(struct worker *w, unsigned number)
 	    h->payload > TRANSPORT_PAYLOAD)
 		return say(w->of, EPROTO);
 	if (asked.opcode == FUSE_STATFS)
-		fuse_device_drain(w->of->with.of);
+		fuse_device_drain(w->of->of);
 	len = serve_request(w, e, &asked, record, &reply);
 	if (len == HEAD && reply.error == -ENOSPC) {
-		fuse_device_drain(w->of->with.of);
+		fuse_device_drain(w->of->of);
 		len = serve_request(w, e, &asked, record, &reply);
+	}
+	if (len < 0) {
+		replace(w, e->queue);
+		return 0;
 	}
 	if (!len) {
 		/* (the kernel has the entry back by a reply alone) */
@@ -268,7 +284,7 @@ static int answer(struct worker *w, unsigned number)
 	}
 	memcpy(h->in_out, &reply, HEAD);
 	h->payload = (uint32_t)(len - HEAD);
-	put_command(w, number, COMMIT_AND_FETCH);
+	put_command(w, e, COMMIT_AND_FETCH);
 	return 0;
 }
 
@@ -278,34 +294,73 @@ static int is_end(int error)
 	return error == ENOTCONN || error == ECONNABORTED || error == ECANCELED;
 }
 
+/* Takes what has come of the event. 0, or -1: it said why. */
+static int take_event(struct worker *w, const struct io_uring_cqe *done)
+{
+	if (done->res < 0)
+		return say(w->of, -done->res);
+	hand_back(w);
+	if (!(done->flags & IORING_CQE_F_MORE))
+		uring_put_event(&w->ring);
+	return 0;
+}
+
 /* Answers what has come. 0; 1: it was unmounted; -1: it failed, and said why. */
 static int answer_each(struct worker *w)
 {
-	struct ring *r = &w->ring;
-	uint32_t head = atomic_load_explicit(r->head, memory_order_relaxed);
+	struct io_uring_cqe done;
 
-	while (head != atomic_load_explicit(r->done, memory_order_acquire)) {
-		const struct io_uring_cqe done = r->completions[head & r->done_mask];
-
-		atomic_store_explicit(r->head, ++head, memory_order_release);
+	while (uring_take(&w->ring, &done)) {
+		if (done.user_data == URING_EVENT) {
+			if (take_event(w, &done))
+				return -1;
+			continue;
+		}
 		if (done.res < 0)
 			return is_end(-done.res) ? 1 : say(w->of, -done.res);
-		if (answer(w, (unsigned)done.user_data))
+		if (answer(w, &w->entries[done.user_data]))
 			return -1;
 	}
 	return 0;
 }
 
+/* Whether a worker is the last of its queues, which has the entries for what is kept. */
+static int is_last(const struct worker *w)
+{
+	return w->number + w->of->queues > w->of->workers;
+}
+
+/* Hands its entries to the kernel. The last workers do before the others: so the kernel takes those of the others
+ * first, of which none is behind another one of a worker that may be long about a request. */
+static int hand_over(struct worker *w)
+{
+	struct fuse_rings *r = w->of;
+	const unsigned last = r->queues < r->workers ? r->queues : r->workers;
+	int error = 0;
+
+	uring_put_event(&w->ring);
+	for (unsigned i = 0; i < w->count; i++)
+		put_command(w, &w->entries[i], REGISTER);
+	if (is_last(w) && uring_enter(&w->ring, 0))
+		error = errno;
+	pthread_mutex_lock(&r->lock);
+	r->handed_over += is_last(w);
+	pthread_cond_broadcast(&r->change);
+	while (!is_last(w) && r->handed_over < last && !atomic_load(&r->stop))
+		pthread_cond_wait(&r->change, &r->lock);
+	pthread_mutex_unlock(&r->lock);
+	return error ? say(r, error) : 0;
+}
+
 /* Serves until it is unmounted, or is to stop. 0, or -1: it failed, and said why. */
 static int serve(struct worker *w)
 {
-	int over = 0;
+	int over;
 
 	roam(w, 0);
-	for (unsigned i = 0; i < w->count; i++)
-		put_command(w, i, REGISTER);
+	over = hand_over(w);
 	while (!over && !atomic_load(&w->of->stop)) {
-		if (enter(&w->ring))
+		if (uring_enter(&w->ring, 1))
 			return say(w->of, errno);
 		over = answer_each(w);
 	}
@@ -316,29 +371,27 @@ static int serve(struct worker *w)
 static int make_entries(struct worker *w)
 {
 	const struct fuse_rings *r = w->of;
-	unsigned queue = w->number - 1;
+	const unsigned first = (w->number - 1) % r->queues, kept = r->by->most_kept;
 
-	w->entries = calloc(r->queues / r->workers + 1, sizeof(*w->entries));
-	for (; w->entries && queue < r->queues; queue += r->workers) {
-		struct entry *e = &w->entries[w->count];
-		unsigned char *memory = map(-1, PAGE + TRANSPORT_PAYLOAD, 0);
-
-		if (!memory)
-			return -1;
-		e->header = (struct header *)(void *)memory;
-		e->memory[0] = (struct iovec){ memory, sizeof(struct header) };
-		e->memory[1] = (struct iovec){ memory + PAGE, TRANSPORT_PAYLOAD };
-		e->queue = (uint16_t)queue;
-		w->count++;
-	}
-	return w->entries ? 0 : -1;
+	w->most = (r->queues / r->workers + 1) * (1 + kept);
+	w->entries = calloc(w->most, sizeof(*w->entries));
+	if (!w->entries)
+		return -1;
+	for (unsigned queue = first; queue < r->queues; queue += r->workers)
+		for (unsigned i = 0; i < 1 + (is_last(w) ? kept : 0); i++)
+			if (make_entry(w, queue))
+				return -1;
+	return 0;
 }
 
-static void free_entries(struct worker *w)
+static void free_worker(struct worker *w)
 {
+	/* (what it has of the kernel goes first: that may still write into the entries) */
+	uring_free(&w->ring);
 	for (unsigned i = 0; i < w->count; i++)
-		unmap(w->entries[i].header, PAGE + TRANSPORT_PAYLOAD);
+		munmap(w->entries[i].header, PAGE + TRANSPORT_PAYLOAD);
 	free(w->entries);
+	pthread_mutex_destroy(&w->lock);
 }
 
 /* Tells that this worker is ready, or can't be, and waits. Answers whether it is to serve. */
@@ -362,32 +415,38 @@ static void fail(struct fuse_rings *r)
 	const uint64_t one = 1;
 
 	atomic_store(&r->failed, 1);
-	if (write(r->with.over, &one, sizeof(one)) < 0)
+	if (write(r->over, &one, sizeof(one)) < 0)
 		say(r, errno);
 }
 
 static void *run(void *given)
 {
 	struct worker *w = given;
-	const transport *by = w->of->with.by;
+	const transport *by = w->of->by;
 	const int begun = !by->begin || !by->begin(by->user, w->number);
 
-	w->ring.fd = -1;
-	if (await_begin(w, begun && !make_entries(w) && !make_ring(&w->ring, w->count, w->of->with.device)) &&
-	    serve(w))
+	if (await_begin(w, begun && !uring_begin(&w->ring)) && serve(w))
 		fail(w->of);
 	if (begun && by->end)
 		by->end(by->user, w->number);
-	/* (what it has of the kernel goes first: that may still write into the entries) */
-	free_ring(&w->ring);
-	free_entries(w);
 	return NULL;
 }
 
-/* How many processors there may be, as the kernel counts its queues; 0: it does not say so. */
-static unsigned count_queues(void)
+/* Whether root has let Linux serve so, as far as it says. */
+static int may_be(void)
 {
-	FILE *file = fopen("/sys/devices/system/cpu/possible", "re");
+	FILE *file = fopen("/sys/module/fuse/parameters/enable_uring", "re");
+	const int said = file ? getc(file) : 'Y';
+
+	if (file)
+		fclose(file);
+	return said == 'Y';
+}
+
+/* How many processors there may be, as the kernel counts its queues; 0: it does not say so. */
+static unsigned count(void)
+{
+	FILE *file = may_be() ? fopen("/sys/devices/system/cpu/possible", "re") : NULL;
 	unsigned first, last, count = 0;
 	int more = ',';
 
@@ -407,17 +466,90 @@ static int end(struct fuse_rings *r)
 {
 	int failed;
 
+	/* (what is kept has its entries until then) */
+	for (unsigned i = 0; i < r->queues; i++)
+		later_end(&r->later[i]);
 	pthread_mutex_lock(&r->lock);
 	atomic_store(&r->stop, 1);
 	pthread_cond_broadcast(&r->change);
 	pthread_mutex_unlock(&r->lock);
 	for (unsigned i = 0; i < r->started; i++)
+		uring_tell(&r->worker[i].ring);
+	for (unsigned i = 0; i < r->started; i++)
 		fuse_device_join(r->worker[i].thread);
+	for (unsigned i = 0; i < r->workers; i++)
+		free_worker(&r->worker[i]);
 	failed = atomic_load(&r->failed);
 	pthread_cond_destroy(&r->change);
 	pthread_mutex_destroy(&r->lock);
+	free(r->later);
 	free(r);
 	return failed;
+}
+
+/* Makes each worker: 0, or -1. */
+static int make_each(struct fuse_rings *r)
+{
+	for (unsigned i = 0; i < r->workers; i++) {
+		struct worker *w = &r->worker[i];
+
+		if (make_entries(w) || uring_make(&w->ring, w->most, r->device))
+			return -1;
+	}
+	return 0;
+}
+
+static unsigned count_workers(const transport *by, unsigned queues)
+{
+	const unsigned most = TRANSPORT_MOST_WORKERS - 1, wanted = by->ring_workers ? by->ring_workers : 1;
+	const unsigned fit = queues && queues < most ? most / queues : 1;
+
+	return queues < most ? queues * (wanted < fit ? wanted : fit) : most;
+}
+
+/* What they begin with. */
+static void set_out(struct fuse_rings *r, const transport *by, int device, unsigned queues)
+{
+	r->by = by;
+	r->device = device;
+	r->queues = queues;
+	r->workers = count_workers(by, queues);
+	sched_getaffinity(0, sizeof(r->anywhere), &r->anywhere);
+	pthread_mutex_init(&r->lock, NULL);
+	pthread_cond_init(&r->change, NULL);
+	for (unsigned i = 0; i < r->workers; i++) {
+		struct worker *w = &r->worker[i];
+
+		w->of = r;
+		w->number = i + 1;
+		w->ring.fd = w->ring.event = -1;
+		pthread_mutex_init(&w->lock, NULL);
+	}
+	for (unsigned i = 0; i < queues; i++) {
+		r->later[i].most = by->most_kept;
+		r->later[i].is_closed = !by->most_kept;
+	}
+}
+
+static struct fuse_rings *make(const transport *by, int device, unsigned queues)
+{
+	const size_t workers = count_workers(by, queues);
+	struct fuse_rings *r;
+
+	if (!queues || queues > UINT16_MAX)
+		return NULL;
+	r = calloc(1, sizeof(*r) + workers * sizeof(*r->worker));
+	if (r)
+		r->later = calloc(queues, sizeof(*r->later));
+	if (!r || !r->later) {
+		free(r);
+		return NULL;
+	}
+	set_out(r, by, device, queues);
+	if (!make_each(r))
+		return r;
+	end(r);
+	return NULL;
 }
 
 /* Starts each worker, and waits until it is ready. Answers whether all are. */
@@ -428,8 +560,6 @@ static int start_each(struct fuse_rings *r)
 	for (; r->started < r->workers; r->started++) {
 		struct worker *w = &r->worker[r->started];
 
-		w->of = r;
-		w->number = r->started + 1;
 		if (pthread_create(&w->thread, NULL, run, w))
 			return 0;
 	}
@@ -441,41 +571,13 @@ static int start_each(struct fuse_rings *r)
 	return are_ready;
 }
 
-/* Whether a request is an INIT that offers io_uring. */
 static int is_offered(const unsigned char *request, size_t len)
 {
-	struct fuse_in_header asked;
-	struct fuse_init_in init;
-
-	if (len < sizeof(asked) + sizeof(init))
-		return 0;
-	memcpy(&asked, request, sizeof(asked));
-	memcpy(&init, request + sizeof(asked), sizeof(init));
-	return asked.opcode == FUSE_INIT && init.flags & FUSE_INIT_EXT && init.flags2 & OVER_IO_URING;
+	return (nizwarf_init_offered_at(request, len) & TRANSPORT_OVER_IO_URING) != 0;
 }
 
-static struct fuse_rings *start(const struct fuse_ring_start *with, const unsigned char *request, size_t len)
-{
-	const unsigned queues = is_offered(request, len) ? count_queues() : 0;
-	const unsigned most = TRANSPORT_MOST_WORKERS - 1, workers = queues < most ? queues : most;
-	struct fuse_rings *r;
-
-	if (!queues || queues > UINT16_MAX || !(r = calloc(1, sizeof(*r) + workers * sizeof(*r->worker))))
-		return NULL;
-	r->with = *with;
-	r->queues = queues;
-	r->workers = workers;
-	sched_getaffinity(0, sizeof(r->anywhere), &r->anywhere);
-	pthread_mutex_init(&r->lock, NULL);
-	pthread_cond_init(&r->change, NULL);
-	if (start_each(r))
-		return r;
-	end(r);
-	return NULL;
-}
-
-/* The payload has to be as long as what the kernel may ask for at once. */
-static int agree(unsigned char *reply, size_t len)
+/* Whether the payload is as long as what the kernel may ask for at once. */
+static int has_room(const unsigned char *reply, size_t len)
 {
 	const size_t page = (size_t)sysconf(_SC_PAGESIZE), usual_pages = 32;
 	struct fuse_out_header head;
@@ -483,16 +585,21 @@ static int agree(unsigned char *reply, size_t len)
 	size_t pages;
 
 	if (len < sizeof(head) + sizeof(init))
-		return -1;
-	memcpy(&head, reply, sizeof(head));
+		return 0;
 	memcpy(&init, reply + sizeof(head), sizeof(init));
 	pages = init.flags & FUSE_MAX_PAGES ? init.max_pages : usual_pages;
-	if (head.error || init.max_write > TRANSPORT_PAYLOAD || pages > TRANSPORT_PAYLOAD / page)
+	return init.max_write <= TRANSPORT_PAYLOAD && pages <= TRANSPORT_PAYLOAD / page;
+}
+
+static int start(struct fuse_rings *r, struct device *of, int over, unsigned char *reply, size_t len)
+{
+	const nizwarf_init_more more = { .want = TRANSPORT_OVER_IO_URING };
+
+	r->of = of;
+	r->over = over;
+	if (!has_room(reply, len) || !start_each(r))
 		return -1;
-	init.flags |= FUSE_INIT_EXT;
-	init.flags2 |= OVER_IO_URING;
-	memcpy(reply + sizeof(head), &init, sizeof(init));
-	return 0;
+	return nizwarf_add_to_init_at(reply, len, TRANSPORT_OVER_IO_URING, &more) ? 0 : -1;
 }
 
 static void begin(struct fuse_rings *r)
@@ -503,4 +610,4 @@ static void begin(struct fuse_rings *r)
 	pthread_mutex_unlock(&r->lock);
 }
 
-const struct fuse_ring_calls fuse_ring = { start, agree, begin, end };
+const struct fuse_ring_calls fuse_ring = { count, count_workers, make, is_offered, start, begin, end };

@@ -9,23 +9,22 @@
 struct device;
 struct fuse_rings;
 
-/* What they are started with. The event `over` is told by each that fails. */
-struct fuse_ring_start {
-	const transport *by;
-	struct device *of;
-	int device, over;
-};
-
 struct fuse_ring_calls {
-	/* Starts the workers for an INIT, if that offers io_uring: they wait. NULL: it is not offered, or
-	 * can't be. */
-	struct fuse_rings *(*start)(const struct fuse_ring_start *with, const unsigned char *request,
-				    size_t len);
-	/* Takes the offer in the bytes of the reply. 0, or -1: that is no reply to take it in. */
-	int (*agree)(unsigned char *reply, size_t len);
+	/* How many queues Linux has, one for each processor; 0: it doesn't say so, or root has not let it serve so. */
+	unsigned (*count)(void);
+	/* How many workers there are for so many queues, each with two descriptors. */
+	unsigned (*count_workers)(const transport *by, unsigned queues);
+	/* Makes the rings for a device of so many queues: nothing is asked of it yet. NULL: they can't be. From then on no
+	 * system call is made that io_uring has, but io_uring_enter, and io_uring_register to begin. */
+	struct fuse_rings *(*make)(const transport *by, int device, unsigned queues);
+	/* Whether this request is an INIT that offers io_uring. */
+	int (*is_offered)(const unsigned char *request, size_t len);
+	/* Starts the workers, which wait, and takes the offer of that INIT in the bytes of its reply. The event `over` is
+	 * told by each that fails. 0, or -1: they can't be, or that is no reply to take it in. */
+	int (*start)(struct fuse_rings *rings, struct device *of, int over, unsigned char *reply, size_t len);
 	/* The kernel has the reply: they serve from now on. */
 	void (*begin)(struct fuse_rings *rings);
-	/* Ends the workers, and frees what they had. Answers whether one failed, which said why. */
+	/* Ends the workers, if there are any, and frees all. Answers whether one failed, which said why. */
 	int (*end)(struct fuse_rings *rings);
 };
 

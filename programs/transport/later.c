@@ -34,6 +34,12 @@ static void link_later(transport_later *later, struct later_list *list)
 	if (later->next)
 		later->next->at = &later->next;
 	list->first = later;
+	list->kept++;
+}
+
+static int has_room(const struct later_list *list)
+{
+	return !list->is_closed && (!list->most || list->kept < list->most);
 }
 
 transport_later *transport_keep(void)
@@ -49,7 +55,7 @@ transport_later *transport_keep(void)
 	memcpy(later->about, source->about, source->size);
 	later->send = source->send;
 	pthread_mutex_lock(&lock);
-	source->is_kept = !source->list->is_closed;
+	source->is_kept = has_room(source->list);
 	if (source->is_kept)
 		link_later(later, source->list);
 	pthread_mutex_unlock(&lock);
@@ -59,11 +65,12 @@ transport_later *transport_keep(void)
 	return NULL;
 }
 
-static void unlink_later(transport_later *later)
+static void unlink_later(struct later_list *list, transport_later *later)
 {
 	*later->at = later->next;
 	if (later->next)
 		later->next->at = later->at;
+	list->kept--;
 	later->list = NULL;
 }
 
@@ -74,7 +81,7 @@ void transport_complete(transport_later *later, int32_t code, const void *reply,
 	pthread_mutex_lock(&lock);
 	list = later->list;
 	if (list) {
-		unlink_later(later);
+		unlink_later(list, later);
 		list->sending++;
 	}
 	pthread_mutex_unlock(&lock);
@@ -117,7 +124,7 @@ void later_end(struct later_list *list)
 	pthread_mutex_lock(&lock);
 	list->is_closed = 1;
 	while (list->first)
-		unlink_later(list->first);
+		unlink_later(list, list->first);
 	while (list->sending)
 		pthread_cond_wait(&sent, &lock);
 	pthread_mutex_unlock(&lock);

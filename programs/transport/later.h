@@ -9,6 +9,8 @@ struct later_list {
 	transport_later *first;
 	/* None is kept now. */
 	int is_closed;
+	/* How many are kept, and how many may be; 0: any number. */
+	unsigned kept, most;
 	/* How many are being sent. */
 	unsigned sending;
 };

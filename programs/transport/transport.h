@@ -9,13 +9,13 @@
  * that calls a transport waits for signals: SIGINT, SIGTERM and SIGHUP end it.
  *
  * Requests. /dev/fuse gives each in one segment, with one room, of which the data of a WRITE and
- * those of a READ's reply begin at a page. Over io_uring each is in three segments, the header, the
- * record and the rest, with two rooms, of which the second is where the rest stands. A virtual
- * machine gives a room in any pieces, right in its memory: the reply is written there, and must not
- * be read back. So a table has its reply in memory of yours there, to be copied. Its requests are copied into one segment, since it may change its memory at any
- * time. With `writes_in_place` the data of a WRITE are not: they come in segments behind the first,
- * which has the header and the record. Nothing is to be believed of them that is read twice; the
- * door reads none of them. */
+ * those of a READ's reply begin at a page. Over io_uring there are two rooms, of which the second is
+ * where what follows the record of the request stands. A virtual machine gives a room in any pieces,
+ * right in its memory: the reply is written there, and must not be read back. So a table has its reply
+ * in memory of yours in both, to be copied. A machine's requests are copied into one segment, since it
+ * may change its memory at any time. With `writes_in_place` the data of a WRITE are not: they come in
+ * segments behind the first, which has the header and the record. Nothing is to be believed of them
+ * that is read twice; the door reads none of them. */
 #ifndef TRANSPORT_H
 #define TRANSPORT_H
 
@@ -43,11 +43,14 @@ typedef struct {
 		PTHREAD_MUTEX_INITIALIZER, -1 \
 	}
 
+struct fuse_rings;
 struct fuse_ring_calls;
 extern const struct fuse_ring_calls fuse_ring;
 
-/* A flag of INIT that older headers lack. */
+/* Flags of INIT that older headers lack. */
 #define TRANSPORT_ALLOW_IDMAP (UINT64_C(1) << 40)
+/* The transports take this one themselves: it is told to no `serve`. */
+#define TRANSPORT_OVER_IO_URING (UINT64_C(1) << 41)
 
 typedef struct {
 	/* What messages on standard error begin with. */
@@ -65,10 +68,18 @@ typedef struct {
 	uint64_t withheld;
 	/* Not to print how many requests came to what, once a front end has gone. */
 	int quiet;
-	/* Where /dev/fuse is served by io_uring if Linux offers that (`fuse_ring`, of fuse_ring.c), by a worker
-	 * for each processor beside the others: each of them may call `serve`. The worker 0 begins before them,
-	 * and ends after them. NULL: it is served by read(2) and write(2) alone. */
+	/* Where /dev/fuse is served by io_uring if Linux offers that (`fuse_ring`, of fuse_ring.c), by so many workers for
+	 * each processor, at least one, beside the others: each of them may call `serve`. The worker 0 begins before
+	 * them, and ends after them. NULL: it is served by read(2) and write(2) alone. */
 	const struct fuse_ring_calls *ring;
+	unsigned ring_workers;
+	/* How many requests of each processor may be kept over io_uring at once (transport_keep). */
+	unsigned most_kept;
+	/* It is said on standard error that Linux doesn't offer io_uring. */
+	int wants_ring;
+	/* Rings that were made before, since a filter of system calls lets none be made; they are the transport's. NULL: it
+	 * makes them. */
+	struct fuse_rings *rings;
 	/* One of /proc/self/fd, by which /dev/fuse is opened again where it has no path; 0: none. */
 	int descriptors;
 	/* May be NULL. */
@@ -102,8 +113,8 @@ typedef struct transport_later transport_later;
 
 /* Takes the request that `serve` has now, on this thread, out of the worker's hands: `serve` answers NIZWARF_ASKED
  * then, and the request is completed once, from any thread, perhaps before `serve` comes back. NULL: there is no
- * memory, or it can't be kept: over io_uring, or while a machine pauses. In a machine a request that is kept holds its
- * place in the queue. */
+ * memory, or it can't be kept: while a machine pauses, or over io_uring as many are kept of that processor as may be
+ * (`most_kept`). In a machine a request that is kept holds its place in the queue. */
 transport_later *transport_keep(void);
 
 /* Completes a request that was kept, by these bytes, or refuses it by this code if it isn't NIZWARF_OK. If its client
@@ -116,6 +127,7 @@ static inline void transport_withhold(const transport *by, unsigned char *reques
 {
 	const size_t at = sizeof(struct fuse_in_header) + offsetof(struct fuse_init_in, flags);
 	struct fuse_in_header asked;
+	const uint64_t withheld = by->withheld | TRANSPORT_OVER_IO_URING;
 	uint32_t flags[2] = { 0, 0 };
 	/* (the second ones follow the first, if the request has them) */
 	const size_t size = len < at + sizeof(flags) ? sizeof(flags[0]) : sizeof(flags);
@@ -124,8 +136,8 @@ static inline void transport_withhold(const transport *by, unsigned char *reques
 		return;
 	memcpy(&asked, request, sizeof(asked));
 	memcpy(flags, request + at, size);
-	flags[0] &= ~(uint32_t)by->withheld;
-	flags[1] &= ~(uint32_t)(by->withheld >> 32);
+	flags[0] &= ~(uint32_t)withheld;
+	flags[1] &= ~(uint32_t)(withheld >> 32);
 	if (asked.opcode == FUSE_INIT)
 		memcpy(request + at, flags, size);
 }

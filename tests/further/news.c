@@ -2,7 +2,8 @@
  * and waited for without a thread, STATX, TMPFILE, IOCTL, POLL and BMAP; and that keeps everything for a day, so what
  * changes is told by notices.
  *
- * Usage: news MOUNTPOINT, as root. Lines of standard input change it, and each is answered by `done`:
+ * Usage: news [--io_uring] MOUNTPOINT, as root. Requests come by io_uring then, and up to KEPT of a processor wait. Lines
+ * of standard input change it, and each is answered by `done`:
  *
  *	set TEXT, quiet TEXT	its text, with a notice and without
  *	store TEXT		its text, which is put into the kernel's memory
@@ -15,6 +16,7 @@
 #include <inttypes.h>
 #include <poll.h>
 #include <pthread.h>
+#include <signal.h>
 #include <stdio.h>
 #include <stdlib.h>
 #include <sys/ioctl.h>
@@ -30,19 +32,22 @@ enum {
 	MOST_LOCKS = 256,
 	DAY = 86400,
 	WORKERS = 2,
+	KEPT = 4,
+	MESSAGE = TRANSPORT_PAYLOAD + 4096,
 	ITEMS = 8,
 	LONGEST = 4096
 };
 
 static char text[LONGEST] = "old\n", name[64] = "news", unnamed[LONGEST];
 static size_t unnamed_len;
-static uint64_t forgotten, polled;
+static uint64_t forgotten;
+static _Atomic uint64_t polled;
 
 /* Of all that is here. */
 static pthread_mutex_t lock = PTHREAD_MUTEX_INITIALIZER;
 static transport_notices notices = TRANSPORT_NO_NOTICES;
 static nizwarf_session session = { 0, 4096, TRANSPORT_PAYLOAD };
-static nizwarf_slot slots[WORKERS], late_slot = NIZWARF_NONE;
+static nizwarf_slot slots[TRANSPORT_MOST_WORKERS], late_slot = NIZWARF_NONE;
 
 /* ---- locks */
 
@@ -568,32 +573,75 @@ static void *obey_each(void *none)
 	return none;
 }
 
+/* Memory for a reply in one piece, of each worker. */
+static uint8_t *replies[TRANSPORT_MOST_WORKERS];
+
+static int begin(void *user, unsigned worker)
+{
+	(void)user;
+	replies[worker] = malloc(MESSAGE);
+	return !replies[worker];
+}
+
+static void end(void *user, unsigned worker)
+{
+	(void)user;
+	nizwarf_end_slot(&slots[worker]);
+	free(replies[worker]);
+}
+
+/* (over io_uring a reply is in two pieces) */
 static int32_t serve(void *user, unsigned worker, const nizwarf_segment *request, size_t segments,
 		     const nizwarf_room *room, size_t rooms, size_t *len)
 {
 	nizwarf_item items[ITEMS];
+	size_t size = 0, copied = 0;
+	int32_t code;
 
-	(void)segments, (void)rooms;
-	return nizwarf_serve_ops(&ops, user, &slots[worker], &session, request->at, request->len, room->at,
-				 room->len, items, ITEMS, len);
+	(void)segments;
+	for (size_t i = 0; i < rooms; i++)
+		size += room[i].len;
+	code = nizwarf_serve_ops(&ops, user, &slots[worker], &session, request->at, request->len,
+				 rooms > 1 ? replies[worker] : room->at, size, items, ITEMS, len);
+	for (size_t i = 0; rooms > 1 && i < rooms && copied < *len; i++) {
+		const size_t part = *len - copied < room[i].len ? *len - copied : room[i].len;
+
+		memcpy(room[i].at, replies[worker] + copied, part);
+		copied += part;
+	}
+	return code;
 }
 
 int main(int count, char **words)
 {
-	const transport by = { .program = "news", .workers = WORKERS, .notices = &notices, .serve = serve };
+	const int by_ring = count == 3 && !strcmp(words[1], "--io_uring");
+	const transport by = { .program = "news",
+			       .workers = WORKERS,
+			       .ring = by_ring ? &fuse_ring : NULL,
+			       .ring_workers = 2,
+			       .most_kept = KEPT,
+			       .wants_ring = 1,
+			       .notices = &notices,
+			       .begin = begin,
+			       .end = end,
+			       .serve = serve };
 	pthread_t lines;
+	sigset_t ending;
 	int device, status;
 
-	if (count != 2 || !strcmp(words[1], "--help"))
-		return fputs("Usage: news MOUNTPOINT\n", stderr), 2;
-	device = fuse_device_mount(&by, "news", words[1], MS_NOSUID | MS_NODEV, ",default_permissions");
+	if (count != 2 + by_ring || !strcmp(words[1], "--help"))
+		return fputs("Usage: news [--io_uring] MOUNTPOINT\n", stderr), 2;
+	device = fuse_device_mount(&by, "news", words[1 + by_ring], MS_NOSUID | MS_NODEV,
+				   ",default_permissions");
+	/* (a signal is for who serves) */
+	sigemptyset(&ending);
+	sigaddset(&ending, SIGTERM);
+	pthread_sigmask(SIG_BLOCK, &ending, NULL);
 	if (device < 0 || pthread_create(&lines, NULL, obey_each, NULL))
 		return 1;
 	/* (it ends with the process) */
 	pthread_detach(lines);
-	status = fuse_device_serve(&by, device, words[1]);
-	for (int i = 0; i < WORKERS; i++)
-		nizwarf_end_slot(&slots[i]);
+	status = fuse_device_serve(&by, device, words[1 + by_ring]);
 	nizwarf_end_slot(&late_slot);
 	return status;
 }

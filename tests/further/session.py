@@ -1,7 +1,7 @@
 #!/usr/bin/env python3
 """Mounts news.c and asks of it, as programs do, what virtiofsd has not.
 
-Usage: tests/further/session.py PROGRAM FOLDER, as root
+Usage: tests/further/session.py PROGRAM FOLDER [--io_uring], as root
 
 Everything is kept for a day: so a change is seen after its notice, and not before. Then come STATX, IOCTL, POLL, BMAP,
 O_TMPFILE, and locks.py. It prints a line a step. Status 0: all came as Linux says.
@@ -28,10 +28,10 @@ def step(what, got, wanted):
 
 
 class News:
-    def __init__(self, program, folder):
+    def __init__(self, program, folder, *words):
         self.folder = folder
         self.file = os.path.join(folder, "news")
-        self.process = subprocess.Popen([program, folder], stdin=subprocess.PIPE, stdout=subprocess.PIPE, text=True)
+        self.process = subprocess.Popen([program, *words, folder], stdin=subprocess.PIPE, stdout=subprocess.PIPE, text=True)
         until = time.time() + 10
         while not os.path.ismount(folder) and time.time() < until:
             time.sleep(0.02)
@@ -142,7 +142,7 @@ def notices(news):
 
 
 def main():
-    if len(sys.argv) != 3:
+    if len(sys.argv) not in (3, 4):
         print(__doc__.strip())
         return 0 if sys.argv[1:] in (["-h"], ["--help"]) else 2
     news = News(*sys.argv[1:])

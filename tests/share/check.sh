@@ -2,8 +2,8 @@
 # Tests nizwarf-share, on folders of its own.
 #
 # Usage: tests/share/check.sh
-# It refuses words that can't be. Over /dev/fuse tests/mount/session.sh does what a person does, with one worker, with
-# four, with a cache of what is written later, with file handles, with few descriptors; after each the descriptors of
+# It refuses words that can't be. Over /dev/fuse, by read(2), and by io_uring if Linux offers that,
+# tests/mount/session.sh does what a person does, with one worker, with four, with a cache of what is written later, with file handles, with few descriptors; after each the descriptors of
 # the server are counted. A file that came after a remembered name is opened by who may alone. calls.py asks it what it
 # asks a plain folder. escape.c tries to leave the sandbox from within, and the server's capabilities and directories
 # are looked at. Files that the mount's kernel has by itself are as in the folder (apart.py), and what others change is
@@ -14,7 +14,7 @@
 # for one holds nothing up (waits.py).
 # Last, tools/dev/lint.sh holds its sources against clang-tidy and cppcheck, if they are installed.
 #
-# It takes four minutes, and wants root, /dev/fuse, python3, a C compiler and the Rattle toolchain. It links the proved
+# It takes seven minutes, and wants root, /dev/fuse, python3, a C compiler and the Rattle toolchain. It links the proved
 # library if that is built and no source is newer; otherwise tools/lib/unproved.sh builds it without a proof.
 # Status 0: all was right; 1: not so; 2: it could not start.
 set -euo pipefail
@@ -24,6 +24,13 @@ take_none "$@"
 begin_share "$@"
 server=
 status=0
+# How requests of a mount can come.
+ways=(no_io_uring)
+if [ "$(cat /sys/module/fuse/parameters/enable_uring 2> /dev/null)" = Y ]; then
+    ways+=(io_uring)
+else
+    echo "Linux offers no io_uring here: mounts over it were left out." >&2
+fi
 
 # Tells of what is wrong.
 wrong() {
@@ -31,11 +38,21 @@ wrong() {
     status=1
 }
 
-# How many descriptors the server has, which is the last child of what stands by its sandbox.
-descriptors() {
+# What descriptors the server has, which is the last child of what stands by its sandbox.
+list_descriptors() {
     local children
     read -ra children < "/proc/$server/task/$server/children" || true
-    find "/proc/${children[-1]:-$server}/fd" -mindepth 1 | wc -l
+    find "/proc/${children[-1]:-$server}/fd" -mindepth 1 -printf '%l\n'
+}
+descriptors() {
+    list_descriptors | wc -l
+}
+
+# Whether requests come by the way that the words say.
+goes_by() {
+    local way=no_io_uring
+    [[ $(list_descriptors) != *io_uring* ]] || way=io_uring
+    [[ " $* " == *" $way "* ]]
 }
 
 # Until it is mounted.
@@ -56,6 +73,7 @@ try_mount() {
     server=$!
     await_mount
     ls "$work/mount" > /dev/null
+    goes_by "$@" || wrong "the way of requests is another one with $*"
     before=$(descriptors)
     "$here/tests/mount/session.sh" --shared "${lists[@]}" "$work/mount" > "$work/said" || {
         grep -A 2 WRONG "$work/said" >&2 || true
@@ -99,7 +117,7 @@ try_signals() {
 
 try_kill() {
     local came=0
-    "$share" --log-level=off "$work/folder" "$work/mount" &
+    "$share" --log-level=off "$@" "$work/folder" "$work/mount" &
     server=$!
     await_mount
     kill -KILL $(($(cat "/proc/$server/task/$server/children")))
@@ -112,19 +130,24 @@ try_kill() {
 # Code that got into the server has no way out of its sandbox: a program has its place, and the server itself is
 # looked at from outside.
 try_escape() {
-    local from=$here/programs/share came sandbox filter seccomp=() links=()
+    local from=$here/programs/share came sandbox filter what seccomp=() links=()
     ! "$share" --version | grep -q "with libseccomp" || seccomp=(-DWITH_SECCOMP)
     [ "${#seccomp[@]}" = 0 ] || links=(-lseccomp)
     cc -std=c11 -O2 -Wall -Wextra -Werror -pthread "${seccomp[@]}" -I "$here/include" -I "$here/programs/transport" -o "$work/escape" \
         "$here/tests/share/escape.c" "$from/share_sandbox.c" "$from/share_users.c" "$from/passthrough_who.c" \
-        "$from/../transport/fuse_backing.c" "$from/../transport/fuse_mount.c" "${links[@]}"
+        "$from/../transport/fuse_backing.c" "$from/../transport/fuse_mount.c" \
+        "$from/../transport/uring.c" "${links[@]}"
     mkdir -p "$work/folder"
     touch "$work/outside"
     for sandbox in namespace chroot; do
-        for filter in none ${seccomp:+kill}; do
+        for what in none ${seccomp:+kill} "none ring" ${seccomp:+"kill ring"}; do
+            [ "${#ways[@]}" = 2 ] || [ "$what" = "${what% ring}" ] || continue
+            filter=${what% ring}
             came=0
-            timeout 20 "$work/escape" "$sandbox" "$filter" "$work/folder" "$work/outside" > "$work/said" 2>&1 || came=$?
-            # (the filter ends it at the call that opens a handle)
+            # shellcheck disable=SC2086
+            timeout 20 "$work/escape" "$sandbox" "$filter" "$work/folder" "$work/outside" ${what#"$filter"} > "$work/said" 2>&1 ||
+                came=$?
+            # (the filter ends it at the call that opens a handle, or makes a ring)
             if [ "$filter" = kill ] && [ "$(cat "$work/said")" = "nizwarf-share: signal 31 ended the server" ]; then
                 came=0
                 : > "$work/said"
@@ -132,7 +155,7 @@ try_escape() {
                 came="$came, and no signal"
             fi
             if [ "$came" != 0 ] || [ -s "$work/said" ]; then
-                wrong "a way out of the sandbox $sandbox, with the filter $filter: status $came, $(cat "$work/said")"
+                wrong "a way out of the sandbox $sandbox, with the filter $what: status $came, $(cat "$work/said")"
             fi
         done
         for filter in never prefer; do
@@ -276,7 +299,7 @@ try_late() {
     rm -rf "$work/folder"
     mkdir -p "$work/folder" "$work/mount"
     chmod 1777 "$work/folder"
-    "$share" --log-level=error -o allow_other,negative_timeout=60 "$work/folder" "$work/mount" &
+    "$share" --log-level=error -o allow_other,negative_timeout=60 "$@" "$work/folder" "$work/mount" &
     server=$!
     await_mount
     timeout 60 python3 -B "$here/tests/share/late.py" "$work/folder" "$work/mount" || wrong "a file that came late"
@@ -290,7 +313,7 @@ try_late() {
 try_closed() {
     local child fd
     mkdir -p "$work/folder" "$work/mount"
-    "$share" --trace="$work/trace" "$work/folder" "$work/mount" <&- >&- 2>&- &
+    "$share" --trace="$work/trace" "$@" "$work/folder" "$work/mount" <&- >&- 2>&- &
     server=$!
     await_mount
     touch "$work/mount/touched"
@@ -506,12 +529,14 @@ try_sanitizers() {
     build_transport share vfs_door "${flags[@]}"
     share=$transport
     ask_hostile "under the sanitizers $1" --xattr --announce-submounts "${words[@]}"
-    try_mount --thread-pool-size=4 --xattr --log-level=error "${words[@]}"
-    try_calls "${words[@]}"
-    try_locks "${words[@]}"
-    try_apart "${words[@]}"
-    try_watched --passthrough "${words[@]}"
-    try_ends "${words[@]}"
+    for way in "${ways[@]}"; do
+        try_mount --thread-pool-size=4 --xattr --log-level=error -o "$way" "${words[@]}"
+        try_calls -o "$way" "${words[@]}"
+        try_locks -o "$way" "${words[@]}"
+        try_apart -o "$way" "${words[@]}"
+        try_watched --passthrough -o "$way" "${words[@]}"
+        try_ends -o "$way" "${words[@]}"
+    done
     share=$plain
 }
 
@@ -535,54 +560,61 @@ part "capabilities"
 try_capabilities
 part "ways out of the sandbox"
 try_escape
-part "a session with one worker"
-try_mount --thread-pool-size=1
-part "a session with four workers"
-try_mount --thread-pool-size=4
-part "a session with what is written later"
-try_mount --thread-pool-size=4 --writeback
-part "a session without a sandbox"
-try_mount --cache=always --xattr --sandbox=none --seccomp=none
-part "a session without a cache"
-try_mount --cache=never --no-readdirplus
-part "a session with file handles"
-try_mount --inode-file-handles=prefer --xattr
-part "a session with file handles alone"
-try_mount --inode-file-handles=mandatory -o entry_timeout=0.5,attr_timeout=0 --sandbox=chroot
-part "a session with files that the mount has by itself, and a watch"
-try_mount --passthrough --watch --cache=always
-part "a session with few descriptors"
-try_mount --inode-file-handles=prefer --rlimit-nofile=100
-part "a session with access control lists"
-try_mount --posix-acl
-part "signals, and a server that is killed"
-try_signals --sandbox=namespace
-try_signals --sandbox=none
-try_kill
-part "names that change"
-try_names --sandbox=namespace
-try_names --sandbox=none
-part "a file that came late"
-try_late
-part "without standard descriptors"
-try_closed
-part "calls, beside a plain folder"
-try_calls
-try_calls --passthrough --watch
-part "files that a mount has by itself"
-try_apart
-part "what others change"
-try_watched
-try_watched --passthrough --sandbox=chroot
-part "locks"
-try_locks
-try_locks --cache=always --writeback --inode-file-handles=prefer
+# What a mount is tried by, with these words.
+try_mounts() {
+    part "sessions, with $*: one worker"
+    try_mount --thread-pool-size=1 "$@"
+    part "four workers"
+    try_mount --thread-pool-size=4 "$@"
+    part "with what is written later"
+    try_mount --thread-pool-size=4 --writeback "$@"
+    part "without a sandbox"
+    try_mount --cache=always --xattr --sandbox=none --seccomp=none "$@"
+    part "without a cache"
+    try_mount --cache=never --no-readdirplus "$@"
+    part "with file handles"
+    try_mount --inode-file-handles=prefer --xattr "$@"
+    part "with file handles alone"
+    try_mount --inode-file-handles=mandatory -o entry_timeout=0.5,attr_timeout=0 --sandbox=chroot "$@"
+    part "with files that the mount has by itself, and a watch"
+    try_mount --passthrough --watch --cache=always "$@"
+    part "with few descriptors"
+    try_mount --inode-file-handles=prefer --rlimit-nofile=100 "$@"
+    part "with access control lists"
+    try_mount --posix-acl "$@"
+    part "signals, and a server that is killed"
+    try_signals --sandbox=namespace "$@"
+    try_signals --sandbox=none "$@"
+    try_kill "$@"
+    part "names that change"
+    try_names --sandbox=namespace "$@"
+    try_names --sandbox=none "$@"
+    part "a file that came late"
+    try_late "$@"
+    part "without standard descriptors"
+    try_closed "$@"
+    part "calls, beside a plain folder"
+    try_calls "$@"
+    try_calls --passthrough --watch "$@"
+    part "files that a mount has by itself"
+    try_apart "$@"
+    part "what others change"
+    try_watched "$@"
+    try_watched --passthrough --sandbox=chroot "$@"
+    part "locks"
+    try_locks "$@"
+    try_locks --cache=always --writeback --inode-file-handles=prefer "$@"
+    part "ends"
+    try_ends "$@"
+}
+
+for way in "${ways[@]}"; do
+    try_mounts -o "$way"
+done
 part "a share by a user"
 try_user
 part "what a client knows of files"
 try_nodes
-part "ends"
-try_ends
 part "hostile requests"
 ask_hostile "over vhost-user, in its sandbox" --xattr
 part "hostile requests, without a sandbox and with one worker"

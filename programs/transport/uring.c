@@ -1,0 +1,167 @@
+/* A ring of io_uring for commands to one device: uring.h. */
+#define _GNU_SOURCE
+#include <poll.h>
+#include <string.h>
+#include <errno.h>
+#include <sys/eventfd.h>
+#include <sys/mman.h>
+#include <sys/syscall.h>
+#include <unistd.h>
+#include "uring.h"
+
+/* What headers before Linux 6.14 lack. */
+#ifndef IORING_SETUP_NO_SQARRAY
+#define IORING_SETUP_NO_SQARRAY (1U << 16)
+#endif
+
+/* How long a command is, and where what it has of its own begins; and its files. */
+enum { COMMAND = 128, OWN_PART = 48 };
+enum { DEVICE, EVENT, FILES };
+
+static void *map(int fd, size_t len, off_t at)
+{
+	void *memory = mmap(NULL, len, PROT_READ | PROT_WRITE, MAP_SHARED, fd, at);
+
+	return memory == MAP_FAILED ? NULL : memory;
+}
+
+static int enlist(const struct uring *r, unsigned what, const void *list, unsigned count)
+{
+	return (int)syscall(SYS_io_uring_register, r->fd, what, list, count);
+}
+
+/* What goes by a ring passes no filter of system calls. So it is for these commands to its own files, and nothing of it
+ * is changed any more. */
+static int bound(const struct uring *r, int device)
+{
+	const int files[FILES] = { [DEVICE] = device, [EVENT] = r->event };
+	const struct io_uring_restriction only[] = {
+		{ .opcode = IORING_RESTRICTION_SQE_OP, .sqe_op = IORING_OP_URING_CMD },
+		{ .opcode = IORING_RESTRICTION_SQE_OP, .sqe_op = IORING_OP_POLL_ADD },
+		{ .opcode = IORING_RESTRICTION_SQE_FLAGS_REQUIRED, .sqe_flags = IOSQE_FIXED_FILE },
+	};
+
+	return enlist(r, IORING_REGISTER_FILES, files, FILES) ||
+			       enlist(r, IORING_REGISTER_RESTRICTIONS, only, sizeof(only) / sizeof(*only)) ?
+		       -1 :
+		       0;
+}
+
+int uring_make(struct uring *r, unsigned commands, int device)
+{
+	struct io_uring_params made = { .flags = IORING_SETUP_SQE128 | IORING_SETUP_NO_SQARRAY |
+						 IORING_SETUP_SINGLE_ISSUER | IORING_SETUP_DEFER_TASKRUN |
+						 IORING_SETUP_R_DISABLED };
+	unsigned char *queues;
+
+	/* (and one that waits for the event) */
+	r->fd = (int)syscall(SYS_io_uring_setup, commands + 1, &made);
+	r->event = eventfd(0, EFD_CLOEXEC | EFD_NONBLOCK);
+	if (r->fd < 0 || r->event < 0)
+		return -1;
+	r->queues_len = made.cq_off.cqes + made.cq_entries * sizeof(struct io_uring_cqe);
+	r->queues = queues = map(r->fd, r->queues_len, IORING_OFF_SQ_RING);
+	r->commands_len = (size_t)made.sq_entries * COMMAND;
+	r->commands = map(r->fd, r->commands_len, IORING_OFF_SQES);
+	if (!queues || !r->commands || bound(r, device))
+		return -1;
+	r->tail = (_Atomic uint32_t *)(void *)(queues + made.sq_off.tail);
+	r->mask = made.sq_entries - 1;
+	r->head = (_Atomic uint32_t *)(void *)(queues + made.cq_off.head);
+	r->done = (_Atomic uint32_t *)(void *)(queues + made.cq_off.tail);
+	r->done_mask = made.cq_entries - 1;
+	r->completions = (const struct io_uring_cqe *)(void *)(queues + made.cq_off.cqes);
+	return 0;
+}
+
+void uring_free(struct uring *r)
+{
+	if (r->queues)
+		munmap(r->queues, r->queues_len);
+	if (r->commands)
+		munmap(r->commands, r->commands_len);
+	if (r->fd >= 0)
+		close(r->fd);
+	if (r->event >= 0)
+		close(r->event);
+}
+
+int uring_begin(struct uring *r)
+{
+	return enlist(r, IORING_REGISTER_ENABLE_RINGS, NULL, 0);
+}
+
+/* Puts in what begins so. */
+static void put(struct uring *r, const struct io_uring_sqe *sqe, const void *own, size_t len)
+{
+	const uint32_t tail = atomic_load_explicit(r->tail, memory_order_relaxed);
+	unsigned char *at = (unsigned char *)r->commands + (size_t)(tail & r->mask) * COMMAND;
+
+	memset(at, 0, COMMAND);
+	memcpy(at, sqe, OWN_PART);
+	memcpy(at + OWN_PART, own, len);
+	atomic_store_explicit(r->tail, tail + 1, memory_order_release);
+	r->waiting++;
+}
+
+void uring_put(struct uring *r, uint32_t what, uint64_t number, const void *memory, uint32_t pieces,
+	       const void *own, size_t len)
+{
+	const struct io_uring_sqe sqe = { .opcode = IORING_OP_URING_CMD,
+					  .flags = IOSQE_FIXED_FILE,
+					  .fd = DEVICE,
+					  .cmd_op = what,
+					  .addr = (uintptr_t)memory,
+					  .len = pieces,
+					  .user_data = number };
+
+	put(r, &sqe, own, len);
+}
+
+void uring_put_event(struct uring *r)
+{
+	const struct io_uring_sqe sqe = { .opcode = IORING_OP_POLL_ADD,
+					  .flags = IOSQE_FIXED_FILE,
+					  .fd = EVENT,
+					  .len = IORING_POLL_ADD_MULTI,
+					  .poll32_events = POLLIN,
+					  .user_data = URING_EVENT };
+
+	put(r, &sqe, "", 0);
+}
+
+int uring_enter(struct uring *r, int waits)
+{
+	const long taken = syscall(SYS_io_uring_enter, r->fd, r->waiting, waits ? 1 : 0,
+				   IORING_ENTER_GETEVENTS, NULL, 0);
+
+	if (taken > 0)
+		r->waiting -= (unsigned)taken;
+	return taken >= 0 || errno == EINTR || errno == EAGAIN || errno == EBUSY ? 0 : -1;
+}
+
+int uring_take(struct uring *r, struct io_uring_cqe *done)
+{
+	const uint32_t head = atomic_load_explicit(r->head, memory_order_relaxed);
+
+	if (head == atomic_load_explicit(r->done, memory_order_acquire))
+		return 0;
+	*done = r->completions[head & r->done_mask];
+	atomic_store_explicit(r->head, head + 1, memory_order_release);
+	return 1;
+}
+
+void uring_tell(const struct uring *r)
+{
+	/* (it is full already, or there is nothing to tell) */
+	if (eventfd_write(r->event, 1))
+		return;
+}
+
+void uring_clear(const struct uring *r)
+{
+	eventfd_t times;
+
+	if (eventfd_read(r->event, &times))
+		return;
+}
