@@ -394,14 +394,16 @@ static void note(struct watch *all, uint64_t node, bool has_data)
 	all->changed[at].has_data |= has_data;
 }
 
-/* Takes what an event says of one file: of itself, or of a name in it. */
-static void take_record(struct watch *all, uint64_t mask, const struct file_handle *handle, const char *name)
+/* Takes what an event says of one file: of itself, or of a name in it. (What the client did by one of several nodes
+ * it doesn't know of the others.) */
+static void take_record(struct watch *all, uint64_t mask, bool is_own, const struct file_handle *handle,
+			const char *name)
 {
 	const bool is_inside = name && strcmp(name, ".") != 0;
 	uint64_t nodes[MOST_ALIKE];
 	const unsigned count = find(all, handle, nodes);
 
-	for (unsigned i = 0; i < count; i++) {
+	for (unsigned i = 0; i < count && (!is_own || count > 1); i++) {
 		/* (what was made had no name, which is only remembered if that is wanted) */
 		if (is_inside && (mask & (IN_DIRECTORY & ~(uint64_t)FAN_CREATE) || all->knows_none))
 			tell_name(all, nodes[i], name);
@@ -414,12 +416,12 @@ static void take_record(struct watch *all, uint64_t mask, const struct file_hand
 static void take_event(struct watch *all, const struct fanotify_event_metadata *event, const char *at,
 		       const char *end)
 {
-	const bool is_entry = event->mask & IN_DIRECTORY;
+	const bool is_entry = event->mask & IN_DIRECTORY, is_own = event->pid == all->own;
 
-	if (event->mask & FAN_Q_OVERFLOW)
+	if (event->mask & FAN_Q_OVERFLOW) {
 		all->is_lost = true;
-	if (event->pid == all->own || event->mask & FAN_Q_OVERFLOW)
 		return;
+	}
 	while ((size_t)(end - at) >= sizeof(struct fanotify_event_info_fid) + sizeof(struct file_handle)) {
 		const struct fanotify_event_info_fid *record = (const void *)at;
 		const struct file_handle *handle = (const void *)record->handle;
@@ -427,10 +429,10 @@ static void take_event(struct watch *all, const struct fanotify_event_metadata *
 
 		if (record->hdr.info_type == FAN_EVENT_INFO_TYPE_FID ||
 		    record->hdr.info_type == FAN_EVENT_INFO_TYPE_DFID)
-			take_record(all, event->mask & ~(uint64_t)IN_DIRECTORY, handle, NULL);
+			take_record(all, event->mask & ~(uint64_t)IN_DIRECTORY, is_own, handle, NULL);
 		else if (record->hdr.info_type == FAN_EVENT_INFO_TYPE_DFID_NAME &&
 			 (is_entry || !strcmp(name, ".")))
-			take_record(all, event->mask, handle, name);
+			take_record(all, event->mask, is_own, handle, name);
 		at += record->hdr.len;
 	}
 }

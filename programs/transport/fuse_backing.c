@@ -18,6 +18,7 @@
 #include <string.h>
 #include <sys/ioctl.h>
 #include <sys/prctl.h>
+#include <sys/resource.h>
 #include <sys/socket.h>
 #include <sys/stat.h>
 #include <sys/syscall.h>
@@ -25,6 +26,9 @@
 #include <unistd.h>
 #include "fuse_backing.h"
 #include "transport.h"
+
+/* In seconds: how long it is waited for. */
+enum { PATIENCE = 10 };
 
 /* What is asked: a number to be closed; 0: a descriptor comes with it. */
 struct asked {
@@ -83,6 +87,9 @@ static unsigned take_descriptors(struct msghdr *message, int fds[2])
 	return (unsigned)(len / sizeof(int));
 }
 
+/* How many files have a number, and how many may: as many as a process may have open. */
+static unsigned long named, most_named;
+
 /* The number of a file, or its error below 0. */
 static int32_t open_file(int fd)
 {
@@ -97,8 +104,20 @@ static int32_t open_file(int fd)
 		return -errno;
 	if (!S_ISREG(seen.stx_mode) || seen.stx_attributes & (STATX_ATTR_IMMUTABLE | STATX_ATTR_APPEND))
 		return -EINVAL;
+	if (named >= most_named)
+		return -EMFILE;
 	number = ioctl(BACKING_DEVICE, BACKING_OPEN, &map);
+	named += number > 0;
 	return number < 0 ? -errno : number;
+}
+
+/* Closes a number. Whether it may have been one. */
+static int close_number(uint32_t number)
+{
+	const int error = ioctl(BACKING_DEVICE, BACKING_CLOSE, &number) ? errno : 0;
+
+	named -= !error && named;
+	return !error || error == ENOENT;
 }
 
 /* Does what one message asks. Whether another one may come. */
@@ -123,7 +142,7 @@ static int answer_one(void)
 		return 0;
 	count = take_descriptors(&message, fds);
 	if (asked.number)
-		return !count && (!ioctl(BACKING_DEVICE, BACKING_CLOSE, &asked.number) || errno == ENOENT);
+		return !count && close_number(asked.number);
 	if (count != 1)
 		return 0;
 	told = open_file(fds[0]);
@@ -133,11 +152,16 @@ static int answer_one(void)
 
 static _Noreturn void name_files(const transport *by, int device, int socket, int (*limit)(void *user))
 {
+	struct rlimit files;
+
 	/* (a terminal's signals, and a manager's, are for the server, by whose end it ends) */
 	signal(SIGINT, SIG_IGN);
 	signal(SIGTERM, SIG_IGN);
 	signal(SIGHUP, SIG_IGN);
 	prctl(PR_SET_NAME, "nizwarf-backing");
+	if (getrlimit(RLIMIT_NOFILE, &files))
+		_exit(1);
+	most_named = files.rlim_cur;
 	if (chdir("/") || keep_descriptors(device, socket) || keep_capability() || limit(by->user))
 		_exit(1);
 	while (answer_one())
@@ -147,13 +171,13 @@ static _Noreturn void name_files(const transport *by, int device, int socket, in
 
 int fuse_backing_start(const transport *by, int device, int (*limit)(void *user))
 {
-	const struct timeval patience = { 1, 0 };
+	const struct timeval patience = { PATIENCE, 0 };
 	int ends[2];
 	pid_t child;
 
 	if (socketpair(AF_UNIX, SOCK_SEQPACKET | SOCK_CLOEXEC, 0, ends))
 		return say(by, "a socket");
-	/* (it answers at once, or never) */
+	/* (it answers soon, or never) */
 	if (setsockopt(ends[0], SOL_SOCKET, SO_RCVTIMEO, &patience, sizeof(patience)) ||
 	    setsockopt(ends[0], SOL_SOCKET, SO_SNDTIMEO, &patience, sizeof(patience)))
 		return say(by, "a socket");
