@@ -40,9 +40,9 @@ wrong() {
 
 # What descriptors the server has, which is the last child of what stands by its sandbox.
 list_descriptors() {
-    local children
-    read -ra children < "/proc/$server/task/$server/children" || true
-    find "/proc/${children[-1]:-$server}/fd" -mindepth 1 -printf '%l\n'
+    # shellcheck disable=SC2046
+    set -- "$server" $(cat "/proc/$server/task/$server/children")
+    find "/proc/${!#}/fd" -mindepth 1 -printf '%l\n'
 }
 descriptors() {
     list_descriptors | wc -l
