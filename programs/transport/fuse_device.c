@@ -825,14 +825,12 @@ static void *run(void *given)
 	return NULL;
 }
 
-void fuse_device_join(pthread_t thread)
+int fuse_device_joins(pthread_t thread)
 {
-	const struct timespec pause = { 0, 5000000 };
-
-	while (pthread_tryjoin_np(thread, NULL) == EBUSY) {
-		pthread_kill(thread, SIGRTMIN);
-		nanosleep(&pause, NULL);
-	}
+	if (pthread_tryjoin_np(thread, NULL) != EBUSY)
+		return 1;
+	pthread_kill(thread, SIGRTMIN);
+	return 0;
 }
 
 /* The same, up to this time. -1: it waits for something else, and what it uses is left. */

@@ -25,6 +25,7 @@
 #include <stdlib.h>
 #include <sys/mman.h>
 #include <sys/uio.h>
+#include <time.h>
 #include <unistd.h>
 #include "fuse_ring.h"
 #include "later.h"
@@ -67,7 +68,7 @@ struct entry {
 struct worker {
 	struct fuse_rings *of;
 	unsigned number, bulks;
-	int roams;
+	int roams, has_ended;
 	pthread_t thread;
 	struct uring ring;
 	/* How many entries there may be, how many there are, and of how many the request isn't kept. */
@@ -462,6 +463,23 @@ static unsigned count(void)
 	return count;
 }
 
+/* Waits for all workers: one that doesn't come back leaves none of the others. */
+static void join_each(struct fuse_rings *r)
+{
+	const struct timespec pause = { 0, 5000000 };
+	unsigned left = r->started;
+
+	for (; left; nanosleep(&pause, NULL))
+		for (unsigned i = 0; i < r->started; i++) {
+			struct worker *w = &r->worker[i];
+
+			if (w->has_ended || !fuse_device_joins(w->thread))
+				continue;
+			w->has_ended = 1;
+			left--;
+		}
+}
+
 static int end(struct fuse_rings *r)
 {
 	int failed;
@@ -475,8 +493,7 @@ static int end(struct fuse_rings *r)
 	pthread_mutex_unlock(&r->lock);
 	for (unsigned i = 0; i < r->started; i++)
 		uring_tell(&r->worker[i].ring);
-	for (unsigned i = 0; i < r->started; i++)
-		fuse_device_join(r->worker[i].thread);
+	join_each(r);
 	for (unsigned i = 0; i < r->workers; i++)
 		free_worker(&r->worker[i]);
 	failed = atomic_load(&r->failed);

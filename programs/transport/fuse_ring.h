@@ -31,8 +31,8 @@ struct fuse_ring_calls {
 /* Answers what waits to be read. So what was forgotten before a request is gone before that is served. */
 void fuse_device_drain(struct device *of);
 
-/* Ends a worker that is to stop, and may wait for a request: a signal interrupts that. */
-void fuse_device_join(pthread_t thread);
+/* Whether a worker that is to stop has ended. If it waits for a request, a signal interrupts that. */
+int fuse_device_joins(pthread_t thread);
 
 /* Hands a request to `serve`, and counts those that are in hand. */
 int32_t fuse_device_ask(struct device *of, unsigned worker, const nizwarf_segment *request, size_t segments,
