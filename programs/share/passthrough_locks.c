@@ -40,7 +40,8 @@ struct waiter {
 	nizwarf_call asked;
 	transport_later *later;
 	pthread_t thread;
-	atomic_bool stop;
+	/* The error that ends the waiting; 0: none does yet. */
+	atomic_int stop;
 	struct waiter *next, **at;
 };
 
@@ -340,11 +341,11 @@ static void *wait_for_lock(void *given)
 {
 	struct waiter *w = given;
 	const nizwarf_lock lock = nizwarf_lock_asked(&w->asked);
-	int error = EINTR;
+	int error = EINTR, stop = 0;
 
-	while (error == EINTR && !atomic_load(&w->stop))
+	while (error == EINTR && !(stop = atomic_load(&w->stop)))
 		error = lock_host(w->holder, &lock, true);
-	finish(w, error);
+	finish(w, error == EINTR ? stop : error);
 	return NULL;
 }
 
@@ -395,15 +396,15 @@ static int start_waiter(const struct call *call, struct holder *h)
 	return LOCK_WAITS;
 }
 
-/* Kicks those that are to stop: all, or that of this number, which is kept if there is none. (One that did not wait
- * yet misses it, and is kicked again.) */
+/* Kicks those that are to stop: that of this number, which is kept if there is none; or all, with ENOLCK, since by EINTR
+ * Linux takes it that a signal has come. (One that did not wait yet misses it, and is kicked again.) */
 static void kick_each(struct locks *all, const uint64_t *unique, bool keeps, bool *is_left)
 {
 	*is_left = false;
 	pthread_mutex_lock(&all->lock);
 	for (struct waiter *w = all->waiters; w; w = w->next)
 		if (!unique || w->asked.unique == *unique) {
-			atomic_store(&w->stop, true);
+			atomic_store(&w->stop, unique ? EINTR : ENOLCK);
 			pthread_kill(w->thread, kick());
 			*is_left = true;
 		}

@@ -93,8 +93,8 @@ typedef struct {
 	/* May be NULL. A front end of a virtual machine has gone, and no request of it is in flight, or with
 	 * `has_spare` those alone that don't come back. */
 	void (*parted)(void *user);
-	/* May be NULL: then nothing of a virtual machine is kept (transport_keep). What is kept is to be completed now, as
-	 * by EINTR, since the machine pauses, or its memory changes. */
+	/* May be NULL: then nothing of a virtual machine is kept (transport_keep). What is kept is to be completed now,
+	 * since the machine pauses, or its memory changes. */
 	void (*recall)(void *user);
 	/* A request that doesn't come back, though its front end has gone, holds up no other one: a worker
 	 * begins in place of its own, with a number of its own below TRANSPORT_MOST_WORKERS. */

@@ -4,8 +4,8 @@
 Usage: tests/share/waits.py WORK SHARE [WORDS]: a folder to work in, and nizwarf-share with its words, as root
 
 While many locks wait, a share of one worker answers what else is asked; each comes once it is free, or ends with EINTR by
-an INTERRUPT, also by one that comes before it, by a queue that is stopped, and by memory that is shared anew. Neither a
-front end that hangs up nor a signal waits for them. Status 0: all came so.
+an INTERRUPT, also by one that comes before it, and with ENOLCK by a queue that is stopped, and by memory that is shared
+anew. Neither a front end that hangs up nor a signal waits for them. Status 0: all came so.
 """
 import fcntl
 import mmap
@@ -19,7 +19,7 @@ import time
 
 LOOKUP, GETATTR, OPEN, INIT, SETLK, SETLKW, INTERRUPT = 1, 3, 14, 26, 32, 33, 36
 READ, WRITE, NONE = fcntl.F_RDLCK, fcntl.F_WRLCK, fcntl.F_UNLCK
-EINTR, EAGAIN, O_RDWR, FLOCK, LOCK_FLAGS = 4, 11, 2, 1, 1 << 1 | 1 << 10
+EINTR, EAGAIN, ENOLCK, O_RDWR, FLOCK, LOCK_FLAGS = 4, 11, 37, 2, 1, 1 << 1 | 1 << 10
 SIZE, BASE, QUEUE = 1 << 20, 1 << 32, 1
 DESCRIPTORS, AVAILABLE, USED, BUFFERS, SLOT, ROOM = 0, 0x4000, 0x8000, 0x10000, 0x1000, 0x800
 SLOTS, WAITERS, SOON, LONG = 64, 12, 0.3, 10
@@ -159,12 +159,12 @@ def freed(one, node, handle, is_flock):
 def stopped(one, node, handle):
     asked = waiting(one, node, handle, False)
     base = one.stop()
-    hold("a queue that stops", [one.error(it) for it in asked], [EINTR] * WAITERS)
+    hold("a queue that stops", [one.error(it) for it in asked], [ENOLCK] * WAITERS)
     hold("its next chain", base, one.next)
     one.begin(base)
     asked = waiting(one, node, handle, True)
     one.share()
-    hold("memory anew", [one.error(it) for it in asked], [EINTR] * WAITERS)
+    hold("memory anew", [one.error(it) for it in asked], [ENOLCK] * WAITERS)
     hold("unlock", one.error(one.lock(node, handle, 1, NONE)), 0)
 
 
