@@ -1,0 +1,162 @@
+#!/usr/bin/env bash
+# Holds libfuse's library over the layer here, which tools/libfuse.sh builds, against libfuse's own.
+#
+# Usage: tests/libfuse/check.sh [--only PART].. [--suite SUITE] [FOLDER]
+# FOLDER is that of tools/libfuse.sh. A part says N of M, or how many came to the same:
+#
+#   symbols    the symbols and versions of the two libraries, and what they are linked with
+#   answers    wrong answers of a file system come to their caller alone, under sanitizers
+#   memory     each allocation of some requests is refused in turn: nothing is lost
+#   hostile    the sessions of tests/beside, and 300 generated, under sanitizers: none reads past, none ends it
+#   programs   sshfs, fuse-overlayfs, squashfuse, as the machine has them: trees are equal with both libraries
+#   tests      libfuse's own tests with both libraries: the same cases pass; one that fails with one alone is tried
+#              twice more, since many go by the clock
+#
+# It wants root, /dev/fuse, and what tools/libfuse.sh does; for `programs` the packages sshfs, openssh-server,
+# fuse-overlayfs, squashfuse and squashfs-tools; for `tests` fuse3, python3-pytest and g++. It takes ten minutes, most
+# of them for the tests; of 3.18 half an hour.
+# Status 0: all came to what they must; 1: not so; 2: it could not start.
+set -euo pipefail
+. "$(dirname "$0")/../../tools/lib/usage.sh"
+. "$(dirname "$0")/../../tools/lib/transport.sh"
+
+usage() {
+    echo "Usage: tests/libfuse/check.sh [--only PART].. [--suite SUITE] [FOLDER]" >&2
+    exit 2
+}
+
+parts=(symbols answers memory hostile programs tests) chosen=() words=() folder=''
+suite=$(sed -n 's/^VERSION_CODENAME=//p' /etc/os-release)
+while [ $# != 0 ]; do
+    case $1 in
+        --only)
+            [[ " ${parts[*]} " == *" ${2:-none} "* ]] || usage
+            chosen+=("$2") && shift
+            ;;
+        --suite)
+            [[ ${2:-} =~ ^[a-z]+$ ]] || usage
+            suite=$2 && shift
+            ;;
+        -*) usage ;;
+        *) folder=$1 ;;
+    esac
+    shift
+done
+[ ${#chosen[@]} = 0 ] || parts=("${chosen[@]}")
+need_root "It mounts, and starts servers"
+if [ ! -e /dev/fuse ]; then
+    echo "It takes /dev/fuse." >&2
+    exit 2
+fi
+folder=$(realpath -m "${folder:-$here/out/libfuse}")
+words=(--suite "$suite" "$folder")
+[[ " ${parts[*]} " != *" tests "* ]] || words=(--all "${words[@]}")
+ours=$("$here/tools/libfuse.sh" "${words[@]}")
+theirs=$("$here/tools/libfuse.sh" --unmodified "${words[@]}")
+find_library vfs_door
+version=$(cat "$folder/source-$suite/debian-version")
+work=$(mktemp -d -p "$folder")
+trap 'rm -rf "$work"' EXIT
+
+# Builds a program of libfuse's sources over the layer, and a file: compile FILE TO FLAGS..
+compile() {
+    local file=$1 to=$2 tree=$folder/$suite-nizwarf/tree sources
+    mapfile -t sources < <(find "$tree/lib" -maxdepth 1 -name '*.c' ! -name mount_bsd.c ! -name fuse_uring.c)
+    cc -w -g -O1 -fno-omit-frame-pointer "${@:3}" -D_GNU_SOURCE -D_FILE_OFFSET_BITS=64 -DFUSE_USE_VERSION=317 \
+        -DFUSERMOUNT_DIR='"/usr/bin"' -DHAVE_CUSTOM_IO -I "$folder/$suite-nizwarf/build" -I "$tree/include" \
+        -I "$tree/lib" -include fuse_config.h -o "$to" "$file" "${sources[@]}" "$tree"/lib/modules/*.c \
+        "${library[@]}" -pthread -ldl
+}
+
+sanitized=(-fsanitize=address -fsanitize=undefined -fno-sanitize-recover=undefined)
+
+# What a library has for programs, and what it is linked with.
+symbols_of() {
+    local it
+    it=$(find "$1" -name 'libfuse3.so.*' ! -name '*.new' | sed -n 1p)
+    nm -D --defined-only "$it" | sed 's/^[0-9a-f]* //' | sort
+    readelf -d "$it" | sed -nE 's/.*\((SONAME|NEEDED)\).*\[(.*)\]/\1 \2/p' | sort
+}
+
+check_symbols() {
+    symbols_of "$theirs" > "$work/theirs"
+    symbols_of "$ours" > "$work/ours"
+    echo "$(comm -12 "$work/theirs" "$work/ours" | wc -l) of $(wc -l < "$work/theirs") symbols and names of libraries"
+    diff "$work/theirs" "$work/ours"
+}
+
+check_answers() {
+    compile "$here/tests/libfuse/wrong.c" "$work/answers" "${sanitized[@]}"
+    "$work/answers" answers 2> "$work/said" || { cat "$work/said" && return 1; }
+}
+
+check_memory() {
+    compile "$here/tests/libfuse/wrong.c" "$work/memory" -DREFUSE
+    "$work/memory" memory 2> "$work/said" || { cat "$work/said" && return 1; }
+}
+
+# A message of no byte is the end of what comes, to libfuse's loop: nothing else may end it.
+check_hostile() {
+    compile "$here/tests/beside/libfuse.c" "$work/hostile" "${sanitized[@]}"
+    printf 'pair\tlibfuse over this layer\t%s\tnobody\t%s\tDESCRIPTOR\n' "$version" "$work/hostile" > "$work/servers"
+    python3 -B "$here/tests/beside/others.py" --count 300 "$work/servers" "$work" > "$work/came" 2> "$work/said" ||
+        cat "$work/said"
+    grep -A 1 '^What came of' "$work/came" | grep -v '^--'
+    [ "$(grep -c '^What came of' "$work/came")" = 2 ]
+    ! grep -E "$version +(silent|panicked|read past|ended by an error)" "$work/came" | grep -vE ' of 0 bytes(,|$)'
+}
+
+check_programs() {
+    local lib status=0
+    for lib in - "$ours"; do
+        "$here/tests/libfuse/programs.sh" "$lib" "$work/programs" || status=1
+    done
+    return $status
+}
+
+# Runs libfuse's tests, or those that are named, and lists what came of each: run_tests KIND TO NAME..
+run_tests() {
+    local tree=$folder/$suite-$1/tree build=$folder/$suite-$1/build to=$2
+    shift 2
+    if [ -e "$tree/test/run-tests.py" ]; then
+        unshare -m --propagation private python3 "$tree/test/run-tests.py" --build-dir "$build" \
+            --run-dir "$work/run" -j 2 "${@/#/-t}" 2>&1 | sed -nE 's/^\+ +[0-9.]+s (PASS|FAIL|SKIP) +([^ ]+) .*/\2 \1/p'
+    else
+        mkdir -p "$work/pytest"
+        (cd "$build" && TMPDIR=$work/pytest unshare -m --propagation private /usr/bin/python3 -m pytest \
+            -p no:cacheprovider --maxfail=1000 -rA "${@:-test/}" 2>&1) |
+            sed -nE 's/^(PASSED|FAILED) ([^ ]+).*/\2 \1/p'
+    fi | sort > "$to"
+}
+
+# Of the cases that passed with libfuse's own library and not with this, those that fail again.
+try_again() {
+    local again=("$@") _
+    for _ in 1 2; do
+        [ ${#again[@]} != 0 ] || return 0
+        run_tests nizwarf "$work/again" "${again[@]}"
+        mapfile -t again < <(sed -nE 's/ FAIL(ED)?$//p' "$work/again")
+    done
+    printf '%s\n' "${again[@]}"
+}
+
+check_tests() {
+    local failed
+    run_tests unmodified "$work/theirs"
+    run_tests nizwarf "$work/ours"
+    mapfile -t failed < <(comm -12 <(sed -nE 's/ PASS(ED)?$//p' "$work/theirs") <(sed -nE 's/ FAIL(ED)?$//p' "$work/ours"))
+    mapfile -t failed < <(try_again "${failed[@]}")
+    echo "With libfuse's own library $(grep -c ' PASS' "$work/theirs") of $(wc -l < "$work/theirs") pass, with this" \
+        "$(grep -c ' PASS' "$work/ours"); those that fail with its own too:"
+    comm -12 <(sed -nE 's/ FAIL(ED)?$//p' "$work/theirs") <(sed -nE 's/ FAIL(ED)?$//p' "$work/ours")
+    [ -z "${failed[*]}" ] || { echo "With this alone: ${failed[*]}" && return 1; }
+}
+
+bad=()
+part_count=${#parts[@]}
+for it in "${parts[@]}"; do
+    part "$it"
+    "check_$it" || bad+=("$it")
+done
+[ ${#bad[@]} = 0 ] || { echo "FAILED: ${bad[*]}" && exit 1; }
+echo "All ${#parts[@]} parts passed, of libfuse $version."
