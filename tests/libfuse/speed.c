@@ -1,0 +1,183 @@
+/* Serves requests of some classes by libfuse's low level without a kernel, for tools/measure/libfuse-speed.sh.
+ *
+ * Usage: speed CLASS COUNT
+ * CLASS is lookup, getattr, read-4k, write-4k, write-1m, read-1m, readdir or readdirplus. It hands the same request to a
+ * session COUNT times, by a file system that answers at once, and takes the replies by custom io. It prints the
+ * nanoseconds of processor time and of the clock that a request took. Status 2: it could not start. */
+#define _GNU_SOURCE
+#define FUSE_USE_VERSION 312
+#include <errno.h>
+#include <fuse_lowlevel.h>
+#include <linux/fuse.h>
+#include <stdio.h>
+#include <stdlib.h>
+#include <string.h>
+#include <sys/uio.h>
+#include <time.h>
+#include <unistd.h>
+
+enum { MEGABYTE = 1 << 20, PAGE = 4096, FRONT = sizeof(struct fuse_in_header), ENTRIES = 100 };
+
+static char data[MEGABYTE], room[MEGABYTE + PAGE];
+static size_t replied;
+
+static ssize_t take_reply(int fd, struct iovec *iov, int count, void *user)
+{
+	ssize_t len = 0;
+	int i;
+
+	(void)fd, (void)user;
+	for (i = 0; i < count; i++)
+		len += (ssize_t)iov[i].iov_len;
+	replied++;
+	return len;
+}
+
+static ssize_t no_request(int fd, void *at, size_t len, void *user)
+{
+	(void)fd, (void)at, (void)len, (void)user;
+	return 0;
+}
+
+static const struct fuse_entry_param entry = { .ino = 2, .attr = { .st_ino = 2, .st_mode = S_IFREG | 0644 } };
+
+static void on_lookup(fuse_req_t req, fuse_ino_t parent, const char *name)
+{
+	(void)parent, (void)name;
+	fuse_reply_entry(req, &entry);
+}
+
+static void on_getattr(fuse_req_t req, fuse_ino_t ino, struct fuse_file_info *fi)
+{
+	(void)ino, (void)fi;
+	fuse_reply_attr(req, &entry.attr, 1.0);
+}
+
+static void on_read(fuse_req_t req, fuse_ino_t ino, size_t size, off_t off, struct fuse_file_info *fi)
+{
+	(void)ino, (void)off, (void)fi;
+	fuse_reply_buf(req, data, size);
+}
+
+static void on_write(fuse_req_t req, fuse_ino_t ino, const char *buf, size_t size, off_t off,
+		     struct fuse_file_info *fi)
+{
+	(void)ino, (void)buf, (void)off, (void)fi;
+	fuse_reply_write(req, size);
+}
+
+static void list(fuse_req_t req, size_t size, int plus)
+{
+	size_t len = 0, one;
+	int i;
+
+	for (i = 1; i <= ENTRIES; i++) {
+		one = plus ? fuse_add_direntry_plus(req, data + len, size - len, "a-name-of-a-file", &entry,
+						    i) :
+			     fuse_add_direntry(req, data + len, size - len, "a-name-of-a-file", &entry.attr,
+					       i);
+		if (one > size - len)
+			break;
+		len += one;
+	}
+	fuse_reply_buf(req, data, len);
+}
+
+static void on_readdir(fuse_req_t req, fuse_ino_t ino, size_t size, off_t off, struct fuse_file_info *fi)
+{
+	(void)ino, (void)off, (void)fi;
+	list(req, size, 0);
+}
+
+static void on_readdirplus(fuse_req_t req, fuse_ino_t ino, size_t size, off_t off, struct fuse_file_info *fi)
+{
+	(void)ino, (void)off, (void)fi;
+	list(req, size, 1);
+}
+
+static const struct fuse_lowlevel_ops ops = {
+	.lookup = on_lookup,
+	.getattr = on_getattr,
+	.read = on_read,
+	.write = on_write,
+	.readdir = on_readdir,
+	.readdirplus = on_readdirplus,
+};
+
+static size_t put(uint32_t opcode, const void *record, size_t size, size_t more)
+{
+	const struct fuse_in_header in = {
+		.len = (uint32_t)(FRONT + size + more), .opcode = opcode, .unique = 7, .nodeid = 1
+	};
+
+	memcpy(room, &in, FRONT);
+	memcpy(room + FRONT, record, size);
+	return in.len;
+}
+
+/* Puts the request of a class, and answers its length: 0, there is no such class. */
+static size_t put_class(const char *name)
+{
+	const struct fuse_read_in page = { .size = PAGE }, megabyte = { .size = MEGABYTE },
+				  records = { .size = 32768 };
+	const struct fuse_write_in few = { .size = PAGE }, many = { .size = MEGABYTE };
+	const struct fuse_getattr_in attr = { .fh = 0 };
+
+	if (!strcmp(name, "lookup"))
+		return put(FUSE_LOOKUP, "a-name", 7, 0);
+	if (!strcmp(name, "getattr"))
+		return put(FUSE_GETATTR, &attr, sizeof(attr), 0);
+	if (!strcmp(name, "read-4k"))
+		return put(FUSE_READ, &page, sizeof(page), 0);
+	if (!strcmp(name, "read-1m"))
+		return put(FUSE_READ, &megabyte, sizeof(megabyte), 0);
+	if (!strcmp(name, "write-4k"))
+		return put(FUSE_WRITE, &few, sizeof(few), PAGE);
+	if (!strcmp(name, "write-1m"))
+		return put(FUSE_WRITE, &many, sizeof(many), MEGABYTE);
+	if (!strcmp(name, "readdir"))
+		return put(FUSE_READDIR, &records, sizeof(records), 0);
+	if (!strcmp(name, "readdirplus"))
+		return put(FUSE_READDIRPLUS, &records, sizeof(records), 0);
+	return 0;
+}
+
+static double now(clockid_t clock)
+{
+	struct timespec t;
+
+	clock_gettime(clock, &t);
+	return (double)t.tv_sec * 1e9 + (double)t.tv_nsec;
+}
+
+int main(int count, char **words)
+{
+	static const struct fuse_init_in init = {
+		.major = 7, .minor = 38, .max_readahead = 65536, .flags = FUSE_BIG_WRITES | FUSE_MAX_PAGES
+	};
+	static const struct fuse_custom_io io = { .read = no_request, .writev = take_reply };
+	char *name[] = { "speed", NULL };
+	struct fuse_args args = FUSE_ARGS_INIT(1, name);
+	struct fuse_session *session = fuse_session_new(&args, &ops, sizeof(ops), NULL);
+	struct fuse_buf buf = { .mem = room };
+	const long times = count == 3 ? atol(words[2]) : 0;
+	double processor, clock;
+	long i;
+
+	if (!times || !session || fuse_session_custom_io(session, &io, dup(0)))
+		return 2;
+	buf.size = put(FUSE_INIT, &init, sizeof(init), 0);
+	fuse_session_process_buf(session, &buf);
+	buf.size = put_class(words[1]);
+	if (!buf.size || replied != 1)
+		return 2;
+	processor = now(CLOCK_PROCESS_CPUTIME_ID);
+	clock = now(CLOCK_MONOTONIC);
+	for (i = 0; i < times; i++)
+		fuse_session_process_buf(session, &buf);
+	printf("%.1f %.1f\n", (now(CLOCK_PROCESS_CPUTIME_ID) - processor) / (double)times,
+	       (now(CLOCK_MONOTONIC) - clock) / (double)times);
+	fuse_session_destroy(session);
+	fuse_opt_free_args(&args);
+	return replied == (size_t)times + 1 ? 0 : 1;
+}

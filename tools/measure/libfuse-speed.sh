@@ -1,0 +1,58 @@
+#!/usr/bin/env bash
+# Times libfuse's library over the layer here beside libfuse's own, by requests that no kernel and no file system costs:
+# tests/libfuse/speed.c hands them to the library, which tools/libfuse.sh builds. A row has the medians of processor time
+# and of the clock of both, in turns, and their ratio; below 1 it is quicker here; then, if valgrind is installed, the
+# ratio of instructions.
+#
+# Usage: tools/measure/libfuse-speed.sh [ROUNDS [FOLDER]]
+# Without a word 9 rounds. FOLDER is that of tools/libfuse.sh. A mount has the kernel's part besides, which is the larger
+# one. It takes a minute.
+# Status 0: it was timed; 1: not so; 2: it could not start.
+set -euo pipefail
+. "$(dirname "$0")/../lib/usage.sh"
+. "$(dirname "$0")/../lib/program.sh"
+
+rounds=${1:-9}
+if ! [[ $rounds =~ ^[1-9][0-9]*$ ]] || [ $# -gt 2 ]; then
+    echo "Usage: tools/measure/libfuse-speed.sh [ROUNDS [FOLDER]]" >&2
+    exit 2
+fi
+folder=$(realpath -m "${2:-$here/out/libfuse}")
+ours=$("$here/tools/libfuse.sh" "$folder")
+theirs=$("$here/tools/libfuse.sh" --unmodified "$folder")
+suite=$(sed -n 's/^VERSION_CODENAME=//p' /etc/os-release)
+work=$(mktemp -d -p "$folder")
+trap 'rm -rf "$work"' EXIT
+cc -std=c11 -O2 -w -D_FILE_OFFSET_BITS=64 -I "$folder/source-$suite/include" -I "$folder/$suite-unmodified/build" \
+    -o "$work/speed" "$here/tests/libfuse/speed.c" "$theirs/libfuse3.so.3" -pthread
+
+median() {
+    sort -n | awk '{ it[NR] = $1 } END { print it[int((NR + 1) / 2)] }'
+}
+
+# How many instructions a request takes: those of 3000 less those of 1000, by 2000.
+instructions() {
+    local n few
+    for n in 1000 3000; do
+        LD_LIBRARY_PATH=$1 valgrind --tool=none --log-file=/dev/null true > /dev/null 2>&1 || return 0
+        LD_LIBRARY_PATH=$1 valgrind --tool=callgrind --callgrind-out-file="$work/out" "$work/speed" "$2" "$n" \
+            > /dev/null 2> "$work/said"
+        [ "$n" = 3000 ] || few=$(sed -nE 's/.*Collected : ([0-9]+).*/\1/p' "$work/said")
+    done
+    echo $((($(sed -nE 's/.*Collected : ([0-9]+).*/\1/p' "$work/said") - few) / 2000))
+}
+
+echo "| Request | ns, libfuse | ns, here | processor | clock | instructions, libfuse | here | ratio |"
+echo "|---|---|---|---|---|---|---|---|"
+for class in lookup getattr read-4k read-1m write-4k write-1m readdir readdirplus; do
+    for _ in $(seq "$rounds"); do
+        LD_LIBRARY_PATH=$theirs "$work/speed" "$class" 20000 >> "$work/theirs-$class"
+        LD_LIBRARY_PATH=$ours "$work/speed" "$class" 20000 >> "$work/ours-$class"
+    done
+    awk -v class="$class" -v a="$(cut -d' ' -f1 "$work/theirs-$class" | median)" \
+        -v b="$(cut -d' ' -f1 "$work/ours-$class" | median)" -v c="$(cut -d' ' -f2 "$work/theirs-$class" | median)" \
+        -v d="$(cut -d' ' -f2 "$work/ours-$class" | median)" -v e="$(instructions "$theirs" "$class")" \
+        -v f="$(instructions "$ours" "$class")" 'BEGIN {
+            printf "| %s | %.0f | %.0f | %.2f | %.2f |", class, a, b, b / a, d / c
+            if (e > 0) printf " %d | %d | %.2f |\n", e, f, f / e; else print " | | |" }'
+done
