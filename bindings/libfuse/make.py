@@ -12,7 +12,7 @@ import sys
 REPLACED = """send_reply_iov send_notify_iov fuse_reply_data fuse_lowlevel_notify_store do_lookup do_forget do_read do_write_buf
 do_setattr do_interrupt do_notify_reply opname""".split()
 # What only those call, and others of the same kind: every function that decodes a request, but an INIT's and a DESTROY's.
-CALLED = r"(?:_?do_(?!init\b|destroy\b|fuse_)\w+|copy_file_range_common|convert_attr|fuse_req_opcode_sanity_ok|fuse_session_in2req" \
+CALLED = r"(?:_?do_(?!init\b|destroy\b|fuse_)\w+|copy_\w+_common|convert_attr|fuse_req_opcode_sanity_ok|fuse_session_in2req" \
          r"|fuse_req_check_allow_root|fuse_session_process_uring_cqe)"
 # What a version has: a word for the preprocessor, and where that shows.
 HAS = {
@@ -21,7 +21,7 @@ HAS = {
     "HAVE_KILL_SUIDGID": r"kill_suidgid",
     "HAVE_TMPFILE": r"op\.tmpfile",
     "HAVE_STATX_OP": r"op\.statx",
-    "HAVE_COPY_64": r"is_copy_file_range_64",
+    "HAVE_COPY_64": r"is_copy\w+_64",
     "HAVE_NO_INTERRUPT": r"conn\.no_interrupt",
 }
 SHORT = r'^\tif \((?:\(size_t\) ?)?res < sizeof\(struct fuse_in_header\)\) \{\n[^\n]*"short [^\n]*\n\t\treturn -EIO;\n\t\}\n'
