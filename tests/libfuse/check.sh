@@ -8,6 +8,7 @@
 #   answers    wrong answers of a file system come to their caller alone, under sanitizers
 #   memory     each allocation of some requests is refused in turn: nothing is lost
 #   hostile    the sessions of tests/beside, and 300 generated, under sanitizers: none reads past, none ends it
+#   threads    libfuse's passthrough_ll under the thread sanitizer, used by four at once
 #   programs   sshfs, fuse-overlayfs, squashfuse, as the machine has them: trees are equal with both libraries
 #   tests      libfuse's own tests with both libraries: the same cases pass; one that fails with one alone is tried
 #              twice more, since many go by the clock
@@ -25,7 +26,7 @@ usage() {
     exit 2
 }
 
-parts=(symbols answers memory hostile programs tests) chosen=() words=() folder=''
+parts=(symbols answers memory hostile threads programs tests) chosen=() words=() folder=''
 suite=$(sed -n 's/^VERSION_CODENAME=//p' /etc/os-release)
 while [ $# != 0 ]; do
     case $1 in
@@ -104,6 +105,11 @@ check_hostile() {
     grep -A 1 '^What came of' "$work/came" | grep -v '^--'
     [ "$(grep -c '^What came of' "$work/came")" = 2 ]
     ! grep -E "$version +(silent|panicked|read past|ended by an error)" "$work/came" | grep -vE ' of 0 bytes(,|$)'
+}
+
+check_threads() {
+    compile "$folder/$suite-nizwarf/tree/example/passthrough_ll.c" "$work/threads" -fsanitize=thread
+    "$here/tests/libfuse/threads.sh" "$work/threads" "$work/threaded"
 }
 
 check_programs() {
