@@ -57,7 +57,9 @@ theirs=$("$here/tools/libfuse.sh" --unmodified "${words[@]}")
 find_library vfs_door
 version=$(cat "$folder/source-$suite/debian-version")
 work=$(mktemp -d -p "$folder")
-trap 'rm -rf "$work"' EXIT
+# (the name of a socket, which libfuse's tests make at the end of such a path twice over, has room for 107 bytes)
+short=$(mktemp -d)
+trap 'rm -rf "$work" "$short"' EXIT
 
 # Builds a program of libfuse's sources over the layer, and a file: compile FILE TO FLAGS..
 compile() {
@@ -128,8 +130,7 @@ run_tests() {
         unshare -m --propagation private python3 "$tree/test/run-tests.py" --build-dir "$build" \
             --run-dir "$work/run" -j 2 "${@/#/-t}" 2>&1 | sed -nE 's/^\+ +[0-9.]+s (PASS|FAIL|SKIP) +([^ ]+) .*/\2 \1/p'
     else
-        mkdir -p "$work/pytest"
-        (cd "$build" && TMPDIR=$work/pytest unshare -m --propagation private /usr/bin/python3 -m pytest \
+        (cd "$build" && TMPDIR=$short unshare -m --propagation private /usr/bin/python3 -m pytest \
             -p no:cacheprovider --maxfail=1000 -rA "${@:-test/}" 2>&1) |
             sed -nE 's/^(PASSED|FAILED) ([^ ]+).*/\2 \1/p'
     fi | sort > "$to"
