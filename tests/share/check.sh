@@ -31,6 +31,8 @@ if [ "$(cat /sys/module/fuse/parameters/enable_uring 2> /dev/null)" = Y ]; then
 else
     echo "Linux offers no io_uring here: mounts over it were left out." >&2
 fi
+of_mounts=$(sed -n '/^try_mounts()/,/^}/p' "$0" | grep -cE '^ *part "')
+part_count=$(($(grep -cE '^ *part "' "$0") + (${#ways[@]} - 1) * of_mounts))
 
 # Tells of what is wrong.
 wrong() {
@@ -313,6 +315,7 @@ try_late() {
 try_closed() {
     local child fd
     mkdir -p "$work/folder" "$work/mount"
+    rm -f "$work/trace"
     "$share" --trace="$work/trace" "$@" "$work/folder" "$work/mount" <&- >&- 2>&- &
     server=$!
     await_mount
