@@ -19,30 +19,18 @@ import sys
 import threading
 import time
 
+sys.path.insert(0, os.path.dirname(os.path.abspath(__file__)) + "/../lib")
+from held import SOON, faults, hold, wait_for  # noqa: E402
+
 SHARE, WORK, *WORDS = sys.argv[1:]
 FOLDER, MOUNT, PLAIN = WORK + "/folder", WORK + "/mount", WORK + "/plain"
 LIBC = ctypes.CDLL(None, use_errno=True)
-SOON = 10
 ROUNDS = 1500
 # How many pieces of 1 MiB are timed at once, and how many times.
 PIECES, TURNS = 32, 31
 CAP_SYS_ADMIN = 1 << 21
 # CAP_CHOWN, DAC_OVERRIDE, FOWNER, FSETID, SETGID, SETUID, MKNOD and SETFCAP.
 OF_SERVER = 0x880000DB
-faults = []
-
-
-def hold(fact, what):
-    if not fact:
-        faults.append(what)
-        print(f"FAILED: {what}", file=sys.stderr, flush=True)
-
-
-def wait_for(fact, most=SOON):
-    until = time.monotonic() + most
-    while not fact() and time.monotonic() < until:
-        time.sleep(0.01)
-    return fact()
 
 
 class Server:

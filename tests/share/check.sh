@@ -492,23 +492,14 @@ try_locks() {
     echo "Locks are those of the folder${*:+, with $*}."
 }
 
-# Files that the mount's kernel has by itself are as in the folder: try_apart WORDS
-try_apart() {
-    mkdir "$work/apart"
-    timeout 300 python3 -B "$here/tests/share/apart.py" "$share" "$work/apart" "$@" > "$work/said" 2>&1 ||
-        { cat "$work/said" >&2 && wrong "tests/share/apart.py with $*"; }
-    rm -rf "$work/apart"
-    tail -n 1 "$work/said"
-    echo "Files that a mount reads and writes by itself are those of the folder${*:+, with $*}."
-}
-
-# What others change is seen, where all is remembered for an hour: try_watched WORDS
-try_watched() {
-    mkdir "$work/watched"
-    timeout 300 python3 -B "$here/tests/share/watched.py" "$share" "$work/watched" "$@" > "$work/said" 2>&1 ||
-        { cat "$work/said" >&2 && wrong "tests/share/watched.py with $*"; }
-    rm -rf "$work/watched"
-    echo "What others change is seen${*:+, with $*}."
+# Runs a test of a mount of its own: try_by apart|watched WORDS. Of files that the mount's kernel has by itself the last
+# line tells what they cost; what others change is seen, where all is remembered for an hour.
+try_by() {
+    mkdir "$work/$1"
+    timeout 300 python3 -B "$here/tests/share/$1.py" "$share" "$work/$1" "${@:2}" > "$work/said" 2>&1 ||
+        { cat "$work/said" >&2 && wrong "tests/share/$1.py with ${*:2}"; }
+    rm -rf "${work:?}/$1"
+    echo "$1.py${*:+, with ${*:2}}: $(tail -n 1 "$work/said")"
 }
 
 # Asks a server over vhost-user: ask_hostile WHAT-IT-IS WORDS
@@ -536,8 +527,8 @@ try_sanitizers() {
         try_mount --thread-pool-size=4 --xattr --log-level=error -o "$way" "${words[@]}"
         try_calls -o "$way" "${words[@]}"
         try_locks -o "$way" "${words[@]}"
-        try_apart -o "$way" "${words[@]}"
-        try_watched --passthrough -o "$way" "${words[@]}"
+        try_by apart -o "$way" "${words[@]}"
+        try_by watched --passthrough -o "$way" "${words[@]}"
         try_ends -o "$way" "${words[@]}"
     done
     share=$plain
@@ -600,10 +591,10 @@ try_mounts() {
     try_calls "$@"
     try_calls --passthrough --watch "$@"
     part "files that a mount has by itself"
-    try_apart "$@"
+    try_by apart "$@"
     part "what others change"
-    try_watched "$@"
-    try_watched --passthrough --sandbox=chroot "$@"
+    try_by watched "$@"
+    try_by watched --passthrough --sandbox=chroot "$@"
     part "locks"
     try_locks "$@"
     try_locks --cache=always --writeback --inode-file-handles=prefer "$@"

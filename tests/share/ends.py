@@ -5,29 +5,19 @@ wants root, in a namespace of mounts of its own."""
 
 import atexit, ctypes, fcntl, mmap, os, select, signal, socket, struct, subprocess, sys, time
 
+sys.path.insert(0, os.path.dirname(os.path.abspath(__file__)) + "/../lib")
+import held  # noqa: E402
+from held import faults, hold, wait_for  # noqa: E402
+
 of_tree = sys.argv[1] == "--tree"
 if of_tree:
     tree_mount, tree_vhost, work, *words = sys.argv[2:]
 else:
     share, work, *words = sys.argv[1:]
-SOON = 4
+held.SOON = SOON = 4
 folder, path, point = work + "/ends", work + "/ends.socket", work + "/above/point"
 libc = ctypes.CDLL(None, use_errno=True)
-faults = []
 signal.signal(signal.SIGIO, signal.SIG_IGN)
-
-
-def hold(fact, what):
-    if not fact:
-        faults.append(what)
-        print(f"FAILED: {what}", file=sys.stderr, flush=True)
-
-
-def wait_for(fact, most=SOON):
-    until = time.monotonic() + most
-    while not fact() and time.monotonic() < until:
-        time.sleep(0.02)
-    return fact()
 
 
 def mount(kind, place, options=""):

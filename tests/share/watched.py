@@ -13,20 +13,16 @@ import sys
 import threading
 import time
 
+sys.path.insert(0, os.path.dirname(os.path.abspath(__file__)) + "/../lib")
+from held import SOON, faults, hold  # noqa: E402
+
 SHARE, WORK, *WORDS = sys.argv[1:]
 FOLDER, MOUNT = WORK + "/folder", WORK + "/mount"
 HOUR = "-oentry_timeout=3600,attr_timeout=3600,negative_timeout=3600"
-# In seconds: how long it may take to be seen, on a machine with other work; and how long what names a file first holds.
-SOON, FIRST = 10, 1.1
+# In seconds: how long what names a file first holds.
+FIRST = 1.1
 # More than wait to be taken (fs.fanotify.max_queued_events).
 MANY = 20000
-faults = []
-
-
-def hold(fact, what):
-    if not fact:
-        faults.append(what)
-        print(f"FAILED: {what}", file=sys.stderr, flush=True)
 
 
 def put(path, data, mode="w"):
@@ -339,4 +335,6 @@ many()
 at_once(None)
 at_once(signal.SIGTERM)
 few()
+if not faults:
+    print("What others change is seen.")
 sys.exit(bool(faults))

@@ -1,0 +1,21 @@
+"""What a test holds: what is wrong is told at once, and kept in `faults`."""
+import sys
+import time
+
+# In seconds: how soon a thing comes to be.
+SOON = 10
+faults = []
+
+
+def hold(fact, what):
+    if not fact:
+        faults.append(what)
+        print(f"FAILED: {what}", file=sys.stderr, flush=True)
+
+
+def wait_for(fact, most=None):
+    """Whether it comes to be a fact, within SOON or so many seconds."""
+    until = time.monotonic() + (most or SOON)
+    while not fact() and time.monotonic() < until:
+        time.sleep(0.01)
+    return fact()
