@@ -122,6 +122,9 @@ static int go_to_background(void)
 	}
 	close(ends[0]);
 	setsid();
+	/* (the path of a socket may be one from here) */
+	if (is_mount() && chdir("/"))
+		return failed("/");
 	return ends[1];
 }
 
@@ -381,8 +384,11 @@ static int find_places(void)
 {
 	static char folder[PATH_MAX], mount_point[PATH_MAX];
 
-	if (!realpath(words.folder, folder))
+	if (!realpath(words.folder, folder)) {
+		if (errno == ENOENT && words.may_be_missing)
+			exit(0);
 		return failed(words.folder), 2;
+	}
 	words.folder = folder;
 	if (!words.mount_point)
 		return 0;

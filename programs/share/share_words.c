@@ -11,6 +11,7 @@
 #include <strings.h>
 #include <sys/mount.h>
 #include <unistd.h>
+#include "share_helped.h"
 #include "share_sandbox.h"
 #include "share_words.h"
 #include "transport.h"
@@ -34,7 +35,9 @@ static const char usage[] =
 	"                            default); or virtiofsd's, as managers\n"
 	"                            of machines write them: source=FOLDER, cache=WHAT, sandbox=HOW,\n"
 	"                            modcaps=LIST, loglevel=LEVEL, xattr, posix_acl, writeback,\n"
-	"                            readdirplus, flock, posix_lock, no_xattr ..\n"
+	"                            readdirplus, flock, posix_lock, no_xattr .. ; or words below of\n"
+	"                            what is served, as thread_pool_size=8; those of fstab(5) alone,\n"
+	"                            as nofail, are let pass\n"
 	"  --shared-dir=FOLDER       the folder, in place of the word\n"
 	"  --socket-path=SOCKET      listens on a new socket of this path\n"
 	"  --fd=N                    listens on the socket of this descriptor\n"
@@ -316,10 +319,26 @@ static bool take_setting(const char *key, char *value)
 	return true;
 }
 
+/* Takes an option that mount(8) and others read in fstab(5), and no file system. Whether it is one. */
+static bool take_of_others(const char *key)
+{
+	static const char *const known[] = { "defaults", "auto",    "noauto",  "user",	  "nouser",
+					     "users",	 "nousers", "owner",   "noowner", "group",
+					     "nogroup",	 "nofail",  "_netdev", "comment" };
+
+	words.may_be_missing |= !strcmp(key, "nofail");
+	for (size_t i = 0; i < sizeof(known) / sizeof(*known); i++)
+		if (!strcmp(key, known[i]))
+			return true;
+	return !strncasecmp(key, "x-", 2);
+}
+
+static bool take_as_word(const char *key, char *value);
+
 /* Takes one option: a word, or KEY=VALUE. */
 static void take_option(const char *key, char *value)
 {
-	if (value ? take_setting(key, value) : take_flag(key) || take_switch(key))
+	if ((value ? take_setting(key, value) : take_flag(key) || take_switch(key)) || take_of_others(key))
 		return;
 	if (!value && !strcmp(key, "allow_other"))
 		words.allow_other = ",allow_other";
@@ -335,7 +354,9 @@ static void take_option(const char *key, char *value)
 		words.files.attr_time = milliseconds(key, value);
 	else if (!strcmp(key, "negative_timeout"))
 		words.files.negative_time = milliseconds(key, value);
-	else
+	else if (!value && helped.is_there && !strcmp(key, "remount"))
+		helped.remounts = true;
+	else if (!take_as_word(key, value) && !helped.is_sloppy && !helped.remounts)
 		refuse("there is no such option, or its value can't be: ", key);
 }
 
@@ -352,7 +373,7 @@ static char *next_option(char **rest)
 	return option;
 }
 
-static void take_options(char *rest)
+void take_options(char *rest)
 {
 	char *option;
 
@@ -584,6 +605,30 @@ static void take_word(int word)
 	}
 }
 
+/* Whether an option is a word's name, with _ in place of -. */
+static bool is_of_word(const char *key, const char *name)
+{
+	for (; *name; key++, name++)
+		if (*key != (*name == '-' ? '_' : *name))
+			return false;
+	return !*key;
+}
+
+/* Takes an option that is a word, if it is one of what is served, and how. Whether it is one. */
+static bool take_as_word(const char *key, char *value)
+{
+	for (const struct option *word = known_words; word->name; word++) {
+		if (word->val < CACHE || word->val > TRACE || !is_of_word(key, word->name))
+			continue;
+		if (value ? word->has_arg == no_argument : word->has_arg == required_argument)
+			return false;
+		optarg = value;
+		take_word(word->val);
+		return true;
+	}
+	return false;
+}
+
 /* Refuses a word that getopt_long found to be none, or took for one whose beginning it is. */
 static _Noreturn void refuse_word(int found, const char *word)
 {
@@ -670,10 +715,9 @@ static char **copies_of(int count, char **given)
 	return copies;
 }
 
-void take_words(int count, char **given)
+/* Takes what a person or a manager of machines gives. */
+static void take_given(int count, char **given)
 {
-	given = copies_of(count, given);
-	opterr = 0;
 	for (int found, i = -1; (found = getopt_long(count, given, ":dfho:V", known_words, &i)) != -1;
 	     i = -1) {
 		/* (a value may stand behind it, as a word of its own) */
@@ -690,6 +734,16 @@ void take_words(int count, char **given)
 		words.mount_point = given[optind++];
 	if (optind < count)
 		refuse("there is a word too many: ", given[optind]);
+}
+
+void take_words(int count, char **given)
+{
+	given = copies_of(count, given);
+	opterr = 0;
+	if (is_started_by_mount(given[0]))
+		take_from_mount(count, given);
+	else
+		take_given(count, given);
 	hold_together();
 	if (words.sandbox < 0)
 		words.sandbox = SANDBOX_NAMESPACE;
@@ -700,4 +754,5 @@ void take_words(int count, char **given)
 		words.flags |= MS_RDONLY;
 	if (words.flags & MS_RDONLY)
 		words.files.read_only = true;
+	end_helped();
 }

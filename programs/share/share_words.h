@@ -17,6 +17,8 @@ struct share_words {
 	bool says_more, is_off, daemonizes, traces, watches;
 	/* Requests of a mount come by io_uring where Linux offers it. */
 	bool by_ring;
+	/* -o nofail: where there is no such folder, nothing is mounted, and that is no error. */
+	bool may_be_missing;
 	/* --rlimit-nofile was given. */
 	bool wants_files;
 };
@@ -25,6 +27,9 @@ extern struct share_words words;
 /* Takes them, and holds them together. It ends if they can't be, or if one asks for something to be printed
  * alone. */
 void take_words(int count, char **given);
+
+/* Takes options with commas between them, which it takes apart. */
+void take_options(char *rest);
 
 /* Whether a folder is mounted, and not served on a socket. */
 bool is_mount(void);

@@ -108,16 +108,17 @@ int fuse_device_open(const transport *by)
 int fuse_device_mount_on(const transport *by, int device, const char *source, const char *folder,
 			 unsigned long flags, const char *options)
 {
-	char words[512], place[NAME_MAX + 40];
+	char words[512], place[NAME_MAX + 40], type[64];
 	const int len = snprintf(words, sizeof(words), "fd=%d,rootmode=40000,user_id=%u,group_id=%u%s",
 				 device, (unsigned)geteuid(), (unsigned)getegid(), options);
 
+	snprintf(type, sizeof(type), "fuse.%s", by->program);
 	find_mount_point(folder);
 	if (made.directory >= 0)
 		made.above = number_of_mount(made.directory, made.name);
 	errno = E2BIG;
 	if (len < 0 || (size_t)len >= sizeof(words) ||
-	    mount(source, mount_point(folder, place, sizeof(place)), "fuse.nizwarf", flags, words))
+	    mount(source, mount_point(folder, place, sizeof(place)), type, flags, words))
 		return say(by, folder);
 	if (made.directory >= 0)
 		made.own = number_of_mount(made.directory, made.name);

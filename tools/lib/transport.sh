@@ -66,9 +66,7 @@ build_transport() {
     rmdir "$folder"
 }
 
-# The kind of file system that a folder is on: the type of its mount, but fuse.nizwarf-share if that has a folder
-# for its source.
+# The kind of file system that a folder is on: the type of its mount, but fuse.nizwarf of a tree.
 kind_of() {
-    findmnt -no FSTYPE,SOURCE -T "$1" | tail -n 1 |
-        awk '{ print $1 ($1 == "fuse.nizwarf" && $2 ~ "^/" ? "-share" : "") }'
+    findmnt -no FSTYPE -T "$1" | tail -n 1 | sed 's/^fuse\.nizwarf-mount$/fuse.nizwarf/'
 }

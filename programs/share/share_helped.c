@@ -1,0 +1,59 @@
+/* Words of mount(8): share_helped.h. */
+#define _GNU_SOURCE
+#include <errno.h>
+#include <limits.h>
+#include <stdio.h>
+#include <stdlib.h>
+#include <string.h>
+#include <sys/mount.h>
+#include <sys/syscall.h>
+#include <unistd.h>
+#include "share_helped.h"
+#include "share_words.h"
+
+struct helped helped;
+
+bool is_started_by_mount(const char *name)
+{
+	const char *last = name ? strrchr(name, '/') : NULL;
+
+	return name && !strncmp(last ? last + 1 : name, "mount.", 6);
+}
+
+void take_from_mount(int count, char **given)
+{
+	if (count < 3)
+		refuse("it is mount(8) that starts it by this name, with a folder and a mount point", "");
+	helped.is_there = true;
+	words.daemonizes = true;
+	words.says_more = false;
+	/* (what is open here would stay so as long as it serves) */
+#ifdef SYS_close_range
+	syscall(SYS_close_range, STDERR_FILENO + 1, UINT_MAX, 0);
+#endif
+	for (int found; (found = getopt(count - 2, given + 2, ":sfnvo:t:")) != -1;) {
+		if (found == '?' || found == ':')
+			refuse("mount(8) gives a word that can't be: ", given[optind + 1]);
+		helped.is_fake |= found == 'f';
+		helped.is_sloppy |= found == 's';
+		words.says_more |= found == 'v';
+		if (found == 'o')
+			take_options(optarg);
+	}
+	/* (an option, as virtiofsd's source=, is no other folder) */
+	words.folder = given[1];
+	words.mount_point = given[2];
+	if (optind + 2 < count)
+		refuse("there is a word too many: ", given[optind + 2]);
+}
+
+void end_helped(void)
+{
+	if (!helped.is_fake && !helped.remounts)
+		return;
+	if (!helped.is_fake && mount(NULL, words.mount_point, NULL, MS_REMOUNT | words.flags, NULL)) {
+		fprintf(stderr, "nizwarf-share: %s: %s\n", words.mount_point, strerror(errno));
+		exit(1);
+	}
+	exit(0);
+}
