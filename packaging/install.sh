@@ -71,9 +71,10 @@ while IFS= read -r file; do
 done < "$made.files"
 awk -v prefix="$prefix" '/^prefix=/ { $0 = "prefix=" prefix } { print }' lib/pkgconfig/nizwarf.pc \
     > "$root/lib/pkgconfig/nizwarf.pc"
-# A manager of virtual machines finds the program by its full path.
-description=share/qemu/vhost-user/60-nizwarf-share.json
-awk -v prefix="${prefix%/}" '{ sub("/usr/local", prefix) } { print }' "$description" > "$root/$description"
+# A manager of virtual machines, or of services, finds the program by its full path.
+for file in share/qemu/vhost-user/60-nizwarf-share.json lib/systemd/system/nizwarf-share@.service; do
+    awk -v prefix="${prefix%/}" '{ sub("/usr/local", prefix) } { print }' "$file" > "$root/$file"
+done
 {
     cat "$made" "$made.files"
     echo share/nizwarf/installed

@@ -243,6 +243,16 @@ put_page() {
     esac
 }
 
+# Puts what the system starts nizwarf-share by below a folder: the name that mount(8) looks for, with a page, and units
+# of systemd.
+put_system() {
+    local helper=mount.fuse.nizwarf-share
+    mkdir -p "$1/sbin"
+    ln -s ../bin/nizwarf-share "$1/sbin/$helper"
+    echo ".so man8/nizwarf-share.8" > "$1/share/man/man8/$helper.8"
+    install -Dm 644 "$packaging"/systemd/* -t "$1/lib/systemd/system"
+}
+
 # Names a program whose page is not below a folder: page_missing FOLDER NAME.
 page_missing() {
     compgen -G "$1/man[18]/$2.[18]" > /dev/null || echo "$2"
@@ -269,6 +279,7 @@ make_tree() {
     for page in "$work"/man/*.[1-8]; do
         put_page "$page" "$tree/share/man"
     done
+    put_system "$tree"
     missing=$(functions | while read -r name; do
         { [ -e "$tree/share/man/man3/$name.3" ] && grep -qx "\.Ss $name" "$work"/man/*.3; } || echo "$name"
     done)
@@ -394,6 +405,8 @@ make_debs() {
     sed 's,/usr/local/,/usr/,' "$packaging/60-nizwarf-share.json" \
         > "$root/usr/share/qemu/vhost-user/60-nizwarf-share.json"
     find "$tree/share/man" -mindepth 1 -maxdepth 1 ! -name man3 -exec cp -R {} "$root/usr/share/man/" \;
+    put_system "$root/usr"
+    sed -i 's,/usr/local/,/usr/,' "$root"/usr/lib/systemd/system/*.service
     make_deb nizwarf "$root" "$out"
 }
 
