@@ -15,7 +15,7 @@ struct door_session {
 
 struct door_req {
 	struct fuse_req req;
-	/* Its `call` is 0 where the door told none: the reply is then a header alone. */
+	/* Its `call` is 0 where the door told none: the reply is then a header alone, and nothing else is read. */
 	nizwarf_call call;
 };
 
@@ -28,6 +28,10 @@ static inline nizwarf_call *call_of(fuse_req_t req)
 {
 	return &((struct door_req *)(void *)req)->call;
 }
+
+/* A request of zeros, but for its call, and its end. */
+static struct fuse_req *door_take_req(void);
+static void door_give_req(struct fuse_req *req);
 
 /* Each reply and each notice but those with data goes by these two. */
 static int send_reply_iov(fuse_req_t req, int error, struct iovec *iov, int count);

@@ -25,6 +25,12 @@ HAS = {
     "HAVE_NO_INTERRUPT": r"conn\.no_interrupt",
 }
 SHORT = r'^\tif \((?:\(size_t\) ?)?res < sizeof\(struct fuse_in_header\)\) \{\n[^\n]*"short [^\n]*\n\t\treturn -EIO;\n\t\}\n'
+# How a session and a request are allocated and freed: with what the door wants of them behind.
+OWN = (
+    (r"calloc\(1, sizeof\(struct fuse_session\)\)", "calloc(1, sizeof(struct door_session))"),
+    (r"\(struct fuse_req \*\) ?calloc\(1, sizeof\(struct fuse_req\)\)", "door_take_req()"),
+    (r"pthread_mutex_destroy\(&req->lock\);\n\tfree\(req\);", r"pthread_mutex_destroy(&req->lock);\n\tdoor_give_req(req);"),
+)
 PROCESS = r"fuse_session_process_buf_int(?:ernal)?"
 
 
@@ -55,10 +61,10 @@ def main():
     kept = drop(kept, definition(PROCESS), "fuse_session_process_buf_int")
     kept = drop(kept, definition(CALLED), "do_getattr")
     kept = drop(kept, r"^static struct \{\n\tvoid \(\*func\).*?^\} fuse_ll_ops2?\[\][^\n]*\n.*?^\};\n", "fuse_ll_ops")
-    for name, with_door in (("fuse_session", "door_session"), ("fuse_req", "door_req")):
-        kept, count = re.subn(rf"calloc\(1, sizeof\(struct {name}\)\)", f"calloc(1, sizeof(struct {with_door}))", kept)
+    for was, is_now in OWN:
+        kept, count = re.subn(was, is_now, kept)
         if count != 1:
-            sys.exit(f"fuse_lowlevel.c doesn't allocate its struct {name} as is known here.")
+            sys.exit(f"fuse_lowlevel.c doesn't allocate and free its structs as is known here: no {was}.")
     # A message that is shorter than a header ends no session: the door refuses it.
     kept, count = re.subn(SHORT, "", kept, flags=re.M)
     if count != 2:

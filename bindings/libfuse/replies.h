@@ -3,11 +3,14 @@
  * answers is held against the call that it was asked: a record of another kind, a number that is no error, a text
  * that is too long come to the caller as an error, where the kernel would refuse the reply, and the caller wait. */
 
-/* Memory of a thread: a slot, and a room for a reply that has no data. */
+/* Memory of a thread: a slot, a room for a reply that has no data, the request that ended last, and an answer of which
+ * no more than `error` and `count` is ever set. */
 struct door_thread {
 	nizwarf_slot slot;
 	uint8_t *room;
 	size_t size;
+	struct door_req *spare;
+	nizwarf_answer plain;
 };
 
 enum {
@@ -29,6 +32,7 @@ static void end_thread(void *at)
 
 	nizwarf_end_slot(&t->slot);
 	free(t->room);
+	free(t->spare);
 	free(t);
 	door_mine = NULL;
 }
@@ -67,6 +71,35 @@ static struct door_thread *door_thread(size_t size)
 	return t;
 }
 
+/* A thread mostly ends the request that it took: the next one has its memory. */
+static struct fuse_req *door_take_req(void)
+{
+	struct door_thread *t = door_mine;
+	struct door_req *taken;
+
+	if (!t || !t->spare)
+		return calloc(1, sizeof(*taken));
+	taken = t->spare;
+	t->spare = NULL;
+	memset(&taken->req, 0, sizeof(taken->req));
+	taken->call.call = 0;
+	return &taken->req;
+}
+
+static void door_give_req(struct fuse_req *req)
+{
+	struct door_thread *t = door_mine;
+
+#ifdef __SANITIZE_ADDRESS__
+	/* (which sees what is used after its end) */
+	t = NULL;
+#endif
+	if (t && !t->spare)
+		t->spare = (struct door_req *)(void *)req;
+	else
+		free(req);
+}
+
 /* The session as it is now: an INIT may be answered meanwhile, if the client isn't a kernel. */
 static nizwarf_session session_of(struct fuse_session *se)
 {
@@ -82,11 +115,15 @@ static nizwarf_session session_of(struct fuse_session *se)
 }
 
 /* Copies pieces together, if they are as long as that in all. */
-static int gather(void *to, size_t size, const struct iovec *iov, int count)
+static inline int gather(void *to, size_t size, const struct iovec *iov, int count)
 {
 	size_t at = 0;
 	int i;
 
+	if (count == 1 && size && iov->iov_len == size) {
+		memcpy(to, iov->iov_base, size);
+		return 1;
+	}
 	if (iov_length(iov, count) != size)
 		return 0;
 	for (i = 0; i < count; i++) {
@@ -358,12 +395,16 @@ static int send_answer(fuse_req_t req, const nizwarf_answer *answer)
 	return send_put(req, t->room, told.put, iov, 1);
 }
 
-static int send_error(fuse_req_t req, int error)
+/* An error, or 0 where that is all there is to say. */
+static int send_plain(fuse_req_t req, int error)
 {
-	nizwarf_answer answer = NIZWARF_NO_ANSWER;
+	struct door_thread *t = door_thread(SMALL_ROOM);
 
-	answer.error = error;
-	return send_answer(req, &answer);
+	if (!t)
+		return send_header(req, -ENOMEM);
+	t->plain.error = error;
+	t->plain.count = 0;
+	return send_answer(req, &t->plain);
 }
 
 /* The header of a reply with `len` bytes of data, which the door doesn't see: those of a READ, or records of a
@@ -371,24 +412,23 @@ static int send_error(fuse_req_t req, int error)
 static size_t put_data_header(fuse_req_t req, uint64_t len, uint8_t *header)
 {
 	const nizwarf_session session = session_of(req->se);
-	nizwarf_answer answer = NIZWARF_NO_ANSWER;
 	struct door_thread *t = door_thread(HEADER);
-	nizwarf_call call = *call_of(req);
+	nizwarf_call *call = call_of(req);
 	nizwarf_told told;
 
 	if (!t)
 		return 0;
 	memset(&told, 0, sizeof(told));
-	told.options = call.options;
+	told.options = call->options;
 	/* A listing is told as bytes: libfuse has them in records already. */
-	call.call = NIZWARF_READ;
-	call.answer = NIZWARF_DATA;
-	call.length = call.size;
-	call.has = 0;
-	answer.error = 0;
-	answer.count = len;
-	if (nizwarf_answer_at(&t->slot, &session, &call, &answer, header, 0,
-			      (const nizwarf_item *)(void *)&answer, 0, &told) != NIZWARF_OK)
+	call->call = NIZWARF_READ;
+	call->answer = NIZWARF_DATA;
+	call->length = call->size;
+	call->has = 0;
+	t->plain.error = 0;
+	t->plain.count = len;
+	if (nizwarf_answer_at(&t->slot, &session, call, &t->plain, header, 0,
+			      (const nizwarf_item *)(void *)&t->plain, 0, &told) != NIZWARF_OK)
 		return 0;
 	nizwarf_copy_slot_at(&t->slot, 0, header, HEADER);
 	return told.len;
@@ -425,19 +465,30 @@ static int send_data(fuse_req_t req, struct iovec *iov, int count)
 
 	if (call->answer == NIZWARF_DIRECTORY && len &&
 	    (count != 2 || !are_records(call, iov[1].iov_base, len)))
-		return send_error(req, EIO);
+		return send_plain(req, EIO);
 	whole = put_data_header(req, len, header);
 	if (!whole)
 		return send_header(req, -ENOMEM);
 	return send_put(req, header, HEADER, iov, whole > HEADER ? count : 1);
 }
 
+/* A reply with a record that libfuse laid out. */
+static int send_told(fuse_req_t req, const struct iovec *iov, int count)
+{
+	nizwarf_answer answer = NIZWARF_NO_ANSWER;
+	nizwarf_init_more more;
+
+	answer.error = 0;
+	if (tell(req, &answer, &more, iov, count))
+		return send_answer(req, &answer);
+	fuse_log(FUSE_LOG_ERR, "fuse: what was answered is no answer to call %u\n", call_of(req)->call);
+	return send_plain(req, EIO);
+}
+
 /* Each reply but those of fuse_reply_data. `iov` has a place for the header in front. */
 static int send_reply_iov(fuse_req_t req, int error, struct iovec *iov, int count)
 {
 	const nizwarf_call *call = call_of(req);
-	nizwarf_answer answer = NIZWARF_NO_ANSWER;
-	nizwarf_init_more more;
 
 	if (!call->call || call->call == NIZWARF_DESTROY)
 		return send_header(req, error);
@@ -446,15 +497,12 @@ static int send_reply_iov(fuse_req_t req, int error, struct iovec *iov, int coun
 		return 0;
 	}
 	if (error)
-		return send_error(req, -error);
+		return send_plain(req, -error);
 	if (call->answer == NIZWARF_DATA || call->answer == NIZWARF_DIRECTORY)
 		return send_data(req, iov, count);
-	answer.error = 0;
-	if (!tell(req, &answer, &more, iov + 1, count - 1)) {
-		fuse_log(FUSE_LOG_ERR, "fuse: what was answered is no answer to call %u\n", call->call);
-		return send_error(req, EIO);
-	}
-	return send_answer(req, &answer);
+	if (call->answer == NIZWARF_DONE && count == 1)
+		return send_plain(req, 0);
+	return send_told(req, iov + 1, count - 1);
 }
 
 /* Data by descriptors, where the call isn't a READ. */
