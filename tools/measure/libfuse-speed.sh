@@ -4,23 +4,47 @@
 # and of the clock of both, in turns, and their ratio; below 1 it is quicker here; then, if valgrind is installed, the
 # ratio of instructions.
 #
-# Usage: tools/measure/libfuse-speed.sh [ROUNDS [FOLDER]]
-# Without a word 9 rounds. FOLDER is that of tools/libfuse.sh. A mount has the kernel's part besides, which is the larger
-# one. It takes a minute.
+# Usage: tools/measure/libfuse-speed.sh [--mount [--class CLASS]..] [ROUNDS [FOLDER]]
+# Without a word 9 rounds. FOLDER is that of tools/libfuse.sh. It takes a minute.
+# With --mount libfuse's passthrough_ll is mounted with both, in turns, and files are used, by one job and by four: a cell
+# is the ratio by the clock, and in brackets that of the processor time of the server, the kernel's part included. That
+# takes root and ten minutes; the classes are those of tools/measure/share-speed.sh.
 # Status 0: it was timed; 1: not so; 2: it could not start.
 set -euo pipefail
 . "$(dirname "$0")/../lib/usage.sh"
 . "$(dirname "$0")/../lib/program.sh"
+. "$(dirname "$0")/../lib/mounts.sh"
 
+given=("$@") mount='' classes=()
+if [ "${1:-}" = --mount ]; then
+    mount=yes
+    shift
+fi
+while [ "$mount ${1:-}" = "yes --class" ] && [ $# -ge 2 ]; do
+    classes+=("$2")
+    shift 2
+done
 rounds=${1:-9}
 if ! [[ $rounds =~ ^[1-9][0-9]*$ ]] || [ $# -gt 2 ]; then
-    echo "Usage: tools/measure/libfuse-speed.sh [ROUNDS [FOLDER]]" >&2
+    echo "Usage: tools/measure/libfuse-speed.sh [--mount [--class CLASS]..] [ROUNDS [FOLDER]]" >&2
     exit 2
 fi
 folder=$(realpath -m "${2:-$here/out/libfuse}")
 ours=$("$here/tools/libfuse.sh" "$folder")
 theirs=$("$here/tools/libfuse.sh" --unmodified "$folder")
 suite=$(sed -n 's/^VERSION_CODENAME=//p' /etc/os-release)
+if [ -n "$mount" ]; then
+    need_root "It mounts"
+    own_mounts "${given[@]}"
+    work=$(mktemp -d -p /dev/shm)
+    trap 'umount -lq "$work"/mount 2> /dev/null || true; rm -rf "$work"' EXIT
+    cc -O2 -w -D_FILE_OFFSET_BITS=64 -pthread -I "$folder/source-$suite/include" -I "$folder/$suite-unmodified/build" \
+        -o "$work/passthrough_ll" "$folder/source-$suite/example/passthrough_ll.c" "$theirs/libfuse3.so.3"
+    cc -std=c11 -O2 -Wall -Wextra -Werror -o "$work/share_speed" "$here/tools/measure/share_speed.c"
+    LD_LIBRARY_PATH=$theirs python3 -B "$here/tools/measure/share_speed.py" libfuse "$work/share_speed" "$ours" - '' \
+        "$work/passthrough_ll" - "$here" "$work" "$rounds" '' "${classes[@]}"
+    exit
+fi
 work=$(mktemp -d -p "$folder")
 trap 'rm -rf "$work"' EXIT
 cc -std=c11 -O2 -w -D_FILE_OFFSET_BITS=64 -I "$folder/source-$suite/include" -I "$folder/$suite-unmodified/build" \

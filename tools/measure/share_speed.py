@@ -1,8 +1,9 @@
 """Times nizwarf-share or the tree in memory beside libfuse's passthrough_ll and bindfs, for share-speed.sh.
 
-Usage: share_speed.py share|tree SPEED OURS FLOOR OPTIONS PASSTHROUGH_LL BINDFS REPOSITORY WORK ROUNDS FACTS [CLASS..]
+Usage: share_speed.py share|tree|libfuse SPEED OURS FLOOR OPTIONS PASSTHROUGH_LL BINDFS REPOSITORY WORK ROUNDS FACTS [CLASS..]
 Each shares a folder in memory on a mount of its own; the tree has its files itself, and a tmpfs is beside it too.
 FLOOR is the tree's transport that says again what the tree said: the class floor is stat of it.
+With libfuse it is passthrough_ll beside itself, with libfuse's library of the folder OURS: for libfuse-speed.sh.
 In each round each class goes over each of the mounts, one after another, beginning with another one each time. A
 row has the medians of the ratios of the rounds. FACTS are where and of what it is. After the times the system calls
 of each server are counted by strace, if it is there."""
@@ -223,7 +224,8 @@ def row(servers, what):
             both, other = ratios(times[names[0]], times[name]), name.split(",")[0]
             beside[other] = max(beside.get(other, (0, 0)), both or (0, 0))
         cells += [shown(beside[other], isinstance(servers[other], Tmpfs)) for other in beside]
-        worst.append(shown(max(beside["passthrough_ll"], beside["bindfs"])))
+        if "bindfs" in beside:
+            worst.append(shown(max(beside["passthrough_ll"], beside["bindfs"])))
     return "| " + " | ".join([SAID[what], *cells, *worst]) + " |"
 
 
@@ -257,8 +259,14 @@ def main():
     subprocess.run(["git", "-C", repository, "archive", "--output", work + "/archive", "--format=tar", "HEAD"],
                    check=True)
     subprocess.run(["git", "clone", "-q", repository, work + "/clone"], check=True)
-    others = {"passthrough_ll": Server([passthrough_ll, "-f", "-o",
-                                        "source={folder},cache=auto,default_permissions", "{mount}"]),
+    words = [passthrough_ll, "-f", "-o", "source={folder},cache=auto,default_permissions", "{mount}"]
+    if kind == "libfuse":
+        servers = {"over the layer": Server(["env", "LD_LIBRARY_PATH=" + ours, *words]), "passthrough_ll": Server(words)}
+        print("| Class | 1 job | 4 jobs |\n|---|---|---|")
+        for what in sys.argv[12:] or CLASSES:
+            print(row(servers, what), flush=True)
+        return
+    others = {"passthrough_ll": Server(words),
               "bindfs": Server([bindfs, "-f", "{folder}", "{mount}"]),
               "bindfs, threads": Server([bindfs, "-f", "--multithreaded", "{folder}", "{mount}"])}
     if kind == "tree":
