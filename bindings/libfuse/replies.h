@@ -75,11 +75,12 @@ static struct door_thread *door_thread(size_t size)
 static struct fuse_req *door_take_req(void)
 {
 	struct door_thread *t = door_mine;
-	struct door_req *taken;
+	struct door_req *taken = t ? t->spare : NULL;
 
-	if (!t || !t->spare)
-		return calloc(1, sizeof(*taken));
-	taken = t->spare;
+	if (!taken) {
+		taken = calloc(1, sizeof(*taken));
+		return taken ? &taken->req : NULL;
+	}
 	t->spare = NULL;
 	memset(&taken->req, 0, sizeof(taken->req));
 	taken->call.call = 0;

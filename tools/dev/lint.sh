@@ -1,6 +1,7 @@
 #!/usr/bin/env bash
 # Holds the sources of nizwarf-share, nizwarf-mount and nizwarf-vhost, in programs, against clang-tidy and
-# cppcheck: what they find is printed. tools/check.sh holds formats.
+# cppcheck, and bindings/libfuse against clang-tidy, where tools/libfuse.sh built it: what they find is printed.
+# tools/check.sh holds formats.
 #
 # Usage: tools/dev/lint.sh
 # It wants clang-tidy and cppcheck, and libseccomp-dev for the sandbox of share.c.
@@ -27,6 +28,14 @@ sources=("$here"/programs/*/*.c)
 part "clang-tidy over ${#sources[@]} files"
 clang-tidy --quiet --warnings-as-errors='*' "--checks=$(tr -s ' \n' , <<< "$checks")" "${sources[@]}" \
     -- "${flags[@]}" 2> >(grep -v 'warnings generated' >&2)
+files='[{"name":"door.h"},{"name":"replies.h"},{"name":"notices.h"},{"name":"requests.h"}]'
+for built in "$here"/out/libfuse/*-nizwarf; do
+    part "clang-tidy over bindings/libfuse, in ${built##*/}"
+    clang-tidy --quiet --warnings-as-errors='*' "--checks=$(tr -s ' \n' , <<< "$checks")" "--line-filter=$files" \
+        "$built/tree/lib/fuse_lowlevel.c" -- -std=gnu11 -D_GNU_SOURCE -D_FILE_OFFSET_BITS=64 -DFUSE_USE_VERSION=317 \
+        -I "$built/build" -I "$built/tree/include" -I "$built/tree/lib" -include fuse_config.h -Wall -Wextra \
+        2> >(grep -v 'warnings generated' >&2)
+done
 part "cppcheck"
 cppcheck --std=c11 --quiet --error-exitcode=1 --inline-suppr --enable=warning,performance,portability \
     -I "$here/include" -I "$here/programs/transport" -DWITH_SECCOMP "${sources[@]}"
