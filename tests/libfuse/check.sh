@@ -152,6 +152,7 @@ check_tests() {
     run_tests unmodified "$work/theirs"
     run_tests nizwarf "$work/ours"
     mapfile -t failed < <(comm -12 <(sed -nE 's/ PASS(ED)?$//p' "$work/theirs") <(sed -nE 's/ FAIL(ED)?$//p' "$work/ours"))
+    [ -z "${failed[*]}" ] || echo "Tried again: ${failed[*]}"
     mapfile -t failed < <(try_again "${failed[@]}")
     echo "With libfuse's own library $(grep -c ' PASS' "$work/theirs") of $(wc -l < "$work/theirs") pass, with this" \
         "$(grep -c ' PASS' "$work/ours"); those that fail with its own too:"
