@@ -32,7 +32,7 @@ files='[{"name":"door.h"},{"name":"replies.h"},{"name":"notices.h"},{"name":"req
 for built in "$here"/out/libfuse/*-nizwarf; do
     part "clang-tidy over bindings/libfuse, in ${built##*/}"
     clang-tidy --quiet --warnings-as-errors='*' "--checks=$(tr -s ' \n' , <<< "$checks")" "--line-filter=$files" \
-        "$built/tree/lib/fuse_lowlevel.c" -- -std=gnu11 -D_GNU_SOURCE -D_FILE_OFFSET_BITS=64 -DFUSE_USE_VERSION=317 \
+        "$built/tree/lib/fuse_lowlevel.c" -- -std=gnu11 -D_GNU_SOURCE= -D_FILE_OFFSET_BITS=64 -DFUSE_USE_VERSION=317 \
         -I "$built/build" -I "$built/tree/include" -I "$built/tree/lib" -include fuse_config.h -Wall -Wextra \
         2> >(grep -v 'warnings generated' >&2)
 done
