@@ -1,0 +1,93 @@
+/* Where Eva begins: a worker that serves a queue, of any size, of a front end that tells any regions; a guest that
+ * writes anything; requests that are answered with any code and any length, or kept and answered later. */
+#ifdef __FRAMAC__
+#include "vhost_queue.c"
+#include "later.c"
+#define OF_EVA
+#include "contracts.h"
+#include "__fc_builtin.h"
+
+enum { SHARED = 1 << 22 };
+static unsigned char memory[REGIONS][SHARED];
+static volatile int any;
+static struct guest front_end;
+static struct worker worker;
+static transport with;
+
+static int32_t serve(void *user, unsigned number, const nizwarf_segment *request, size_t segments,
+		     const nizwarf_room *room, size_t rooms, size_t *len)
+{
+	static const unsigned char reply[4096];
+	transport_later *kept;
+
+	(void)user, (void)number, (void)request, (void)segments, (void)room, (void)rooms;
+	front_end.gone = any;
+	*len = Frama_C_unsigned_long_interval(0, LONGEST);
+	kept = any ? transport_keep() : NULL;
+	if (!kept)
+		return any;
+	if (any)
+		transport_complete(kept, any, reply, sizeof(reply));
+	else if (any)
+		transport_complete(kept, any, reply, 0);
+	return NIZWARF_ASKED;
+}
+
+static void recall(void *user)
+{
+	(void)user;
+}
+
+/* Memory as vhost_user.c tells of it: regions that are not empty, each where it is mapped. */
+static void share(struct guest *g)
+{
+	for (size_t i = 0; i < REGIONS; i++) {
+		g->region[i] = (struct region){ memory[i] + Frama_C_unsigned_long_interval(0, SHARED - 1),
+						memory[i], SHARED };
+		g->told[i].size = g->shared[i].size = Frama_C_unsigned_long_interval(1, SHARED);
+		g->told[i].user = Frama_C_unsigned_long_interval(0, SIZE_MAX);
+		g->told[i].guest = g->shared[i].address = Frama_C_unsigned_long_interval(0, SIZE_MAX);
+	}
+	g->regions = Frama_C_unsigned_long_interval(0, REGIONS);
+}
+
+static void tell_queue(struct queue *q)
+{
+	q->size = Frama_C_unsigned_int_interval(1, 32768);
+	q->descriptors_user = Frama_C_unsigned_long_interval(0, SIZE_MAX);
+	q->available_user = Frama_C_unsigned_long_interval(0, SIZE_MAX);
+	q->used_user = Frama_C_unsigned_long_interval(0, SIZE_MAX);
+	q->next = q->done = (uint16_t)any;
+	q->enabled = any;
+	q->kick = Frama_C_interval(-1, 1000);
+	q->call = Frama_C_interval(0, 1000);
+	q->calls = any;
+	queue_place(q);
+}
+
+int main(void)
+{
+	struct queue *q = &front_end.queue[0];
+
+	Frama_C_make_unknown((char *)memory, sizeof(memory));
+	with = (transport){ .program = "analysed", .serve = serve };
+	with.workers = Frama_C_unsigned_int_interval(1, TRANSPORT_MOST_WORKERS);
+	with.writes_in_place = any;
+	with.recall = any ? recall : NULL;
+	with.withheld = Frama_C_unsigned_long_interval(0, SIZE_MAX);
+	by = &with;
+	vhost_guest = &front_end;
+	pthread_mutex_init(&q->lock, NULL);
+	pthread_mutex_init(&guests, NULL);
+	share(&front_end);
+	tell_queue(q);
+	for (int i = 0; i < 3; i++) {
+		front_end.gone = any;
+		if (has_late(q))
+			serve_late(&front_end, q);
+		serve_next(&worker, &front_end, q);
+	}
+	return 0;
+}
+
+#endif
