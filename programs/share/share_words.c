@@ -490,31 +490,14 @@ static void take_range(const char *key, char *rest, struct id_map *map)
 	*range = (struct id_range){ (uint32_t)value[0], (uint32_t)value[1], (uint32_t)value[2] };
 }
 
-static void take_word(int word)
+/* Takes a word of what is served, and how: one from CACHE to TRACE. */
+static void take_served(int word)
 {
 	static const char *const caches[] = { "never", "auto", "always", "metadata", NULL };
 	static const char *const filters[] = { "none", "kill", "trap", "log", NULL };
 	static const char *const handles[] = { "never", "prefer", "mandatory", NULL };
 
 	switch (word) {
-	case 'o':
-		take_options(optarg);
-		break;
-	case 'd':
-		take_log_level("debug");
-		break;
-	case SHARED_DIR:
-		words.folder = optarg;
-		break;
-	case SOCKET_PATH:
-		words.socket_path = optarg;
-		break;
-	case FD:
-		words.fd = (int)number("--fd", optarg, 0, INT_MAX);
-		break;
-	case SOCKET_GROUP:
-		words.socket_group = optarg;
-		break;
 	case CACHE:
 		words.files.cache = (enum passthrough_cache)one_of("--cache", optarg, caches);
 		break;
@@ -588,6 +571,32 @@ static void take_word(int word)
 		words.traces = true;
 		words.trace_file = optarg;
 		break;
+	default:
+		break;
+	}
+}
+
+static void take_word(int word)
+{
+	switch (word) {
+	case 'o':
+		take_options(optarg);
+		break;
+	case 'd':
+		take_log_level("debug");
+		break;
+	case SHARED_DIR:
+		words.folder = optarg;
+		break;
+	case SOCKET_PATH:
+		words.socket_path = optarg;
+		break;
+	case FD:
+		words.fd = (int)number("--fd", optarg, 0, INT_MAX);
+		break;
+	case SOCKET_GROUP:
+		words.socket_group = optarg;
+		break;
 	case DAEMONIZE:
 		words.daemonizes = true;
 		break;
@@ -601,6 +610,7 @@ static void take_word(int word)
 		print(word);
 	/* (-f, by which virtiofsd stayed in the foreground) */
 	default:
+		take_served(word);
 		break;
 	}
 }
@@ -623,7 +633,7 @@ static bool take_as_word(const char *key, char *value)
 		if (value ? word->has_arg == no_argument : word->has_arg == required_argument)
 			return false;
 		optarg = value;
-		take_word(word->val);
+		take_served(word->val);
 		return true;
 	}
 	return false;

@@ -137,7 +137,7 @@ options_hold() {
     start -o ro,size=1m,nr_inodes=10,mode=711,uid=7,gid=8,fsname=check
     shown="$(df -T "$folder" | awk 'END { print $1, $2, $3 }') $(df -i "$folder" | awk 'END { print $2 }')"
     shown="$shown $(stat -c '%A %u %g' "$folder")"
-    [ "$shown" = "check fuse.nizwarf 1024 10 drwx--x--x 7 8" ] || wrong "the options came to $shown"
+    [ "$shown" = "check fuse.nizwarf-mount 1024 10 drwx--x--x 7 8" ] || wrong "the options came to $shown"
     if (: > "$folder/a") 2> /dev/null; then
         wrong "what is only read was written."
     fi

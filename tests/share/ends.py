@@ -130,7 +130,8 @@ class Server:
             self.process.wait()
         hold(came == wanted, f"{what}: {came}")
         hold(not os.path.exists(path), f"{what}: the socket is left")
-        libc.umount2(point.encode(), 10) if self.mounts and "fuse.nizwarf" in mounted(point) else None
+        if self.mounts and any(it.startswith("fuse.nizwarf") for it in mounted(point)):
+            libc.umount2(point.encode(), 10)
         return time.monotonic() - from_then
 
 
