@@ -23,6 +23,7 @@ HAS = {
     "HAVE_STATX_OP": r"op\.statx",
     "HAVE_COPY_64": r"is_copy\w+_64",
     "HAVE_NO_INTERRUPT": r"conn\.no_interrupt",
+    "HAVE_RETRIEVE_HEADER": r"sizeof\(struct fuse_in_header\) \+\s*sizeof\(struct fuse_notify_retrieve_in\)",
 }
 SHORT = r'^\tif \((?:\(size_t\) ?)?res < sizeof\(struct fuse_in_header\)\) \{\n[^\n]*"short [^\n]*\n\t\treturn -EIO;\n\t\}\n'
 # How a session and a request are allocated and freed: with what the door wants of them behind.

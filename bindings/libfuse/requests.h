@@ -529,7 +529,10 @@ static void on_notify_reply(fuse_req_t req, const nizwarf_call *c, const struct 
 	struct fuse_notify_req *asked;
 	struct fuse_buf buf = *m->buf;
 
+#ifndef HAVE_RETRIEVE_HEADER
+	/* (of others who asked takes the header off) */
 	buf.size -= sizeof(*in);
+#endif
 	pthread_mutex_lock(&se->lock);
 	for (asked = se->notify_list.next; asked != &se->notify_list; asked = asked->next)
 		if (asked->unique == c->unique) {

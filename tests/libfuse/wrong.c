@@ -178,6 +178,16 @@ static void on_forget(fuse_req_t req, fuse_ino_t ino, uint64_t lookups)
 	fuse_reply_none(req);
 }
 
+/* How many bytes came of what a notice asked for. */
+static size_t retrieved;
+
+static void on_retrieved(fuse_req_t req, void *cookie, fuse_ino_t ino, off_t off, struct fuse_bufvec *bufv)
+{
+	(void)cookie, (void)ino, (void)off;
+	retrieved = fuse_buf_size(bufv);
+	fuse_reply_none(req);
+}
+
 static const struct fuse_lowlevel_ops ops = {
 	.lookup = on_lookup,
 	.readlink = on_readlink,
@@ -187,6 +197,7 @@ static const struct fuse_lowlevel_ops ops = {
 	.open = on_open,
 	.ioctl = on_ioctl,
 	.forget = on_forget,
+	.retrieve_reply = on_retrieved,
 };
 
 /* ---- Requests -------------------------------------------------------------------------------------- */
@@ -302,6 +313,28 @@ static int is_answered(const struct request *r)
 	       (!r->error || out.len == sizeof(out));
 }
 
+/* What a notice asks for comes whole, however long it is. */
+static void try_retrieve(size_t size)
+{
+	struct fuse_notify_retrieve_out asked;
+	struct fuse_notify_retrieve_in in = { .size = (uint32_t)size };
+	static _Alignas(8) char room[SIZE];
+	struct fuse_in_header head = { .len = (uint32_t)(sizeof(head) + sizeof(in) + size),
+				       .opcode = FUSE_NOTIFY_REPLY,
+				       .nodeid = 2 };
+	struct fuse_buf buf = { .size = head.len, .mem = room };
+
+	retrieved = 0;
+	fuse_lowlevel_notify_retrieve(session, 2, size, 0, NULL);
+	memcpy(&asked, reply + sizeof(struct fuse_out_header), sizeof(asked));
+	head.unique = asked.notify_unique;
+	memcpy(room, &head, sizeof(head));
+	memcpy(room + sizeof(head), &in, sizeof(in));
+	replies = 0;
+	fuse_session_process_buf(session, &buf);
+	judge("what was retrieved", !replies && retrieved == size);
+}
+
 static void try_answers(void)
 {
 	size_t i;
@@ -314,6 +347,9 @@ static void try_answers(void)
 		send_request(&good[i]);
 		judge(good[i].what, is_answered(&good[i]));
 	}
+	try_retrieve(1);
+	try_retrieve(64);
+	try_retrieve(4096);
 }
 
 struct attempt {
