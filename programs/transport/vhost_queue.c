@@ -2,7 +2,7 @@
  *
  * The guest may write all of its memory at any time. So a descriptor is copied before it is checked,
  * and a request before it is handed on: both once. The room is not read. What a descriptor is, and where in the
- * memory that the front end shared, the library says: nizwarf_chain.h. */
+ * memory that the front end shared, the library says: chain.h. */
 #define _GNU_SOURCE
 #include <errno.h>
 #include <fcntl.h>
