@@ -9,7 +9,6 @@ mod options;
 mod parts;
 mod reply;
 mod request;
-mod uses;
 
 pub use extensions::{get_extensions, parse_security_context, parse_sup_groups};
 pub use options::{

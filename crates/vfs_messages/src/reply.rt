@@ -155,13 +155,6 @@ fn reply_both<T: ByteValued + Drop>(
     reply_parts(Some(out), behind, unique, w)
 }
 
-/// Replies a header alone.
-fn reply_header(unique: u64, w: &mut Writer) -> Result<usize>
-    ensures { Replies (Bytes (body_reply [] unique)) w.old result w.new }
-{
-    reply_parts::<u8>(None, &[], unique, w)
-}
-
 /// The header of a reply that says a fault: its negated number, or that of EIO where it has none.
 fn fault_header(fault: Fault, unique: u64) -> OutHeader
     ensures header { result ≡
@@ -291,7 +284,7 @@ pub fn reply_done(
     ensures kind { IsAnswer Told (done_answer answer) }
 {
     match answer {
-        Ok(()) => reply_header(unique, w),
+        Ok(()) => reply_parts::<u8>(None, &[], unique, w),
         Err(fault) => reply_failed(fault, unique, w),
     }
 }

@@ -1,5 +1,7 @@
 //! Parts of requests, and replies.
 
+mod versions;
+
 ghost use Rattle.std.specs.Prelude.{◌≡◌, ◌<◌, ◌≤◌, ◌++◌, length, drop, Option, Ok, Err, Some, None, MatchResult, codes};
 ghost use Rattle.vfs_segments.specs.Segments.{with_bytes_at};
 ghost use Rattle.vfs_segments.specs.Written.{whole};

@@ -3,7 +3,7 @@ use Rattle.vfs_flags.specs.Numbers.{eproto}
 use Rattle.vfs_grammar.specs.Reply.{fault_reply}
 use Rattle.vfs_grammar.proofs.Rooms.{length-fault_reply}
 use Rattle.vfs_messages.proofs.Versions.{version_ends}
-use Rattle.vfs_messages.proofs.uses.reply_to_minor_26.Goals as goal
+use Rattle.vfs_uses.proofs.messages.versions.reply_to_minor_26.Goals as goal
 
 pub returns : goal.returns
 returns c =

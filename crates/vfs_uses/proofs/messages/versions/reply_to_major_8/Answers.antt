@@ -4,7 +4,7 @@ use Rattle.vfs_wire.specs.Records.{init_out}
 use Rattle.vfs_grammar.specs.Reply.{body_reply, version_out}
 use Rattle.vfs_grammar.proofs.Rooms.{length-body_reply}
 use Rattle.vfs_messages.proofs.Versions.{version_ends}
-use Rattle.vfs_messages.proofs.uses.reply_to_major_8.Goals as goal
+use Rattle.vfs_uses.proofs.messages.versions.reply_to_major_8.Goals as goal
 
 pub returns : goal.returns
 unfolding little

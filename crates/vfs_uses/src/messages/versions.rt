@@ -2,8 +2,8 @@
 
 ghost use Rattle.std.specs.Prelude.{◌≡◌, ◌≤◌, length, Option, None, Some, Ok};
 
-use crate::options::reply_unserved;
 use vfs_grammar::Result;
+use vfs_messages::reply_unserved;
 use vfs_segments::Writer;
 use vfs_wire::{InHeader, InitInCompat};
 
@@ -35,7 +35,7 @@ fn reply_to_minor_27(header: &InHeader, w: &mut Writer) -> Option<Result<usize>>
     reply_unserved(header, &init_in, w)
 }
 
-/// Of version 8.0 it is told that the server speaks 7.38, in a record behind the header.
+/// Of version 8.0 it is told that the server speaks 7.38, in a record after the header.
 fn reply_to_major_8(header: &InHeader, w: &mut Writer) -> Option<Result<usize>>
     requires { 80 ≤ length w.old.left }
     ensures { result ≡ Some (Ok 80) }
