@@ -22,7 +22,7 @@ pub enum Asks {
     /// FALLOCATE: the mode, the offset and the length.
     Fallocate(u8, u64, u64, u64),
     /// LSEEK: the offset, and from where it counts.
-    Lseek(u8, u64, u64),
+    Seek(u8, u64, u64),
 }
 
 /// Numbers of eight bytes each, and bytes after them.
@@ -61,7 +61,7 @@ pub fn message_of(alloc: Global, asks: Asks) -> Result<(u8, u8, Vec<u8>), AllocE
         Asks::Fallocate(node, mode, offset, length) => {
             Ok((43, node, joined(alloc, &[0, offset, length, mode], b"")?))
         }
-        Asks::Lseek(node, offset, whence) => {
+        Asks::Seek(node, offset, whence) => {
             Ok((46, node, joined(alloc, &[0, offset, whence], b"")?))
         }
     }
