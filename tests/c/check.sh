@@ -7,7 +7,8 @@
 # the sanitizers of the compiler too, if it has them. The structs are laid out as in version 0.2, and a program of that
 # version runs with what is built and what is packed: tests/c/version-0.2. All names that the libraries define begin with
 # `nizwarf_`.
-# Records and numbers of crates are those of the kernel's header, by tests/c/kernel.py.
+# Records and numbers of crates are those of the kernel's header, the machine's and the newest that Debian has, by
+# tests/c/kernel.py.
 # Last, tools/package.sh packs the libraries, and the examples are built by pkg-config against what is installed of
 # that, shared and static, and do the same.
 #
@@ -133,6 +134,22 @@ part "the records and numbers of crates against the kernel's header"
 "$here/tests/c/kernel.py"
 
 [ -z "$quick" ] || exit 0
+
+part "the same against the newest header that Debian has"
+headers=$here/out/headers
+if [ ! -d "$headers" ]; then
+    . "$here/tools/lib/debian.sh"
+    if quietly "$folder/said" use_suite sid "$folder/apt" &&
+        quietly "$folder/said" unpack_packages "$folder/headers" linux-libc-dev; then
+        mkdir -p "$(dirname "$headers")"
+        mv "$folder/headers/usr/include" "$headers"
+    fi
+fi
+if [ -d "$headers" ]; then
+    "$here/tests/c/kernel.py" --headers "$headers"
+else
+    echo "Skipped: the newest header, since Debian's packages are not to be had."
+fi
 
 part "the same programs under sanitizers"
 if has_flags "${sanitized[@]}"; then

@@ -1,10 +1,12 @@
 #!/usr/bin/env python3
 """Holds the records, opcodes, notices, flags and constants of crates against the kernel's <linux/fuse.h>.
 
-Usage: tests/c/kernel.py [--print]
+Usage: tests/c/kernel.py [--headers FOLDER] [--print]
+The header is that of FOLDER, as another kernel's package has it in usr/include, or else the machine's.
 It makes a C program of static assertions, and compiles it: of each record the place and the size of each field of its
 table in specs, and its size, by the struct that its comment names; of each number its value, by the name that its
-comment names, or by its own. The comment of a record says its size too. What this header has not yet is told, and so is how much there was to hold.
+comment names, or by its own. The comment of a record says its size too. What this header has not yet is told, which
+opcodes and notices are in it alone, and how much there was to hold.
 --print writes out the program instead.
 Status 0: all is as the header has it; 1: not so; 2: there is no compiler, or no header.
 """
@@ -15,9 +17,11 @@ import subprocess
 import sys
 
 os.chdir(os.path.join(os.path.dirname(os.path.abspath(__file__)), "../.."))
-if sys.argv[1:] not in ([], ["--print"]):
+words = sys.argv[1:]
+FOLDER = ["-I", words[1]] if words[:1] == ["--headers"] and words[1:] else []
+if words[len(FOLDER):] not in ([], ["--print"]):
     print(__doc__.strip())
-    sys.exit(0 if sys.argv[1:] == ["--help"] else 2)
+    sys.exit(0 if words == ["--help"] else 2)
 
 
 def read(pattern):
@@ -30,7 +34,7 @@ def read(pattern):
 
 def compiled(words, text):
     try:
-        return subprocess.run(["cc", "-x", "c", *words, "-"], input=text, text=True, capture_output=True, check=False)
+        return subprocess.run(["cc", *FOLDER, "-x", "c", *words, "-"], input=text, text=True, capture_output=True, check=False)
     except FileNotFoundError:
         print("Missing: the command `cc`: apt-get install gcc libc6-dev.", file=sys.stderr)
         sys.exit(2)
@@ -54,6 +58,9 @@ def hold(fact, what):
 
 
 # ---- records
+
+# What a later header has in place of what 7.38 leaves unused.
+LATER = {"unused[0]": "max_stack_depth", "unused[1]": "request_timeout"}
 
 TABLES = {name: (record, widths, fields) for name, record, widths, fields in re.findall(
     r"^abbrev pub (\w+) : Table (\w+)\n\1 =\s+table \(([^λ]*)\)\s+\(λ r\. (.*?)\)\s+made_\1$", SPECS, re.M | re.S)}
@@ -112,7 +119,13 @@ def hold_record(name):
     names, place = renamed([first(it) for it, _ in fields], struct), 0
     for field, width in fields:
         there = names.get(first(field), first(field)) + field[len(first(field)):]
-        if first(there) in STRUCTS[struct]:
+        later = LATER["unused[0]"] in STRUCTS[struct] and first(field) == "unused"
+        if later and field in LATER:
+            hold(f"offsetof(struct {struct}, {LATER[field]}) == {begin} + {place}", f"{struct}: {LATER[field]}")
+            held["fields"] += 1
+        elif later:
+            pass  # (shorter numbers there, and the struct's size is held)
+        elif first(there) in STRUCTS[struct]:
             hold(f"offsetof(struct {struct}, {there}) == {begin} + {place} && "
                  f"sizeof(((struct {struct} *)0)->{there}) == {width}", f"{struct}: {there}")
             held["fields"] += 1
@@ -157,16 +170,25 @@ for comment, flag in re.findall(r"((?:^    ///.*\n)+)    pub const \w+: (?:\w+) 
         hold_number([told[1]], flag)
     else:
         faults.append(f"a flag of {flag}: its comment names none of the kernel's")
+# Options and flags that virtiofsd lacks; in the file they have the kernel's names without FUSE_, or with FOPEN_.
+for name, flag in re.findall(r"^ *pub const (\w+): u\d+ = (1 << \d+);", read("crates/vfs_notices/src/*.rt"), re.M):
+    hold_number([f"FUSE_{name}", name], flag)
 # (the minor version is the header's own)
 for name, value in re.findall(r"^pub const (?!\w*MINOR_VERSION)(\w+): u\d+ = ([\d_ <]+);", FLAGS, re.M):
     hold_number([f"FUSE_{name}", name], value, False)
 
-if sys.argv[1:]:
+if words[len(FOLDER):]:
     print(*lines, sep="\n")
     sys.exit()
 result = compiled(["-std=c11", "-Wall", "-Wextra", "-Werror", "-fsyntax-only"], "\n".join(lines))
 faults += [it for it in result.stderr.split("\n") if "error" in it]
 print(*faults, sep="\n", end="\n" if faults else "")
+# (a later header may have more, which is no fault of ours)
+LISTS = "".join(re.findall(r"enum fuse_(?:opcode|notify_code) \{(.*?)\}", HEADER.stdout, re.S))
+more = [it for it in re.findall(r"^\s*(FUSE_\w+)", LISTS, re.M)
+        if not re.search(rf"\({it}\) == |_CODE_MAX|_RESERVED", "\n".join(lines) + it)]
+minor = re.search(r"^#define FUSE_KERNEL_MINOR_VERSION (\d+)$", HEADER.stdout, re.M)[1]
 print(", ".join(f"{number} {what}" for what, number in held.items())
-      + " are as <linux/fuse.h> has them; not there yet: " + ", ".join(dict.fromkeys(absent or ["none"])))
+      + f" are as <linux/fuse.h> of 7.{minor} has them; not there yet: " + ", ".join(dict.fromkeys(absent or ["none"]))
+      + "; not here: " + ", ".join(more or ["none"]))
 sys.exit(1 if faults else 0)
