@@ -2,3 +2,4 @@ pub mod Flight
 pub mod Asking
 pub mod OneTurn
 pub mod Telling
+pub mod Made

@@ -13,6 +13,7 @@ use Rattle.vfs_grammar.specs.Room.{IsReplied, unseen}
 use Rattle.vfs_grammar.specs.Turn.{Turn, Follows, node_answered}
 use Rattle.vfs_grammar.specs.declared.limits.Limits.{Limits}
 use Rattle.vfs_grammar.specs.declared.error.Error.{Error}
+use Rattle.vfs_grammar.specs.declared.error.Error.TheVariants.{OutOfMemory}
 use Rattle.vfs_calls.specs.Shapes.{bit}
 use Rattle.vfs_calls.specs.declared.call.CallData.{CallData}
 use Rattle.vfs_calls.specs.declared.data.AnswerData.{AnswerData}
@@ -22,7 +23,7 @@ use Rattle.vfs_answer.specs.Told.{TellsEcho, TellsOffer, TellsCall, CallIsAnswer
 use Rattle.vfs_answer.specs.declared.answered.Answered.{Answered}
 use Rattle.vfs_ask.specs.Asked.{IsAsked, IsTold, Tells, told_of_listing, length_of_call}
 use Rattle.vfs_ask.specs.declared.asked.Asked.TheVariants as asked
-use Rattle.vfs_in_flight.specs.OneTurn.{Happened, IsAnsweredTurn, AreOneTurn}
+use Rattle.vfs_in_flight.specs.OneTurn.{Happened, IsAnsweredTurn, AreOneTurn, AreFinishedTurns}
 use Rattle.vfs_in_flight.proofs.Asking.{IsUsual, is_usual}
 
 -- what came back through a writer, as a reader of the room's bytes sees it
@@ -212,3 +213,38 @@ answered_turn law limits options request asked_in after told a text items old (S
           subst (λ (w : Written). AnswersEachListing limits told a items w (Some came) (with_behind new [])) (none_behind old)
           (subst (λ (w : Written). AnswersEachListing limits told a items old (Some came) w) (none_behind new) listings);
     })
+
+-- ---- a request that is finished when it is asked
+
+module _ (limits : Limits) (options interrupts : ℕ) (request : List ℕ) (space : ℕ) (old new : Written)
+    (outcome : Result ℕ Error) (told : CallData) where
+  -- what is to be shown of a request that asks this
+  record Finishes (asks : Ask) : Type 0 where
+    room_after : List ℕ
+    leaves : Leaves old room_after new
+    follows : Follows (record {
+      request = request;
+      room = old.left;
+      events = [];
+      outcome = outcome;
+      room_after = room_after;
+    }) limits options asks options
+
+  finishes : (asks : Ask) → (number : ℕ)
+      → Tells ⊤ request options interrupts space asks old (asked.Finished outcome number) new told → Finishes asks
+  finishes (Ends reply) number t =
+      let b = came_back reply old new outcome t.0 in
+      record { room_after = b.room_after; leaves = b.leaves; follows = (refl, b.says, refl) }
+  finishes (Asks echo call) number t = absurd (let same = t.0 in cc)
+  finishes (Lists echo l) number t = absurd (let same = t.0 in cc)
+  finishes (WithMemory rest) number (inl t) =
+      let f = finishes rest number t in
+      record { room_after = f.room_after; leaves = f.leaves; follows = inl f.follows }
+  finishes (WithMemory rest) number (inr t) =
+      let b = came_back (Refusal OutOfMemory) old new outcome t.1.0 in
+      record { room_after = b.room_after; leaves = b.leaves; follows = inr (refl, b.says, refl) }
+
+pub are_finished_turns : AreFinishedTurns
+are_finished_turns limits options request old new outcome number told is =
+    let f = finishes limits options _ request (length old.left) old new outcome told (ask limits options (length old.left) request) number is in
+    record { room_after = f.room_after; leaves = f.leaves; turn = f.follows }

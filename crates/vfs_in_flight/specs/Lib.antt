@@ -1,3 +1,4 @@
 pub mod Flight
 pub mod OneTurn
 pub mod ToldCall
+pub mod Made

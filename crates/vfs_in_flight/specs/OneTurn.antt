@@ -1,5 +1,6 @@
--- A request that was asked for its call, and whose call was answered, as one turn of the grammar.
-use Rattle.std.specs.Prelude.{◌≡◌, ◌++◌, ℕ, List, ◌∷◌, length, unwrap_or, Option, Some, Result}
+-- A request that was asked for its call, and whose call was answered, as one turn of the grammar; and one that was
+-- finished when it was asked.
+use Rattle.std.specs.Prelude.{◌≡◌, ◌++◌, ℕ, List, [], ◌∷◌, length, unwrap_or, Option, Some, Result}
 use Rattle.vfs_segments.specs.Written.{Written, Leaves}
 use Rattle.vfs_files.specs.Calls.{Answer, kind_of}
 use Rattle.vfs_files.specs.Runs.{Event, Called}
@@ -11,6 +12,7 @@ use Rattle.vfs_grammar.specs.Reply.{reply_of}
 use Rattle.vfs_grammar.specs.Room.{unseen}
 use Rattle.vfs_grammar.specs.Turn.{IsTurn, IsRead, node_answered}
 use Rattle.vfs_grammar.specs.declared.limits.Limits.{Limits}
+use Rattle.vfs_grammar.specs.declared.error.Error.{Error}
 use Rattle.vfs_calls.specs.declared.call.CallData.{CallData}
 use Rattle.vfs_calls.specs.declared.data.AnswerData.{AnswerData}
 use Rattle.vfs_calls.specs.declared.data.ItemData.{ItemData}
@@ -81,3 +83,24 @@ AreOneTurn =
     → IsAskedAndAnswered limits options request asked_in after told a text items old behind came new
     → IsAnsweredTurn limits options request a text items (with_behind old behind) came
     (with_behind new behind)
+
+-- A turn of the grammar without a call, of these bytes and this room, which leaves the options as they were.
+pub record IsFinishedTurn (limits : Limits) (options : ℕ) (request : List ℕ) (old : Written)
+    (outcome : Result ℕ Error) (new : Written) : Type 0 where
+  pub room_after : List ℕ
+  pub leaves : Leaves old room_after new
+  pub turn : IsTurn limits options (record {
+    request = request;
+    room = old.left;
+    events = [];
+    outcome = outcome;
+    room_after = room_after;
+  }) options
+
+-- each request that is finished when it is asked is one turn
+abbrev pub AreFinishedTurns : Type 0
+AreFinishedTurns =
+    (limits : Limits) (options : ℕ) (request : List ℕ) (old new : Written) (outcome : Result ℕ Error)
+    (interrupts : ℕ) (told : CallData)
+    → IsAsked limits options request old (asked.Finished outcome interrupts) new told
+    → IsFinishedTurn limits options request old outcome new

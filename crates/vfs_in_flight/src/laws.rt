@@ -8,7 +8,8 @@ ghost use Rattle.vfs_grammar.specs.Books.{KeepsBooks};
 ghost use Rattle.vfs_grammar.specs.Turn.{AreTurns};
 ghost use Rattle.vfs_grammar.specs.declared.limits.Limits.{Limits};
 ghost use Rattle.vfs_in_flight.specs.Flight.{Waiting, Moment, turns_answered, AreInFlight, AreAskedInTime};
-ghost use Rattle.vfs_in_flight.specs.OneTurn.{AreOneTurn};
+ghost use Rattle.vfs_in_flight.specs.Made.{NoCountIsBelow};
+ghost use Rattle.vfs_in_flight.specs.OneTurn.{AreOneTurn, AreFinishedTurns};
 ghost use Rattle.vfs_in_flight.specs.ToldCall.{ToldIsCall};
 
 /// What is told of a call determines it: the numbers, and the bytes of the request in the ranges
@@ -25,6 +26,12 @@ pub fn asked_and_answered_is_one_turn()
     ensures { AreOneTurn }
 {}
 
+/// A request that is finished when it is asked is one turn of the grammar too, without a call: its outcome and the
+/// bytes in the room are those of the turn, and the options stay.
+pub fn a_finished_request_is_one_turn()
+    ensures { AreFinishedTurns }
+{}
+
 /// However requests are interleaved, the turns in the order of their answers keep the books: for each
 /// node but 0 they balance, and if after each answer the client has given back no more than was delivered
 /// to it, no count falls below zero in that order. A call that is made before its turn's answer may come
@@ -33,6 +40,13 @@ pub fn asked_and_answered_is_one_turn()
 pub fn turns_in_flight_keep_books()
     ensures { (limits : Limits) (waiting : List Waiting) (moments : List Moment) →
         AreInFlight limits waiting moments → KeepsBooks (turns_answered moments) }
+{}
+
+/// However requests are interleaved, and wherever between its ask and its answer a call is made: after each point at
+/// which a client's forgets of a node are no more than the entries of it that were delivered to the client, as a
+/// kernel's are, the file system was sent no more forgets of that node than it had answered entries of it.
+pub fn no_count_falls_below_zero_in_flight()
+    ensures { NoCountIsBelow }
 {}
 
 /// If each request is asked under the options of then, and INIT and DESTROY are alone in flight, the turns

@@ -1,22 +1,25 @@
 //! What a transport knows of requests in flight, by the laws alone.
 
-ghost use Rattle.std.specs.Prelude.{◌≡◌, ℕ, List, Option, [], ◌∷◌, length, IfSome};
+ghost use Rattle.std.specs.Prelude.{◌≡◌, ◌≢◌, ◌≤◌, ◌+◌, ℕ, List, Option, [], ◌∷◌, length, IfSome};
 ghost use Rattle.vfs_flags.specs.Flags.{fs_options_bits};
 ghost use Rattle.vfs_messages.specs.Rooms.{with_behind};
 ghost use Rattle.vfs_files.specs.Calls.{Call, Read};
 ghost use Rattle.vfs_files.specs.declared.entry.Context.{Context};
 ghost use Rattle.vfs_grammar.specs.Limits.{AreLimits};
-ghost use Rattle.vfs_grammar.specs.Books.{KeepsBooks};
+ghost use Rattle.vfs_files.specs.Runs.{Event};
+ghost use Rattle.vfs_grammar.specs.Books.{KeepsBooks, answered, delivered, sent};
 ghost use Rattle.vfs_grammar.specs.Turn.{AreTurns, Turn};
 ghost use Rattle.vfs_grammar.specs.declared.limits.Limits.{Limits};
 ghost use Rattle.vfs_grammar.specs.Reply.{Echo};
 ghost use Rattle.vfs_calls.specs.declared.call.CallData.{CallData};
 ghost use Rattle.vfs_ask.specs.Asked.{IsEnough, IsTold};
 ghost use Rattle.vfs_in_flight.specs.Flight.{Waiting, IsTurnOf};
-ghost use Rattle.vfs_in_flight.specs.OneTurn.{IsAnsweredTurn};
+ghost use Rattle.vfs_in_flight.specs.Made.{given_back_by};
+ghost use Rattle.vfs_in_flight.specs.OneTurn.{IsAnsweredTurn, IsFinishedTurn};
 
 use crate::laws::{
-    asked_and_answered_is_one_turn, turns_in_flight_are_in_order, turns_in_flight_keep_books,
+    a_finished_request_is_one_turn, asked_and_answered_is_one_turn,
+    no_count_falls_below_zero_in_flight, turns_in_flight_are_in_order, turns_in_flight_keep_books,
     what_is_told_is_the_call,
 };
 use std::alloc::Global;
@@ -24,7 +27,7 @@ use vfs_answer::{Answered, answer};
 use vfs_ask::{Asked, ask};
 use vfs_calls::{AnswerData, CallData, ItemData};
 use vfs_flags::FsOptions;
-use vfs_grammar::Limits;
+use vfs_grammar::{Limits, Result};
 use vfs_segments::{Reader, Writer};
 
 /// Asks a request for its call, and answers that by these data, whatever they are, in the room that was told. If
@@ -56,12 +59,47 @@ fn ask_and_answer(
     }
 }
 
+/// Asks a request for its call. If it is finished, that was one turn of the grammar, without a call, in the room that
+/// the writer has left and any bytes after it.
+fn ask_alone(
+    alloc: Global,
+    limits: Limits,
+    options: FsOptions,
+    r: Reader<'_>,
+    room: usize,
+    w: &mut Writer,
+    told: &mut CallData,
+) -> Option<Result<usize>>
+    requires limits { AreLimits limits }
+    requires enough { IsEnough (length w.old.left) room }
+    ensures { (behind : List ℕ) → length w.old.left + length behind ≡ room → IfSome result (λ outcome.
+        IsFinishedTurn limits (fs_options_bits options) r.entry.left (with_behind w.old behind) outcome
+        (with_behind w.new behind)) }
+{
+    a_finished_request_is_one_turn();
+    match ask(alloc, limits, options, r, room, w, told) {
+        Asked::Call => None,
+        Asked::Finished { outcome, .. } => Some(outcome),
+    }
+}
+
 /// Two requests are asked, and answered in the other order: the books of both are kept.
 fn answer_in_other_order()
     ensures { (limits : Limits) (a b : Waiting) (s t : Turn) (x y : ℕ) →
         IsTurnOf limits a s x → IsTurnOf limits b t y → KeepsBooks (t ∷ s ∷ []) }
 {
     turns_in_flight_keep_books();
+}
+
+/// Two requests cross, of one call each: the second one's call is made first. If the client's forgets of a node are no
+/// more than what both replies delivered of it, the file system was sent no more of them than it had answered.
+fn crossing_calls_keep_counts()
+    ensures { (limits : Limits) (a b : Waiting) (s t : Turn) (x y n : ℕ) (d e : Event) → n ≢ 0 →
+        IsTurnOf limits a s x → s.events ≡ d ∷ [] → IsTurnOf limits b t y → t.events ≡ e ∷ [] →
+        given_back_by n a + given_back_by n b ≤ delivered n s + delivered n t →
+        sent n (e ∷ d ∷ []) ≤ answered n (e ∷ d ∷ []) }
+{
+    no_count_falls_below_zero_in_flight();
 }
 
 /// A request is asked and answered, and then another one: turns in order.
