@@ -159,7 +159,12 @@ def plain(prefix, name):
     return [it for it in sorted(NAMES) if it.replace("_", "") == own.replace("_", "")] or [own]
 
 
-for opcode, number in re.findall(r"^number_of (\w+) = (\d+)$", NUMBERS, re.M):
+# (opcode_of, and number_of)
+OPCODES = {(opcode, number) for number, opcode in re.findall(
+    r"if n == (\d+) then Some (\w+)", re.search(r"^opcode_of n =(.*?)\n\n", NUMBERS, re.M | re.S)[1])}
+PAIRS = set(re.findall(r"^number_of (\w+) = (\d+)$", NUMBERS, re.M))
+faults += [f"{opcode} is {number} in one of opcode_of and number_of" for opcode, number in sorted(OPCODES ^ PAIRS)]
+for opcode, number in sorted(PAIRS):
     hold_number(plain("FUSE_", opcode), number)
 notices = re.search(r"pub enum NotifyOpcode \{(.*?)\n\}", FLAGS, re.S)[1]
 for notice, number in re.findall(r"^    (?!CodeMax)(\w+) = (\d+),", notices, re.M):

@@ -257,6 +257,12 @@ for path in (line.split(":")[0] for line in reached):
     crate, file = path.split("/")[0], path.split("/")[-1]
     if not re.search(rf"`{crate}/specs/[^;]*`?{file}`", order):
         faults.append(f"docs/PROMISE.md: the reading order lacks {path}")
+COUNTS = re.compile(r"(\d+) definitions,? (?:of )?([\d,]+) lines")
+DOOR = ["vfs_server/Session.IsSession", "vfs_door/Asking.AsksOrNot", "vfs_door/Answering.AnswersOrNot"]
+door = COUNTS.search(subprocess.run(["tools/measure/statement.sh", *DOOR], capture_output=True, text=True, check=True).stdout)
+more = [str(int(it) - int(server)) for it, server in zip(door.groups(), COUNTS.search(counted).groups())]
+if COUNTS.findall(order)[1:] != [tuple(more)]:
+    faults.append(f"docs/PROMISE.md: of the door there are {' definitions of '.join(more)} lines more")
 COUNT = r"(\d+) definitions of ([\d,]+) lines(?: in (\d+) files, and (\d+) types)?"
 for page in ("README.md", "docs/PROMISE.md"):
     said = [it.replace(",", "") for it in re.search(COUNT, read(page)).groups() if it]

@@ -101,6 +101,13 @@ def is_decoder(it):
     return it[0].startswith("vfs_wire") and it[1].startswith("made_")
 
 
+def is_held(specs, it):
+    """Whether a definition is the table of a record, or that of opcodes, which tests/c/kernel.py holds against fuse.h."""
+    if it[0].startswith("vfs_wire"):
+        return bool(re.match(r"abbrev pub \w+ : Table \w+\n", specs.of[it[0]][it[1]].text))
+    return it[0] == "vfs_flags.specs.Numbers" and it[1] in ("opcode_of", "number_of")
+
+
 def main():
     words = sys.argv[1:]
     show = words.pop(0) if words and words[0].startswith("--") else ""
@@ -109,8 +116,9 @@ def main():
     specs = Specs()
     by = specs.reach([start_of(specs, it) for it in words or ["vfs_server/Session.IsSession"]])
     all_reached = [it for it in by if it[0] != "declared"]
-    reached = [it for it in all_reached if not is_decoder(it)]
     followed = [it for it in all_reached if is_decoder(it)]
+    held = [it for it in all_reached if is_held(specs, it)]
+    reached = [it for it in all_reached if it not in followed and it not in held]
     at = lambda it: specs.of[it[0]][it[1]]
     files = collections.Counter(at(it).path for it in reached)
     lines = collections.Counter()
@@ -130,9 +138,10 @@ def main():
     crates = {path.split("/")[1] for path in files}
     print(f"{len(reached)} definitions, {sum(lines.values())} lines, in {len(files)} files of {len(crates)} crates;"
           f" {len(by) - len(all_reached)} types of the code")
-    if followed:
-        both = sum(len(at(it).lines) for it in all_reached)
-        print(f"with the {len(followed)} decoders, which a law gives: {len(all_reached)} definitions, {both} lines")
+    length = lambda those: sum(len(at(it).lines) for it in those)
+    if held:
+        print(f"not counted: {len(held)} tables of {length(held)} lines, held against fuse.h, and their {len(followed)}"
+              f" decoders of {length(followed)}, which a law gives")
 
 
 main()
