@@ -2,14 +2,15 @@
 """Puts the manual pages of packaging/man into a folder, with what include/nizwarf.h says of calls.
 
 Usage: packaging/man.py FOLDER
-A page that ends in `.in` loses that end, and gets in place of these lines what the header has:
+A page that ends in `.in` loses that end, and gets in place of these lines what the header has, or include/nizwarf_ops.h:
 
     @NAMES@       the functions that read or set a field of a call or an answer
     @PROTOTYPES@  how they are declared
     @CALLS@       each call, its fields and the kind of its answer
     @FUNCTIONS@   what each function is for
+    @STRUCTS@     the structs of include/nizwarf_ops.h, as they stand there
 
-The same header gives the same bytes. Status 0: they are there; 2: it could not start.
+The same headers give the same bytes. Status 0: they are there; 2: it could not start.
 """
 import os
 import re
@@ -35,7 +36,8 @@ def part(text, begin, end):
 
 
 class Header:
-    def __init__(self, text):
+    def __init__(self, text, ops):
+        self.structs = part(ops, 'extern "C" {\n#endif\n\n', "\nstruct nizwarf_dir {").rstrip("\n")
         self.functions = SMALL.findall(text)
         self.calls = CONSTANTS.findall(part(text, "\n/* Calls, ", "\n};"))
         self.fields = set(re.findall(r"(\w+)(?=[,;])", part(text, "\nstruct nizwarf_call {\n", "\n};")))
@@ -107,6 +109,13 @@ class Header:
             yield "It reads" if reads else "It changes" if "&" in sets else "It sets"
             yield f".Fa {field} ."
 
+    def made_structs(self):
+        yield ".Bd -literal"
+        for line in self.structs.split("\n"):
+            line = line.replace("\\", "\\e")
+            yield f"\\&{line}" if line[:1] in (".", "'") else line
+        yield ".Ed"
+
     def fill(self, page):
         lines = []
         for line in page.splitlines():
@@ -116,8 +125,11 @@ class Header:
 
 
 def main(folder):
-    with open(f"{HERE}/include/nizwarf.h", encoding="utf-8") as file:
-        header = Header(file.read())
+    texts = []
+    for name in ("nizwarf.h", "nizwarf_ops.h"):
+        with open(f"{HERE}/include/{name}", encoding="utf-8") as file:
+            texts.append(file.read())
+    header = Header(*texts)
     os.makedirs(folder, exist_ok=True)
     for name in sorted(os.listdir(f"{HERE}/packaging/man")):
         page = f"{HERE}/packaging/man/{name}"

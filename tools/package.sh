@@ -2,7 +2,7 @@
 # Packs the libraries for C as one, shared and static, with headers, pages and programs: as packages of Debian,
 # and as a tarball that installs into any prefix.
 #
-# Usage: tools/package.sh [--check] [--no-demo] [--out FOLDER]
+# Usage: tools/package.sh [--unproved] [--check] [--no-demo] [--out FOLDER]
 # It leaves in out/packages, or in FOLDER:
 #
 #   libnizwarf0_VERSION_ARCH.deb       the shared library
@@ -11,10 +11,13 @@
 #                                      nizwarf-decode
 #   nizwarf-VERSION-linux-ARCH.tar.gz  all of it, with an install.sh
 #
-# The libraries, and the demo's programs, are the proved ones if each is built and no source is newer.
-# Otherwise tools/lib/unproved.sh builds those that are missing without a proof, in a minute or two each, and
-# the version says so of all that is made: 0.2.0~unproved. The same objects and compiler give the same bytes.
+# The libraries, and the demo's programs, are the proved ones: what is not proved yet, or has a newer source, is
+# proved first, in minutes, or in half an hour on four processors if no crate was proved before. The file build-info,
+# beside the changes in share/doc, says from which commit and by which tools all is made, and what is proved. The same
+# objects and compiler give the same bytes.
 #
+#   --unproved  takes of these what is proved, and builds the rest without a proof, in a minute or two each; the
+#               version says so of all that is made then: 0.2.0~unproved
 #   --check     makes all twice, and compares; lintian must find no error in the packages, and mandoc none in
 #               the pages
 #   --no-demo   leaves out nizwarf-demo and nizwarf-decode
@@ -26,15 +29,17 @@ set -euo pipefail
 . "$(dirname "$0")/lib/usage.sh"
 . "$(dirname "$0")/lib/transport.sh"
 . "$(dirname "$0")/lib/messages.sh"
+. "$(dirname "$0")/lib/debs.sh"
 # shellcheck disable=SC2154
 session=$crate library=()
 
-check='' part_count=2
+check='' unproved='' part_count=2
 demo=yes
 out=
 while [ $# -gt 0 ]; do
     case $1 in
         --check) check=yes part_count=4 ;;
+        --unproved) unproved=yes ;;
         --no-demo) demo= ;;
         --out)
             [ $# -ge 2 ] || { echo "--out wants a folder." >&2 && exit 2; }
@@ -42,7 +47,7 @@ while [ $# -gt 0 ]; do
             shift
             ;;
         *)
-            echo "Usage: tools/package.sh [--check] [--no-demo] [--out FOLDER]" >&2
+            echo "Usage: tools/package.sh [--unproved] [--check] [--no-demo] [--out FOLDER]" >&2
             exit 2
             ;;
     esac
@@ -61,50 +66,31 @@ need make "Install it: apt-get install make."
 need gzip "Install it: apt-get install gzip."
 need python3 "Install it: apt-get install python3."
 
-packaging=$here/packaging
 programs=$(make -s -f "$here/programs/Makefile" list)
-architecture=amd64
 triplet=x86_64-linux-gnu
-release=$(sed -nE 's/^#define NIZWARF_VERSION_(MAJOR|MINOR|PATCH) ([0-9]+)$/\2/p' "$here/include/nizwarf.h" | paste -sd .)
-soname=libnizwarf.so.${release%%.*}
-# The time of the last commit; in sources that are no clone, that of their changes.
-SOURCE_DATE_EPOCH=${SOURCE_DATE_EPOCH:-$(git -C "$here" log -1 --format=%ct 2> /dev/null || stat -c %Y "$here/CHANGELOG.md")}
-export SOURCE_DATE_EPOCH
-export DPKG_DEB_THREADS_MAX=1 LC_ALL=C
-umask 022
-
 work=$(mktemp -d)
 trap 'rm -rf "$work"' EXIT
 
-# Stops, since something is not as it should be.
-wrong() {
-    echo "FAILED: $*" >&2
-    exit 1
-}
-
-# Finds what is packed, and sets `version` by whether all of it is proved.
+# Finds what is packed, as `packed`, and sets `proved` by whether all of it is.
 find_parts() {
-    local name
+    local name parts=(vfs_door vfs_c vfs_border)
+    [ -z "$demo" ] || parts+=(vfs_demo vfs_decode)
+    [ -n "$unproved" ] || prove_crates "${parts[@]}"
     proved=yes
+    for name in "${parts[@]}"; do
+        has_proof "$name" || proved=
+    done
     for name in vfs_door vfs_c; do
         find_library "$name"
-        [[ ${library[0]} != "$here/out/unproved/"* ]] || proved=
         packed+=("${library[0]}")
     done
     heap=${library[1]}
     find_border
-    [[ $border != "$here/out/unproved/"* ]] || proved=
-    if [ -n "$demo" ]; then
-        build_programs vfs_demo vfs_decode
-        is_built vfs_demo && is_built vfs_decode || proved=
-    fi
-    version=$release
+    [ -z "$demo" ] || build_programs vfs_demo vfs_decode
+    set_source nizwarf "$release"
     note=", proved"
-    if [ -z "$proved" ]; then
-        version=$release~unproved
-        note=" (NOT PROVED: this build stands on no proof)"
-        echo "NOT PROVED: the version of all that is packed is $version." >&2
-    fi
+    [ -n "$proved" ] || note=" (NOT PROVED: this build stands on no proof)"
+    tell_build "${parts[@]}" > "$work/build-info"
 }
 
 # Joins a library and what it stands on to one object, in which the library's own names alone are global:
@@ -147,11 +133,6 @@ make_libraries() {
         || wrong "packaging/nizwarf.map does not have the functions that the headers declare."
     others=$(exported "$folder/$soname" | comm -3 - <(mapped | sort) | tr -d '\t' | paste -sd ' ')
     [ -z "$others" ] || wrong "$soname and packaging/nizwarf.map differ in: $others"
-}
-
-# The libraries that a program or a library needs.
-needed_by() {
-    readelf -d "$1" | sed -nE 's/.*\(NEEDED\).*\[(.*)\]$/\1/p' | sort
 }
 
 # The functions of the map, each with its node, as NAME@NODE.
@@ -263,6 +244,14 @@ prototypes() {
     awk -f "$packaging/prototypes.awk" "$work"/man/*.3
 }
 
+# Names a page of functions whose example is missing, or does not compile: wrong_example PAGE.
+wrong_example() {
+    awk -f "$packaging/examples.awk" "$1" > "$work/example.c"
+    [ -s "$work/example.c" ] \
+        && cc -std=c11 -D_DEFAULT_SOURCE -Wall -Wextra -Werror -fsyntax-only -I "$here/include" "$work/example.c" \
+        || echo "${1##*/}"
+}
+
 # The tree of the tarball, into a folder. The programs stand alone.
 make_tree() {
     local tree=$1 page missing
@@ -286,18 +275,15 @@ make_tree() {
     [ -z "$missing" ] || wrong "functions of the headers without a page: $missing"
     prototypes | cc -fsyntax-only -Werror -I "$here/include" -include nizwarf_ops.h -x c - \
         || wrong "a page shows a function in another form than the headers."
+    missing=$(for page in "$work"/man/*.3; do wrong_example "$page"; done)
+    [ -z "$missing" ] || wrong "pages without an example that compiles: $missing"
     missing=$(for_programs page_missing "$tree/share/man")
     [ -z "$missing" ] || wrong "programs without a page: $missing"
     missing=$(for_programs unexplained "$tree/bin")
     [ -z "$missing" ] || wrong "words that --help lists, and no page: $missing"
-    install -m 644 "$here"/{CHANGELOG.md,NOTICE.md,LICENSE-*} "$tree/share/doc/nizwarf/"
+    install -m 644 "$here"/{CHANGELOG.md,NOTICE.md,LICENSE-*} "$work/build-info" "$tree/share/doc/nizwarf/"
     install -Dm 644 "$packaging/60-nizwarf-share.json" -t "$tree/share/qemu/vhost-user"
     install -m 755 "$packaging/install.sh" "$tree/"
-}
-
-# Sets all times below a folder to that of the last commit.
-set_times() {
-    find "$1" -exec touch -h -d "@$SOURCE_DATE_EPOCH" {} +
 }
 
 make_tarball() {
@@ -305,70 +291,6 @@ make_tarball() {
     set_times "$tree"
     tar --sort=name --owner=0 --group=0 --numeric-owner --format=gnu --transform "s,^\.,$name," -C "$tree" -cf - . \
         | gzip -9n > "$2/$name.tar.gz"
-}
-
-# The packages of Debian that what lies below a folder needs, a line each.
-depends_of() {
-    local file name glibc
-    glibc=$(mktemp -p "$work")
-    while read -r file; do
-        for name in $(needed_by "$file" 2> /dev/null); do
-            case $name in
-                libc.so.6) objdump -T "$file" | sed -nE 's/.*GLIBC_([0-9.]+).*/\1/p' >> "$glibc" ;;
-                "$soname") echo "libnizwarf0 (>= $release~)" ;;
-                ld-linux*) ;;
-                *) dpkg-query -S "*/$name" | sed 's/[:,].*//;q' ;;
-            esac
-        done
-    done < <(find "$1" -type f ! -name '*.a')
-    sort -V "$glibc" | sed -n '$s/.*/libc6 (>= &)/p'
-}
-
-# Fills in a template of packaging/copyright.in, and of packaging/control the part of a package.
-fill_copyright() {
-    sed -e "/^@LICENSE-BSD-3-Clause@/{r $here/LICENSE-BSD-3-Clause" -e 'd}' \
-        -e "/^@LICENSE-MIT@/{r $here/LICENSE-MIT" -e 'd}' "$packaging/copyright.in"
-}
-fill_control() {
-    local package=$1 depends=$2 size=$3 said='/^@NOTE@$/d'
-    [ -n "$proved" ] || said='s/^@NOTE@$/ .\n NOT PROVED: this build stands on no proof./'
-    sed -n "/^Package: $package\$/,/^\$/p" "$packaging/control" \
-        | sed -e '/^$/d' -e "s/@VERSION@/$version-1/" -e "s/@ARCHITECTURE@/$architecture/" -e "s/@SIZE@/$size/" \
-            -e "s/@DEPENDS@/$depends/" -e "$said"
-}
-
-# The changes of the packages, as Debian has them.
-debian_changes() {
-    printf 'nizwarf (%s-1) unstable; urgency=medium\n\n' "$version"
-    [ -n "$proved" ] || printf '  * NOT PROVED: this build stands on no proof.\n'
-    printf '  * Version %s: changelog.gz has what changed.\n\n' "$release"
-    printf ' -- %s  %s\n' "$(sed -n 's/^Maintainer: //p' "$packaging/control" | sed -n 1p)" \
-        "$(date -uRd "@$SOURCE_DATE_EPOCH")"
-}
-
-# The KiB of what is below a folder, as packages count them: one for what is no file.
-size_of() {
-    find "$1" -printf '%y %s\n' | awk '{ sum += $1 == "f" ? int(($2 + 1023) / 1024) : 1 } END { print sum }'
-}
-
-# Makes the package whose files are below a folder: make_deb PACKAGE ROOT OUT [DEPENDS].
-make_deb() {
-    local package=$1 root=$2 out=$3 doc=$2/usr/share/doc/$1 depends
-    depends=$({ printf '%s\n' "${@:4}" && depends_of "$root"; } | sed '/^$/d' | sort -u | paste -sd , | sed 's/,/, /g')
-    mkdir -p "$root/DEBIAN" "$doc"
-    fill_copyright > "$doc/copyright"
-    gzip -9nc "$here/CHANGELOG.md" > "$doc/changelog.gz"
-    debian_changes | gzip -9nc > "$doc/changelog.Debian.gz"
-    if [ -e "$packaging/lintian/$package" ]; then
-        install -Dm 644 "$packaging/lintian/$package" "$root/usr/share/lintian/overrides/$package"
-    fi
-    if [ -d "$root/usr/share/man" ]; then
-        find "$root/usr/share/man" -type f -exec gzip -9n {} +
-    fi
-    (cd "$root" && find usr -type f -print0 | sort -z | xargs -0 md5sum) > "$root/DEBIAN/md5sums"
-    fill_control "$package" "$depends" "$(size_of "$root/usr")" > "$root/DEBIAN/control"
-    set_times "$root"
-    dpkg-deb --root-owner-group -Zxz --build "$root" "$out/${package}_$version-1_$architecture.deb" > /dev/null
 }
 
 # The packages of Debian, from the tree of the tarball. Programs link the shared library there.
@@ -438,12 +360,7 @@ if [ -n "$check" ]; then
     diff -r "$work/out" "$work/again" || wrong "what was made twice differs."
     echo "Made twice, and the same."
     part "lintian and mandoc"
-    if [ -n "$debs" ] && command -v lintian > /dev/null; then
-        lintian --allow-root --tag-display-limit 0 --fail-on error "$work"/out/*.deb || wrong "lintian."
-        echo "lintian finds no error."
-    else
-        echo "Missing: the command \`lintian\`, or the packages that it looks at: apt-get install lintian." >&2
-    fi
+    [ -z "$debs" ] || hold_lintian "$work"/out/*.deb
     if command -v mandoc > /dev/null; then
         mandoc -T lint -W warning "$work"/man/*.[1-8] || wrong "mandoc."
         echo "mandoc finds nothing in the pages."

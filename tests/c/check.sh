@@ -188,7 +188,7 @@ if ! command -v pkg-config > /dev/null; then
 fi
 part "what is packed, and installed"
 compile tests/c/hello.c
-"$here/tools/package.sh" --no-demo --out "$folder/packages" > "$folder/said" 2>&1 || { cat "$folder/said" >&2 && exit 1; }
+"$here/tools/package.sh" --unproved --no-demo --out "$folder/packages" > "$folder/said" 2>&1 || { cat "$folder/said" >&2 && exit 1; }
 grep '^Missing' "$folder/said" >&2 || true
 tar -xzf "$folder"/packages/*.tar.gz -C "$folder"
 installer=$(echo "$folder"/nizwarf-*/install.sh)

@@ -112,17 +112,6 @@ install_debootstrap() {
     command -v debootstrap > /dev/null || apt-get install -qq -y --no-install-recommends debootstrap
 }
 
-# Makes the Debian by debootstrap, with the settings by which the machine's own apt gets packages.
-bootstrap() {
-    local archive
-    archive=$(debian_archive) || true
-    [ -n "$archive" ]
-    debootstrap --variant=minbase bookworm "$root" "$archive"
-    echo "deb $archive bookworm main" > "$root/etc/apt/sources.list"
-    apt-config dump | grep -E '^Acquire::(Check|https?::)' > "$root/etc/apt/apt.conf.d/90machine" || true
-    cp /etc/resolv.conf "$root/etc/"
-}
-
 # Makes it by unpacking what is needed, without a database of packages: what scripts of theirs would link is
 # linked here.
 unpack_all() {
@@ -253,7 +242,7 @@ elif [ ! -e "$root.made" ]; then
 fi
 mkdir -p "$root" "$packages"
 rm -f "$packages"/*.deb
-step "the packages are made" "$here/tools/package.sh" --out "$packages"
+step "the packages are made" "$here/tools/package.sh" --unproved --out "$packages"
 grep '^NOT PROVED' "$work/said" >&2 || true
 if ! compgen -G "$packages/*.deb" > /dev/null; then
     echo "Missing: the command \`dpkg-deb\`, which makes them." >&2
@@ -264,7 +253,7 @@ if [ ! -e "$root.made" ] && [ "$way" = debootstrap ]; then
     step "debootstrap is there" install_debootstrap
     begin_step "a Debian is made in out/debian, which takes a minute or two"
     began=$EPOCHREALTIME
-    start bootstrap
+    start bootstrap_debian "$root"
     if wait "$job"; then
         tell_time "$began" "Debian 12 is made"
     else

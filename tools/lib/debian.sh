@@ -7,6 +7,18 @@ debian_archive() {
         sed -nE '/^ *#/d; s,.*[ =]([a-z+]+:/[^ ]*/debian(\.list)?/?)( .*)?$,\1,p' | sed -n 1p
 }
 
+# Makes Debian 12 in a folder by debootstrap, with the settings by which the machine's own apt gets packages:
+# bootstrap_debian FOLDER.
+bootstrap_debian() {
+    local archive
+    archive=$(debian_archive) || true
+    [ -n "$archive" ]
+    debootstrap --variant=minbase bookworm "$1" "$archive"
+    echo "deb $archive bookworm main" > "$1/etc/apt/sources.list"
+    apt-config dump | grep -E '^Acquire::(Check|https?::)' > "$1/etc/apt/apt.conf.d/90machine" || true
+    cp /etc/resolv.conf "$1/etc/"
+}
+
 # Sets `apt` to the options for packages of a suite, as trixie, of which apt gets lists of its own in the
 # folder: use_suite SUITE FOLDER. Without a suite they are the machine's own.
 use_suite() {
