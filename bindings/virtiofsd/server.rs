@@ -33,6 +33,15 @@ const WRITE: [u8; 4] = 16_u32.to_le_bytes();
 const WRITE_HEAD: usize = 80;
 /// The length of the header of a reply.
 const REPLY_HEADER: usize = 16;
+/// The length of the header of a request, and the requests whose form hangs on options.
+const HEADER: usize = 40;
+const SYMLINK: u32 = 6;
+const MKNOD: u32 = 8;
+const MKDIR: u32 = 9;
+const SETXATTR: u32 = 21;
+const CREATE: u32 = 35;
+/// The kinds of extensions up to this one are numbers of security contexts.
+const MOST_CONTEXTS: u32 = 31;
 
 /// What a thread keeps from one request to the next.
 struct Local {
@@ -52,12 +61,14 @@ pub struct Server<F: FileSystem + Sync> {
     fs: F,
     /// The options that the last INIT agreed on.
     options: AtomicU64,
+    /// Whether another server agreed on them: the state of a migration does not have them.
+    migrated: AtomicBool,
 }
 
 impl<F: FileSystem + Sync> Server<F> {
     /// Creates a server without options.
     pub fn new(fs: F) -> Server<F> {
-        Server { fs, options: AtomicU64::new(0) }
+        Server { fs, options: AtomicU64::new(0), migrated: AtomicBool::new(false) }
     }
 
     /// Serves one request, and returns the length of its reply, with which it is completed.
@@ -81,26 +92,35 @@ impl<F: FileSystem + Sync> Server<F> {
     /// Ends the session, as a reset of the device does.
     pub fn destroy(&self) -> usize {
         self.fs.destroy();
-        self.options.store(0, Ordering::Relaxed);
+        self.agree(0);
         0
+    }
+
+    fn agree(&self, options: u64) {
+        self.options.store(options, Ordering::Relaxed);
+        self.migrated.store(false, Ordering::Relaxed);
     }
 
     fn serve(&self, local: &mut Local, request: Pieces, room: Pieces) -> usize {
         let Local { slot, request: buffer } = local;
         let mut session = Session::default();
-        let options = self.options.load(Ordering::Relaxed);
-        session.set_options(nizwarf::FsOptions::from_bits_truncate(options));
         if buffer.is_empty() {
             *buffer = vec![0; session.longest_message()];
         }
         let bytes = take_request(buffer, request);
+        let options = if self.migrated.load(Ordering::Relaxed) {
+            options_of(bytes)
+        } else {
+            nizwarf::FsOptions::from_bits_truncate(self.options.load(Ordering::Relaxed))
+        };
+        session.set_options(options);
         debug!("{}", nizwarf::print_request(bytes, session.options()));
         let bytes = [IoSlice::new(bytes)];
         let told = slot.ask_with(&session, &bytes, room.len(), |slot, caller, call| {
             let asker = Asker::new(&self.fs, caller);
             let told = asker.make(slot, call, request, room);
             if let Some(options) = told.options {
-                self.options.store(options.bits(), Ordering::Relaxed);
+                self.agree(options.bits());
             }
             (told.outcome, told.give_back(|node| asker.give_back(node)))
         });
@@ -117,6 +137,47 @@ fn take_request<'b>(buffer: &'b mut [u8], request: Pieces) -> &'b [u8] {
         request.copy_to(buffer);
     }
     &buffer[..request.len().min(buffer.len())]
+}
+
+/// The options that a request was made by. A group may be missing, so that is always one of them.
+fn options_of(request: &[u8]) -> nizwarf::FsOptions {
+    let mut options = nizwarf::FsOptions::CREATE_SUPP_GROUP;
+    let opcode = request.get(4..8).map_or(0, number_of);
+    let names = match opcode {
+        SYMLINK => Some((0, 2)),
+        MKDIR => Some((8, 1)),
+        MKNOD | CREATE => Some((16, 1)),
+        _ => None,
+    };
+    if names.is_some_and(|(record, names)| has_context(request, HEADER + record, names)) {
+        options |= nizwarf::FsOptions::SECURITY_CTX;
+    }
+    // Flags and padding, where a shorter record is followed by a name, which has a dot.
+    if opcode == SETXATTR && matches!(request.get(48..56), Some([0 | 1, 0, 0, 0, 0, 0, 0, 0])) {
+        options |= nizwarf::FsOptions::SETXATTR_EXT;
+    }
+    options
+}
+
+/// Whether a security context is among the extensions behind so many names, which begin there.
+fn has_context(request: &[u8], begin: usize, names: usize) -> bool {
+    let mut rest = request.get(begin..).unwrap_or_default();
+    for _ in 0..names {
+        let end = rest.iter().position(|&byte| byte == 0).map_or(rest.len(), |nul| nul + 1);
+        rest = &rest[end..];
+    }
+    while let Some(header) = rest.first_chunk::<8>() {
+        let (size, kind) = (number_of(&header[..4]), number_of(&header[4..]));
+        if kind <= MOST_CONTEXTS {
+            return true;
+        }
+        rest = rest.get(size.max(8) as usize..).unwrap_or_default();
+    }
+    false
+}
+
+fn number_of(bytes: &[u8]) -> u32 {
+    bytes.iter().rev().fold(0, |number, &byte| (number << 8) | u32::from(byte))
 }
 
 /// Puts a reply into the room, and returns the length with which the request is completed.
@@ -589,6 +650,8 @@ impl<F: FileSystem + SerializableFileSystem + Sync> SerializableFileSystem for S
     }
 
     fn deserialize_and_apply(&self, state_pipe: File) -> io::Result<()> {
-        self.fs.deserialize_and_apply(state_pipe)
+        self.fs.deserialize_and_apply(state_pipe)?;
+        self.migrated.store(true, Ordering::Relaxed);
+        Ok(())
     }
 }

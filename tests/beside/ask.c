@@ -1,17 +1,21 @@
 /* Asks a vhost-user daemon of virtio-fs, as the kernel of a guest does, but with requests that it is told.
  *
- * Usage: ask SOCKET < LINES
- * It waits up to ten seconds for a daemon that listens there. A line is that of the programs here, ROOMS
- * SEGMENTS: lengths joined by `+`, and hexadecimal digits joined by `+`. Each segment and each room gets a
- * descriptor of its own. Once a line is read it prints
+ * Usage: ask SOCKET [STATE] < LINES
+ * It waits up to ten seconds for a daemon that listens there. With the file of a state the daemon loads that first, as
+ * the target of a migration does. A line is that of the programs here, ROOMS SEGMENTS: lengths joined by `+`, and
+ * hexadecimal digits joined by `+`. Each segment and each room gets a descriptor of its own. Once a line is read it
+ * prints
  *   LENGTH HEX        what the daemon completed it with: a length, and so many bytes of the room
  *   .. behind HEX     the same, if other bytes of the room were written: the whole room
  *   none              not completed within three seconds, or PATIENCE of a tenth; no line is asked after that
  *   hung up           the daemon closed the socket; nor after that
+ * After the line `save FILE` the queues stop, the daemon's state goes to that file, and it prints `saved`, or `not
+ * saved` if the daemon says so; no line is asked after that. One that isn't loaded prints `not loaded`.
  * Status 3: it could not ask. */
 #define _GNU_SOURCE
 #include "front.h"
 
+#include <fcntl.h>
 #include <poll.h>
 
 #ifndef PATIENCE
@@ -21,7 +25,60 @@
 /* The request lies in the memory from REQUEST on, the room from ROOM on. */
 enum { ENTRIES = 128, PIECES = 64, REQUEST = 1 << 20, ROOM = 4 << 20, MEMORY = 8 << 20 };
 
+/* Of the protocol, of the daemon's features, and messages and directions of a state. */
+enum {
+	DEVICE_STATE = 1 << 19,
+	LOG_ALL = 1 << 26,
+	GET_VRING_BASE = 11,
+	SET_DEVICE_STATE_FD = 42,
+	SAVE = 0,
+	LOAD = 1
+};
+enum { CHECK_DEVICE_STATE = 43, NO_DESCRIPTOR = 0x100 };
+
 static char line[8 << 20];
+
+/* Copies all bytes of a descriptor to another, and closes both. */
+static void move(int from, int to)
+{
+	static char piece[1 << 16];
+	ssize_t count;
+
+	while ((count = read(from, piece, sizeof(piece))) > 0)
+		need(write(to, piece, (size_t)count) == count, "a state");
+	need(!count && !close(from) && !close(to), "a state");
+}
+
+/* Has the state go to the file, or from it to the daemon. Whether the daemon says that it did. */
+static int transfer(uint32_t direction, const char *path)
+{
+	const uint32_t body[] = { direction, 0 };
+	const int saves = direction == SAVE;
+	const int file = open(path, saves ? O_WRONLY | O_CREAT | O_TRUNC : O_RDONLY, 0600);
+	int ends[2];
+
+	need(file >= 0 && !pipe2(ends, O_CLOEXEC), path);
+	tell(SET_DEVICE_STATE_FD, body, sizeof(body), ends[saves]);
+	close(ends[saves]);
+	if (await_number() != NO_DESCRIPTOR)
+		return 0;
+	move(saves ? ends[0] : file, saves ? file : ends[1]);
+	return !ask_number(CHECK_DEVICE_STATE);
+}
+
+/* Stops the queues, as the source of a migration does, and saves the state. */
+static int save(const char *path, uint64_t features)
+{
+	uint32_t stopped[5];
+
+	tell_number(2, features | LOG_ALL, -1);
+	for (uint32_t q = 0; q < 2; q++) {
+		tell_state(GET_VRING_BASE, q, 0);
+		need(recv(connection, stopped, sizeof(stopped), MSG_WAITALL) == sizeof(stopped),
+		     "a queue that stops");
+	}
+	return transfer(SAVE, path);
+}
 
 /* Puts the chain, as it stands, into the request queue, and waits. Gives the length, -1 for none, -2 if the
  * daemon hung up. */
@@ -108,17 +165,31 @@ static void show(size_t len)
 int main(int count, char **words)
 {
 	size_t total, last;
+	uint64_t features;
 	int64_t len;
 
-	if (count != 2) {
-		fprintf(stderr, "Usage: ask SOCKET < LINES\n");
+	if (count != 2 && count != 3) {
+		fprintf(stderr, "Usage: ask SOCKET [STATE] < LINES\n");
 		return 2;
 	}
 	/* A daemon that answers nothing must not hold it up. */
 	alarm(4 * PATIENCE);
 	meet(words[1]);
-	begin(MEMORY, ENTRIES, 0);
+	protocol = DEVICE_STATE;
+	if (count == 3) {
+		agree_protocol();
+		if (!transfer(LOAD, words[2])) {
+			puts("not loaded");
+			return 0;
+		}
+	}
+	features = begin(MEMORY, ENTRIES, 0);
 	while (fgets(line, sizeof(line), stdin)) {
+		if (!strncmp(line, "save ", 5)) {
+			line[strcspn(line, "\n")] = 0;
+			puts(save(line + 5, features) ? "saved" : "not saved");
+			return 0;
+		}
 		total = put_line(line);
 		len = round_trip();
 		if (len < 0) {

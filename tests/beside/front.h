@@ -20,6 +20,8 @@ enum { QUEUE = 1 << 16, AVAILABLE = 1 << 14, USED = 1 << 15 };
 
 static unsigned char *memory;
 static int connection, kick[2], call[2];
+/* The features of the protocol that are agreed on, if the daemon has them. */
+static uint64_t protocol;
 
 static inline void need(int fact, const char *what)
 {
@@ -62,16 +64,28 @@ static inline void tell_state(uint32_t request, uint32_t queue, uint32_t number)
 	tell(request, body, sizeof(body), -1);
 }
 
-static inline uint64_t ask_number(uint32_t request)
+/* The number that the daemon answers. */
+static inline uint64_t await_number(void)
 {
 	uint32_t head[3];
 	uint64_t number = 0;
 
-	tell(request, "", 0, -1);
 	need(recv(connection, head, sizeof(head), MSG_WAITALL) == sizeof(head) && head[2] == sizeof(number) &&
 		     recv(connection, &number, sizeof(number), MSG_WAITALL) == sizeof(number),
 	     "an answer");
 	return number;
+}
+
+static inline uint64_t ask_number(uint32_t request)
+{
+	tell(request, "", 0, -1);
+	return await_number();
+}
+
+/* Agrees on the features of the protocol. */
+static inline void agree_protocol(void)
+{
+	tell_number(16, ask_number(15) & protocol, -1);
 }
 
 /* Connects as soon as the daemon listens. The name of its socket may be there before that. */
@@ -108,8 +122,7 @@ static inline uint64_t begin(size_t size, uint32_t entries, uint64_t liked)
 	const uint64_t offered = ask_number(1);
 
 	need((offered & wanted) == wanted, "the daemon's features");
-	ask_number(15);
-	tell_number(16, 0, -1);
+	agree_protocol();
 	tell(3, "", 0, -1);
 	tell_number(2, wanted | (offered & liked), -1);
 	tell(5, &table, sizeof(table), file);
