@@ -19,6 +19,7 @@ set -euo pipefail
 . "$(dirname "$0")/lib/usage.sh"
 . "$(dirname "$0")/lib/transport.sh"
 . "$(dirname "$0")/lib/debian.sh"
+. "$(dirname "$0")/lib/guest.sh"
 
 shared='' by=''
 if [ "${1:-}" = --share ] || [ "${1:-}" = --virtiofsd ]; then
@@ -29,18 +30,11 @@ if [ $# -gt 1 ] || [[ ${1:-} == -* ]]; then
     echo "Usage: tools/guest.sh [--share | --virtiofsd] [KERNEL-PACKAGE[/SUITE]]" >&2
     exit 2
 fi
-name=${1:-linux-image-cloud-amd64}
-package=${name%/*}
-suite=${name#"$package"}
 if [ "$(uname -m)" != x86_64 ]; then
     echo "It is made for x86-64 alone." >&2
     exit 2
 fi
 need qemu-system-x86_64 "Install it: apt-get install qemu-system-x86."
-for command in apt-get apt-cache dpkg-deb; do
-    need "$command" "The kernel and busybox are packages of Debian."
-done
-need xz "Install it: apt-get install xz-utils."
 if [ "$by" = --virtiofsd ]; then
     transport=$("$here/tools/virtiofsd.sh")
 elif [ -n "$shared" ]; then
@@ -53,51 +47,14 @@ work=$(mktemp -d)
 started=()
 trap 'kill "${started[@]}" 2> /dev/null || true; rm -rf "$work"' EXIT
 
-# Downloads the kernel and busybox, where they aren't there yet.
-fetch() {
-    use_suite "" ""
-    if [ ! -e "$busybox" ]; then
-        unpack_packages "$work/busybox" busybox-static
-        mkdir -p "${busybox%/*}"
-        cp "$(find "$work/busybox" -name busybox -type f -perm /111 | sed -n 1p)" "$busybox"
-    fi
-    if [ ! -e "$kernel" ]; then
-        use_suite "${suite#/}" "$work/apt"
-        unpack_packages "$work/kernel" "$(kernel_of "$package")"
-        mv "$work/kernel" "$kernel"
-    fi
-}
-
-busybox=$here/out/guest/busybox
-kernel=$here/out/guest/${name//\//-}
-if [ ! -e "$busybox" ] || [ ! -e "$kernel" ]; then
-    echo "Downloading $name .." >&2
-    mkdir -p "$here/out/guest"
-    quietly "$work/said" fetch || {
-        echo "The packages $name and busybox-static can't be had by apt-get here: try apt-get update." >&2
-        exit 2
-    }
-fi
-
-# What the guest has for its files: busybox, the modules that the kernel needs, the session.
+# shellcheck disable=SC2119
+find_guest "$@"
 root=$work/root
-mkdir -p "$root"/{bin,dev,etc,mnt,modules,proc,tmp}
-printf '%s\n' root:x:0:0::/:/bin/sh nobody:x:65534:65534::/:/bin/sh > "$root/etc/passwd"
-printf '%s\n' root:x:0: nogroup:x:65534: > "$root/etc/group"
-cp "$busybox" "$root/bin/"
+put_guest "$root" "$here/tests/guest/init.sh"
 cp "$here/tests/mount/session.sh" "$root/"
-modules='virtio_ring virtio virtio_pci_modern_dev virtio_pci_legacy_dev virtio_pci fuse virtiofs'
-for module in $modules; do
-    file=$(find "$kernel" -name "$module.ko" -o -name "$module.ko.xz" | sed -n 1p)
-    case $file in
-        *.xz) xz -dc "$file" > "$root/modules/$module.ko" ;;
-        *.ko) cp "$file" "$root/modules/" ;;
-    esac
-done
-cp "$here/tests/guest/init.sh" "$root/init"
+# shellcheck disable=SC2154
 printf '%s\n' "modules='$modules'" "shared='$shared'" > "$root/settings"
-chmod +x "$root/init"
-(cd "$root" && find . | "$busybox" cpio -o -H newc 2> /dev/null) > "$work/files"
+pack_guest "$root" "$work/files"
 
 # Behind the script, so that a signal ends it at once, and them with it.
 words=("$work/socket") queues=2

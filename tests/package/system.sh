@@ -4,18 +4,27 @@
 #
 #   - mounts folders by lines of fstab(5) and by `mount -t`, changes them by `mount -o remount`, and unmounts them;
 #   - has systemd mount one by its line, and serve another by a socket, to which asked.py connects as a machine does;
-#   - holds the units against `systemd-analyze verify`, and prints what `systemd-analyze security` says.
+#   - holds the units against `systemd-analyze verify`, and against a number that `systemd-analyze security` says.
 #
-# Usage: tests/package/system.sh
-# It takes half a minute, and nothing of it is left.
+# Usage: tests/package/system.sh [--clean]
+# It takes half a minute, and nothing of it is left. With --clean it is no copy, but a new Debian 12 with libvirt and
+# QEMU, which debootstrap makes in out/debian/machine and which stays there: 500 MB, and five minutes once. Then
+# tests/package/page.sh also does what docs/SHARE.md says, word for word, with guests of QEMU and of libvirt, in a minute.
 #
 # It wants root, /dev/fuse, an overlay file system, a cgroup2 that is mounted, systemd, python3, and what
-# tools/package.sh wants.
+# tools/package.sh wants; with --clean also debootstrap, and what tools/guest.sh takes from Debian.
 # Status 0: each came to what it must; 1: not so; 2: it could not start.
 set -euo pipefail
 . "$(dirname "$0")/../../tools/lib/usage.sh"
 . "$(dirname "$0")/../../tools/lib/program.sh"
 . "$(dirname "$0")/../../tools/lib/mounts.sh"
+. "$(dirname "$0")/../../tools/lib/debian.sh"
+. "$(dirname "$0")/../../tools/lib/guest.sh"
+clean=''
+if [ "${1:-}" = --clean ]; then
+    clean=yes part_count=3
+    shift
+fi
 take_none "$@"
 need_root "Only root may mount"
 need dpkg "The packages are Debian's."
@@ -24,7 +33,7 @@ need python3 "Install it: apt-get install python3."
 [ -e /dev/fuse ] || { echo "Missing: /dev/fuse." >&2 && exit 2; }
 groups=$(findmnt -nt cgroup2 -o TARGET | head -n 1)
 [ -n "$groups" ] || { echo "Missing: a cgroup2 that is mounted." >&2 && exit 2; }
-own_mounts "$@"
+own_mounts ${clean:+--clean}
 
 # shellcheck disable=SC2119
 own_work
@@ -32,13 +41,59 @@ root=$work/root
 mkdir "$work/files" "$root"
 mount -t tmpfs none "$work/files"
 mkdir "$work/files"/{upper,work}
-part "the packages are made and installed on a copy of this machine"
-"$here/tools/package.sh" --no-demo --out "$work/packages" > "$work/said" 2>&1 || { cat "$work/said" >&2 && exit 1; }
-mount -t overlay none -o "lowerdir=/,upperdir=$work/files/upper,workdir=$work/files/work" "$root"
-mkdir -p "$root/root/check"
+debian=$here/out/debian/machine
+lower=${clean:+$debian}
+lower=${lower:-/}
+debian_has=(systemd systemd-sysv dbus kmod procps python3 qemu-system-x86 libvirt-daemon-system libvirt-clients)
+
+# Makes a Debian with what a page needs, where there is none with that.
+make_debian() {
+    rm -rf "$debian" "$debian.made"
+    mkdir -p "$debian"
+    bootstrap_debian "$debian"
+    echo 'APT::Get::Assume-Yes "true";' > "$debian/etc/apt/apt.conf.d/91check"
+    chroot "$debian" env DEBIAN_FRONTEND=noninteractive sh -c \
+        'apt-get update -qq && apt-get install -qq --no-install-recommends "$@"' - "${debian_has[@]}"
+    rm -f "$debian/etc/machine-id"
+    echo "${debian_has[*]}" > "$debian.made"
+}
+
+# Puts what page.sh wants into the machine: the packages, and a guest that does what the page says.
+put_page_files() {
+    local at=$root/srv/check
+    # shellcheck disable=SC2119
+    find_guest
+    mkdir -p "$at/out/packages" "$work/guest"
+    cp "$work/packages"/*.deb "$at/out/packages/"
+    cp "$here/out/virtiofsd"/virtiofsd-nizwarf_*.deb "$at/out/packages/" 2> /dev/null || true
+    put_guest "$work/guest" "$here/tests/package/page-guest.sh"
+    echo "modules='$modules'" > "$work/guest/settings"
+    awk -v section="The guest" -v wanted=1 -f "$here/tests/package/page.awk" "$here/docs/SHARE.md" > "$work/guest/commands"
+    [ -s "$work/guest/commands" ]
+    pack_guest "$work/guest" "$at/files"
+    cp "$kernel"/boot/vmlinuz-* "$at/kernel"
+}
+
+if [ -n "$clean" ]; then
+    need debootstrap "Install it: apt-get install debootstrap."
+    part "a Debian 12, if it isn't there"
+    [ "$(cat "$debian.made" 2> /dev/null)" = "${debian_has[*]}" ] || quietly "$work/said" make_debian
+fi
+part "the packages are made and installed"
+"$here/tools/package.sh" --unproved --no-demo --out "$work/packages" > "$work/said" 2>&1 || { cat "$work/said" >&2 && exit 1; }
+mount -t overlay none -o "lowerdir=$lower,upperdir=$work/files/upper,workdir=$work/files/work" "$root"
+mkdir -p "$root/root/check" "$root$here"
+mount --bind "$here" "$root$here"
 cp "$work/packages"/{libnizwarf0,nizwarf}_*.deb "$root/root/check/"
 cc -O2 -I "$here/include" -o "$root/root/check/ask" "$here/tests/beside/ask.c"
-chroot "$root" sh -c 'dpkg -i /root/check/*.deb' > "$work/said" 2>&1 || { cat "$work/said" >&2 && exit 1; }
+checks="$here/tests/package/inside.sh /root/check"
+if [ -n "$clean" ]; then
+    put_page_files
+    # (the page installs the packages itself)
+    checks="$here/tests/package/page.sh /srv/check && $checks"
+else
+    chroot "$root" sh -c 'dpkg -i /root/check/*.deb' > "$work/said" 2>&1 || { cat "$work/said" >&2 && exit 1; }
+fi
 cat > "$root/etc/systemd/system/nizwarf-check.service" << UNIT
 [Unit]
 DefaultDependencies=no
@@ -46,10 +101,10 @@ SuccessAction=exit-force
 FailureAction=exit-force
 [Service]
 Type=oneshot
-ExecStart="$here/tests/package/inside.sh" /root/check
+ExecStart=/bin/sh -c "$checks"
 StandardOutput=file:/root/check/said
 StandardError=inherit
-TimeoutStartSec=120
+TimeoutStartSec=900
 UNIT
 
 # Makes the copy the root of what runs from here on, with devices and file systems of a container, and starts systemd.
@@ -71,7 +126,7 @@ enter() {
         --unit=nizwarf-check.service --log-target=console --log-level=warning --show-status=no
 }
 
-part "systemd starts there, and mounts and serves"
+part "systemd starts there, and mounts and serves${clean:+, as docs/SHARE.md says}"
 own=$groups/nizwarf-$$
 mkdir "$own"
 status=0
@@ -79,7 +134,7 @@ status=0
     echo "$BASHPID" > "$own/cgroup.procs"
     export root
     export -f enter
-    exec timeout -k 5 180 unshare --mount --pid --cgroup --uts --ipc --net --fork --kill-child bash -euc enter
+    exec timeout -k 5 960 unshare --mount --pid --cgroup --uts --ipc --net --fork --kill-child bash -euc enter
 ) > "$work/said" 2>&1 < /dev/null || status=$?
 find "$own" -depth -type d -exec rmdir {} \; 2> /dev/null || true
 [ -s "$root/root/check/said" ] || { cat "$work/said" >&2 && echo "FAILED: systemd did not start" >&2 && exit 1; }

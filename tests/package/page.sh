@@ -1,0 +1,106 @@
+#!/usr/bin/env bash
+# Does what docs/SHARE.md says, word for word, where systemd runs on a Debian with libvirt and QEMU, for system.sh.
+#
+# Usage: tests/package/page.sh FOLDER
+# The folder has out/packages, and `kernel` and `files` of a guest, whose commands are those of the page. The time of
+# each step is told.
+# Status 0: each came to what it must; 1: not so.
+set -euo pipefail
+. "$(dirname "$0")/../../tools/lib/usage.sh"
+[ $# = 1 ] || { echo "Usage: tests/package/page.sh FOLDER" >&2 && exit 2; }
+here=$(cd "$(dirname "$0")/../.." && pwd)
+cd "$1"
+folder=$PWD
+console=/var/log/guest
+trap 'echo "FAILED: line $LINENO: $BASH_COMMAND" >&2; cat said $console >&2 2> /dev/null' ERR
+
+# A block of code of the page, in a section: block SECTION NUMBER.
+block() {
+    awk -v section="$1" -v wanted="$2" -f "$here/tests/package/page.awk" "$here/docs/SHARE.md" | grep .
+}
+
+# Tells what was done, and how long that took.
+began=$EPOCHREALTIME
+done_with() {
+    awk -v began="$began" -v ended="$EPOCHREALTIME" -v what="$1" 'BEGIN { printf "%7.1f s  %s\n", ended - began, what }'
+    began=$EPOCHREALTIME
+}
+
+# Whether the guest read and wrote, and nothing serves the folder any more but what listens.
+guest_was_there() {
+    tr -d '\r' < $console | grep -qx "The guest reads hello."
+    [ "$(cat /srv/data/of-guest)" = text ]
+    rm /srv/data/of-guest $console
+}
+
+block Install 1 > commands
+bash -e commands > said 2>&1
+done_with "the packages are installed"
+
+block "A mount" 1 | sed '/^umount /,$d' > commands
+bash -e commands > said
+grep -qx hello said
+[ "$(findmnt -no FSTYPE /mnt)" = fuse.nizwarf-share ]
+umount /mnt
+cp /etc/fstab fstab
+block "A mount" 2 >> /etc/fstab
+systemctl daemon-reload
+mount /mnt
+grep -qx hello /mnt/hello
+umount /mnt
+# (or libvirt's service would have it mounted again)
+cp fstab /etc/fstab
+systemctl daemon-reload
+done_with "the folder is mounted, by mount and by its line in fstab"
+
+block QEMU 1 > commands
+bash -e commands > said 2>&1
+block QEMU 2 > commands
+sed -i "\$s,\$, -nodefaults -no-user-config -display none -machine q35 -cpu max -kernel $folder/kernel -initrd $folder/files \
+-append 'console=ttyS0 quiet panic=0' -serial file:$console," commands
+timeout 300 bash -e commands > said 2>&1
+guest_was_there
+done_with "a guest of QEMU"
+
+# Has libvirt start a guest with a file of XML among its devices, which this program serves, and waits for its end:
+# guest_of_libvirt FILE PROGRAM.
+guest_of_libvirt() {
+    cat > machine << XML
+<domain type='qemu'><name>guest</name><memory unit='MiB'>256</memory><vcpu>1</vcpu>
+<os><type arch='x86_64' machine='q35'>hvm</type><kernel>$folder/kernel</kernel><initrd>$folder/files</initrd>
+<cmdline>console=ttyS0 quiet panic=0</cmdline></os><cpu mode='maximum'/><on_poweroff>destroy</on_poweroff>
+$(cat memory)
+<devices>
+$(cat "$1")
+<serial type='file'><source path='$console'/></serial>
+</devices></domain>
+XML
+    virsh -q define machine > said 2>&1
+    virsh -q start guest >> said 2>&1
+    # (that of systemd's socket has the descriptor 3)
+    [ -n "$(pgrep -f "^$2 (.* )?--fd=[0-9][0-9]")" ]
+    for _ in $(seq 600); do
+        [ "$(virsh domstate guest)" = running ] || break
+        sleep 0.5
+    done
+    guest_was_there
+    [ -z "$(pgrep -f "^$2 (.* )?--fd=[0-9][0-9]")" ]
+}
+
+systemctl start libvirtd.service > said 2>&1
+block libvirt 1 > memory
+block libvirt 2 > share
+guest_of_libvirt share /usr/bin/nizwarf-share
+done_with "a guest of libvirt"
+
+if compgen -G "out/packages/virtiofsd-nizwarf_*.deb" > said; then
+    apt-get install ./out/packages/virtiofsd-nizwarf_*.deb > said 2>&1
+    # (the line that is changed is that of the program)
+    binary=$(block "virtiofsd, with this layer" 1)
+    sed "s,.*<binary .*,$binary," share > other
+    grep -qF "$binary" other
+    guest_of_libvirt other /usr/sbin/virtiofsd-nizwarf
+    done_with "a guest of libvirt, by virtiofsd-nizwarf"
+else
+    echo "Not looked at: virtiofsd-nizwarf, which tools/virtiofsd.sh --package makes."
+fi
