@@ -1,8 +1,9 @@
 #!/usr/bin/env bash
 # Builds the daemon virtiofsd 1.13.2 with the protocol layer here in place of its own.
 #
-# Usage: tools/virtiofsd.sh [--unmodified] [FOLDER]
+# Usage: tools/virtiofsd.sh [--unmodified | --test] [FOLDER]
 #        tools/virtiofsd.sh --check [--seed N] [--requests N] [FOLDER]
+#        tools/virtiofsd.sh --package [--unproved] [--check] [FOLDER]
 # It leaves the daemon as nizwarf-virtiofsd in the folder, which is out/virtiofsd if none is given. The daemon
 # takes virtiofsd's options, which its own --help lists. It is built again if a source is newer.
 #
@@ -15,7 +16,9 @@
 # tools/measure/virtiofsd-speed.sh measures the two side by side. Both are built by the same compiler and profile:
 # virtiofsd's own for a release, which optimises when it links, with one codegen unit.
 #
-# With --check tests/beside/replaced.sh holds it against Debian's own program, with these words.
+# With --test it runs the tests that virtiofsd's sources have, but those of the replaced files; with --check
+# tests/beside/replaced.sh holds it against Debian's own program, with these words, and does that too. With --package
+# packaging/virtiofsd.sh makes a package of Debian of it, and has a --help of its own.
 #
 # It wants apt-get, a C compiler, cargo 1.85 or later, libcap-ng, libseccomp, and the Rattle toolchain. It
 # links the proved library if that is built and no source is newer; otherwise tools/lib/unproved.sh builds it
@@ -30,17 +33,20 @@ set -euo pipefail
 
 refuse() {
     echo "$1" >&2
-    echo "Usage: tools/virtiofsd.sh [--check [--seed N] [--requests N] | --unmodified] [FOLDER]" >&2
+    echo "Usage: tools/virtiofsd.sh [--check [--seed N] [--requests N] | --package [WORDS] | --unmodified | --test] [FOLDER]" >&2
     exit 2
 }
 
 if [ "${1:-}" = --check ]; then
     exec "$here/tests/beside/replaced.sh" "${@:2}"
+elif [ "${1:-}" = --package ]; then
+    exec "$here/packaging/virtiofsd.sh" "${@:2}"
 fi
-unmodified='' folder=''
+unmodified='' tests='' folder=''
 for word in "$@"; do
     case $word in
         --unmodified) unmodified=1 ;;
+        --test) tests=1 ;;
         *) take_folder "$word" ;;
     esac
 done
@@ -117,6 +123,7 @@ if [ ! -e "$tree/Cargo.toml" ]; then
     mkdir -p "$tree/.cargo"
     cp -R "$from/src" "$tree/"
 fi
+cp -u "$from/50-virtiofsd.json" "$tree/"
 cp "$from/Cargo.toml" "$folder/Cargo.toml"
 needed=("$tree/src" "$tree/Cargo.toml" "$here/tools/virtiofsd.sh")
 if [ -z "$unmodified" ]; then
@@ -138,22 +145,30 @@ show_progress() {
     tee "$folder/said" | awk '/^ *Compiling/ && ++n % 25 == 0 { print n " crates compiled" > "/dev/stderr" }'
 }
 
-# One codegen unit, so that what is inlined does not hang on how a crate happens to be cut.
-build() {
+# One codegen unit, so that what is inlined does not hang on how a crate happens to be cut. The folders are not told, so
+# that the same bytes come of another one.
+run_cargo() {
     cd "$tree"
-    CARGO_PROFILE_RELEASE_CODEGEN_UNITS=1 CARGO_HOME=$folder/home CARGO_TARGET_DIR=$folder/target NIZWARF_LIB_DIR=$folder/lib \
-        CARGO_ENCODED_RUSTFLAGS=$'-L\x1fnative='$folder/link cargo build --release --offline 2>&1 | show_progress
+    CARGO_PROFILE_RELEASE_CODEGEN_UNITS=1 CARGO_HOME=$folder/home CARGO_TARGET_DIR=$folder/target LIBRARY_PATH=$folder/link \
+        NIZWARF_LIB_DIR=$folder/lib CARGO_ENCODED_RUSTFLAGS=--remap-path-prefix=$here=nizwarf$'\x1f'--remap-path-prefix=$folder=virtiofsd \
+        cargo "$1" --release --offline 2>&1 | show_progress
+}
+build_failed() {
+    tail -n 40 "$folder/said" >&2
+    exit 1
 }
 
 if [ ! -e "$daemon" ] || [ -n "$(find "${needed[@]}" -newer "$daemon" -print -quit)" ]; then
     echo "Building virtiofsd .." >&2
-    (build) || {
-        tail -n 40 "$folder/said" >&2
-        exit 1
-    }
+    (run_cargo build) || build_failed
     # A daemon that runs stays what it is.
     cp "$folder/target/release/virtiofsd" "$daemon.new"
     mv "$daemon.new" "$daemon"
+fi
+if [ -n "$tests" ]; then
+    echo "Building its tests, and running them .." >&2
+    (run_cargo test) || build_failed
+    sed -n "s/^test result: ok\. \([1-9].*\); [0-9]* measured.*/virtiofsd's own tests: \1/p" "$folder/said" >&2
 fi
 "$daemon" --version >&2
 echo "$daemon"

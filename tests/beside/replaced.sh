@@ -2,12 +2,13 @@
 # Holds virtiofsd over the layer here, which tools/virtiofsd.sh builds, against Debian's own program of virtiofsd 1.13.2:
 # it asks both the same over equal folders, by vhost-user: the hostile requests of tests/beside, and N well-formed ones
 # by a seed (20000, and 1). It then asks the one with the layer here as many that are mostly broken. It prints how many
-# came to the same, what differs and why, and what was survived.
+# came to the same, what differs and why, and what was survived. Sessions are moved from each to each, as QEMU migrates
+# a machine, in both modes of virtiofsd. First the tests of virtiofsd's own sources run over the layer here.
 #
 # Usage: tests/beside/replaced.sh [--seed N] [--requests N] [FOLDER]
 # The folder is that of tools/virtiofsd.sh, where Debian's packages are unpacked, and never installed.
 #
-# It takes three minutes, and wants root, Python 3, and what tools/virtiofsd.sh does.
+# It takes five minutes, and wants root, Python 3, and what tools/virtiofsd.sh does.
 # Status 0: all came to the same, or to what is known to differ; 1: not so; 2: it could not start.
 set -euo pipefail
 . "$(dirname "$0")/../../tools/lib/usage.sh"
@@ -36,7 +37,7 @@ done
 need_front "$0"
 need prlimit "Install util-linux."
 make_folder
-daemon=$("$here/tools/virtiofsd.sh" "$folder")
+daemon=$("$here/tools/virtiofsd.sh" --test "$folder")
 
 # Debian's program, by its own loader and libraries, whatever the machine has.
 fetch_program() {
@@ -65,5 +66,6 @@ fi
 build_front ask
 work=$(mktemp -d)
 trap 'rm -rf "$work"' EXIT
+python3 -B "$here/tests/beside/migrated.py" "$folder/ask" "$work" "$daemon" "${theirs[@]}"
 python3 -B "$here/tests/beside/replaced.py" "$folder/ask" "$work" "$seed" "$count" "$daemon" \
     "${theirs[@]}"

@@ -1,0 +1,99 @@
+#!/usr/bin/env bash
+# Packs the daemon of tools/virtiofsd.sh for Debian as virtiofsd-nizwarf, beside the distribution's virtiofsd: the same
+# words and the same description for managers of virtual machines, by another name.
+#
+# Usage: tools/virtiofsd.sh --package [--unproved] [--check] [FOLDER]
+# It leaves virtiofsd-nizwarf_VERSION_ARCH.deb in the folder of tools/virtiofsd.sh. The program is
+# /usr/sbin/virtiofsd-nizwarf: libvirt's profile of AppArmor lets libvirtd start what is there. Its description has a
+# higher number than virtiofsd's, so that a machine has it once its <binary path=> names it, or if there is no other.
+#
+# The library is the proved one: it is proved first if it isn't, in minutes, or in half an hour on four processors if
+# no crate was proved before. The file build-info in share/doc says from which commit and by which tools all is made.
+#
+#   --unproved  builds a library that isn't proved without a proof; the version says so then
+#   --check     builds and packs all twice, in another folder, and compares; lintian must find no error
+#
+# It wants what tools/virtiofsd.sh does, and binutils.
+# Status 0: it is made, and as it should be; 1: not so; 2: it could not start.
+set -euo pipefail
+. "$(dirname "$0")/../tools/lib/usage.sh"
+. "$(dirname "$0")/../tools/lib/transport.sh"
+. "$(dirname "$0")/../tools/lib/front.sh"
+. "$(dirname "$0")/../tools/lib/debs.sh"
+
+refuse() {
+    echo "$1" >&2
+    echo "Usage: tools/virtiofsd.sh --package [--unproved] [--check] [FOLDER]" >&2
+    exit 2
+}
+
+unproved='' check='' folder='' part_count=2
+for word in "$@"; do
+    case $word in
+        --unproved) unproved=yes ;;
+        --check) check=yes part_count=4 ;;
+        *) take_folder "$word" ;;
+    esac
+done
+for command in objdump readelf strip; do
+    need "$command" "Install it: apt-get install binutils."
+done
+need dpkg-deb "It makes the package."
+make_folder
+work=$(mktemp -d)
+trap 'rm -rf "$work"' EXIT
+name=virtiofsd-nizwarf
+program=/usr/sbin/$name
+page=$packaging/man/$name.8
+
+# The crates whose code is in the program, and their licences.
+list_crates() {
+    (cd "$1/tree" && CARGO_HOME=$1/home cargo tree --offline --prefix none -e normal,no-proc-macro --format '{p}: {l}') \
+        | sed -E 's/ \(.*\)//' | sort -u | sed -E '/^(virtiofsd|nizwarf) /d'
+}
+
+# Packs the daemon of a folder: pack FOLDER OUT.
+pack() {
+    local root doc
+    root=$(mktemp -d -p "$work")
+    chmod 755 "$root"
+    doc=$root/usr/share/doc/$name
+    mkdir -p "$root/usr/sbin" "$doc" "$root/usr/share/qemu/vhost-user" "$2"
+    install -m 755 "$1/nizwarf-virtiofsd" "$root$program"
+    strip --remove-section=.comment --remove-section=.note "$root$program"
+    sed "s,\"/usr/libexec/virtiofsd\",\"$program\"," "$1/tree/50-virtiofsd.json" \
+        > "$root/usr/share/qemu/vhost-user/60-$name.json"
+    grep -q "\"$program\"" "$root/usr/share/qemu/vhost-user/60-$name.json" || wrong "virtiofsd's description names no program."
+    install -m 644 "$here/bindings/virtiofsd/README.md" "$doc/"
+    install -Dm 644 "$page" "$root/usr/share/man/man8/$name.8"
+    list_crates "$1" > "$work/crates"
+    make_deb "$name" "$root" "$2"
+}
+
+part "the daemon"
+proved=yes
+if [ -n "$unproved" ]; then
+    has_proof vfs_door || proved=
+else
+    prove_crates vfs_door
+fi
+"$here/tools/virtiofsd.sh" "$folder" > /dev/null
+set_source "$name" "1.13.2+nizwarf$release"
+{ tell_build vfs_door && cargo --version && rustc --version; } > "$work/build-info"
+part "the package"
+pack "$folder" "$work/out"
+if [ -n "$check" ]; then
+    part "the same again in another folder, to be compared"
+    mkdir "$work/again"
+    ln -s "$folder/crates" "$work/again/crates"
+    "$here/tools/virtiofsd.sh" "$work/again" > /dev/null
+    pack "$work/again" "$work/compared"
+    diff -r "$work/out" "$work/compared" || wrong "what was made twice differs."
+    echo "Made twice, and the same."
+    part "lintian"
+    hold_lintian "$work"/out/*.deb
+fi
+rm -f "$folder/$name"_*.deb
+mv "$work"/out/*.deb "$folder/"
+(cd "$folder" && stat -c '%8s  %n' "$name"_*.deb)
+echo "It is in $folder."
