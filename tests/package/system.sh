@@ -4,7 +4,7 @@
 #
 #   - mounts folders by lines of fstab(5) and by `mount -t`, changes them by `mount -o remount`, and unmounts them;
 #   - has systemd mount one by its line, and serve another by a socket, to which asked.py connects as a machine does;
-#   - holds the units against `systemd-analyze verify`, and against a number that `systemd-analyze security` says.
+#   - holds the units against `systemd-analyze verify`, and the service against 3.5 of `systemd-analyze security`.
 #
 # Usage: tests/package/system.sh [--clean]
 # It takes half a minute, and nothing of it is left. With --clean it is no copy, but a new Debian 12 with libvirt and
