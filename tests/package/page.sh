@@ -5,14 +5,14 @@
 # The folder has out/packages, and `kernel` and `files` of a guest, whose commands are those of the page. The time of
 # each step is told.
 # Status 0: each came to what it must; 1: not so.
-set -euo pipefail
+set -Eeuo pipefail
 . "$(dirname "$0")/../../tools/lib/usage.sh"
 [ $# = 1 ] || { echo "Usage: tests/package/page.sh FOLDER" >&2 && exit 2; }
 here=$(cd "$(dirname "$0")/../.." && pwd)
 cd "$1"
 folder=$PWD
 console=/var/log/guest
-trap 'echo "FAILED: line $LINENO: $BASH_COMMAND" >&2; cat said $console >&2 2> /dev/null' ERR
+trap 'echo "FAILED: line $LINENO: $BASH_COMMAND" >&2; tail -n 20 said $console /var/log/libvirt/qemu/*.log 2> /dev/null >&2' ERR
 
 # A block of code of the page, in a section: block SECTION NUMBER.
 block() {
@@ -75,16 +75,19 @@ $(cat "$1")
 <serial type='file'><source path='$console'/></serial>
 </devices></domain>
 XML
-    virsh -q define machine > said 2>&1
-    virsh -q start guest >> said 2>&1
+    virsh -q create machine > said 2>&1
     # (that of systemd's socket has the descriptor 3)
-    [ -n "$(pgrep -f "^$2 (.* )?--fd=[0-9][0-9]")" ]
+    pgrep -f "^$2 (.* )?--fd=[0-9][0-9]" > seen
     for _ in $(seq 600); do
-        [ "$(virsh domstate guest)" = running ] || break
+        virsh list --name | grep -qx guest || break
         sleep 0.5
     done
     guest_was_there
-    [ -z "$(pgrep -f "^$2 (.* )?--fd=[0-9][0-9]")" ]
+    for _ in $(seq 100); do
+        pgrep -f "^$2 (.* )?--fd=[0-9][0-9]" > seen || return 0
+        sleep 0.1
+    done
+    return 1
 }
 
 systemctl start libvirtd.service > said 2>&1
