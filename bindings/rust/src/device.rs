@@ -3,6 +3,7 @@
 
 use crate::call::number;
 use crate::client::Client;
+use crate::door::Session;
 use crate::errno::Errno;
 use crate::ffi::Slot;
 use crate::file_system::FileSystem;
@@ -35,33 +36,64 @@ impl<F: FileSystem> Server<F> {
     pub(crate) fn serve_shared(&self, device: &Arc<File>) -> io::Result<()> {
         let client = Client::new(device);
         let _ends = Serving::new(self, device, &client);
-        let device: &File = device;
-        let longest = self.session().longest_message();
-        let (mut slot, mut request, mut room) = (Slot::new(), vec![0; longest], vec![0; longest]);
-        loop {
-            let mut from = device;
-            let len = match from.read(&mut request) {
-                Ok(0) => return Ok(()),
-                Ok(len) => len,
-                Err(error) if Errno::ENODEV.is(&error) => return Ok(()),
-                // The request was aborted while it was read.
-                Err(error) if Errno::ENOENT.is(&error) || Errno::EINTR.is(&error) => continue,
-                Err(error) => return Err(error),
-            };
-            let request = &request[..len];
-            let serve = || {
-                let room = &mut [IoSliceMut::new(&mut room)];
-                self.serve_by(&mut slot, &[IoSlice::new(request)], room, Some(&client))
-            };
-            // Nothing is used again after a panic.
-            let done = catch_unwind(AssertUnwindSafe(serve)).unwrap_or_else(|panic| {
-                let _ = send_fault(device, request);
-                resume_unwind(panic)
-            });
-            match done.outcome {
-                Ok(()) => send(device, request, &room[..done.len])?,
-                Err(_) => send_fault(device, request)?,
-            }
+        let mut buffers = Buffers::new(&self.session());
+        while self.serve_next(device, &client, &mut buffers, |_| ())? {}
+        Ok(())
+    }
+
+    /// Serves the next request of a device, after it was shown. Returns whether there was one.
+    pub(crate) fn serve_next(
+        &self,
+        device: &File,
+        client: &Client,
+        buffers: &mut Buffers,
+        show: impl FnOnce(&[u8]),
+    ) -> io::Result<bool> {
+        let Buffers { slot, request, room } = buffers;
+        let request = match read_next(device, request)? {
+            0 => return Ok(false),
+            len => &request[..len],
+        };
+        show(request);
+        let serve = || {
+            let room = &mut [IoSliceMut::new(room)];
+            self.serve_by(slot, &[IoSlice::new(request)], room, Some(client))
+        };
+        // Nothing is used again after a panic.
+        let done = catch_unwind(AssertUnwindSafe(serve)).unwrap_or_else(|panic| {
+            let _ = send_fault(device, request);
+            resume_unwind(panic)
+        });
+        match done.outcome {
+            Ok(()) => send(device, request, &room[..done.len])?,
+            Err(_) => send_fault(device, request)?,
+        }
+        Ok(true)
+    }
+}
+
+/// What a thread that serves has for itself.
+pub(crate) struct Buffers {
+    slot: Slot,
+    request: Vec<u8>,
+    room: Vec<u8>,
+}
+
+impl Buffers {
+    pub fn new(session: &Session) -> Self {
+        let longest = session.longest_message();
+        Buffers { slot: Slot::new(), request: vec![0; longest], room: vec![0; longest] }
+    }
+}
+
+/// Reads the next request of a device. Returns its length, which is 0 at the end.
+fn read_next(mut device: &File, request: &mut [u8]) -> io::Result<usize> {
+    loop {
+        match device.read(request) {
+            Err(error) if Errno::ENODEV.is(&error) => return Ok(0),
+            // The request was aborted while it was read.
+            Err(error) if Errno::ENOENT.is(&error) || Errno::EINTR.is(&error) => {}
+            read => return read,
         }
     }
 }

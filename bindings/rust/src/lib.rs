@@ -69,6 +69,7 @@ mod ffi;
 mod file_system;
 mod flags;
 mod further;
+pub mod fuser;
 mod listing;
 mod make;
 mod mount;

@@ -155,7 +155,7 @@ impl<F: FileSystem + Sync> Server<F> {
     }
 
     /// Serves a mount on so many threads. The first that fails ends it.
-    fn serve_at(&self, point: &Point, count: usize) -> io::Result<()> {
+    pub(crate) fn serve_at(&self, point: &Point, count: usize) -> io::Result<()> {
         let serve = || {
             let _ends = Ends(point);
             self.serve_shared(&point.device)
@@ -268,9 +268,9 @@ impl Drop for Ends<'_> {
 
 /// A folder on which a device is mounted.
 #[derive(Debug)]
-struct Point {
+pub(crate) struct Point {
     folder: PathBuf,
-    device: Arc<File>,
+    pub device: Arc<File>,
     /// What mounted it, if it is not root's own mount.
     helper: Option<Helper>,
     is_mounted: AtomicBool,
@@ -285,7 +285,7 @@ struct Helper {
 }
 
 impl Point {
-    fn new(folder: &Path, options: &[MountOption]) -> io::Result<Self> {
+    pub fn new(folder: &Path, options: &[MountOption]) -> io::Result<Self> {
         let of_folder = |error| named(folder.display(), &error);
         let whole = canonicalize(folder).map_err(of_folder)?;
         let mode = metadata(&whole).map_err(of_folder)?.mode();
@@ -307,8 +307,14 @@ impl Point {
         Ok(Point { folder: whole, device, helper, is_mounted: AtomicBool::new(true) })
     }
 
+    /// A device that somebody else has mounted, and unmounts.
+    pub fn of_other(device: File) -> Self {
+        let (folder, is_mounted) = (PathBuf::new(), AtomicBool::new(false));
+        Point { folder, device: Arc::new(device), helper: None, is_mounted }
+    }
+
     /// Unmounts, once, and only if it is still mounted.
-    fn unmount(&self) -> io::Result<()> {
+    pub fn unmount(&self) -> io::Result<()> {
         let was_mounted = self.is_mounted.swap(false, Ordering::AcqRel);
         if !was_mounted || !system::is_connected(&self.device) {
             return Ok(());

@@ -19,7 +19,7 @@ use std::sync::{Arc, Mutex, MutexGuard, PoisonError};
 /// The length of the header of a reply.
 pub(crate) const HEADER: usize = 16;
 
-/// Options that are agreed on only if [`FileSystem::init`] wants them.
+/// Options that are agreed on only if they are wanted, by default.
 const WANTED: FsOptions =
     FsOptions::from_bits_truncate(FsOptions::ATOMIC_O_TRUNC.bits() | FsOptions::ALLOW_IDMAP.bits());
 
@@ -75,6 +75,8 @@ pub struct Server<F> {
     session: Session,
     options: AtomicU64,
     withheld: FsOptions,
+    /// Options that are agreed on only if [`FileSystem::init`] wants them.
+    wanted: FsOptions,
     catches: bool,
     /// Whether there was an INIT, and no DESTROY after it.
     pub(crate) begun: AtomicBool,
@@ -109,6 +111,7 @@ impl<F: FileSystem> Server<F> {
             session,
             options: AtomicU64::new(session.options().bits()),
             withheld: FsOptions::empty(),
+            wanted: WANTED,
             catches: false,
             begun: AtomicBool::new(false),
             serving: Mutex::default(),
@@ -129,6 +132,11 @@ impl<F: FileSystem> Server<F> {
     #[must_use]
     pub fn withhold(self, options: FsOptions) -> Self {
         Server { withheld: options, ..self }
+    }
+
+    /// Agrees to no options but these and those that [`FileSystem::init`] wants.
+    pub(crate) fn agree_unasked(self, options: FsOptions) -> Self {
+        Server { wanted: FsOptions::all() - options, ..self }
     }
 
     /// Returns the file system.
@@ -235,7 +243,7 @@ impl<F: FileSystem> Server<F> {
         }
     }
 
-    /// Makes an INIT: tells the file system what is offered, and agrees to [`WANTED`] options only if it wants
+    /// Makes an INIT: tells the file system what is offered, and agrees to some options only if it wants
     /// them.
     fn begin<'s>(
         &self,
@@ -248,7 +256,7 @@ impl<F: FileSystem> Server<F> {
         let (capable, to) = self.offer(slot, &mut request, self.withheld, (capable, to));
         let want = self.ask(|files| files.init(capable));
         let (_, to) = match want {
-            Ok(want) => self.offer(slot, &mut request, WANTED - want, (capable, to)),
+            Ok(want) => self.offer(slot, &mut request, self.wanted - want, (capable, to)),
             Err(_) => (capable, to),
         };
         self.begun.fetch_or(want.is_ok(), Ordering::AcqRel);

@@ -1,0 +1,226 @@
+//! Sessions, as fuser has them.
+
+use crate::client::Client;
+use crate::device::Buffers;
+use crate::errno::Errno;
+use crate::flags::FsOptions;
+use crate::fuser::adapter::Adapter;
+use crate::fuser::config::{Config, SessionACL};
+use crate::fuser::filesystem::Filesystem;
+use crate::fuser::notify::Notifier;
+use crate::mount::Point;
+use crate::notifier::Notifier as Own;
+use crate::server::Server;
+use std::fs::File;
+use std::io;
+use std::os::unix::io::{AsFd, BorrowedFd, OwnedFd};
+use std::panic::{catch_unwind, AssertUnwindSafe};
+use std::path::Path;
+use std::sync::{Arc, Weak};
+use std::thread::{self, JoinHandle};
+
+/// Mounts a file system on a folder, and serves it until it is unmounted.
+///
+/// # Errors
+/// If the options contradict each other or it cannot be mounted, the error of [`Filesystem::init`], and errors of
+/// reading and writing the device. A panic of the file system is one, too.
+pub fn mount2<FS: Filesystem, P: AsRef<Path>>(
+    filesystem: FS,
+    mountpoint: P,
+    options: &Config,
+) -> io::Result<()> {
+    Session::new(filesystem, mountpoint, options)?.run()
+}
+
+/// Mounts a file system as [`mount2`] does, and serves it in the background.
+///
+/// # Errors
+/// As [`Session::new`].
+pub fn spawn_mount2<FS: Filesystem, P: AsRef<Path>>(
+    filesystem: FS,
+    mountpoint: P,
+    options: &Config,
+) -> io::Result<BackgroundSession> {
+    Session::new(filesystem, mountpoint, options)?.spawn()
+}
+
+/// Unmounts when it is dropped.
+#[derive(Debug)]
+struct Ends(Arc<Point>);
+
+impl Drop for Ends {
+    fn drop(&mut self) {
+        // Nobody can be told of an error.
+        let _ = self.0.unmount();
+    }
+}
+
+/// A file system that is mounted, and not served yet. It is unmounted when this is dropped.
+#[derive(Debug)]
+pub struct Session<FS: Filesystem> {
+    server: Server<Adapter<FS>>,
+    mount: Ends,
+    threads: usize,
+}
+
+/// Options that are agreed on although the file system does not ask for them, as fuser does.
+const UNASKED: FsOptions = FsOptions::from_bits_truncate(
+    FsOptions::ASYNC_READ.bits()
+        | FsOptions::BIG_WRITES.bits()
+        | FsOptions::MAX_PAGES.bits()
+        | FsOptions::INIT_EXT.bits(),
+);
+
+impl<FS: Filesystem> Session<FS> {
+    /// Mounts a file system, and begins its session.
+    ///
+    /// # Errors
+    /// If the options contradict each other or it cannot be mounted, and the error of [`Filesystem::init`].
+    pub fn new<P: AsRef<Path>>(
+        filesystem: FS,
+        mountpoint: P,
+        options: &Config,
+    ) -> io::Result<Session<FS>> {
+        let threads = options.threads()?;
+        let point = Point::new(mountpoint.as_ref(), &options.own_options()?)?;
+        Self::begin(filesystem, point, options.acl, threads)
+    }
+
+    /// Begins the session of a device that somebody else has mounted: one that returns one request for each read.
+    ///
+    /// # Errors
+    /// If the configuration is wrong, and the error of [`Filesystem::init`].
+    #[allow(clippy::needless_pass_by_value)] // as fuser has it
+    pub fn from_fd(
+        filesystem: FS,
+        fd: OwnedFd,
+        acl: SessionACL,
+        config: Config,
+    ) -> io::Result<Self> {
+        let threads = config.threads()?;
+        Self::begin(filesystem, Point::of_other(File::from(fd)), acl, threads)
+    }
+
+    fn begin(
+        filesystem: FS,
+        point: Point,
+        acl: SessionACL,
+        threads: usize,
+    ) -> io::Result<Session<FS>> {
+        let most_write = crate::door::Session::default().max_buffer();
+        let adapter = Adapter::new(filesystem, acl, most_write);
+        let server = Server::new(adapter).agree_unasked(UNASKED);
+        let session = Session { server, mount: Ends(Arc::new(point)), threads };
+        session.shake_hands()?;
+        Ok(session)
+    }
+
+    /// Serves requests up to the INIT.
+    fn shake_hands(&self) -> io::Result<()> {
+        let (device, adapter) = (&self.mount.0.device, self.server.file_system());
+        let (client, mut buffers) = (Client::new(device), Buffers::new(&self.server.session()));
+        while !adapter.has_begun()? {
+            if !self.server.serve_next(device, &client, &mut buffers, |it| adapter.see(it))? {
+                return Err(Errno::ENOTCONN.into());
+            }
+        }
+        Ok(())
+    }
+
+    /// Serves it until it is unmounted.
+    pub(super) fn run(self) -> io::Result<()> {
+        let serve = || self.server.serve_at(&self.mount.0, self.threads);
+        // Nothing of it is used again after a panic.
+        catch_unwind(AssertUnwindSafe(serve)).unwrap_or_else(|_| Err(panicked()))
+    }
+
+    /// Serves it in the background.
+    ///
+    /// # Errors
+    /// If there can be no thread.
+    pub fn spawn(self) -> io::Result<BackgroundSession> {
+        let mount = Ends(Arc::clone(&self.mount.0));
+        let guard = thread::Builder::new().spawn(move || self.run())?;
+        Ok(BackgroundSession { guard, mount })
+    }
+
+    /// Unmounts it.
+    ///
+    /// # Errors
+    /// If it cannot be unmounted.
+    pub fn unmount(&mut self) -> io::Result<()> {
+        self.mount.0.unmount()
+    }
+
+    /// Returns what unmounts it, on any thread.
+    pub fn unmount_callable(&mut self) -> SessionUnmounter {
+        SessionUnmounter(Arc::downgrade(&self.mount.0))
+    }
+
+    /// Returns what tells the kernel of changes.
+    #[must_use]
+    pub fn notifier(&self) -> Notifier {
+        notifier_of(&self.mount)
+    }
+}
+
+impl<FS: Filesystem> AsFd for Session<FS> {
+    fn as_fd(&self) -> BorrowedFd<'_> {
+        self.mount.0.device.as_fd()
+    }
+}
+
+fn notifier_of(mount: &Ends) -> Notifier {
+    Notifier(Own::new(Arc::downgrade(&mount.0.device)))
+}
+
+fn panicked() -> io::Error {
+    io::Error::new(io::ErrorKind::Other, "the file system panicked")
+}
+
+/// Unmounts a session, on any thread.
+#[derive(Debug)]
+pub struct SessionUnmounter(Weak<Point>);
+
+impl SessionUnmounter {
+    /// Unmounts the session, unless that was done.
+    ///
+    /// # Errors
+    /// If it cannot be unmounted.
+    pub fn unmount(&mut self) -> io::Result<()> {
+        self.0.upgrade().map_or(Ok(()), |point| point.unmount())
+    }
+}
+
+/// A session that is served in the background. It is unmounted when this is dropped.
+#[derive(Debug)]
+pub struct BackgroundSession {
+    /// The thread that serves it.
+    pub guard: JoinHandle<io::Result<()>>,
+    mount: Ends,
+}
+
+impl BackgroundSession {
+    /// Unmounts it, and waits for its last user.
+    ///
+    /// # Errors
+    /// If it cannot be unmounted, or as [`mount2`].
+    pub fn umount_and_join(self) -> io::Result<()> {
+        self.mount.0.unmount()?;
+        self.join()
+    }
+
+    /// Returns what tells the kernel of changes.
+    #[must_use]
+    pub fn notifier(&self) -> Notifier {
+        notifier_of(&self.mount)
+    }
+
+    /// Waits until somebody unmounts it.
+    ///
+    /// # Errors
+    /// As [`mount2`].
+    pub fn join(self) -> io::Result<()> {
+        self.guard.join().unwrap_or_else(|_| Err(panicked()))
+    }
+}
