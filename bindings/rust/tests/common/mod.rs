@@ -2,6 +2,7 @@
 #![allow(dead_code)] // each test uses some of it
 
 pub mod diary;
+pub mod hostile;
 
 use nizwarf::{Asked, Call, Context, FsOptions, Offers, Session, Slot};
 use std::io::IoSlice;
