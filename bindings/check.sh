@@ -2,8 +2,8 @@
 # Tests the bindings for other languages: `hello` in Python and in Go, with a client and, as root if there is
 # /dev/fuse, mounted; and the crate for Rust, with rust/check.sh.
 #
-# Usage: bindings/check.sh [--msrv]
-# --msrv is passed to rust/check.sh. Languages that are not installed are skipped, with a message.
+# Usage: bindings/check.sh [--msrv] [--fuser]
+# Both words are passed to rust/check.sh. Languages that are not installed are skipped, with a message.
 #
 # Python and Go use the shared library. If out/packages has one and no source is newer, it is used. Otherwise
 # it is linked from the proved library, or from that which tools/lib/unproved.sh builds in a minute.
@@ -17,10 +17,12 @@ tools=$(cd "$(dirname "$0")/../tools" && pwd)
 . "$tools/lib/transport.sh"
 . "$tools/../bindings/hello.sh"
 
-if [ $# -gt 1 ] || [ "${1:---msrv}" != --msrv ]; then
-    echo "Usage: bindings/check.sh [--msrv]" >&2
-    exit 2
-fi
+for word in "$@"; do
+    case $word in
+        --msrv | --fuser) ;;
+        *) echo "Usage: bindings/check.sh [--msrv] [--fuser]" >&2 && exit 2 ;;
+    esac
+done
 need cc "Install a C compiler: apt-get install gcc libc6-dev."
 folder=$(mktemp -d)
 trap clean_up EXIT

@@ -1,4 +1,5 @@
-//! Finds libnizwarf: in the folder `NIZWARF_LIB_DIR` if that is set, otherwise by `pkg-config nizwarf`.
+//! Finds libnizwarf: in the folder `NIZWARF_LIB_DIR` if that is set, otherwise by `pkg-config nizwarf`. With the feature
+//! `static` the program has the library in it, and runs where that is not installed.
 
 use std::env;
 use std::path::Path;
@@ -42,15 +43,16 @@ fn link_folder(folder: &str) -> Result<(), String> {
         &["static=nizwarf"]
     } else if has("libvfs_door.a") && has("liblibc_c.a") {
         &["static=vfs_door", "static=libc_c"]
-    } else if has("libnizwarf.so") {
+    } else if has("libnizwarf.so") && !is_static() {
         &["dylib=nizwarf"]
     } else {
-        return Err(format!("NIZWARF_LIB_DIR={folder} has none of its files"));
+        let kind = if is_static() { "no static library" } else { "none of its files" };
+        return Err(format!("the folder {folder} has {kind}"));
     };
     // The linker runs in another folder.
     let folder = Path::new(folder)
         .canonicalize()
-        .map_err(|fault| format!("NIZWARF_LIB_DIR={folder}: {fault}"))?;
+        .map_err(|fault| format!("the folder {folder}: {fault}"))?;
     println!("cargo:rustc-link-search=native={}", folder.display());
     for library in libraries {
         println!("cargo:rustc-link-lib={library}");
@@ -64,20 +66,20 @@ fn link_folder(folder: &str) -> Result<(), String> {
     Ok(())
 }
 
+/// Whether the feature `static` is on.
+fn is_static() -> bool {
+    env::var_os("CARGO_FEATURE_STATIC").is_some()
+}
+
 /// Links the installed library.
 fn link_installed() -> Result<(), String> {
-    let program = env::var("PKG_CONFIG").unwrap_or_else(|_| "pkg-config".into());
-    let said = Command::new(&program)
-        .args(["--libs", "--print-errors"])
-        .args(VERSIONS.map(|version| format!("{NAME} {version}")))
-        .output()
-        .map_err(|fault| format!("NIZWARF_LIB_DIR is not set, and `{program}`: {fault}"))?;
-    if !said.status.success() {
-        let why = String::from_utf8_lossy(&said.stderr);
-        return Err(format!("NIZWARF_LIB_DIR is not set, and `{program}` says: {}", why.trim()));
+    let versions = VERSIONS.map(|version| format!("{NAME} {version}"));
+    if is_static() {
+        let folder = ask_pkg_config(&["--variable=libdir"], &versions)?;
+        return link_folder(folder.trim());
     }
     let mut named = false;
-    for word in String::from_utf8_lossy(&said.stdout).split_whitespace() {
+    for word in ask_pkg_config(&["--libs"], &versions)?.split_whitespace() {
         if let Some(folder) = word.strip_prefix("-L") {
             println!("cargo:rustc-link-search=native={folder}");
         } else if let Some(library) = word.strip_prefix("-l") {
@@ -88,6 +90,20 @@ fn link_installed() -> Result<(), String> {
     if named {
         Ok(())
     } else {
-        Err(format!("`{program}` names no library"))
+        Err("pkg-config names no library".into())
+    }
+}
+
+/// Returns what pkg-config says.
+fn ask_pkg_config(words: &[&str], of: &[String]) -> Result<String, String> {
+    let program = env::var("PKG_CONFIG").unwrap_or_else(|_| "pkg-config".into());
+    let why =
+        |why: &dyn std::fmt::Display| format!("NIZWARF_LIB_DIR is not set, and `{program}`: {why}");
+    let said = Command::new(&program).args(words).arg("--print-errors").args(of).output();
+    let said = said.map_err(|fault| why(&fault))?;
+    if said.status.success() {
+        Ok(String::from_utf8_lossy(&said.stdout).into_owned())
+    } else {
+        Err(why(&String::from_utf8_lossy(&said.stderr).trim()))
     }
 }

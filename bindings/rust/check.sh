@@ -2,11 +2,12 @@
 # Builds the library vfs_door, and checks the crate `nizwarf` with it: the crate builds without a network and
 # without other crates, there are no warnings, and its tests, doctests and examples pass.
 #
-# Usage: bindings/rust/check.sh [--msrv]
+# Usage: bindings/rust/check.sh [--msrv] [--fuser]
 # As root, if there is /dev/fuse, the examples are also mounted, and tests/mount*.rs mount; if there is
 # fusermount3, another user mounts, too. The tests also run under the address, leak and thread sanitizers of the compiler, and under valgrind, if they are installed. With --msrv they also run
 # with the rustc of Debian 12, the oldest supported one. It is downloaded and unpacked into out/rust/debian,
-# which takes 400 MB, and not installed.
+# which takes 400 MB, and not installed. With --fuser fuser is downloaded as fuser/run.sh says. If it is there, its
+# examples are mounted over it and over this crate, and compared.
 #
 # If the proved library is built and no source is newer, it is used. Otherwise tools/lib/unproved.sh builds the
 # library without a proof, in a minute. The output is in out/rust.
@@ -22,11 +23,15 @@ tools=$(cd "$(dirname "$0")/../../tools" && pwd)
 . "$tools/lib/debian.sh"
 . "$tools/../bindings/hello.sh"
 
-if [ $# -gt 1 ] || [ "${1:---msrv}" != --msrv ]; then
-    echo "Usage: bindings/rust/check.sh [--msrv]" >&2
-    exit 2
-fi
-steps=$((14 + $#))
+has_msrv=0 get=()
+for word in "$@"; do
+    case $word in
+        --msrv) has_msrv=1 ;;
+        --fuser) get=(--get) ;;
+        *) echo "Usage: bindings/rust/check.sh [--msrv] [--fuser]" >&2 && exit 2 ;;
+    esac
+done
+steps=$((17 + has_msrv))
 need cargo "Install it: apt-get install cargo."
 need cc "Install a C compiler: apt-get install gcc libc6-dev."
 if [ -z "${NIZWARF_LIB_DIR:-}" ]; then
@@ -48,8 +53,8 @@ passed() {
 }
 
 # The tests that do not replace malloc.
-tests=(--lib --test answers --test calls --test hostile --test later --test mount --test mount_further
-    --test refusals --test serve --test server --test threads)
+tests=(--lib --test answers --test calls --test fuser --test hostile --test later --test mount
+    --test mount_further --test refusals --test serve --test server --test threads)
 
 # Mounts hello.rs as another user.
 mount_as_other() {
@@ -61,11 +66,44 @@ mount_as_other() {
         setpriv --reuid=65534 --regid=65534 --clear-groups
 }
 
+# Packs the crate, builds what is packed, and does what `cargo publish` does before it sends that, with an empty index.
+make_package() {
+    local index=$folder/index
+    cargo package --quiet --offline --allow-dirty --target-dir "$built" || return
+    git init -q "$index"
+    echo '{"dl": "file:///none", "api": "file:///none"}' > "$index/config.json"
+    git -C "$index" add . || return
+    git -C "$index" -c user.name=none -c user.email=none commit -q -m "An empty index" || return
+    CARGO_HOME=$folder/home cargo publish --dry-run --no-verify --allow-dirty --target-dir "$built" --index "file://$index"
+}
+
+# Builds an example with the feature `static`, with an installed library that has both kinds, and runs it without.
+build_static() {
+    local installed=$folder/installed
+    mkdir -p "$installed"
+    cc -shared -o "$installed/libnizwarf.so" -Wl,--whole-archive "$NIZWARF_LIB_DIR"/lib{vfs_door,libc_c}.a || return
+    printf 'create %s\naddlib %s\naddlib %s\nsave\n' "$installed/libnizwarf.a" "$NIZWARF_LIB_DIR"/lib{vfs_door,libc_c}.a |
+        ar -M || return
+    sed -e "s,^prefix=.*,prefix=$installed,; s,^libdir=.*,libdir=$installed," -e 's/@VERSION@/0.2.0/' \
+        "$here/packaging/nizwarf.pc.in" > "$installed/nizwarf.pc"
+    env -u NIZWARF_LIB_DIR PKG_CONFIG_PATH="$installed" \
+        cargo build --offline --features static --example hello --target-dir "$built/static" || return
+    "$built/static/debug/examples/hello" --help
+}
+
 # Whether a program that is compiled with these flags runs.
 has_flags() {
     echo 'fn main() {}' > "$folder/empty.rs"
     RUSTC_BOOTSTRAP=1 rustc --target "$target" "$@" -o "$folder/empty" "$folder/empty.rs" 2> /dev/null \
         && "$folder/empty" 2> /dev/null
+}
+
+# Whether the compiler is of this version, or a later one.
+has_rust() {
+    local version
+    version=$(rustc --version)
+    version=${version#rustc }
+    [ "$(printf '%s\n' "$1" "${version%% *}" | sort -V | sed -n 1p)" = "$1" ]
 }
 
 # Runs tests under a sanitizer of the compiler: sanitize NAME WORD.. The standard library is not built with
@@ -90,11 +128,13 @@ else
     skip 1 "rustfmt is not installed, so the format is not looked at: apt-get install rustfmt."
 fi
 step "Build without a network" cargo build --offline --all-targets
+step "Build with the installed static library" build_static
 if command -v cargo-clippy > /dev/null; then
     step "Clippy, pedantic" cargo clippy --offline --all-targets -- -D warnings -W clippy::pedantic
 else
     skip 1 "clippy is not installed, and is skipped: apt-get install rust-clippy."
 fi
+step "The package" make_package
 RUSTDOCFLAGS="-D warnings" step "Documentation" cargo doc --offline --no-deps
 step "Tests and doctests" cargo test --offline
 echo "$(passed) tests and doctests passed."
@@ -118,6 +158,16 @@ if may_mount; then
 else
     skip 4 "Nothing is mounted: this needs root, /dev/fuse and mountpoint."
 fi
+if [ ${#get[@]} = 0 ] && [ ! -e "$built/fuser/crates/unpacked" ]; then
+    skip 1 "fuser is not in out/rust/fuser, so its examples are skipped: bindings/rust/check.sh --fuser gets it."
+elif ! may_mount || ! command -v python3 > /dev/null; then
+    skip 1 "The examples of fuser are skipped: they need root, /dev/fuse, mountpoint and python3."
+elif ! has_rust 1.85; then
+    skip 1 "The examples of fuser are skipped: they need a compiler of 1.85 or later, as rustup installs it."
+else
+    step "Examples of fuser, over it and over this crate" "$here/bindings/rust/fuser/run.sh" "${get[@]}"
+    grep ' results are the same' "$folder/said"
+fi
 sanitize address "${tests[@]}"
 sanitize leak "${tests[@]}"
 sanitize thread --test threads
@@ -131,7 +181,7 @@ if command -v valgrind > /dev/null; then
 else
     skip 1 "valgrind is not installed, and is skipped: apt-get install valgrind."
 fi
-if [ $# = 1 ]; then
+if [ $has_msrv = 1 ]; then
     debian=$built/debian
     export LD_LIBRARY_PATH=$debian/usr/lib/x86_64-linux-gnu
     if [ ! -e "$debian/unpacked" ]; then
