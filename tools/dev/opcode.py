@@ -26,6 +26,7 @@ APART = ["docs/generated/*", "crates/vfs_sessions/std*", "crates/vfs_decode/std*
 ELSEWHERE = ["crates/vfs_further/*", "crates/vfs_print/src/further.rt", "programs/share/passthrough_list.c", "tests/beside/get.sh",
              "tests/suites/get.sh",
              "tests/mirror/calls.py", "tests/mount/session.sh", "tests/share/apart.py", "tests/share/calls.py", "tests/share/load.py",
+             "bindings/rust/fuser/session.py",
              "bindings/libfuse/make.py", "tests/beside/libfuse.c", "tests/beside/nizwarf.c", "tests/beside/requests.py"]
 
 

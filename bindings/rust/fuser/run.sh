@@ -9,7 +9,8 @@
 # It needs root, /dev/fuse, python3, and the cargo that fuser needs, 1.85 or later.
 # Status 0: all is the same; 1: something is not, or can't be built; 2: it could not start.
 
-# shellcheck source-path=SCRIPTDIR/../../../tools
+# (functions are also called by their names)
+# shellcheck source-path=SCRIPTDIR/../../../tools disable=SC2317
 set -euo pipefail
 tools=$(cd "$(dirname "$0")/../../../tools" && pwd)
 . "$tools/lib/usage.sh"

@@ -102,8 +102,8 @@ def directories():
     show("make", os.mkdir, "folder", 0o750)
     show("make again", os.mkdir, "folder")
     show("attributes of a folder", attributes, "folder")
-    for number in range(300):
-        os.close(os.open(f"folder/{'n' * (number % 200)}{number}", os.O_CREAT | os.O_WRONLY))
+    for number in range(60):
+        os.close(os.open(f"folder/{'n' * 3 * number}{number}", os.O_CREAT | os.O_WRONLY))
     show("many items", lambda: sorted(os.listdir("folder")))
     show("remove what is not empty", os.rmdir, "folder")
     descriptor = os.open("folder", os.O_RDONLY)
