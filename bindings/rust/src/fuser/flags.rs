@@ -15,7 +15,11 @@ macro_rules! bits {
 
         #[allow(dead_code, unused_mut)] // (of a set without names)
         impl $name {
-            $($(#[$flag_about])* pub const $flag: Self = Self($value);)*
+            $(
+                $(#[$flag_about])*
+                #[doc = concat!("\n\nBits: `", stringify!($value), "`")]
+                pub const $flag: Self = Self($value);
+            )*
 
             /// Returns the empty set.
             #[must_use]
@@ -262,51 +266,50 @@ bits! {
 bits! {
     /// Options of a session. [`FsOptions`](crate::FsOptions) says what each means; the kernel is taken not to offer
     /// `FUSE_MAP_ALIGNMENT`, `FUSE_PASSTHROUGH` and `FUSE_OVER_IO_URING`.
-    #[allow(missing_docs)]
     InitFlags: u64 {
-        #[allow(missing_docs)] FUSE_ASYNC_READ = 1;
-        #[allow(missing_docs)] FUSE_POSIX_LOCKS = 1 << 1;
-        #[allow(missing_docs)] FUSE_FILE_OPS = 1 << 2;
-        #[allow(missing_docs)] FUSE_ATOMIC_O_TRUNC = 1 << 3;
-        #[allow(missing_docs)] FUSE_EXPORT_SUPPORT = 1 << 4;
-        #[allow(missing_docs)] FUSE_BIG_WRITES = 1 << 5;
-        #[allow(missing_docs)] FUSE_DONT_MASK = 1 << 6;
-        #[allow(missing_docs)] FUSE_SPLICE_WRITE = 1 << 7;
-        #[allow(missing_docs)] FUSE_SPLICE_MOVE = 1 << 8;
-        #[allow(missing_docs)] FUSE_SPLICE_READ = 1 << 9;
-        #[allow(missing_docs)] FUSE_FLOCK_LOCKS = 1 << 10;
-        #[allow(missing_docs)] FUSE_HAS_IOCTL_DIR = 1 << 11;
-        #[allow(missing_docs)] FUSE_AUTO_INVAL_DATA = 1 << 12;
-        #[allow(missing_docs)] FUSE_DO_READDIRPLUS = 1 << 13;
-        #[allow(missing_docs)] FUSE_READDIRPLUS_AUTO = 1 << 14;
-        #[allow(missing_docs)] FUSE_ASYNC_DIO = 1 << 15;
-        #[allow(missing_docs)] FUSE_WRITEBACK_CACHE = 1 << 16;
-        #[allow(missing_docs)] FUSE_NO_OPEN_SUPPORT = 1 << 17;
-        #[allow(missing_docs)] FUSE_PARALLEL_DIROPS = 1 << 18;
-        #[allow(missing_docs)] FUSE_HANDLE_KILLPRIV = 1 << 19;
-        #[allow(missing_docs)] FUSE_POSIX_ACL = 1 << 20;
-        #[allow(missing_docs)] FUSE_ABORT_ERROR = 1 << 21;
-        #[allow(missing_docs)] FUSE_MAX_PAGES = 1 << 22;
-        #[allow(missing_docs)] FUSE_CACHE_SYMLINKS = 1 << 23;
-        #[allow(missing_docs)] FUSE_NO_OPENDIR_SUPPORT = 1 << 24;
-        #[allow(missing_docs)] FUSE_EXPLICIT_INVAL_DATA = 1 << 25;
-        #[allow(missing_docs)] FUSE_MAP_ALIGNMENT = 1 << 26;
-        #[allow(missing_docs)] FUSE_SUBMOUNTS = 1 << 27;
-        #[allow(missing_docs)] FUSE_HANDLE_KILLPRIV_V2 = 1 << 28;
-        #[allow(missing_docs)] FUSE_SETXATTR_EXT = 1 << 29;
-        #[allow(missing_docs)] FUSE_INIT_EXT = 1 << 30;
-        #[allow(missing_docs)] FUSE_INIT_RESERVED = 1 << 31;
-        #[allow(missing_docs)] FUSE_SECURITY_CTX = 1 << 32;
-        #[allow(missing_docs)] FUSE_HAS_INODE_DAX = 1 << 33;
-        #[allow(missing_docs)] FUSE_CREATE_SUPP_GROUP = 1 << 34;
-        #[allow(missing_docs)] FUSE_HAS_EXPIRE_ONLY = 1 << 35;
-        #[allow(missing_docs)] FUSE_DIRECT_IO_ALLOW_MMAP = 1 << 36;
-        #[allow(missing_docs)] FUSE_PASSTHROUGH = 1 << 37;
-        #[allow(missing_docs)] FUSE_NO_EXPORT_SUPPORT = 1 << 38;
-        #[allow(missing_docs)] FUSE_HAS_RESEND = 1 << 39;
-        #[allow(missing_docs)] FUSE_ALLOW_IDMAP = 1 << 40;
-        #[allow(missing_docs)] FUSE_OVER_IO_URING = 1 << 41;
-        #[allow(missing_docs)] FUSE_REQUEST_TIMEOUT = 1 << 42;
+        FUSE_ASYNC_READ = 1;
+        FUSE_POSIX_LOCKS = 1 << 1;
+        FUSE_FILE_OPS = 1 << 2;
+        FUSE_ATOMIC_O_TRUNC = 1 << 3;
+        FUSE_EXPORT_SUPPORT = 1 << 4;
+        FUSE_BIG_WRITES = 1 << 5;
+        FUSE_DONT_MASK = 1 << 6;
+        FUSE_SPLICE_WRITE = 1 << 7;
+        FUSE_SPLICE_MOVE = 1 << 8;
+        FUSE_SPLICE_READ = 1 << 9;
+        FUSE_FLOCK_LOCKS = 1 << 10;
+        FUSE_HAS_IOCTL_DIR = 1 << 11;
+        FUSE_AUTO_INVAL_DATA = 1 << 12;
+        FUSE_DO_READDIRPLUS = 1 << 13;
+        FUSE_READDIRPLUS_AUTO = 1 << 14;
+        FUSE_ASYNC_DIO = 1 << 15;
+        FUSE_WRITEBACK_CACHE = 1 << 16;
+        FUSE_NO_OPEN_SUPPORT = 1 << 17;
+        FUSE_PARALLEL_DIROPS = 1 << 18;
+        FUSE_HANDLE_KILLPRIV = 1 << 19;
+        FUSE_POSIX_ACL = 1 << 20;
+        FUSE_ABORT_ERROR = 1 << 21;
+        FUSE_MAX_PAGES = 1 << 22;
+        FUSE_CACHE_SYMLINKS = 1 << 23;
+        FUSE_NO_OPENDIR_SUPPORT = 1 << 24;
+        FUSE_EXPLICIT_INVAL_DATA = 1 << 25;
+        FUSE_MAP_ALIGNMENT = 1 << 26;
+        FUSE_SUBMOUNTS = 1 << 27;
+        FUSE_HANDLE_KILLPRIV_V2 = 1 << 28;
+        FUSE_SETXATTR_EXT = 1 << 29;
+        FUSE_INIT_EXT = 1 << 30;
+        FUSE_INIT_RESERVED = 1 << 31;
+        FUSE_SECURITY_CTX = 1 << 32;
+        FUSE_HAS_INODE_DAX = 1 << 33;
+        FUSE_CREATE_SUPP_GROUP = 1 << 34;
+        FUSE_HAS_EXPIRE_ONLY = 1 << 35;
+        FUSE_DIRECT_IO_ALLOW_MMAP = 1 << 36;
+        FUSE_PASSTHROUGH = 1 << 37;
+        FUSE_NO_EXPORT_SUPPORT = 1 << 38;
+        FUSE_HAS_RESEND = 1 << 39;
+        FUSE_ALLOW_IDMAP = 1 << 40;
+        FUSE_OVER_IO_URING = 1 << 41;
+        FUSE_REQUEST_TIMEOUT = 1 << 42;
     }
 }
 

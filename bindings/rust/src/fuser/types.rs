@@ -290,7 +290,7 @@ impl Request {
     /// Returns the process ID.
     #[must_use]
     pub fn pid(&self) -> u32 {
-        self.context.pid.unsigned_abs()
+        u32::from_le_bytes(self.context.pid.to_le_bytes())
     }
 }
 
