@@ -75,7 +75,8 @@ fn is_static() -> bool {
 fn link_installed() -> Result<(), String> {
     let versions = VERSIONS.map(|version| format!("{NAME} {version}"));
     if is_static() {
-        let folder = ask_pkg_config(&["--variable=libdir"], &versions)?;
+        ask_pkg_config(&["--exists"], &versions)?;
+        let folder = ask_pkg_config(&["--variable=libdir"], &[NAME.into()])?;
         return link_folder(folder.trim());
     }
     let mut named = false;

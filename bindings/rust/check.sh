@@ -81,7 +81,8 @@ make_package() {
 build_static() {
     local installed=$folder/installed
     mkdir -p "$installed"
-    cc -shared -o "$installed/libnizwarf.so" -Wl,--whole-archive "$NIZWARF_LIB_DIR"/lib{vfs_door,libc_c}.a || return
+    cc -shared -o "$installed/libnizwarf.so" -Wl,--whole-archive "$NIZWARF_LIB_DIR/libvfs_door.a" \
+        -Wl,--no-whole-archive "$NIZWARF_LIB_DIR/liblibc_c.a" || return
     printf 'create %s\naddlib %s\naddlib %s\nsave\n' "$installed/libnizwarf.a" "$NIZWARF_LIB_DIR"/lib{vfs_door,libc_c}.a |
         ar -M || return
     sed -e "s,^prefix=.*,prefix=$installed,; s,^libdir=.*,libdir=$installed," -e 's/@VERSION@/0.2.0/' \
