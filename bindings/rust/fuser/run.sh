@@ -71,6 +71,8 @@ build_examples() {
     for way in "${ways[@]}"; do
         copy_examples "$way"
     done
+    # (so what is the same as in the last run is not built again)
+    find "$built/program" -type f -exec touch -r "$built/crates/unpacked" {} +
     for way in "${ways[@]}"; do
         (cd "$built/program" && quietly "$folder/said" cargo build --offline --package "examples-$way") || return
     done
