@@ -4,13 +4,14 @@
 //! later time. The library then encodes your answer as the reply. It is proved that, for any bytes and any
 //! answer, its calls and replies are those of the protocol.
 //!
-//! There are three interfaces:
+//! There are four interfaces:
 //!
 //! - [`Slot::ask`] returns a [`Call`] with its arguments and a [`To`], whose type determines what the call is
 //!   answered with.
 //! - [`Server`] does this for a [`FileSystem`], a trait with the methods of virtiofsd's. [`make_call`] is for other
 //!   traits that have them.
 //! - [`mount()`] mounts a [`FileSystem`], and serves it.
+//! - [`fuser`] mounts a file system that is written for the crate of this name.
 //!
 //! By default all replies are those of virtiofsd 1.13.2. [`Offers`] are further calls that a file system may serve, as
 //! locks. A [`Notifier`] tells the client of changes, and by a [`Client`] a call is answered later.
