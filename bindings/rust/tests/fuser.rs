@@ -297,7 +297,7 @@ fn begin(
 }
 
 fn receive(client: &UnixDatagram) -> Vec<u8> {
-    let mut bytes = vec![0; 1 << 17];
+    let mut bytes = vec![0; 1 << 13];
     let len = client.recv(&mut bytes).unwrap_or(0);
     bytes.truncate(len);
     bytes
