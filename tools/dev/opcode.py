@@ -5,7 +5,8 @@ Usage: tools/dev/opcode.py [--opcodes | --count | --files OPCODE]
 Of some opcodes that are there, in all spellings (LSEEK, Lseek, lseek, NIZWARF_LSEEK), each file that git knows or would
 that has one must be named in that section, and each file or pattern that is named must have one. --opcodes prints
 which opcodes, --count how many files each stands in, --files these files. Not counted are pages that a tool writes,
-recorded lines, and where the word is not the opcode.
+recorded lines, and where the word is not the opcode; and apart are interfaces of others, as libfuse's and fuser's, which
+have the opcodes that they have.
 Status 0: the list holds; 1: it does not.
 """
 import fnmatch
@@ -28,6 +29,9 @@ ELSEWHERE = ["crates/vfs_further/*", "crates/vfs_print/src/further.rt", "program
              "tests/mirror/calls.py", "tests/mount/session.sh", "tests/share/apart.py", "tests/share/calls.py", "tests/share/load.py",
              "bindings/rust/fuser/session.py",
              "bindings/libfuse/make.py", "tests/beside/libfuse.c", "tests/beside/nizwarf.c", "tests/beside/requests.py"]
+
+# Interfaces of others, over which an opcode that they lack does not go.
+OTHERS = ["bindings/libfuse/*", "bindings/rust/src/fuser/*"]
 
 
 def read(path):
@@ -73,7 +77,8 @@ def main():
     texts = {path: read(path) for path in tracked()}
     stands = {opcode: files_of(opcode, texts) for opcode in SPELLED}
     counted = {opcode: [it for it in paths if not fits(it, APART + ELSEWHERE)] for opcode, paths in stands.items()}
-    counts = ", ".join(f"{opcode} {len(paths)}" for opcode, paths in counted.items())
+    own = {opcode: [it for it in paths if not fits(it, OTHERS)] for opcode, paths in counted.items()}
+    counts = ", ".join(f"{opcode} {len(paths)}" for opcode, paths in own.items())
     if sys.argv[1:] == ["--count"]:
         print(counts)
         return 0
@@ -92,7 +97,7 @@ def main():
     every = {it for paths in stands.values() for it in paths}
     faults += [f"{PAGE}:{number}: {pattern}: none of these opcodes stands there" for pattern, number in patterns
                if not fnmatch.filter(every, pattern)]
-    for opcode, paths in counted.items():
+    for opcode, paths in own.items():
         said = re.search(rf"\b{opcode} (?:stands )?in (\d+)", read(PAGE))
         if not said or int(said[1]) != len(paths):
             faults.append(f"{PAGE}: it does not say {opcode} in {len(paths)}")
