@@ -1,11 +1,13 @@
 //! Chains of a virtio queue, for C: see the functions of `vfs_chains` that are called.
 
-ghost use Rattle.std.specs.Prelude.{◌≡◌, ◌≢◌, ◌%◌, pos, negsuc, MatchOption};
+ghost use Rattle.std.specs.Prelude.{◌≡◌, ◌≢◌, ◌%◌, pos, negsuc, if◌then◌else◌, MatchOption};
 ghost use Rattle.vfs_chains.specs.Descriptors.{of_words};
-ghost use Rattle.vfs_chains.specs.Rings.{waiting_of};
+ghost use Rattle.vfs_chains.specs.Rings.{needs_event_at, waiting_of};
 ghost use Rattle.vfs_chains.specs.Walks.{begun, code_of, piece_after, step_at, walk_after};
 
-use vfs_chains::{MORE, Piece, Refusal, Region, Walk, begin, slot, take_step, waiting};
+use vfs_chains::{
+    MORE, Piece, Refusal, Region, Walk, begin, needs_event, slot, take_step, waiting,
+};
 
 /// Begins a walk at the descriptor `head`: 1, or the number of the refusal, and then `walk` stays. See [`begin`].
 #[unsafe(no_mangle)]
@@ -57,4 +59,12 @@ pub extern "C" fn nizwarf_ring_slot_at(index: u16, size: u32) -> u32
     ensures { result ≡ index % size }
 {
     slot(index, size)
+}
+
+/// Whether the other side wants to be told of new entries of a ring, 1 or 0: see [`needs_event`].
+#[unsafe(no_mangle)]
+pub extern "C" fn nizwarf_ring_needs_event_at(event: u16, new: u16, old: u16) -> u32
+    ensures { result ≡ (if needs_event_at event new old then 1 else 0) }
+{
+    u32::from(needs_event(event, new, old))
 }

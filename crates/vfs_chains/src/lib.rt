@@ -15,5 +15,5 @@ mod walk;
 pub use descriptor::{Descriptor, flag};
 pub use laws::{steps_are_within, walks_are_chains, words_are_bytes};
 pub use regions::{Place, Region, find};
-pub use rings::{slot, waiting};
+pub use rings::{needs_event, slot, waiting};
 pub use walk::{LAST, MORE, MOST_BYTES, Piece, Refusal, Step, TABLE, Walk, begin, take_step};

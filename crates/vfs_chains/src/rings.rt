@@ -1,7 +1,7 @@
 //! The indices of a queue's two rings, which have 16 bits and wrap.
 
-ghost use Rattle.std.specs.Prelude.{◌≡◌, ◌≢◌, ◌≤◌, ◌<◌, ◌+◌, ◌-◌, ◌%◌, ℕ, Some};
-ghost use Rattle.vfs_chains.specs.Rings.{index_of, waiting_of};
+ghost use Rattle.std.specs.Prelude.{◌≡◌, ◌≢◌, ◌≤◌, ◌<◌, ◌+◌, ◌-◌, ◌%◌, ◌↔◌, ℕ, Some, true};
+ghost use Rattle.vfs_chains.specs.Rings.{index_of, needs_event_at, waiting_of};
 
 /// How many chains wait: `index` is the guest's, and `next` that of the one to be taken next. `None` where they
 /// are more than the queue has, which can't be.
@@ -31,4 +31,17 @@ pub fn slot(index: u16, size: u32) -> u32
         result ≡ count % size }
 {
     u32::from(index) % size
+}
+
+/// Whether the other side wants to be told of entries that were added to a ring, from index `old` up to before
+/// `new`: it does where the entry of the index `event` is one of them.
+pub fn needs_event(event: u16, new: u16, old: u16) -> bool
+    ensures is { result ≡ needs_event_at event new old }
+
+    // of counts that never wrap
+    ensures counted { (before after : ℕ) → old ≡ index_of before → new ≡ index_of after →
+        before ≤ after → after - before < 65536 →
+        (result ≡ true ↔ ((count : ℕ) × (before ≤ count) × (count < after) × (event ≡ index_of count))) }
+{
+    new.wrapping_sub(event).wrapping_sub(1) < new.wrapping_sub(old)
 }

@@ -1,8 +1,8 @@
 //! A walk along a chain of descriptors: one step for each that was copied.
 
-ghost use Rattle.std.specs.Prelude.{◌≡◌, pos};
+ghost use Rattle.std.specs.Prelude.{◌≡◌, ◌≤◌, pos};
 ghost use Rattle.vfs_chains.specs.Descriptors.{of_words};
-ghost use Rattle.vfs_chains.specs.Walks.{begun, code_of, number_of, piece_after, piece_step as piece_step_in, step_at, table_step as table_step_in, unplaced as unplaced_in, walk_after};
+ghost use Rattle.vfs_chains.specs.Walks.{begun, code_of, gone_on, number_of, piece_after, piece_at, piece_step as piece_step_in, step_at, table_step as table_step_in, unplaced as unplaced_in, walk_after};
 
 use crate::descriptor::Descriptor;
 use crate::regions::{Place, Region, find};
@@ -124,20 +124,45 @@ pub fn take_step(
     ensures piece { piece.new ≡
         piece_after (step_at walk.old (of_words first second) regions.now) piece.old }
 {
-    let descriptor = Descriptor::of_words(first, second);
-    if descriptor.is_table() {
-        table_step(walk, &descriptor, regions, piece)
-    } else {
-        piece_step(walk, &descriptor, regions, piece)
+    let d = Descriptor::of_words(first, second);
+    if d.is_table() {
+        return table_step(walk, first, second, regions, piece);
     }
+    let Some(place) = find(regions, d.addr, u64::from(d.len)) else {
+        return piece_step(walk, first, second, regions, piece);
+    };
+    if walk.rest < u64::from(d.len) || (walk.writable && !d.is_writable()) {
+        return piece_step(walk, first, second, regions, piece);
+    }
+    if !d.goes_on() {
+        put_piece(piece, &d, place);
+        return LAST;
+    }
+    if walk.left <= 1 || walk.entries <= u32::from(d.next) {
+        return piece_step(walk, first, second, regions, piece);
+    }
+    put_piece(piece, &d, place);
+    go_on(walk, &d);
+    MORE
 }
 
-// The step at a descriptor of bytes.
-fn piece_step(walk: &mut Walk, d: &Descriptor, regions: &[Region], piece: &mut Piece) -> i32
-    ensures code { result ≡ code_of (piece_step_in walk.old d.now regions.now) }
-    ensures walk { walk.new ≡ walk_after (piece_step_in walk.old d.now regions.now) walk.old }
-    ensures piece { piece.new ≡ piece_after (piece_step_in walk.old d.now regions.now) piece.old }
+// The step at a descriptor of bytes: by its tests in their order, so that the first of them names why there is none.
+#[cold]
+#[inline(never)]
+fn piece_step(
+    walk: &mut Walk,
+    first: u64,
+    second: u64,
+    regions: &[Region],
+    piece: &mut Piece,
+) -> i32
+    ensures code { result ≡ code_of (piece_step_in walk.old (of_words first second) regions.now) }
+    ensures walk { walk.new ≡
+        walk_after (piece_step_in walk.old (of_words first second) regions.now) walk.old }
+    ensures piece { piece.new ≡
+        piece_after (piece_step_in walk.old (of_words first second) regions.now) piece.old }
 {
+    let d = Descriptor::of_words(first, second);
     if walk.writable && !d.is_writable() {
         return Refusal::ReadableAfterWritable as i32;
     }
@@ -153,29 +178,51 @@ fn piece_step(walk: &mut Walk, d: &Descriptor, regions: &[Region], piece: &mut P
     let Some(place) = find(regions, d.addr, u64::from(d.len)) else {
         return unplaced(regions, d.addr);
     };
-    *piece = Piece {
-        place,
-        len: d.len,
-        writable: d.is_writable(),
-    };
+    put_piece(piece, &d, place);
     if !d.goes_on() {
         return LAST;
     }
+    go_on(walk, &d);
+    MORE
+}
+
+// Tells the piece of a descriptor.
+fn put_piece(piece: &mut Piece, d: &Descriptor, place: Place)
+    ensures { piece.new ≡ piece_at d.now place }
+{
+    piece.place = place;
+    piece.len = d.len;
+    piece.writable = d.is_writable();
+}
+
+// Goes on behind a descriptor.
+fn go_on(walk: &mut Walk, d: &Descriptor)
+    requires left { 1 ≤ walk.old.left }
+    requires rest { d.now.len ≤ walk.old.rest }
+    ensures { walk.new ≡ gone_on walk.old d.now }
+{
     walk.rest -= u64::from(d.len);
     walk.at = u32::from(d.next);
     walk.left -= 1;
     walk.writable = d.is_writable();
-    MORE
 }
 
 // The step at a descriptor of a table.
-#[cold]
 #[inline(never)]
-fn table_step(walk: &mut Walk, d: &Descriptor, regions: &[Region], piece: &mut Piece) -> i32
-    ensures code { result ≡ code_of (table_step_in walk.old d.now regions.now) }
-    ensures walk { walk.new ≡ walk_after (table_step_in walk.old d.now regions.now) walk.old }
-    ensures piece { piece.new ≡ piece_after (table_step_in walk.old d.now regions.now) piece.old }
+fn table_step(
+    walk: &mut Walk,
+    first: u64,
+    second: u64,
+    regions: &[Region],
+    piece: &mut Piece,
+) -> i32
+    ensures code { result ≡ code_of (table_step_in walk.old (of_words first second) regions.now) }
+    ensures walk { walk.new ≡
+        walk_after (table_step_in walk.old (of_words first second) regions.now) walk.old }
+    ensures piece { piece.new ≡
+        piece_after (table_step_in walk.old (of_words first second) regions.now) piece.old }
 {
+    let d = Descriptor::of_words(first, second);
     if walk.indirect {
         return Refusal::TableInTable as i32;
     }
