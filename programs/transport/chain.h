@@ -94,6 +94,9 @@ int32_t nizwarf_ring_waiting_at(uint16_t index, uint16_t next, uint32_t size);
 /* At which of a ring's entries an index is: of the available ring where the next chain is told, of the used ring
  * where one is given back. `size` is not 0. */
 uint32_t nizwarf_ring_slot_at(uint16_t index, uint32_t size);
+/* Whether the other side wants to be told, 1 or 0, if VIRTIO_RING_F_EVENT_IDX was agreed on: entries were added to a
+ * ring, from the index `old` up to before `new`, and it said the index `event`. */
+uint32_t nizwarf_ring_needs_event_at(uint16_t event, uint16_t new_index, uint16_t old);
 
 #ifdef __cplusplus
 }

@@ -148,25 +148,27 @@ static int take_chain(struct worker *w, const struct guest *g, const struct queu
 	unsigned char *at;
 	nizwarf_walk walk;
 	nizwarf_piece piece;
-	int step = nizwarf_chain_begin_at(q->size, PIECES, head, &walk);
+	int step;
 
 	w->len = w->copied = w->rooms = w->room_len = 0;
 	w->segments = 1;
 	w->segment[0] = (nizwarf_segment){ w->request, 0 };
-	while (step == NIZWARF_CHAIN_MORE || step == NIZWARF_CHAIN_TABLE) {
+	if (nizwarf_chain_begin_at(q->size, PIECES, head, &walk) != NIZWARF_CHAIN_MORE)
+		return -1;
+	do {
 		memcpy(word, table + (size_t)walk.at * sizeof(word), sizeof(word));
 		/* What is checked is what was copied. */
 		__atomic_signal_fence(__ATOMIC_SEQ_CST);
 		step = nizwarf_chain_step_at(&walk, word[0], word[1], g->shared, g->regions, &piece);
 		if (step > NIZWARF_CHAIN_TABLE)
-			break;
+			return -1;
 		at = g->region[piece.region].at + piece.offset;
 		if (step == NIZWARF_CHAIN_TABLE)
 			table = at;
 		else if (add_piece(w, at, &piece))
 			return -1;
-	}
-	return step == NIZWARF_CHAIN_LAST ? 0 : -1;
+	} while (step != NIZWARF_CHAIN_LAST);
+	return 0;
 }
 
 /* What is kept of a chain whose request is answered later. */
@@ -220,7 +222,9 @@ static int ask(struct worker *w, struct guest *g, struct queue *q, uint16_t head
 	const int can_keep = by->recall && w->rooms <= KEPT_ROOMS;
 
 	if (can_keep) {
-		kept = (struct kept){ .q = q, .head = head, .rooms = w->rooms };
+		kept.q = q;
+		kept.head = head;
+		kept.rooms = w->rooms;
 		memcpy(kept.room, w->room, w->rooms * sizeof(*w->room));
 	}
 	later_serve(can_keep ? &source : NULL);
@@ -255,6 +259,23 @@ void queue_look(struct queue *q)
 		tell(look);
 }
 
+/* How many chains wait; -1: more than can. */
+static int32_t count_waiting(const struct queue *q)
+{
+	return nizwarf_ring_waiting_at(__atomic_load_n(&q->available->idx, __ATOMIC_SEQ_CST), q->next,
+				       q->size);
+}
+
+/* The same, after a guest that goes by indices was told to kick for the next chain to come. (It writes its index, and
+ * then looks at this one: one of both sees what the other did.) */
+static int32_t await_kick(struct queue *q)
+{
+	if (!q->has_events)
+		return 0;
+	__atomic_store_n((uint16_t *)(q->used->ring + q->size), q->next, __ATOMIC_SEQ_CST);
+	return count_waiting(q);
+}
+
 /* Takes the number of the next chain; -1: none waits. A queue that says what can't be is left. */
 static int take_head(struct queue *q)
 {
@@ -263,8 +284,9 @@ static int take_head(struct queue *q)
 
 	if (!q->available || !q->enabled || q->kick < 0)
 		return -1;
-	waiting = nizwarf_ring_waiting_at(__atomic_load_n(&q->available->idx, __ATOMIC_ACQUIRE), q->next,
-					  q->size);
+	waiting = count_waiting(q);
+	if (!waiting)
+		waiting = await_kick(q);
 	if (!waiting)
 		return -1;
 	FROM_GUEST();
@@ -276,9 +298,26 @@ static int take_head(struct queue *q)
 	}
 	q->next++;
 	/* This one may take long, and another worker may be free. */
-	if (waiting > 1 && by->workers > 1)
+	if (by->workers > 1 && (await_kick(q) || waiting > 1))
 		queue_look(q);
 	return head;
+}
+
+/* Whether the guest wants to be told of the chain that was given back last. */
+static int wants_call(struct queue *q)
+{
+	if (!q->calls)
+		return 0;
+	if (!q->has_events)
+		return !(__atomic_load_n(&q->available->flags, __ATOMIC_SEQ_CST) &
+			 VRING_AVAIL_F_NO_INTERRUPT);
+	if (q->calls_anyway) {
+		q->calls_anyway = 0;
+		return 1;
+	}
+	return (int)nizwarf_ring_needs_event_at(
+		__atomic_load_n(&q->available->ring[q->size], __ATOMIC_SEQ_CST), q->done,
+		(uint16_t)(q->done - 1));
 }
 
 /* Gives a chain back to the guest. Answers whether it wants to be told. */
@@ -289,10 +328,9 @@ static int complete(struct queue *q, uint16_t head, uint32_t len)
 	q->used->ring[nizwarf_ring_slot_at(q->done, q->size)] = (struct vring_used_elem){ head, len };
 	q->done++;
 	TO_GUEST();
-	/* (the guest sets the flag, and then looks at the number: one of both sees what the other did) */
+	/* (the guest sets its flag or its index, and then looks at the number: one of both sees what the other did) */
 	__atomic_store_n(&q->used->idx, q->done, __ATOMIC_SEQ_CST);
-	return !(__atomic_load_n(&q->available->flags, __ATOMIC_SEQ_CST) & VRING_AVAIL_F_NO_INTERRUPT) &&
-	       q->calls;
+	return wants_call(q);
 }
 
 /* Tells the guest that a chain is done. A front end can have this wait, as long as its event is full: then
@@ -354,26 +392,39 @@ static int serve_late(struct guest *g, struct queue *q)
 	return 1;
 }
 
-/* Answers the next chain of a queue, if one waits. Whether one did. */
-static int serve_next(struct worker *w, struct guest *g, struct queue *q)
+/* What is in place of a chain: none waits; or one may, but a message or an answer that came late is first. */
+enum { NO_CHAIN = -1, NOT_YET = -2 };
+
+/* Gives a chain back, if it is one, and takes the next. */
+static int next_chain(struct guest *g, struct queue *q, int head, int64_t len)
 {
-	int head, calls;
-	int64_t len;
+	int calls = 0, next = NO_CHAIN;
 
 	pthread_mutex_lock(&q->lock);
-	head = atomic_load(&g->gone) ? -1 : take_head(q);
-	pthread_mutex_unlock(&q->lock);
-	if (head < 0)
-		return 0;
-	len = answer(w, g, q, (uint16_t)head);
-	if (len < 0)
-		return 1;
-	pthread_mutex_lock(&q->lock);
-	calls = !atomic_load(&g->gone) && complete(q, (uint16_t)head, (uint32_t)len);
+	if (!atomic_load(&g->gone)) {
+		calls = head >= 0 && complete(q, (uint16_t)head, (uint32_t)len);
+		next = atomic_load(&g->wanted) || has_late(q) ? NOT_YET : take_head(q);
+	}
 	pthread_mutex_unlock(&q->lock);
 	if (calls)
 		call_guest(q);
-	return 1;
+	return next;
+}
+
+/* Answers what waits in a queue, up to where something else is first. Whether that is so. */
+static int serve_chains(struct worker *w, struct guest *g, struct queue *q)
+{
+	int head = NO_CHAIN;
+	int64_t len = 0;
+
+	for (;;) {
+		head = next_chain(g, q, head, len);
+		if (head < 0)
+			return head == NOT_YET;
+		len = answer(w, g, q, (uint16_t)head);
+		if (len < 0)
+			head = NO_CHAIN;
+	}
 }
 
 /* The guest that is served now, with a user more. */
@@ -436,9 +487,10 @@ static void serve_queue(struct worker *w, uint32_t number)
 		if (number >= QUEUES && (!atomic_load(&q->look) || !atomic_exchange(&q->look, 0)))
 			continue;
 		do {
-			/* (between two chains a message may have its turn) */
 			pthread_rwlock_rdlock(&g->in_flight);
-			more = (has_late(q) && serve_late(g, q)) || serve_next(w, g, q);
+			while (has_late(q) && serve_late(g, q))
+				;
+			more = serve_chains(w, g, q);
 			pthread_rwlock_unlock(&g->in_flight);
 		} while (more);
 		if (number < QUEUES)
@@ -519,12 +571,12 @@ static void *ring_at(uint64_t address, uint64_t len, uintptr_t align)
 
 void queue_place(struct queue *q)
 {
-	const uint64_t size = q->size;
+	const uint64_t size = q->size, event = q->has_events ? sizeof(uint16_t) : 0;
 
 	q->descriptors =
 		ring_at(q->descriptors_user, size * sizeof(struct vring_desc), VRING_DESC_ALIGN_SIZE);
-	q->available = ring_at(q->available_user, 4 + 2 * size, VRING_AVAIL_ALIGN_SIZE);
-	q->used = ring_at(q->used_user, 4 + 8 * size, VRING_USED_ALIGN_SIZE);
+	q->available = ring_at(q->available_user, 4 + 2 * size + event, VRING_AVAIL_ALIGN_SIZE);
+	q->used = ring_at(q->used_user, 4 + 8 * size + event, VRING_USED_ALIGN_SIZE);
 	if (!size || !q->descriptors || !q->available || !q->used)
 		q->available = NULL;
 }
@@ -535,6 +587,8 @@ void queue_call(struct queue *q, int fd)
 		close(q->call);
 	q->call = fd;
 	q->calls = fd >= 0;
+	/* (what was given back meanwhile was not told) */
+	q->calls_anyway = 1;
 	if (fd >= 0)
 		fcntl(fd, F_SETFL, O_NONBLOCK);
 }
@@ -577,8 +631,12 @@ static int has_passed(const struct timespec *time)
 static int try_hold(int milliseconds)
 {
 	const struct timespec most = after(milliseconds, CLOCK_REALTIME);
+	int late;
 
-	return pthread_rwlock_timedwrlock(&vhost_guest->in_flight, &most);
+	atomic_store(&vhost_guest->wanted, 1);
+	late = pthread_rwlock_timedwrlock(&vhost_guest->in_flight, &most);
+	atomic_store(&vhost_guest->wanted, 0);
+	return late;
 }
 
 /* (One that takes long holds up the others for a part of the time alone.) */

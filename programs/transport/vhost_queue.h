@@ -31,8 +31,10 @@ struct queue {
 	struct vring_used *used;
 	uint16_t next, done;
 	int kick, call, enabled;
-	/* `call` is an event. */
-	int calls;
+	/* `call` is an event; and it is to tell of the next chain in any case. */
+	int calls, calls_anyway;
+	/* Both sides say by an index behind the ring of which chain they want to be told. */
+	int has_events;
 	/* A worker is to look at it. */
 	atomic_int look;
 	/* Chains that were answered later, and are not given back yet. */
@@ -51,6 +53,8 @@ struct guest {
 	/* Is held by a worker while it has a chain, and by the calling thread, alone, while it changes
 	 * queues or memory. */
 	pthread_rwlock_t in_flight;
+	/* The calling thread waits for it: a worker lets go of it between two chains. */
+	atomic_int wanted;
 	/* The front end has gone: no chain is taken or completed. */
 	atomic_int gone;
 	/* The calling thread, and the workers that serve it. */

@@ -44,11 +44,13 @@ enum {
 #define VERSION_1 (1ull << 32)
 #define PROTOCOL_FEATURES (1ull << 30)
 #define INDIRECT_DESCRIPTORS (1ull << VIRTIO_RING_F_INDIRECT_DESC)
+#define EVENT_INDICES (1ull << VIRTIO_RING_F_EVENT_IDX)
 enum { MANY_QUEUES = 1 << 0, REPLY_ACK = 1 << 3 };
 enum { VERSION = 1, IS_REPLY = 1 << 2 };
 
-static const struct vhost_offer offer = { VERSION_1 | PROTOCOL_FEATURES | INDIRECT_DESCRIPTORS,
-					  MANY_QUEUES | REPLY_ACK, QUEUES };
+static const struct vhost_offer offer = {
+	VERSION_1 | PROTOCOL_FEATURES | INDIRECT_DESCRIPTORS | EVENT_INDICES, MANY_QUEUES | REPLY_ACK, QUEUES
+};
 
 /* A message as it came, and what it says. */
 struct message {
@@ -254,6 +256,19 @@ static enum outcome obey_for(int client, struct message *m, struct queue *q)
 	}
 }
 
+/* Takes over the features that were agreed on. */
+static void take_features(uint64_t features)
+{
+	for (int i = 0; i < QUEUES; i++) {
+		struct queue *q = &vhost_guest->queue[i];
+
+		q->enabled |= !(features & PROTOCOL_FEATURES);
+		q->has_events = (features & EVENT_INDICES) != 0;
+		/* (a ring has its index behind it then) */
+		queue_place(q);
+	}
+}
+
 /* Does what a message asks. */
 static enum outcome obey(int client, struct message *m)
 {
@@ -261,8 +276,7 @@ static enum outcome obey(int client, struct message *m)
 	case GET_FEATURES:
 		return reply_number(client, GET_FEATURES, offer.features);
 	case SET_FEATURES:
-		for (int i = 0; i < QUEUES; i++)
-			vhost_guest->queue[i].enabled |= !(m->said.number & PROTOCOL_FEATURES);
+		take_features(m->said.number);
 		return DONE;
 	case SET_OWNER:
 	case RESET_OWNER:
@@ -286,6 +300,7 @@ static enum outcome obey(int client, struct message *m)
 static int changes(const struct message *m)
 {
 	switch (m->said.request) {
+	case SET_FEATURES:
 	case SET_MEM_TABLE:
 	case SET_VRING_NUM:
 	case SET_VRING_ADDR:
@@ -332,7 +347,7 @@ static void clear_guest(void)
 		q->available = NULL;
 		q->descriptors_user = q->available_user = q->used_user = 0;
 		q->next = q->done = 0;
-		q->enabled = 0;
+		q->enabled = q->has_events = 0;
 	}
 	guest_unshare(vhost_guest);
 }
