@@ -59,6 +59,8 @@ static void tell_queue(struct queue *q)
 	q->used_user = Frama_C_unsigned_long_interval(0, SIZE_MAX);
 	q->next = q->done = (uint16_t)any;
 	q->enabled = any;
+	q->has_events = any;
+	q->calls_anyway = any;
 	q->kick = Frama_C_interval(-1, 1000);
 	q->call = Frama_C_interval(0, 1000);
 	q->calls = any;
@@ -68,6 +70,8 @@ static void tell_queue(struct queue *q)
 int main(void)
 {
 	struct queue *q = &front_end.queue[0];
+	int head = NO_CHAIN;
+	int64_t len = 0;
 
 	Frama_C_make_unknown((char *)memory, sizeof(memory));
 	with = (transport){ .program = "analysed", .serve = serve };
@@ -83,9 +87,13 @@ int main(void)
 	tell_queue(q);
 	for (int i = 0; i < 3; i++) {
 		front_end.gone = any;
+		front_end.wanted = any;
 		if (has_late(q))
 			serve_late(&front_end, q);
-		serve_next(&worker, &front_end, q);
+		head = next_chain(&front_end, q, head, len);
+		len = head < 0 ? 0 : answer(&worker, &front_end, q, (uint16_t)head);
+		if (len < 0)
+			head = NO_CHAIN;
 	}
 	return 0;
 }

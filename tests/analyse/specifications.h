@@ -72,6 +72,10 @@ int32_t nizwarf_ring_waiting_at(uint16_t index, uint16_t next, uint32_t size);
     ensures \result < size; */
 uint32_t nizwarf_ring_slot_at(uint16_t index, uint32_t size);
 
+/*@ assigns \result \from event, new_index, old;
+    ensures \result == 0 || \result == 1; */
+uint32_t nizwarf_ring_needs_event_at(uint16_t event, uint16_t new_index, uint16_t old);
+
 /* ---- messages */
 
 /*@ requires \valid(place);

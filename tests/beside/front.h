@@ -19,7 +19,7 @@
 enum { QUEUE = 1 << 16, AVAILABLE = 1 << 14, USED = 1 << 15 };
 
 static unsigned char *memory;
-static int connection, kick[2], call[2];
+static int connection, memory_file, kick[2], call[2];
 /* The features of the protocol that are agreed on, if the daemon has them. */
 static uint64_t protocol;
 
@@ -107,7 +107,7 @@ static inline void meet(const char *path)
  * that were agreed on: those that it takes, and of those that are liked what the daemon has. */
 static inline uint64_t begin(size_t size, uint32_t entries, uint64_t liked)
 {
-	const int file = memfd_create("memory", MFD_CLOEXEC);
+	const int file = memory_file = memfd_create("memory", MFD_CLOEXEC);
 	const uint64_t wanted = 1ull << 32 | 1ull << 30;
 
 	need(file >= 0 && !ftruncate(file, (off_t)size), "memfd");

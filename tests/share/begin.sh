@@ -3,7 +3,7 @@
 . "$(dirname "${BASH_SOURCE[0]}")/../../tools/lib/transport.sh"
 . "$(dirname "${BASH_SOURCE[0]}")/../../tools/lib/mounts.sh"
 
-# Builds the program, as `share`, and a front end, as `ask`, and makes the folder `work`, which goes with the script
+# Builds the program, as `share`, and front ends, as `ask` and beside it, and makes the folder `work`, which goes with the script
 # and what it mounts: begin_share "$@"
 begin_share() {
     need_root "Only root may mount, and make files of other users"
@@ -19,6 +19,7 @@ begin_share() {
     share=$transport
     ask=$here/out/c/ask
     cc -std=c11 -O2 -Wall -Wextra -Werror -DPATIENCE=600 -o "$ask" "$here/tests/beside/ask.c"
+    cc -std=c11 -O2 -Wall -Wextra -Werror -pthread -o "${ask%/*}/rings" "$here/tests/share/rings.c"
     # (in memory where that is a file system: one on a disk may say of a directory that it has one name)
     # shellcheck disable=SC2119
     TMPDIR=$([ ! -d /dev/shm ] || echo /dev/shm) own_work

@@ -1,9 +1,9 @@
 """Asks a share over vhost-user what breaks a rule, for check.sh: the sessions of tests/beside, sessions made of a number,
-numbers and names that are made up, offsets that Linux has no number for, requests by chance. After each it is served
-still, and all is given back at the end.
+numbers and names that are made up, offsets that Linux has no number for, requests by chance, memory that is changed
+while it is read. After each it is served still, and all is given back at the end.
 
-    hostile.py ASK WORK WHAT SHARE [WORDS]: the built tests/beside/ask.c, a folder to work in, what the server is, and
-    the program with its words
+    hostile.py ASK WORK WHAT SHARE [WORDS]: the built tests/beside/ask.c, with rings.c beside it, a folder to work in,
+    what the server is, and the program with its words
 
 Status 0: each came to what it must."""
 import mmap
@@ -28,6 +28,7 @@ ENOENT, ENXIO, EBADF, ENOTDIR, EINVAL, EFBIG, ELOOP, ESTALE = 2, 6, 9, 20, 22, 2
 ENOSYS = "16 10000000daffffff0700000000000000"
 ASK, WORK, WHAT, *DAEMON = sys.argv[1:]
 FOLDER, PATH = WORK + "/shared", WORK + "/socket"
+RINGS = os.path.dirname(ASK) + "/rings"
 INIT = requests.FIRST[1]
 faults = []
 
@@ -55,9 +56,9 @@ def make_folder():
 class Server:
     """The program, which listens on PATH."""
 
-    def __init__(self, log):
+    def __init__(self, log, *words):
         self.log = log
-        self.process = subprocess.Popen([*DAEMON, "--log-level=warn", "--socket-path=" + PATH, FOLDER], stdout=log,
+        self.process = subprocess.Popen([*DAEMON, *words, "--log-level=warn", "--socket-path=" + PATH, FOLDER], stdout=log,
                                         stderr=log)
 
     def said(self):
@@ -369,6 +370,29 @@ def wrong_front_ends(server):
     return count
 
 
+def changed_meanwhile(log):
+    """Chains, rings and requests are changed while they are read, indices jump, and memory is cut. Answers how many chains
+    came back."""
+    # The thread sanitizer takes it for a race if two workers write where a guest lends one place twice.
+    server = Server(log, *["--thread-pool-size=1"] if "thread" in WHAT else [])
+    count, at_first = 0, None
+    for seed in range(5):
+        if seed:
+            ran = subprocess.run([RINGS, PATH, str(seed), "2000"], stdout=subprocess.PIPE, text=True)
+            if ran.returncode:
+                faults.append(f"memory that is changed, seed {seed}: the server did not go on")
+                break
+            count += int(ran.stdout)
+        one = Front(server)
+        one.hold("INIT, after memory that was changed", INIT, 0)
+        at_first = at_first or server.descriptors()
+        if server.descriptors() != at_first:
+            faults.append(f"{server.descriptors()} descriptors after memory that was changed, {at_first} before")
+        one.end()
+    server.end()
+    return count
+
+
 def main():
     make_folder()
     with open(WORK + "/log", "w+") as log:
@@ -388,10 +412,11 @@ def main():
         one.end()
         told = wrong_front_ends(server)
         server.end()
+        chains = changed_meanwhile(log)
         if faults:
             server.fail("\n".join(faults))
-    print(f"{WHAT}: {count} hostile requests, those of numbers that are made up, and {told} messages came to what "
-          "they must.")
+    print(f"{WHAT}: {count} hostile requests, those of numbers that are made up, {told} messages and {chains} chains in "
+          "memory that was changed meanwhile came to what they must.")
 
 
 main()

@@ -74,7 +74,7 @@ def queues():
     for request in (SET_KICK, SET_CALL, SET_ERR):
         yield f"request {request} without its descriptor", number(request, 0), 0
         yield f"request {request} with one that it has not", number(request, NO_DESCRIPTOR), 1
-    for bit in (0, 26, 29, 63):
+    for bit in (0, 26, 34, 63):
         yield f"feature {bit}", number(SET_FEATURES, 1 << 32 | 1 << bit), 0
     for bit in (1, 9, 15, 63):
         yield f"feature {bit} of the protocol", number(SET_PROTOCOL, 1 << bit), 0
@@ -124,6 +124,7 @@ def right():
     yield "an event for errors", number(SET_ERR, 0), 1
     yield "no features", number(SET_FEATURES, 0), 0
     yield "features that every device has", number(SET_FEATURES, 1 << 32 | 1 << 30), 0
+    yield "indirect tables, and events by index", number(SET_FEATURES, 1 << 32 | 1 << 29 | 1 << 28), 0
     yield "no region", table(), 0
     yield "a region", table(region()), 1
     yield "a region that is all of its file", table(region(size=16 * PAGE)), 1
