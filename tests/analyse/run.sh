@@ -13,6 +13,11 @@
 # read, and any step of a chain. Frama-C refuses _Atomic(T) and _Alignas, so they are left out, and it does not look at
 # pointers that are compared. WP's memory has types, by the hypotheses that it prints.
 #
+# Not analysed is the rest of programs/. vhost_user.c goes by numbers of messages that the proved library read. Of a
+# guest's requests the proved door reads names and numbers: passthrough_*.c hands names and offsets on to Linux, the
+# latter below 2^63, and looks numbers of nodes and handles up in tables, which hostile.py asks for under sanitizers.
+# fuse_device.c and fuse_ring.c go by lengths of the host's kernel, which is trusted.
+#
 # It wants Frama-C, Why3, Z3 and CVC4. Status 0: so it is; 1: it is not; 2: it could not start.
 set -euo pipefail
 . "$(dirname "$0")/../../tools/lib/usage.sh"
