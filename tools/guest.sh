@@ -80,7 +80,7 @@ began=$SECONDS
 timeout -k 5 590 qemu-system-x86_64 -nodefaults -no-user-config -display none \
     -machine q35,accel=tcg -cpu max -smp 1 -m 256 \
     -object memory-backend-memfd,id=memory,size=256M,share=on -numa node,memdev=memory \
-    -kernel "$kernel"/boot/vmlinuz-* -initrd "$work/files" -append 'console=ttyS0 quiet loglevel=3 panic=0' \
+    -kernel "$kernel"/boot/vmlinuz-* -initrd "$work/files" -append 'console=ttyS0 quiet loglevel=3 panic=0 no_timer_check' \
     -serial "file:$work/console" -chardev "socket,id=socket,path=$work/socket" \
     -device vhost-user-fs-pci,queue-size=1024,num-request-queues=$queues,chardev=socket,tag=nizwarf < /dev/null &
 guest_id=$!
