@@ -223,7 +223,7 @@ void passthrough_parted(void *user)
 		locks_forget_all(all->locks);
 	nodes_forget_all(&all->nodes);
 	atomic_store(&all->agreed, 0);
-	atomic_store(&all->lacks_lists, false);
+	atomic_store(&all->lacks_option, false);
 }
 
 /* What waits for a lock is answered now. */

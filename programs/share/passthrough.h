@@ -10,7 +10,9 @@
 #define PASSTHROUGH_H
 
 #include <stdbool.h>
+#include "passthrough_ids.h"
 #include "passthrough_nodes.h"
+#include "passthrough_xattrmap.h"
 #include "transport.h"
 
 /* What the client may remember. */
@@ -37,6 +39,20 @@ struct passthrough_options {
 	/* Extended attributes are served. With access control lists, which a client must have, the client's kernel goes
 	 * by these, and the host's makes files by those of their directory, or else with the client's umask. */
 	bool xattr, posix_acl;
+	/* Under which names attributes are on the host; NULL: their own. And the name of a file's capabilities there,
+	 * which the server takes away when the file is changed; NULL: the host does. */
+	const struct xattr_map *xattr_map;
+	const char *capability;
+	/* The client, which must be able to, says with which attribute a file is made. */
+	bool security_label;
+	/* The server takes set-user-ID bits away, and not the client. */
+	bool kills_bits;
+	/* Files may be mapped that are opened for requests alone; O_DIRECT is the host's too. */
+	bool allow_mmap, allow_direct;
+	/* O_NOATIME is refused where the server may not have it. */
+	bool keeps_noatime;
+	/* The client's users and groups. */
+	struct ids users, groups;
 	/* Locks of flock(2), and of fcntl(2), are the host's; else they are the client's alone. */
 	bool flock, posix_lock;
 	/* The client reads and writes files by itself, which a process names that this socket leads to, and that is closed

@@ -15,7 +15,9 @@
 
 /* Options of INIT that older headers lack. */
 #define SETXATTR_EXT (UINT64_C(1) << 29)
+#define SECURITY_LABELS (UINT64_C(1) << 32)
 #define CREATE_SUPP_GROUP (UINT64_C(1) << 34)
+#define ALLOWS_MMAP (UINT64_C(1) << 36)
 /* What a client has that has access control lists. */
 #define HAS_LISTS (FUSE_POSIX_ACL | FUSE_DONT_MASK | SETXATTR_EXT)
 
@@ -101,8 +103,8 @@ static int get_statx(const struct call *call)
 	told.mask = seen.stx_mask & (STATX_BASIC_STATS | STATX_BTIME);
 	told.blksize = seen.stx_blksize;
 	told.nlink = seen.stx_nlink;
-	told.uid = seen.stx_uid;
-	told.gid = seen.stx_gid;
+	told.uid = entry.attr.uid;
+	told.gid = entry.attr.gid;
 	told.mode = seen.stx_mode;
 	told.ino = entry.attr.ino;
 	told.size = seen.stx_size;
@@ -141,11 +143,30 @@ static int set_size(const struct call *call)
 	if (fd < 0)
 		return errno;
 	lose_fsetid(call);
-	error = failed(ftruncate(fd, size));
+	error = lose_capability(call, fd);
+	if (!error)
+		error = failed(ftruncate(fd, size));
 	regain_fsetid(call);
 	if (!call->file)
 		close(fd);
 	return error;
+}
+
+static int set_owner(const struct call *call, uint32_t valid)
+{
+	const struct passthrough_options *options = &call->all->options;
+	const nizwarf_setattr *to = &call->asked->attr;
+	uint32_t uid = UINT32_MAX, gid = UINT32_MAX;
+	int error = 0;
+
+	if (valid & FATTR_UID)
+		error = ids_to_host(&options->users, to->uid, &uid);
+	if (!error && valid & FATTR_GID)
+		error = ids_to_host(&options->groups, to->gid, &gid);
+	if (!error && call->node.node->type == S_IFREG)
+		error = lose_capability(call, call->node.fd);
+	return error ? error :
+		       failed(fchownat(call->node.fd, "", uid, gid, AT_EMPTY_PATH | AT_SYMLINK_NOFOLLOW));
 }
 
 static int set_times(const struct call *call)
@@ -166,16 +187,13 @@ static int set_times(const struct call *call)
 
 static int set_attr(const struct call *call)
 {
-	const nizwarf_setattr *to = &call->asked->attr;
 	const uint32_t valid = nizwarf_setattr_fields(call->asked);
 	int error = 0;
 
 	if (valid & FATTR_MODE)
 		error = set_mode(call);
 	if (!error && valid & (FATTR_UID | FATTR_GID))
-		error = failed(fchownat(call->node.fd, "", valid & FATTR_UID ? to->uid : (uid_t)-1,
-					valid & FATTR_GID ? to->gid : (gid_t)-1,
-					AT_EMPTY_PATH | AT_SYMLINK_NOFOLLOW));
+		error = set_owner(call, valid);
 	if (!error && valid & FATTR_SIZE)
 		error = set_size(call);
 	if (!error && valid & (FATTR_ATIME | FATTR_MTIME))
@@ -186,18 +204,19 @@ static int set_attr(const struct call *call)
 /* Whether who asks may, by the bits of the mode. */
 static int access_node(const struct call *call)
 {
+	const struct passthrough_options *options = &call->all->options;
 	const nizwarf_call *asked = call->asked;
 	struct statx seen;
 	uint32_t bits;
 
 	if (statx(call->node.fd, "", AT_EMPTY_PATH | AT_SYMLINK_NOFOLLOW, WANTED, &seen))
 		return errno;
-	if (nizwarf_access_mask(asked) & W_OK && call->all->options.read_only)
+	if (nizwarf_access_mask(asked) & W_OK && options->read_only)
 		return EROFS;
 	bits = seen.stx_mode & 7;
-	if (asked->uid == seen.stx_uid)
+	if (asked->uid == ids_to_client(&options->users, seen.stx_uid))
 		bits = seen.stx_mode >> 6 & 7;
-	else if (asked->gid == seen.stx_gid)
+	else if (asked->gid == ids_to_client(&options->groups, seen.stx_gid))
 		bits = seen.stx_mode >> 3 & 7;
 	if (!asked->uid)
 		bits = R_OK | W_OK | (S_ISDIR(seen.stx_mode) || seen.stx_mode & 0111 ? X_OK : 0);
@@ -224,7 +243,8 @@ static int read_link(const struct call *call)
 static int flags_of(const struct call *call)
 {
 	const uint32_t flags = call->asked->flags;
-	int made = (int)(flags & (O_ACCMODE | O_APPEND | O_TRUNC | O_SYNC | O_DSYNC | O_NOATIME));
+	const unsigned direct = call->all->options.allow_direct ? O_DIRECT : 0;
+	int made = (int)(flags & (O_ACCMODE | O_APPEND | O_TRUNC | O_SYNC | O_DSYNC | O_NOATIME | direct));
 
 	/* The kernel reads pages that are written in part, and knows itself where the end is. */
 	if (writes_later(call)) {
@@ -301,13 +321,18 @@ static int open_file(const struct call *call)
 		return error;
 	lose_fsetid(call);
 	fd = open_node(call, flags);
+	/* (its owner may have that, and the server need not be) */
+	if (fd < 0 && errno == EPERM && flags & O_NOATIME && !call->all->options.keeps_noatime)
+		fd = open_node(call, flags & ~O_NOATIME);
 	error = fd < 0 ? errno : 0;
 	regain_fsetid(call);
 	if (error) {
 		fd_give_back(nodes, 1);
 		return error;
 	}
-	if (!is_directory)
+	if (flags & O_TRUNC)
+		error = lose_capability(call, fd);
+	if (!is_directory && !error)
 		error = backing_take(call, call->asked->node, fd, &backing);
 	if (!error)
 		error = add_file(call, fd, flags, backing);
@@ -331,6 +356,18 @@ static int open_made(const struct call *call, const char *name, int fd)
 	return open_again(&call->all->nodes, fd, O_PATH);
 }
 
+/* Labels what was just made: 0, or an error, by which it is gone. */
+static int label_new(const struct call *call, const char *name, int fd)
+{
+	const int error = label(call, fd);
+
+	if (error && call->asked->call == NIZWARF_CREATE)
+		unmake_of(call->node.fd, name, fd);
+	if (error)
+		close(fd);
+	return error;
+}
+
 /* Makes a file by this name, or one without, as who asks, with a node and a descriptor reserved for it: 0, or an error. */
 static int open_new(const struct call *call, const char *name, int flags, int *fd)
 {
@@ -348,6 +385,8 @@ static int open_new(const struct call *call, const char *name, int flags, int *f
 		error = *fd < 0 ? errno : 0;
 	}
 	become_root(call);
+	if (!error && has_label(call))
+		error = label_new(call, name, *fd);
 	if (error) {
 		node_give_back(nodes);
 		fd_give_back(nodes, 1);
@@ -608,8 +647,7 @@ static uint64_t wanted(const struct passthrough *all)
 {
 	const struct passthrough_options *options = &all->options;
 	uint64_t wants = FUSE_ASYNC_READ | FUSE_BIG_WRITES | FUSE_ATOMIC_O_TRUNC | FUSE_AUTO_INVAL_DATA |
-			 FUSE_ASYNC_DIO | FUSE_PARALLEL_DIROPS | FUSE_MAX_PAGES | FUSE_HANDLE_KILLPRIV_V2 |
-			 CREATE_SUPP_GROUP;
+			 FUSE_ASYNC_DIO | FUSE_PARALLEL_DIROPS | FUSE_MAX_PAGES | CREATE_SUPP_GROUP;
 
 	if (options->readdirplus)
 		wants |= FUSE_DO_READDIRPLUS | FUSE_READDIRPLUS_AUTO;
@@ -619,6 +657,12 @@ static uint64_t wanted(const struct passthrough *all)
 		wants |= FUSE_SUBMOUNTS;
 	if (options->posix_acl)
 		wants |= HAS_LISTS;
+	if (options->security_label)
+		wants |= SECURITY_LABELS;
+	if (options->kills_bits)
+		wants |= FUSE_HANDLE_KILLPRIV_V2;
+	if (options->allow_mmap)
+		wants |= ALLOWS_MMAP;
 	if (options->flock)
 		wants |= FUSE_FLOCK_LOCKS;
 	if (options->posix_lock)
@@ -655,8 +699,14 @@ static int agree(const struct call *call)
 	nodes_forget_all(&all->nodes);
 	/* (it would let in whom they deny) */
 	if (all->options.posix_acl && ~offered & HAS_LISTS) {
-		if (!atomic_exchange(&all->lacks_lists, true))
+		if (!atomic_exchange(&all->lacks_option, true))
 			fputs("nizwarf-share: --posix-acl: a client has no access control lists\n", stderr);
+		return EPROTO;
+	}
+	/* (files would be made without one) */
+	if (all->options.security_label && !(offered & SECURITY_LABELS)) {
+		if (!atomic_exchange(&all->lacks_option, true))
+			fputs("nizwarf-share: --security-label: a client has none\n", stderr);
 		return EPROTO;
 	}
 	nizwarf_answer_options(call->answer, wanted(all) & offered);

@@ -51,8 +51,8 @@ struct passthrough {
 	struct backings *backings;
 	/* The options that are agreed on with the client. */
 	atomic_ullong agreed;
-	/* It was said that the client has no access control lists. */
-	atomic_bool lacks_lists;
+	/* It was said that the client lacks what it must have. */
+	atomic_bool lacks_option;
 	/* For how many milliseconds it may remember names and attributes, and those of regular files. */
 	uint64_t entry_time, attr_time, file_time;
 	/* The device of the folder, if its file system is a local one: ext4, xfs, btrfs or tmpfs. */
@@ -135,6 +135,19 @@ bool writes_later(const struct call *call);
 /* Whether a call is of an open file; and makes one, whose file is in hand: 0, or an error. */
 bool wants_file(const nizwarf_call *asked);
 int make_of_file(const struct call *call);
+
+/* Takes away the capabilities of a file, of which a descriptor is open, before it is changed, where the host has them
+ * under a name that it doesn't know. 0, or an error. */
+int lose_capability(const struct call *call, int fd);
+/* Gives a file that was just made the attribute that its client said: 0, or an error. */
+int label(const struct call *call, int fd);
+/* The same of a name that was just made. */
+int label_name(const struct call *call, int directory, const char *name);
+/* Whether the client says with which attribute files are made, and did so. */
+static inline bool has_label(const struct call *call)
+{
+	return call->all->options.security_label && call->asked->has & NIZWARF_HAS_CONTEXT;
+}
 
 /* READDIR and READDIRPLUS, and the calls of extended attributes: 0, or an error. */
 int read_directory(const struct call *call);

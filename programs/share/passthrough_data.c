@@ -111,6 +111,27 @@ static void let_write(struct open_file *file)
 	pthread_rwlock_unlock(&file->writing);
 }
 
+/* What a client's kernel writes out of its cache lies anywhere, and ends where the file does, which O_DIRECT doesn't
+ * take: such a file goes by the host's cache from then on. */
+static int leave_direct(const struct call *call)
+{
+	struct open_file *file = call->file;
+	const int fd = file->counted.fd;
+	int flags, error = 0;
+
+	if (!atomic_load_explicit(&file->is_direct, memory_order_relaxed) ||
+	    !(call->asked->has & NIZWARF_DELAYED))
+		return 0;
+	pthread_rwlock_wrlock(&file->writing);
+	flags = fcntl(fd, F_GETFL);
+	if (flags < 0 || fcntl(fd, F_SETFL, flags & ~O_DIRECT))
+		error = errno;
+	else
+		atomic_store(&file->is_direct, false);
+	pthread_rwlock_unlock(&file->writing);
+	return error;
+}
+
 /* Whether a WRITE goes to where its file ends by then, as who writes has it open. What the kernel had in its cache
  * has a place of its own; and one that writes later knows the end itself. */
 static bool is_append(const struct call *call)
@@ -122,12 +143,16 @@ static bool is_append(const struct call *call)
 
 static int write_file(const struct call *call)
 {
-	int error = hold_write(call->file, is_append(call));
+	int error = leave_direct(call);
 
+	if (!error)
+		error = hold_write(call->file, is_append(call));
 	if (error)
 		return error;
 	lose_fsetid(call);
-	error = transfer(call);
+	error = lose_capability(call, call->file->counted.fd);
+	if (!error)
+		error = transfer(call);
 	regain_fsetid(call);
 	let_write(call->file);
 	return error;
@@ -141,8 +166,10 @@ static int allocate(const struct call *call)
 	if (asked->offset > INT64_MAX || asked->length > INT64_MAX)
 		return EFBIG;
 	lose_fsetid(call);
-	error = failed(fallocate(call->file->counted.fd, (int)asked->mode, (off_t)asked->offset,
-				 (off_t)asked->length));
+	error = lose_capability(call, call->file->counted.fd);
+	if (!error)
+		error = failed(fallocate(call->file->counted.fd, (int)asked->mode, (off_t)asked->offset,
+					 (off_t)asked->length));
 	regain_fsetid(call);
 	return error;
 }
@@ -174,7 +201,10 @@ static int copy_range(const struct call *call)
 
 	if (!into)
 		return EBADF;
-	error = from < 0 || to < 0 || nizwarf_copy_flags(asked) ? EINVAL : hold_write(into, false);
+	error = from < 0 || to < 0 || nizwarf_copy_flags(asked) ? EINVAL :
+								  lose_capability(call, into->counted.fd);
+	if (!error)
+		error = hold_write(into, false);
 	if (!error) {
 		lose_fsetid(call);
 		copied = copy_file_range(call->file->counted.fd, &from, into->counted.fd, &to, length, 0);

@@ -21,8 +21,10 @@ uint64_t inode_of(const struct call *call, uint64_t device, uint64_t inode, bool
 	return announces(call) && !is_apart ? inode : numbers_tell(call->all->numbers, device, inode);
 }
 
-static nizwarf_attr attr_of(const struct statx *seen)
+static nizwarf_attr attr_of(const struct call *call, const struct statx *seen)
 {
+	const struct passthrough_options *options = &call->all->options;
+
 	return (nizwarf_attr){
 		.size = seen->stx_size,
 		.blocks = seen->stx_blocks,
@@ -34,8 +36,8 @@ static nizwarf_attr attr_of(const struct statx *seen)
 		.ctimensec = seen->stx_ctime.tv_nsec,
 		.mode = seen->stx_mode,
 		.nlink = seen->stx_nlink,
-		.uid = seen->stx_uid,
-		.gid = seen->stx_gid,
+		.uid = ids_to_client(&options->users, seen->stx_uid),
+		.gid = ids_to_client(&options->groups, seen->stx_gid),
 		.rdev = (uint32_t)makedev(seen->stx_rdev_major, seen->stx_rdev_minor),
 		.blksize = seen->stx_blksize,
 	};
@@ -71,7 +73,7 @@ void tell_attr(const struct call *call, const struct statx *seen, bool is_apart,
 	if (time > SHORT_TIME && all->nodes.watch && !is_told_of(call))
 		time = SHORT_TIME;
 
-	entry->attr = attr_of(seen);
+	entry->attr = attr_of(call, seen);
 	entry->attr.ino = inode_of(call, device_of(seen), seen->stx_ino, is_apart);
 	entry->attr_seconds = time / 1000;
 	entry->attr_nanoseconds = (uint32_t)(time % 1000) * 1000000;

@@ -217,11 +217,46 @@ static int refused(const struct call *call, const char *name)
 	return name && is_list(name) && !call->all->options.posix_acl ? EOPNOTSUPP : 0;
 }
 
+/* Turns the client's name of an attribute into the host's: 0, or an error if it isn't served. */
+static int find_name_of(const struct call *call, const char **name, struct xattr_name *host)
+{
+	const struct xattr_map *map = call->all->options.xattr_map;
+	int error = refused(call, *name);
+
+	if (error || !map)
+		return error;
+	error = xattr_map_to_host(map, *name, host);
+	*name = host->bytes;
+	return error;
+}
+
+int lose_capability(const struct call *call, int fd)
+{
+	const char *name = call->all->options.capability;
+
+	if (!name || !removexattr(name_fd(fd).bytes, name))
+		return 0;
+	return errno == ENODATA || errno == EOPNOTSUPP ? 0 : errno;
+}
+
+int label(const struct call *call, int fd)
+{
+	const nizwarf_call *asked = call->asked;
+	const char *name = name_of(call, asked->context_name);
+	struct xattr_name host;
+	int error = find_name_of(call, &name, &host);
+
+	return error ? error :
+		       failed(setxattr(name_fd(fd).bytes, name, call->request + asked->context.at,
+				       asked->context.len, 0));
+}
+
 int set_xattr(const struct call *call)
 {
 	const nizwarf_call *asked = call->asked;
 	const char *name = name_of(call, asked->name);
-	int error = refused(call, name);
+	struct xattr_name host;
+	int error = find_name_of(call, &name, &host);
 
 	if (error)
 		return error;
@@ -236,7 +271,8 @@ int set_xattr(const struct call *call)
 int remove_xattr(const struct call *call)
 {
 	const char *name = name_of(call, call->asked->name);
-	int error = refused(call, name);
+	struct xattr_name host;
+	int error = find_name_of(call, &name, &host);
 
 	if (!error && removexattr(name_fd(call->node.fd).bytes, name))
 		error = errno;
@@ -261,18 +297,22 @@ static int tell_text(const struct call *call, ssize_t got)
 
 int get_xattr(const struct call *call)
 {
-	const char *name = name_of(call, call->asked->name);
-	int error = refused(call, name);
+	const char *asked = name_of(call, call->asked->name), *name = asked;
+	struct xattr_name host;
+	int error = find_name_of(call, &name, &host);
 
-	if (!error)
-		error = tell_text(call, getxattr(name_fd(call->node.fd).bytes, name, call->worker->text,
-						 LONGEST_VALUE));
+	/* (a rule that refuses a name says that there is none) */
+	if (error)
+		return error == EPERM ? ENODATA : error;
+	error = tell_text(call,
+			  getxattr(name_fd(call->node.fd).bytes, name, call->worker->text, LONGEST_VALUE));
 	/* (where a file system has no lists the mode says who may) */
-	return error == EOPNOTSUPP && is_list(name) && call->all->options.posix_acl ? ENODATA : error;
+	return error == EOPNOTSUPP && is_list(asked) && call->all->options.posix_acl ? ENODATA : error;
 }
 
 int list_xattr(const struct call *call)
 {
+	const struct xattr_map *map = call->all->options.xattr_map;
 	char *text = call->worker->text;
 	int error = refused(call, NULL);
 	ssize_t got, from, to = 0;
@@ -284,13 +324,17 @@ int list_xattr(const struct call *call)
 		return errno;
 	text[got] = 0;
 	for (from = 0; from < got;) {
-		const ssize_t len = (ssize_t)strlen(text + from) + 1;
+		const char *name = text + from;
 
-		if (!refused(call, text + from)) {
-			memmove(text + to, text + from, (size_t)len);
-			to += len;
+		from += (ssize_t)strlen(name) + 1;
+		if (map)
+			name = xattr_map_to_client(map, name);
+		if (name && !refused(call, name)) {
+			const size_t len = strlen(name) + 1;
+
+			memmove(text + to, name, len);
+			to += (ssize_t)len;
 		}
-		from += len;
 	}
 	return tell_text(call, to);
 }

@@ -46,6 +46,16 @@ static struct statx made_by(const struct call *call)
 										     S_IFREG) };
 }
 
+int label_name(const struct call *call, int directory, const char *name)
+{
+	const int fd = openat(directory, name, O_PATH | O_NOFOLLOW | O_CLOEXEC);
+	const int error = fd < 0 ? errno : label(call, fd);
+
+	if (fd >= 0)
+		close(fd);
+	return error;
+}
+
 int find_name(const struct call *call, const char *name)
 {
 	const uint64_t time = name_time(call, call->node.node, call->all->options.negative_time);
@@ -88,7 +98,11 @@ int make_node(const struct call *call)
 		node_give_back(&call->all->nodes);
 		return error;
 	}
-	error = enter_name(call, &found, &call->answer->entry, NULL);
+	error = has_label(call) ? label_name(call, directory, name) : 0;
+	if (error)
+		node_give_back(&call->all->nodes);
+	else
+		error = enter_name(call, &found, &call->answer->entry, NULL);
 	if (error) {
 		const struct statx made = made_by(call);
 

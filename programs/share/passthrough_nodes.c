@@ -641,6 +641,7 @@ uint64_t file_add(struct nodes *all, int fd, int flags, struct backing *backing)
 		file->counted.fd = fd;
 		file->is_directory = flags & O_DIRECTORY;
 		file->at_end = flags & O_APPEND;
+		atomic_init(&file->is_direct, flags & O_DIRECT);
 		file->backing = backing;
 		pthread_mutex_init(&file->lock, NULL);
 		pthread_rwlock_init(&file->writing, NULL);

@@ -91,6 +91,8 @@ struct open_file {
 	bool is_directory;
 	/* Of a file: whether its descriptor has O_APPEND, which stays so while that is written by. */
 	bool at_end;
+	/* And O_DIRECT, up to when something is written that this doesn't take. */
+	atomic_bool is_direct;
 	pthread_rwlock_t writing;
 	/* NULL: the client was not told that it may have the file by itself. */
 	struct backing *backing;

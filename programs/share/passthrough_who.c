@@ -24,44 +24,75 @@ static int set_capabilities(uint64_t permitted, uint64_t effective)
 	return (int)syscall(SYS_capset, &header, data);
 }
 
+/* Who asks, as ids of the host. */
+struct who {
+	uint32_t uid, gid, group;
+	bool has_group;
+};
+
+/* Finds them: 0, or an error. */
+static int find_who(const struct call *call, struct who *who)
+{
+	const struct passthrough_options *options = &call->all->options;
+	const nizwarf_call *asked = call->asked;
+	int error;
+
+	*who = (struct who){ 0, 0, 0, asked->has & NIZWARF_HAS_GROUP };
+	error = ids_to_host(&options->users, asked->uid, &who->uid);
+	if (!error)
+		error = ids_to_host(&options->groups, asked->gid, &who->gid);
+	if (!error && who->has_group)
+		error = ids_to_host(&options->groups, asked->group, &who->group);
+	return error;
+}
+
+/* Whether a worker takes the ids of who asks. */
+static bool changes_who(const struct worker *w, const struct who *who)
+{
+	return w->is_root && (who->uid || who->gid || who->has_group);
+}
+
 /* Its kernel has looked at permissions, so the host's don't count; but it is no one who may keep a
  * set-group-ID bit of another group. What is renamed may be another's. */
 int become(const struct call *call)
 {
 	const nizwarf_call *asked = call->asked;
 	const struct worker *w = call->worker;
-	const bool has_group = asked->has & NIZWARF_HAS_GROUP;
 	const uint64_t left = asked->call == NIZWARF_RENAME ? UINT64_MAX : UINT64_C(1) << CAP_DAC_OVERRIDE;
+	struct who who;
+	const int error = find_who(call, &who);
 
+	if (error)
+		return error;
 	if (call->all->options.posix_acl)
 		umask(asked->umask & 0777);
-	if (!w->is_root || (!asked->uid && !asked->gid && !has_group))
+	if (!changes_who(w, &who))
 		return 0;
 	/* (-1 would leave it who it is) */
-	if (asked->uid == UINT32_MAX || asked->gid == UINT32_MAX)
+	if (who.uid == UINT32_MAX || who.gid == UINT32_MAX)
 		return EINVAL;
 	/* (by raw calls, which are of this thread alone) */
-	if ((has_group && !w->keeps_groups && syscall(SYS_setgroups, 1, &asked->group)) ||
-	    syscall(SYS_setresgid, -1, asked->gid ? asked->gid : w->gid, -1) ||
-	    syscall(SYS_setresuid, -1, asked->uid, -1))
+	if ((who.has_group && !w->keeps_groups && syscall(SYS_setgroups, 1, &who.group)) ||
+	    syscall(SYS_setresgid, -1, who.gid ? who.gid : w->gid, -1) ||
+	    syscall(SYS_setresuid, -1, who.uid, -1))
 		return errno;
-	if (asked->uid)
+	if (who.uid)
 		set_capabilities(w->capabilities, w->capabilities & left);
 	return 0;
 }
 
 void become_root(const struct call *call)
 {
-	const nizwarf_call *asked = call->asked;
 	const struct worker *w = call->worker;
+	struct who who;
 
 	if (call->all->options.posix_acl)
 		umask(0);
-	if (!w->is_root || (!asked->uid && !asked->gid && !(asked->has & NIZWARF_HAS_GROUP)))
+	if (find_who(call, &who) || !changes_who(w, &who))
 		return;
 	syscall(SYS_setresuid, -1, 0, -1);
 	syscall(SYS_setresgid, -1, w->gid, -1);
-	if (asked->has & NIZWARF_HAS_GROUP && !w->keeps_groups)
+	if (who.has_group && !w->keeps_groups)
 		syscall(SYS_setgroups, 0, NULL);
 	set_capabilities(w->capabilities, w->capabilities);
 }
@@ -85,10 +116,12 @@ static bool kills(const struct call *call)
 void lose_fsetid(const struct call *call)
 {
 	const uint64_t all = call->worker->capabilities;
-	const gid_t group = call->asked->gid;
+	uint32_t group;
 
 	if (!kills(call))
 		return;
+	if (ids_to_host(&call->all->options.groups, call->asked->gid, &group))
+		group = NO_GROUP;
 	/* (root's group is that of many files; and it isn't always said whose it is who asks) */
 	syscall(SYS_setfsgid, group == UINT32_MAX ? NO_GROUP : group);
 	set_capabilities(all, all & ~(UINT64_C(1) << CAP_FSETID));

@@ -23,7 +23,9 @@
 #include <unistd.h>
 #include "fuse_ring.h"
 #include "passthrough.h"
+#include "share_pid.h"
 #include "share_sandbox.h"
+#include "share_syslog.h"
 #include "share_words.h"
 #include "trace.h"
 
@@ -132,10 +134,11 @@ static int go_to_background(void)
  * goes to the background or is to be quiet. -1: there is none. */
 static int manager = -1, starter = -1, nothing = -1;
 
-/* Lets go of those who wait, and of output. */
+/* Lets go of those who wait, and of output, but for that which is logged. */
 static void go_quiet(void)
 {
-	for (int i = words.daemonizes ? 0 : 2; nothing >= 0 && i <= 2; i++)
+	for (int i = words.daemonizes ? 0 : 2; nothing >= 0 && i <= (words.logs && !words.is_off ? 1 : 2);
+	     i++)
 		dup2(nothing, i);
 	if (nothing >= 0)
 		close(nothing);
@@ -200,6 +203,9 @@ static int listen_on_socket(const transport *of)
 	}
 	if (words.socket_group && !group)
 		refuse("there is no group ", words.socket_group);
+	if (pid_file_take(words.socket_path))
+		exit(1);
+	atexit(pid_file_remove);
 	/* (it has its mode as soon as it is there) */
 	before = umask(group ? 0117 : 0177);
 	listener = vhost_user_listen(of, words.socket_path);
@@ -226,8 +232,10 @@ static bool is_below(const char *path, const char *folder)
 static void remove_socket(void *user)
 {
 	(void)user;
-	if (words.socket_path && words.sandbox == SANDBOX_NONE)
-		unlink(words.socket_path);
+	if (!words.socket_path || words.sandbox != SANDBOX_NONE)
+		return;
+	unlink(words.socket_path);
+	pid_file_remove();
 }
 
 /* The transport, and the device of a mount. */
@@ -409,6 +417,8 @@ int main(int count, char **given)
 	if (fill_standard())
 		return failed("/dev/null"), 1;
 	take_words(count, given);
+	if (words.logs && syslog_start())
+		return 1;
 	by.workers = words.files.workers;
 	words.files.payload = is_mount() ? FUSE_DEVICE_PIPED : TRANSPORT_PAYLOAD;
 	by.quiet = !words.says_more;
@@ -437,10 +447,13 @@ int main(int count, char **given)
 	count_workers();
 	if (words.daemonizes && (starter = go_to_background()) < 0)
 		return 1;
+	if (pid_file_write())
+		return 1;
 	if (words.files.passthrough &&
 	    (words.files.backing = fuse_backing_start(&by, device, limit_backing)) < 0)
 		return 1;
 	outside.socket_path = words.socket_path;
+	outside.pid_path = pid_file_path();
 	outside.ready = tell_ready;
 	outside.mount = words.mount_point ? mount_folder : NULL;
 	outside.unmount = unmount_folder;
@@ -449,6 +462,9 @@ int main(int count, char **given)
 			unlink(words.socket_path);
 		return 1;
 	}
+	/* (in a sandbox its path leads elsewhere) */
+	if (words.sandbox != SANDBOX_NONE)
+		pid_file_leave();
 	words.files.keeps_groups = users_keep_groups();
 	status = serve(listener);
 	remove_socket(NULL);

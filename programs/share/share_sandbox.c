@@ -124,6 +124,8 @@ static _Noreturn void stand_by(pid_t child, const sigset_t *awaited, const struc
 		outside->unmount(outside->user);
 	if (outside->socket_path)
 		unlink(outside->socket_path);
+	if (outside->pid_path)
+		unlink(outside->pid_path);
 	if (WIFSIGNALED(status))
 		fprintf(stderr, "nizwarf-share: signal %d ended the server\n", WTERMSIG(status));
 	_exit(WIFEXITED(status) ? WEXITSTATUS(status) : end != KILLED);

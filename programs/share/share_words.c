@@ -5,6 +5,7 @@
 #include <getopt.h>
 #include <limits.h>
 #include <linux/capability.h>
+#include <linux/xattr.h>
 #include <stdio.h>
 #include <stdlib.h>
 #include <string.h>
@@ -18,76 +19,6 @@
 
 enum { MOST_FILES = 1000000, MOST_NODES = 1000000, WORKERS = 4 };
 
-static const char usage[] =
-	"Usage: nizwarf-share [WORDS] FOLDER MOUNTPOINT\n"
-	"       nizwarf-share [WORDS] --socket-path=SOCKET FOLDER\n"
-	"Mounts the folder on the mount point over /dev/fuse, until it is unmounted or SIGINT or\n"
-	"SIGTERM comes; or serves it on the socket to one virtual machine after another, as a\n"
-	"vhost-user device of virtio-fs.\n"
-	"  -o OPTIONS                with commas between them: allow_other, ro, rw, max_read=N,\n"
-	"                            fsname=NAME, exec, noexec, suid, nosuid, dev, nodev, sync,\n"
-	"                            async, dirsync, atime, noatime, nodiratime, relatime, and\n"
-	"                            entry_timeout=SECONDS, attr_timeout=SECONDS: how long names\n"
-	"                            and attributes are remembered; negative_timeout=SECONDS: how\n"
-	"                            long, that there is no such name (0); io_uring, no_io_uring:\n"
-	"                            requests come by io_uring where Linux offers it, which is quicker\n"
-	"                            for names and slower for data, or by read and write alone (the\n"
-	"                            default); or virtiofsd's, as managers\n"
-	"                            of machines write them: source=FOLDER, cache=WHAT, sandbox=HOW,\n"
-	"                            modcaps=LIST, loglevel=LEVEL, xattr, posix_acl, writeback,\n"
-	"                            readdirplus, flock, posix_lock, no_xattr .. ; or words below of\n"
-	"                            what is served, as thread_pool_size=8; those of fstab(5) alone,\n"
-	"                            as nofail, are let pass\n"
-	"  --shared-dir=FOLDER       the folder, in place of the word\n"
-	"  --socket-path=SOCKET      listens on a new socket of this path\n"
-	"  --fd=N                    listens on the socket of this descriptor\n"
-	"  --socket-group=GROUP      who may connect to the socket besides its owner\n"
-	"  --cache=WHAT              what may be remembered: never, auto (the default), always,\n"
-	"                            metadata\n"
-	"  --writeback               the client may write later\n"
-	"  --xattr                   extended attributes are served\n"
-	"  --posix-acl               so are access control lists, and the client goes by them; without it\n"
-	"                            modes alone say who may, also where a list of the folder denies\n"
-	"  --flock                   locks of flock(2) are the host's, which other clients and programs\n"
-	"                            of the host see; without it the client keeps them to itself\n"
-	"  --posix-lock              so are those of fcntl(2)\n"
-	"  --passthrough             over a mount: its kernel reads and writes files by itself (Linux\n"
-	"                            6.9), which a process of its own names, with CAP_SYS_ADMIN\n"
-	"  --watch                   over a mount: what others change in the folder is told to its\n"
-	"                            kernel, so that --cache=always is right\n"
-	"  --readonly                nothing is changed\n"
-	"  --no-readdirplus          directories are listed without attributes\n"
-	"  --announce-submounts      a machine is told where something is mounted below the folder\n"
-	"                            (the default), and has a device of its own there; with\n"
-	"  --no-announce-submounts   not: inode numbers tell its files apart, as over /dev/fuse\n"
-	"  --node-limit=N            how many files a client may know of at once (1000000); the next\n"
-	"                            one is ENFILE, until one is forgotten\n"
-	"  --inode-file-handles=HOW  when files are held by handles, and not by descriptors: never (the\n"
-	"                            default), prefer: where they can be, mandatory: what has none is\n"
-	"                            an error; code that got into the server can then open any file of\n"
-	"                            that file system\n"
-	"  --modcaps=LIST            capabilities that root's server has besides, or lacks, as\n"
-	"                            +sys_admin:-mknod; by +sys_admin attributes of trusted.* are served\n"
-	"  --thread-pool-size=N      how many requests are served at once, 1 to 64 (4); over io_uring so\n"
-	"                            many of each processor\n"
-	"  --rlimit-nofile=N         the most open files; 0: as it is (1000000, or what may be)\n"
-	"  --sandbox=HOW             namespace (the default), chroot or none: what else than the\n"
-	"                            folder the server sees\n"
-	"  --uid-map=:ID:HOST:N:     in the namespace of who isn't root: N users from ID on are those of\n"
-	"                            the host from HOST on, as subuid(5) lets; given once or more\n"
-	"  --gid-map=:ID:HOST:N:     the same of groups, as subgid(5) lets\n"
-	"  --seccomp=HOW             kill, trap, log or none: what a system call comes to that serving\n"
-	"                            doesn't make (kill if it is built in)\n"
-	"  --log-level=LEVEL         off, error, warn, info (the default), debug, as -d\n"
-	"  --trace[=FILE]            prints each request and reply, as --log-level=debug, or writes\n"
-	"                            their bytes to a new FILE for nizwarf-decode\n"
-	"  --daemonize               goes to the background once it serves\n"
-	"  --print-capabilities      what a vhost-user back end of a machine can, as JSON\n"
-	"  --version, --help\n"
-	"What a guest's root makes is root's on the host, also set-user-ID files and devices: keep the\n"
-	"folder where local users can't enter, or on a file system mounted with nosuid,nodev. With\n"
-	"--modcaps=-mknod no devices are made.\n";
-
 /* What is so without a word. */
 struct share_words words = {
 	.files = { .cache = CACHE_AUTO,
@@ -95,6 +26,7 @@ struct share_words words = {
 		   .readdirplus = true,
 		   .file_handles = HANDLES_NEVER,
 		   .announce_submounts = true,
+		   .kills_bits = true,
 		   .most_nodes = MOST_NODES,
 		   .workers = WORKERS,
 		   .entry_time = AS_CACHE_SAYS,
@@ -131,7 +63,7 @@ static unsigned long number(const char *key, const char *value, unsigned long le
 static int one_of(const char *key, const char *value, const char *const *known)
 {
 	for (int i = 0; known[i]; i++)
-		if (!strcmp(value, known[i]))
+		if (!strcasecmp(value, known[i]))
 			return i;
 	fprintf(stderr, "nizwarf-share: %s is one of", key);
 	for (int i = 0; known[i]; i++)
@@ -263,7 +195,6 @@ static bool take_flag(const char *key)
 /* Takes a word of virtiofsd's old options. Whether it is one. */
 static bool take_switch(const char *key)
 {
-	static bool nothing;
 	static const struct {
 		const char *word;
 		bool *what, is;
@@ -276,11 +207,12 @@ static bool take_switch(const char *key)
 		      { "readdirplus", &words.files.readdirplus, true },
 		      { "no_readdirplus", &words.files.readdirplus, false },
 		      { "announce_submounts", &words.files.announce_submounts, true },
-		      /* What is so anyhow, or shows nowhere. */
-		      { "killpriv_v2", &nothing, true },
-		      { "no_killpriv_v2", &nothing, false },
-		      { "no_security_label", &nothing, false },
-		      { "no_allow_direct_io", &nothing, false },
+		      { "killpriv_v2", &words.files.kills_bits, true },
+		      { "no_killpriv_v2", &words.files.kills_bits, false },
+		      { "security_label", &words.files.security_label, true },
+		      { "no_security_label", &words.files.security_label, false },
+		      { "allow_direct_io", &words.files.allow_direct, true },
+		      { "no_allow_direct_io", &words.files.allow_direct, false },
 		      { "flock", &words.files.flock, true },
 		      { "no_flock", &words.files.flock, false },
 		      { "posix_lock", &words.files.posix_lock, true },
@@ -292,6 +224,26 @@ static bool take_switch(const char *key)
 			return true;
 		}
 	return false;
+}
+
+/* Takes the rules of attributes, and finds what they make of the name of a file's capabilities. */
+static void take_xattr_map(const char *rules)
+{
+	static struct xattr_name capability;
+	char text[24];
+	const char *why;
+	unsigned rule;
+
+	words.files.xattr_map = xattr_map_read(rules, &why, &rule);
+	if (!words.files.xattr_map) {
+		snprintf(text, sizeof(text), rule ? "rule %u: " : "", rule);
+		fprintf(stderr, "nizwarf-share: --xattrmap: %s%s\n", text, why);
+		refuse("--xattrmap is as :map::user.virtiofs.: and not ", rules);
+	}
+	words.files.capability = NULL;
+	if (!xattr_map_to_host(words.files.xattr_map, XATTR_NAME_CAPS, &capability) &&
+	    strcmp(capability.bytes, XATTR_NAME_CAPS) != 0)
+		words.files.capability = capability.bytes;
 }
 
 static const char *const sandboxes[] = { "none", "chroot", "namespace", NULL };
@@ -313,6 +265,8 @@ static bool take_setting(const char *key, char *value)
 		take_log_level(strcmp(value, "err") != 0 ? value : "error");
 	} else if (!strcmp(key, "modcaps")) {
 		take_capabilities(value);
+	} else if (!strcmp(key, "xattrmap")) {
+		take_xattr_map(value);
 	} else {
 		return false;
 	}
@@ -390,9 +344,16 @@ enum word {
 	SOCKET_PATH,
 	FD,
 	SOCKET_GROUP,
+	TAG,
+	SYSLOG,
+	MIGRATION,
 	CACHE,
+	ALLOW_MMAP,
+	ALLOW_DIRECT_IO,
 	WRITEBACK,
 	XATTR,
+	XATTRMAP,
+	SECURITY_LABEL,
 	POSIX_ACL,
 	FLOCK,
 	POSIX_LOCK,
@@ -402,6 +363,9 @@ enum word {
 	NO_READDIRPLUS,
 	ANNOUNCE,
 	NO_ANNOUNCE,
+	KILLPRIV,
+	NO_KILLPRIV,
+	NOATIME,
 	NODE_LIMIT,
 	FILE_HANDLES,
 	MODCAPS,
@@ -410,6 +374,8 @@ enum word {
 	SANDBOX,
 	UID_MAP,
 	GID_MAP,
+	TRANSLATE_UID,
+	TRANSLATE_GID,
 	SECCOMP,
 	LOG,
 	TRACE,
@@ -425,9 +391,19 @@ static const struct option known_words[] = {
 	{ "socket", required_argument, NULL, SOCKET_PATH },
 	{ "fd", required_argument, NULL, FD },
 	{ "socket-group", required_argument, NULL, SOCKET_GROUP },
+	{ "tag", required_argument, NULL, TAG },
+	{ "syslog", no_argument, NULL, SYSLOG },
+	{ "migration-mode", required_argument, NULL, MIGRATION },
+	{ "migration-on-error", required_argument, NULL, MIGRATION },
+	{ "migration-verify-handles", no_argument, NULL, MIGRATION },
+	{ "migration-confirm-paths", no_argument, NULL, MIGRATION },
 	{ "cache", required_argument, NULL, CACHE },
+	{ "allow-mmap", no_argument, NULL, ALLOW_MMAP },
+	{ "allow-direct-io", no_argument, NULL, ALLOW_DIRECT_IO },
 	{ "writeback", no_argument, NULL, WRITEBACK },
 	{ "xattr", no_argument, NULL, XATTR },
+	{ "xattrmap", required_argument, NULL, XATTRMAP },
+	{ "security-label", no_argument, NULL, SECURITY_LABEL },
 	{ "posix-acl", no_argument, NULL, POSIX_ACL },
 	{ "flock", no_argument, NULL, FLOCK },
 	{ "posix-lock", no_argument, NULL, POSIX_LOCK },
@@ -437,6 +413,9 @@ static const struct option known_words[] = {
 	{ "no-readdirplus", no_argument, NULL, NO_READDIRPLUS },
 	{ "announce-submounts", no_argument, NULL, ANNOUNCE },
 	{ "no-announce-submounts", no_argument, NULL, NO_ANNOUNCE },
+	{ "killpriv-v2", no_argument, NULL, KILLPRIV },
+	{ "no-killpriv-v2", no_argument, NULL, NO_KILLPRIV },
+	{ "preserve-noatime", no_argument, NULL, NOATIME },
 	{ "node-limit", required_argument, NULL, NODE_LIMIT },
 	{ "inode-file-handles", required_argument, NULL, FILE_HANDLES },
 	{ "modcaps", required_argument, NULL, MODCAPS },
@@ -445,6 +424,8 @@ static const struct option known_words[] = {
 	{ "sandbox", required_argument, NULL, SANDBOX },
 	{ "uid-map", required_argument, NULL, UID_MAP },
 	{ "gid-map", required_argument, NULL, GID_MAP },
+	{ "translate-uid", required_argument, NULL, TRANSLATE_UID },
+	{ "translate-gid", required_argument, NULL, TRANSLATE_GID },
 	{ "seccomp", required_argument, NULL, SECCOMP },
 	{ "log-level", required_argument, NULL, LOG },
 	{ "trace", optional_argument, NULL, TRACE },
@@ -464,7 +445,7 @@ static _Noreturn void print(int word)
 		printf("nizwarf-share %d.%d.%d, FUSE 7.38, %s libseccomp\n", NIZWARF_VERSION_MAJOR,
 		       NIZWARF_VERSION_MINOR, NIZWARF_VERSION_PATCH, has_filter ? "with" : "without");
 	else
-		fputs(usage, stdout);
+		fputs(share_usage, stdout);
 	exit(fflush(stdout) != 0);
 }
 
@@ -490,63 +471,85 @@ static void take_range(const char *key, char *rest, struct id_map *map)
 	*range = (struct id_range){ (uint32_t)value[0], (uint32_t)value[1], (uint32_t)value[2] };
 }
 
+static void take_translation(const char *key, const char *rule, struct ids *ids)
+{
+	const char *why = ids_add(ids, rule);
+
+	if (!why)
+		return;
+	fprintf(stderr, "nizwarf-share: %s=%s: %s\n", key, rule, why);
+	refuse("it can't be, or not with those before it: ", rule);
+}
+
+/* Takes a word that has no value, and says that something is so, or not. Whether it is one. */
+static bool take_plain(int word)
+{
+	static const struct {
+		int word;
+		bool *what, is;
+	} known[] = {
+		{ SYSLOG, &words.logs, true },
+		{ ALLOW_MMAP, &words.files.allow_mmap, true },
+		{ ALLOW_DIRECT_IO, &words.files.allow_direct, true },
+		{ WRITEBACK, &words.files.writeback, true },
+		{ XATTR, &words.files.xattr, true },
+		{ SECURITY_LABEL, &words.files.security_label, true },
+		{ POSIX_ACL, &words.files.posix_acl, true },
+		{ FLOCK, &words.files.flock, true },
+		{ POSIX_LOCK, &words.files.posix_lock, true },
+		{ PASSTHROUGH, &words.files.passthrough, true },
+		{ WATCH, &words.watches, true },
+		{ READONLY, &words.files.read_only, true },
+		{ NO_READDIRPLUS, &words.files.readdirplus, false },
+		{ ANNOUNCE, &words.files.announce_submounts, true },
+		{ NO_ANNOUNCE, &words.files.announce_submounts, false },
+		{ KILLPRIV, &words.files.kills_bits, true },
+		{ NO_KILLPRIV, &words.files.kills_bits, false },
+		{ NOATIME, &words.files.keeps_noatime, true },
+		{ DAEMONIZE, &words.daemonizes, true },
+	};
+
+	for (size_t i = 0; i < sizeof(known) / sizeof(*known); i++)
+		if (known[i].word == word) {
+			*known[i].what = known[i].is;
+			return true;
+		}
+	return false;
+}
+
 /* Takes a word of what is served, and how: one from CACHE to TRACE. */
 static void take_served(int word)
 {
 	static const char *const caches[] = { "never", "auto", "always", "metadata", NULL };
 	static const char *const filters[] = { "none", "kill", "trap", "log", NULL };
-	static const char *const handles[] = { "never", "prefer", "mandatory", NULL };
+	static const char *const handles[] = { "never", "prefer", "mandatory", "fallback", NULL };
+	int which;
 
+	if (take_plain(word))
+		return;
 	switch (word) {
 	case CACHE:
 		words.files.cache = (enum passthrough_cache)one_of("--cache", optarg, caches);
 		break;
-	case WRITEBACK:
-		words.files.writeback = true;
-		break;
-	case XATTR:
-		words.files.xattr = true;
-		break;
-	case POSIX_ACL:
-		words.files.posix_acl = true;
-		break;
-	case FLOCK:
-		words.files.flock = true;
-		break;
-	case POSIX_LOCK:
-		words.files.posix_lock = true;
-		break;
-	case PASSTHROUGH:
-		words.files.passthrough = true;
-		break;
-	case WATCH:
-		words.watches = true;
-		break;
-	case READONLY:
-		words.files.read_only = true;
-		break;
-	case NO_READDIRPLUS:
-		words.files.readdirplus = false;
-		break;
-	case ANNOUNCE:
-		words.files.announce_submounts = true;
-		break;
-	case NO_ANNOUNCE:
-		words.files.announce_submounts = false;
+	case XATTRMAP:
+		take_xattr_map(optarg);
 		break;
 	case NODE_LIMIT:
 		words.files.most_nodes = (unsigned)number("--node-limit", optarg, 2, INT_MAX);
 		break;
 	case FILE_HANDLES:
-		words.files.file_handles = (enum file_handles)one_of("--inode-file-handles", optarg, handles);
+		which = one_of("--inode-file-handles", optarg, handles);
+		words.files.file_handles =
+			which <= HANDLES_ALONE ? (enum file_handles)which : HANDLES_PREFERRED;
 		break;
 	case MODCAPS:
 		take_capabilities(optarg);
 		break;
 	case POOL:
-		words.files.workers =
-			(unsigned)number("--thread-pool-size", optarg, 0, TRANSPORT_MOST_WORKERS);
+		words.files.workers = (unsigned)number("--thread-pool-size", optarg, 0, UINT_MAX);
 		words.files.workers += !words.files.workers;
+		if (words.files.workers > TRANSPORT_MOST_WORKERS)
+			words.files.workers = TRANSPORT_MOST_WORKERS;
 		break;
 	case NOFILE:
 		words.most_files = number("--rlimit-nofile", optarg, 0, INT_MAX);
@@ -560,6 +563,12 @@ static void take_served(int word)
 		break;
 	case GID_MAP:
 		take_range("--gid-map", optarg, &words.gids);
+		break;
+	case TRANSLATE_UID:
+		take_translation("--translate-uid", optarg, &words.files.users);
+		break;
+	case TRANSLATE_GID:
+		take_translation("--translate-gid", optarg, &words.files.groups);
 		break;
 	case SECCOMP:
 		words.filter = one_of("--seccomp", optarg, filters);
@@ -597,8 +606,11 @@ static void take_word(int word)
 	case SOCKET_GROUP:
 		words.socket_group = optarg;
 		break;
-	case DAEMONIZE:
-		words.daemonizes = true;
+	case TAG:
+		/* (as long as one of a virtio-fs device may be) */
+		if (!*optarg || strlen(optarg) > 36)
+			refuse("--tag has 1 to 36 bytes, and not ", optarg);
+		words.tag = optarg;
 		break;
 	case 'h':
 		print(HELP);
@@ -674,6 +686,12 @@ static void hold_mount_together(void)
 	if (words.watches && words.files.file_handles != HANDLES_NEVER)
 		refuse("--watch and --inode-file-handles are not both wanted: what is watched stays open",
 		       "");
+	if (words.files.passthrough && words.files.capability)
+		refuse("--passthrough and an --xattrmap of ",
+		       XATTR_NAME_CAPS " are not both wanted: Linux takes them away by their own name alone");
+	/* (over a mount data go through buffers that lie anywhere) */
+	if (words.files.allow_direct && is_mount())
+		refuse("--allow-direct-io is of a machine", "");
 }
 
 /* Refuses words that can't be together. */
@@ -696,6 +714,10 @@ static void hold_together(void)
 	if ((words.uids.count || words.gids.count) &&
 	    (geteuid() == 0 || (words.sandbox >= 0 && words.sandbox != SANDBOX_NAMESPACE)))
 		refuse("who isn't root has --uid-map and --gid-map, and with --sandbox=namespace", "");
+	if (words.files.posix_acl &&
+	    (ids_are_translated(&words.files.users) || ids_are_translated(&words.files.groups)))
+		refuse("--translate-uid and --translate-gid go with no --posix-acl, whose lists have ids too",
+		       "");
 	hold_mount_together();
 	if (words.filter > FILTER_NONE && !has_filter)
 		refuse("--seccomp: it was built without libseccomp", "");
@@ -736,6 +758,10 @@ static void take_given(int count, char **given)
 		if (found == '?' || found == ':' ||
 		    (i >= 0 && strcspn(word, "=") != strlen(known_words[i].name) + 2))
 			refuse_word(found, word);
+		if (found == MIGRATION)
+			refuse("a machine that has this share can't migrate: unmount it there first, or have "
+			       "virtiofsd serve it, in place of ",
+			       word);
 		take_word(found);
 	}
 	if (!words.folder && optind < count)
@@ -759,7 +785,10 @@ void take_words(int count, char **given)
 		words.sandbox = SANDBOX_NAMESPACE;
 	if (words.filter < 0)
 		words.filter = has_filter ? FILTER_KILL : FILTER_NONE;
-	words.files.xattr |= words.files.posix_acl;
+	words.files.xattr |= words.files.posix_acl || words.files.xattr_map || words.files.security_label;
+	if (words.tag && words.says_more)
+		fprintf(stderr, "nizwarf-share: --tag=%s is let pass: the line of the machine says its tag\n",
+			words.tag);
 	if (words.files.read_only)
 		words.flags |= MS_RDONLY;
 	if (words.flags & MS_RDONLY)

@@ -14,7 +14,9 @@ struct share_words {
 	unsigned long flags, max_read, most_files;
 	int fd, sandbox, filter;
 	struct id_map uids, gids;
-	bool says_more, is_off, daemonizes, traces, watches;
+	bool says_more, is_off, daemonizes, traces, watches, logs;
+	/* --tag, which shows nowhere. */
+	const char *tag;
 	/* Requests of a mount come by io_uring where Linux offers it. */
 	bool by_ring;
 	/* -o nofail: where there is no such folder, nothing is mounted, and that is no error. */
@@ -23,6 +25,9 @@ struct share_words {
 	bool wants_files;
 };
 extern struct share_words words;
+
+/* What --help prints. */
+extern const char share_usage[];
 
 /* Takes them, and holds them together. It ends if they can't be, or if one asks for something to be printed
  * alone. */

@@ -1,0 +1,135 @@
+/* Ids of a passthrough: passthrough_ids.h. */
+#define _GNU_SOURCE
+#include <ctype.h>
+#include <errno.h>
+#include <stdlib.h>
+#include <string.h>
+#include <strings.h>
+#include "passthrough_ids.h"
+
+/* Whether two ranges have an id in common. */
+static bool overlap(const struct id_rule *a, const struct id_rule *b)
+{
+	return a->from < (uint64_t)b->from + b->count && b->from < (uint64_t)a->from + a->count;
+}
+
+/* Adds a rule: NULL, or what is wrong with it. */
+static const char *add(struct id_rules *all, const struct id_rule *rule)
+{
+	struct id_rule *more;
+
+	/* (the last id of 32 bits is that of no one) */
+	if ((uint64_t)rule->from + rule->count > UINT32_MAX ||
+	    (rule->how == IDS_SHIFTED && (uint64_t)rule->to + rule->count > UINT32_MAX) ||
+	    (rule->how == IDS_SQUASHED && rule->to == UINT32_MAX))
+		return "its ids are more than there are";
+	if (!rule->count)
+		return NULL;
+	for (size_t i = 0; i < all->count; i++)
+		if (overlap(&all->rules[i], rule))
+			return "an id of it has a rule already";
+	more = realloc(all->rules, (all->count + 1) * sizeof(*more));
+	if (!more)
+		return "there is no memory";
+	more[all->count++] = *rule;
+	all->rules = more;
+	return NULL;
+}
+
+/* Reads numbers with a sign between them: how many there are, or -1. */
+static int read_numbers(const char *text, char sign, uint32_t number[3])
+{
+	int count = 0;
+
+	for (;; text++) {
+		unsigned long value;
+		char *end;
+
+		if (!isdigit((unsigned char)*text) || count == 3)
+			return -1;
+		errno = 0;
+		value = strtoul(text, &end, 10);
+		if (errno || value > UINT32_MAX)
+			return -1;
+		number[count++] = (uint32_t)value;
+		text = end;
+		if (!*text)
+			return count;
+		if (*text != sign)
+			return -1;
+	}
+}
+
+/* The types of rules: which way they go, and how. */
+static const struct type {
+	const char *name;
+	bool of_client, of_host;
+	int how, numbers;
+} types[] = {
+	{ "guest", true, false, IDS_SHIFTED, 3 },	   { "host", false, true, IDS_SHIFTED, 3 },
+	{ "squash-guest", true, false, IDS_SQUASHED, 3 },  { "squash-host", false, true, IDS_SQUASHED, 3 },
+	{ "forbid-guest", true, false, IDS_FORBIDDEN, 2 }, { "map", true, true, IDS_SHIFTED, 3 },
+};
+
+const char *ids_add(struct ids *ids, const char *text)
+{
+	const struct type *type = NULL;
+	uint32_t number[3] = { 0 };
+	size_t len = 0;
+	const char *why = NULL;
+
+	while (isalnum((unsigned char)text[len]) || text[len] == '-' || text[len] == '_')
+		len++;
+	for (size_t i = 0; i < sizeof(types) / sizeof(*types); i++)
+		if (strlen(types[i].name) == len && !strncasecmp(types[i].name, text, len))
+			type = &types[i];
+	if (!type)
+		return "its type is none of guest, host, squash-guest, squash-host, forbid-guest, map";
+	if (!text[len] || read_numbers(text + len + 1, text[len], number) != type->numbers)
+		return type->numbers == 2 ? "it is forbid-guest:FROM:COUNT" : "it is TYPE:FROM:TO:COUNT";
+	if (type->how == IDS_FORBIDDEN)
+		return add(&ids->to_host, &(struct id_rule){ number[0], number[1], 0, IDS_FORBIDDEN });
+	if (type->of_client)
+		why = add(&ids->to_host, &(struct id_rule){ number[0], number[2], number[1], type->how });
+	if (!why && type->of_host) {
+		const uint32_t from = number[type->of_client], to = number[!type->of_client];
+
+		why = add(&ids->to_client, &(struct id_rule){ from, number[2], to, type->how });
+	}
+	return why;
+}
+
+bool ids_are_translated(const struct ids *ids)
+{
+	return ids->to_host.count || ids->to_client.count;
+}
+
+static const struct id_rule *find(const struct id_rules *all, uint32_t id)
+{
+	for (size_t i = 0; i < all->count; i++)
+		if (id >= all->rules[i].from && id - all->rules[i].from < all->rules[i].count)
+			return &all->rules[i];
+	return NULL;
+}
+
+static uint32_t apply(const struct id_rule *rule, uint32_t id)
+{
+	if (!rule)
+		return id;
+	return rule->how == IDS_SHIFTED ? rule->to + (id - rule->from) : rule->to;
+}
+
+int ids_to_host(const struct ids *ids, uint32_t id, uint32_t *host)
+{
+	const struct id_rule *rule = find(&ids->to_host, id);
+
+	if (rule && rule->how == IDS_FORBIDDEN)
+		return EPERM;
+	*host = apply(rule, id);
+	return 0;
+}
+
+uint32_t ids_to_client(const struct ids *ids, uint32_t id)
+{
+	return apply(find(&ids->to_client, id), id);
+}

@@ -1,0 +1,196 @@
+/* Rules of extended attributes: passthrough_xattrmap.h. */
+#define _GNU_SOURCE
+#include <errno.h>
+#include <stdbool.h>
+#include <stddef.h>
+#include <stdlib.h>
+#include <string.h>
+#include "passthrough_xattrmap.h"
+
+enum type { PREFIX, OK, BAD, UNSUPPORTED, MAP };
+enum { CLIENT = 1, SERVER = 2, ALL = CLIENT | SERVER };
+
+/* The first one whose `key` a name of the client begins with, or whose `prepend` one of the host does, is that which
+ * holds. */
+struct rule {
+	enum type type;
+	unsigned scope;
+	const char *key, *prepend;
+};
+
+struct xattr_map {
+	size_t count;
+	struct rule rules[];
+};
+
+static bool begins(const char *name, const char *with)
+{
+	return !strncmp(name, with, strlen(with));
+}
+
+static bool is_space(char c)
+{
+	return c == ' ' || (c >= '\t' && c <= '\r');
+}
+
+/* Takes what stands before the sign: NULL, if that isn't there. */
+static const char *take(char **rest, char sign)
+{
+	char *from = *rest, *end = strchr(from, sign);
+
+	if (!end)
+		return NULL;
+	*end = 0;
+	*rest = end + 1;
+	return from;
+}
+
+/* Which of the words, which end with NULL, one is; or -1. */
+static int one_of(const char *word, const char *const *known)
+{
+	for (int i = 0; known[i]; i++)
+		if (!strcmp(word, known[i]))
+			return i;
+	return -1;
+}
+
+/* Reads one rule: NULL, or what is wrong with it. */
+static const char *read_rule(char **rest, struct rule *rule)
+{
+	static const char *const types[] = { "prefix", "ok", "bad", "unsupported", "map", NULL };
+	static const char *const scopes[] = { "client", "server", "all", NULL };
+	const char sign = *(*rest)++, *word = take(rest, sign);
+	int found = word ? one_of(word, types) : -1;
+
+	if (!word)
+		return "the sign that it begins with is missing behind its type";
+	if (found < 0)
+		return "its type is none of prefix, ok, bad, unsupported, map";
+	rule->type = (enum type)found;
+	rule->scope = ALL;
+	if (rule->type != MAP) {
+		word = take(rest, sign);
+		found = word ? one_of(word, scopes) : -1;
+		if (found < 0)
+			return "its scope is none of client, server, all";
+		rule->scope = (unsigned)found + 1;
+	}
+	rule->key = take(rest, sign);
+	rule->prepend = rule->key ? take(rest, sign) : NULL;
+	return rule->prepend ? NULL : "it ends too early, or without its sign";
+}
+
+/* Puts in place of a map rule the two or three that it stands for. How many there are then. */
+static size_t expand(struct rule *at)
+{
+	const char *key = at->key, *prepend = at->prepend;
+	size_t count = 1;
+
+	at[0] = (struct rule){ PREFIX, ALL, key, prepend };
+	if (*key)
+		at[count++] = (struct rule){ BAD, ALL, prepend, key };
+	at[count++] = (struct rule){ *key ? OK : BAD, ALL, "", "" };
+	return count;
+}
+
+/* Whether some rule holds, whatever the name is. */
+static bool is_whole(const struct xattr_map *map)
+{
+	unsigned scopes = 0;
+
+	for (size_t i = 0; i < map->count; i++) {
+		const struct rule *rule = &map->rules[i];
+
+		scopes |= rule->scope & ((!*rule->key ? CLIENT : 0) | (!*rule->prepend ? SERVER : 0));
+	}
+	return scopes == ALL;
+}
+
+/* Reads the rules of a text, which is taken apart: NULL, or what is wrong. */
+static const char *read_rules(char *rest, struct xattr_map *map)
+{
+	for (;;) {
+		struct rule *rule = &map->rules[map->count];
+		const char *why;
+
+		while (is_space(*rest))
+			rest++;
+		if (!*rest)
+			break;
+		if (*rest & 0x80)
+			return "a sign between fields is one of ASCII";
+		why = read_rule(&rest, rule);
+		if (why)
+			return why;
+		if (rule->type == MAP) {
+			while (is_space(*rest))
+				rest++;
+			if (*rest)
+				return "behind a rule of type map there is no other";
+			map->count += expand(rule);
+			break;
+		}
+		map->count++;
+	}
+	return NULL;
+}
+
+const struct xattr_map *xattr_map_read(const char *text, const char **why, unsigned *rule)
+{
+	/* (a rule has five signs, or four, and then it may stand for three) */
+	const size_t most = strlen(text) / 5 + 4;
+	struct xattr_map *map = calloc(1, sizeof(*map) + most * sizeof(*map->rules));
+	char *copy = strdup(text);
+
+	*rule = 0;
+	*why = map && copy ? read_rules(copy, map) : "there is no memory";
+	if (*why && map && copy)
+		*rule = (unsigned)map->count + 1;
+	else if (!*why && !map->count)
+		*why = "there is no rule";
+	else if (!*why && !is_whole(map))
+		*why = "no rule holds for what is left, as :bad:all::: would at its end";
+	if (!*why)
+		return map;
+	free(map);
+	free(copy);
+	return NULL;
+}
+
+int xattr_map_to_host(const struct xattr_map *map, const char *name, struct xattr_name *host)
+{
+	const struct rule *rule = map->rules;
+	const char *prepend = "";
+	size_t len;
+
+	/* (one holds: is_whole) */
+	while (!(rule->scope & CLIENT) || !begins(name, rule->key))
+		rule++;
+	if (rule->type == BAD)
+		return EPERM;
+	if (rule->type == UNSUPPORTED)
+		return EOPNOTSUPP;
+	if (rule->type == PREFIX)
+		prepend = rule->prepend;
+	/* (as Linux answers of a longer one) */
+	len = strlen(prepend);
+	if (len + strlen(name) > XATTR_NAME_MAX)
+		return ERANGE;
+	memcpy(host->bytes, prepend, len);
+	strcpy(host->bytes + len, name);
+	return 0;
+}
+
+const char *xattr_map_to_client(const struct xattr_map *map, const char *name)
+{
+	const struct rule *rule = map->rules;
+
+	while (!(rule->scope & SERVER) || !begins(name, rule->prepend))
+		rule++;
+	if (rule->type == BAD || rule->type == UNSUPPORTED)
+		return NULL;
+	if (rule->type == PREFIX)
+		name += strlen(rule->prepend);
+	/* (a name that is left without a letter is none) */
+	return *name ? name : NULL;
+}

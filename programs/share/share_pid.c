@@ -1,0 +1,99 @@
+/* The file of a share's process: share_pid.h. */
+#define _GNU_SOURCE
+#include <errno.h>
+#include <fcntl.h>
+#include <limits.h>
+#include <stdbool.h>
+#include <stdio.h>
+#include <string.h>
+#include <sys/file.h>
+#include <sys/stat.h>
+#include <unistd.h>
+#include "share_pid.h"
+
+static char path[PATH_MAX];
+static int file = -1;
+
+static int failed(void)
+{
+	fprintf(stderr, "nizwarf-share: %s: %s\n", path, strerror(errno));
+	pid_file_leave();
+	return -1;
+}
+
+/* Whether the file still has its name: another server may have removed it before it was locked here. */
+static bool is_there(const struct stat *opened)
+{
+	struct stat seen;
+
+	return !lstat(path, &seen) && seen.st_ino == opened->st_ino && seen.st_dev == opened->st_dev;
+}
+
+/* Opens and locks it. 0: it went meanwhile; 1: it did so. */
+static int open_locked(void)
+{
+	struct stat opened;
+
+	/* (who may write to its folder may have put a link in its place, or a pipe) */
+	file = open(path, O_RDWR | O_CREAT | O_NOFOLLOW | O_NONBLOCK | O_CLOEXEC, 0600);
+	if (file < 0 || fstat(file, &opened))
+		return -1;
+	if (!S_ISREG(opened.st_mode) || opened.st_nlink > 1 || opened.st_uid != geteuid()) {
+		errno = opened.st_nlink ? EPERM : EAGAIN;
+		return opened.st_nlink ? -1 : 0;
+	}
+	if (flock(file, LOCK_EX | LOCK_NB))
+		return -1;
+	return is_there(&opened);
+}
+
+int pid_file_take(const char *socket_path)
+{
+	enum { TRIES = 100 };
+	int come = 0;
+
+	if (snprintf(path, sizeof(path), "%s.pid", socket_path) >= (int)sizeof(path)) {
+		errno = ENAMETOOLONG;
+		return failed();
+	}
+	for (int i = 0; i < TRIES && !come; i++) {
+		come = open_locked();
+		if (!come)
+			close(file);
+	}
+	if (come > 0)
+		return 0;
+	if (come < 0 && errno == EWOULDBLOCK)
+		fprintf(stderr, "nizwarf-share: another server has %s\n", socket_path);
+	return failed();
+}
+
+int pid_file_write(void)
+{
+	char text[16];
+	int len;
+
+	if (file < 0)
+		return 0;
+	len = snprintf(text, sizeof(text), "%d\n", (int)getpid());
+	return ftruncate(file, 0) || pwrite(file, text, (size_t)len, 0) != len ? failed() : 0;
+}
+
+const char *pid_file_path(void)
+{
+	return file < 0 ? NULL : path;
+}
+
+void pid_file_leave(void)
+{
+	if (file >= 0)
+		close(file);
+	file = -1;
+}
+
+void pid_file_remove(void)
+{
+	if (file >= 0)
+		unlink(path);
+	pid_file_leave();
+}

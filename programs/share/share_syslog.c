@@ -1,0 +1,94 @@
+/* The log of the system: share_syslog.h. */
+#define _GNU_SOURCE
+#include <errno.h>
+#include <fcntl.h>
+#include <limits.h>
+#include <paths.h>
+#include <signal.h>
+#include <stdbool.h>
+#include <stdio.h>
+#include <string.h>
+#include <sys/socket.h>
+#include <sys/syscall.h>
+#include <sys/un.h>
+#include <sys/wait.h>
+#include <syslog.h>
+#include <unistd.h>
+#include "share_syslog.h"
+
+static int failed(const char *what)
+{
+	fprintf(stderr, "nizwarf-share: --syslog: %s: %s\n", what, strerror(errno));
+	return -1;
+}
+
+/* Whether someone listens there. (syslog(3) doesn't tell.) */
+static bool is_there(void)
+{
+	const struct sockaddr_un log = { AF_UNIX, _PATH_LOG };
+	const int fd = socket(AF_UNIX, SOCK_DGRAM | SOCK_CLOEXEC, 0);
+	const bool came =
+		fd >= 0 && (!connect(fd, (const struct sockaddr *)&log, sizeof(log)) || errno == EPROTOTYPE);
+
+	if (fd >= 0)
+		close(fd);
+	return came;
+}
+
+/* Logs each line that comes, up to the last one. */
+static _Noreturn void log_lines(int from)
+{
+	static const char name[] = "nizwarf-share: ";
+	FILE *lines = fdopen(from, "r");
+	char line[1024];
+
+	/* (a signal of the terminal is for the others, and what they say then is to be logged too) */
+	signal(SIGINT, SIG_IGN);
+	signal(SIGTERM, SIG_IGN);
+	signal(SIGHUP, SIG_IGN);
+	openlog("nizwarf-share", LOG_PID | LOG_NDELAY, LOG_USER);
+	/* (the log says the name itself) */
+	while (lines && fgets(line, sizeof(line), lines))
+		syslog(LOG_NOTICE, "%s", line + (strncmp(line, name, strlen(name)) ? 0 : strlen(name)));
+	_exit(0);
+}
+
+/* Is a process of its own, that nobody waits for, and has no descriptor of the caller's. */
+static _Noreturn void begin_log(const int ends[2])
+{
+	const pid_t child = fork();
+
+	if (child)
+		_exit(child < 0);
+	dup2(ends[0], STDIN_FILENO);
+	for (int fd = STDOUT_FILENO; fd <= STDERR_FILENO; fd++)
+		close(fd);
+#ifdef SYS_close_range
+	syscall(SYS_close_range, STDERR_FILENO + 1, UINT_MAX, 0);
+#endif
+	close(ends[0]);
+	close(ends[1]);
+	log_lines(STDIN_FILENO);
+}
+
+int syslog_start(void)
+{
+	int ends[2], status;
+	pid_t child;
+
+	if (!is_there())
+		return failed(_PATH_LOG), 0;
+	if (pipe2(ends, O_CLOEXEC))
+		return failed("a pipe");
+	child = fork();
+	if (!child)
+		begin_log(ends);
+	close(ends[0]);
+	if (child < 0 || waitpid(child, &status, 0) != child || status || dup2(ends[1], STDERR_FILENO) < 0) {
+		close(ends[1]);
+		return failed("a process");
+	}
+	close(ends[1]);
+	/* (a log that is slow holds up no request: what it doesn't take is left out) */
+	return fcntl(STDERR_FILENO, F_SETFL, O_WRONLY | O_NONBLOCK) ? failed("a pipe") : 0;
+}
