@@ -39,26 +39,7 @@ need prlimit "Install util-linux."
 make_folder
 daemon=$("$here/tools/virtiofsd.sh" --test "$folder")
 
-# Debian's program, by its own loader and libraries, whatever the machine has.
-fetch_program() {
-    local part=$folder/part
-    rm -rf "$part"
-    use_suite trixie "$part/apt"
-    unpack_packages "$part/unpacked" virtiofsd libc6 libcap-ng0 libgcc-s1 libseccomp2
-    mv "$part/unpacked" "$folder/debian"
-    rm -rf "$part"
-}
-
-if [ ! -e "$folder/debian" ]; then
-    echo "Downloading Debian's program of virtiofsd .." >&2
-    quietly "$folder/said" fetch_program || {
-        echo "Debian's package virtiofsd of trixie can't be had by apt-get here." >&2
-        exit 2
-    }
-fi
-libraries=$folder/debian/usr/lib/x86_64-linux-gnu
-theirs=("$libraries/ld-linux-x86-64.so.2" --library-path "$libraries" "$folder/debian/usr/libexec/virtiofsd")
-version=$("${theirs[@]}" --version)
+find_virtiofsd trixie "$folder/debian"
 if [[ $version != *1.13.2* ]]; then
     echo "This is $version and not virtiofsd 1.13.2." >&2
     exit 2
@@ -68,4 +49,4 @@ work=$(mktemp -d)
 trap 'rm -rf "$work"' EXIT
 python3 -B "$here/tests/beside/migrated.py" "$folder/ask" "$work" "$daemon" "${theirs[@]}"
 python3 -B "$here/tests/beside/replaced.py" "$folder/ask" "$work" "$seed" "$count" "$daemon" \
-    "${theirs[@]}"
+    "${virtiofsd[@]}"

@@ -46,25 +46,8 @@ build_transport vhost
 work=$(mktemp -d)
 trap 'rm -rf "$work"' EXIT
 
-fetch() {
-    use_suite "$suite" "$work/apt"
-    unpack_packages "$work/unpacked" virtiofsd libc6 libcap-ng0 libgcc-s1 libseccomp2
-    mkdir -p "$here/out/beside"
-    mv "$work/unpacked" "$there"
-}
-
 there=$here/out/beside/$suite
-if [ ! -e "$there" ]; then
-    echo "Downloading virtiofsd of Debian's $suite .." >&2
-    quietly "$work/said" fetch || {
-        echo "Debian's package virtiofsd of $suite can't be had by apt-get here." >&2
-        exit 2
-    }
-fi
-# By its own loader and libraries, whatever the machine has.
-libraries=$there/usr/lib/x86_64-linux-gnu
-virtiofsd=("$libraries/ld-linux-x86-64.so.2" --library-path "$libraries" "$there/usr/libexec/virtiofsd")
-version=$("${virtiofsd[@]}" --version)
+find_virtiofsd "$suite" "$there"
 if [ "$how" != show ] && [[ $version != *1.13.2* ]]; then
     echo "This is $version and not virtiofsd 1.13.2." >&2
     exit 2

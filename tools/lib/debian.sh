@@ -55,6 +55,37 @@ unpack_packages() {
     rm -r "$folder/debs"
 }
 
+# Downloads virtiofsd of a suite, with its libraries, into a folder: fetch_virtiofsd SUITE FOLDER
+fetch_virtiofsd() {
+    local part=$2.part
+    rm -rf "$part"
+    mkdir -p "$part"
+    use_suite "$1" "$part/apt"
+    unpack_packages "$part/unpacked" virtiofsd libc6 libcap-ng0 libgcc-s1 libseccomp2
+    mv "$part/unpacked" "$2"
+    rm -rf "$part"
+}
+
+# Sets `virtiofsd` to that of a suite, by its own loader and libraries, whatever the machine has, which are downloaded
+# into a folder if it isn't there, and `version` to what it says: find_virtiofsd SUITE FOLDER. Ends with status 2 if it
+# can't be had.
+find_virtiofsd() {
+    local libraries=$2/usr/lib/x86_64-linux-gnu said
+    if [ ! -e "$2" ]; then
+        echo "Downloading virtiofsd of Debian's $1 .." >&2
+        said=$(mktemp)
+        quietly "$said" fetch_virtiofsd "$1" "$2" || {
+            rm "$said"
+            echo "Debian's package virtiofsd of $1 can't be had by apt-get here." >&2
+            exit 2
+        }
+        rm "$said"
+    fi
+    virtiofsd=("$libraries/ld-linux-x86-64.so.2" --library-path "$libraries" "$2/usr/libexec/virtiofsd")
+    # shellcheck disable=SC2034
+    version=$("${virtiofsd[@]}" --version)
+}
+
 # Runs a command with what it says in a file, and where it fails shows that, without the names of the places
 # that it asked: quietly FILE COMMAND..
 quietly() {
