@@ -419,6 +419,9 @@ int main(int count, char **given)
 	take_words(count, given);
 	if (words.logs && syslog_start())
 		return 1;
+	if (words.tag && words.says_more)
+		fprintf(stderr, "nizwarf-share: --tag=%s is let pass: the line of the machine says its tag\n",
+			words.tag);
 	by.workers = words.files.workers;
 	words.files.payload = is_mount() ? FUSE_DEVICE_PIPED : TRANSPORT_PAYLOAD;
 	by.quiet = !words.says_more;

@@ -786,9 +786,6 @@ void take_words(int count, char **given)
 	if (words.filter < 0)
 		words.filter = has_filter ? FILTER_KILL : FILTER_NONE;
 	words.files.xattr |= words.files.posix_acl || words.files.xattr_map || words.files.security_label;
-	if (words.tag && words.says_more)
-		fprintf(stderr, "nizwarf-share: --tag=%s is let pass: the line of the machine says its tag\n",
-			words.tag);
 	if (words.files.read_only)
 		words.flags |= MS_RDONLY;
 	if (words.flags & MS_RDONLY)

@@ -6,7 +6,7 @@
 # tests/mount/session.sh does what a person does, with one worker, with four, with a cache of what is written later, with file handles, with few descriptors; after each the descriptors of
 # the server are counted. A file that came after a remembered name is opened by who may alone. calls.py asks it what it
 # asks a plain folder. escape.c tries to leave the sandbox from within, and the server's capabilities and directories
-# are looked at. Files that the mount's kernel has by itself are as in the folder (apart.py), and what others change is
+# are looked at. Words of virtiofsd come to what they do there (words.py). Files that the mount's kernel has by itself are as in the folder (apart.py), and what others change is
 # seen where all is remembered (watched.py). Files of several file systems below the folder are told apart, and how many
 # are known is bounded; what a node takes is printed (nodes.py). Over vhost-user it is asked the hostile requests of
 # tests/beside, and more that are made up, and told messages that can't be (messages.py), under sanitizers and in its
@@ -137,6 +137,7 @@ try_escape() {
     [ "${#seccomp[@]}" = 0 ] || links=(-lseccomp)
     cc -std=c11 -O2 -Wall -Wextra -Werror -pthread "${seccomp[@]}" -I "$here/include" -I "$here/programs/transport" -o "$work/escape" \
         "$here/tests/share/escape.c" "$from/share_sandbox.c" "$from/share_users.c" "$from/passthrough_who.c" \
+        "$from/passthrough_ids.c" \
         "$from/../transport/fuse_backing.c" "$from/../transport/fuse_mount.c" \
         "$from/../transport/uring.c" "${links[@]}"
     mkdir -p "$work/folder"
@@ -369,7 +370,7 @@ try_words() {
     for words in "" "--cache=some $work/folder $work/mount" "$work/folder" "--no-such-word $work/folder $work/mount" \
         "$work/folder $work/folder/below" "$work/none $work/mount" "--fd=77 $work/folder" \
         "--socket-path=$work/socket $work/folder too-many" "--sandbox=some $work/folder $work/mount" \
-        "--thread-pool-size=65 $work/folder $work/mount" "-o no-such-option $work/folder $work/mount" \
+        "--thread-pool-size=-1 $work/folder $work/mount" "-o no-such-option $work/folder $work/mount" \
         "-o attr_timeout=0x1 $work/folder $work/mount" "--inode-file-handles=always $work/folder $work/mount" \
         "--node-limit=1 $work/folder $work/mount" \
         "--modcaps=sys_admin $work/folder $work/mount" "--modcaps=+some $work/folder $work/mount" \
@@ -378,6 +379,8 @@ try_words() {
         "--passthrough --writeback $work/folder $work/mount" "--watch --writeback $work/folder $work/mount" \
         "--passthrough --modcaps=-dac_override $work/folder $work/mount" \
         "--watch --inode-file-handles=prefer $work/folder $work/mount" \
+        "--allow-direct-io $work/folder $work/mount" \
+        "--passthrough --xattrmap=:map::user.virtiofs.: $work/folder $work/mount" \
         "--socket-path= $work/folder" "-o =5 $work/folder $work/mount" "-o fsname= $work/folder $work/mount"; do
         came=0
         # shellcheck disable=SC2086
@@ -388,7 +391,7 @@ try_words() {
     done
     # What can't be is named: a beginning of a word is none.
     for words in --no-such-word --cach=never --cache --xattr=1 -x "-o no-such-option" "-o loglevel" \
-        "-o sandbox=some"; do
+        "-o sandbox=some" --migration-mode=find-paths --migration-confirm-paths; do
         # shellcheck disable=SC2086
         timeout 10 "$share" "$work/folder" "$work/mount" $words > "$work/said" 2>&1 && wrong "it serves with $words"
         grep -qF -- "${words##*[ =]}" "$work/said" || grep -qF -- ": ${words##* }" "$work/said" ||
@@ -416,6 +419,82 @@ try_managers() {
     mkdir "$work/a,b"
     timeout 60 python3 -B "$here/tests/share/managers.py" "$ask" "$share" "$work" || wrong "a line of libvirt"
     echo "It is started as libvirt starts a daemon."
+}
+
+# Words of virtiofsd come to what they do there.
+try_virtiofsd() {
+    rm -rf "$work/words"
+    mkdir "$work/words"
+    timeout 300 python3 -B "$here/tests/share/words.py" "$ask" "$work/words" --known "$share" --log-level=error "$@" \
+        > "$work/said" 2>&1 || { cat "$work/said" >&2 && wrong "words of virtiofsd${*:+, with $*}"; }
+    ! grep -E 'ERROR: |WARNING: ThreadSanitizer|runtime error' "$work/said" >&2 || wrong "a sanitizer, by words of virtiofsd"
+    echo "Words of virtiofsd${*:+, with $*}: $(tail -n 1 "$work/said")"
+}
+
+# Files are mapped without a cache, if that is asked for.
+try_maps() {
+    local word came
+    mkdir -p "$work/folder" "$work/mount"
+    echo mapped > "$work/folder/mapped"
+    for word in --cache=never "--cache=never --allow-mmap"; do
+        # shellcheck disable=SC2086
+        "$share" --log-level=error $word "$work/folder" "$work/mount" &
+        server=$!
+        await_mount
+        came=$(timeout 20 python3 -B "$here/tests/share/maps.py" "$work/mount/mapped" 2>&1) || came="failed: $came"
+        umount "$work/mount"
+        wait "$server" || wrong "the server ended with $? with $word"
+        server=
+        case $word:$came in
+            *mmap:changed) [ "$(cat "$work/folder/mapped")" = Mapped ] || wrong "what is mapped isn't the folder's" ;;
+            *never:ENODEV) ;;
+            *) wrong "a shared map with $word came to $came" ;;
+        esac
+    done
+    echo "Files are mapped without a cache if that is asked for."
+}
+
+# The file of the process goes with the server, and one that isn't the server's is left alone. What is said is logged.
+try_files() {
+    local came=0 sandbox
+    rm -rf "$work/pid"
+    mkdir -p "$work/pid/folder"
+    for sandbox in namespace none; do
+        "$share" --log-level=error --sandbox="$sandbox" --socket-path="$work/pid/socket" "$work/pid/folder" &
+        server=$!
+        await_socket "$work/pid/socket"
+        [ "$(cat "$work/pid/socket.pid")" = "$server" ] || wrong "the file of the process, in the sandbox $sandbox"
+        kill "$server"
+        wait "$server" || wrong "the server with a file of its process ended with $?"
+        server=
+        [ ! -e "$work/pid/socket.pid" ] || wrong "the file of the process is left, in the sandbox $sandbox"
+    done
+    # (the process is that which serves in the background)
+    "$share" --log-level=error --daemonize --socket-path="$work/pid/socket" "$work/pid/folder"
+    [ "$(readlink "/proc/$(cat "$work/pid/socket.pid")/exe")" = "$(realpath "$share")" ] ||
+        wrong "the file of the process in the background"
+    kill "$(cat "$work/pid/socket.pid")"
+    for _ in $(seq 100); do
+        [ -e "$work/pid/socket.pid" ] || break
+        sleep 0.05
+    done
+    [ ! -e "$work/pid/socket.pid" ] || wrong "the file of the process in the background is left"
+    for came in "ln -s" ln mkfifo; do
+        echo other > "$work/pid/other"
+        if [ "$came" = mkfifo ]; then
+            mkfifo "$work/pid/socket.pid"
+        else
+            $came "$work/pid/other" "$work/pid/socket.pid"
+        fi
+        ! timeout 10 "$share" --socket-path="$work/pid/socket" "$work/pid/folder" 2> "$work/said" ||
+            wrong "it serves with $came in place of the file of the process"
+        if [ "$(cat "$work/pid/other")" != other ] || ! grep -q "socket.pid: " "$work/said"; then
+            wrong "$came in place of the file of the process: $(cat "$work/said")"
+        fi
+        rm "$work/pid/socket.pid" "$work/pid/other"
+    done
+    timeout 60 python3 -B "$here/tests/share/logged.py" "$share" "$work/pid" || wrong "--syslog"
+    echo "A file says which process serves, and the log what it says."
 }
 
 # A socket for a group has its mode from the beginning; and what takes its place meanwhile isn't the group's.
@@ -523,6 +602,9 @@ try_sanitizers() {
     build_transport share vfs_door "${flags[@]}"
     share=$transport
     ask_hostile "under the sanitizers $1" --xattr --announce-submounts "${words[@]}"
+    ask_hostile "with more words under the sanitizers $1" --security-label --xattrmap=:map::user.virtiofs.: \
+        --translate-uid=map:1:100000:65536 --allow-direct-io "${words[@]}"
+    try_virtiofsd "${words[@]}"
     for way in "${ways[@]}"; do
         try_mount --thread-pool-size=4 --xattr --log-level=error -o "$way" "${words[@]}"
         try_calls -o "$way" "${words[@]}"
@@ -546,6 +628,10 @@ part "words, and what is printed"
 try_words
 part "lines of libvirt"
 try_managers
+part "words of virtiofsd"
+try_virtiofsd
+try_maps
+try_files
 part "a socket for a group"
 try_group
 part "in a chroot"
@@ -611,6 +697,8 @@ part "what a client knows of files"
 try_nodes
 part "hostile requests"
 ask_hostile "over vhost-user, in its sandbox" --xattr
+ask_hostile "with attributes and ids that are translated" --security-label --xattrmap=:map::user.virtiofs.: \
+    --translate-uid=map:1:100000:65536 --translate-gid=squash-guest:1:100000:65536 --allow-direct-io --allow-mmap
 part "hostile requests, without a sandbox and with one worker"
 ask_hostile "without a sandbox, one worker" --xattr --announce-submounts --sandbox=none --seccomp=none \
     --thread-pool-size=1
