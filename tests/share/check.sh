@@ -32,6 +32,9 @@ else
     echo "Linux offers no io_uring here: mounts over it were left out." >&2
 fi
 of_mounts=$(sed -n '/^try_mounts()/,/^}/p' "$0" | grep -cE '^ *part "')
+# Words by which names and ids are others on the host, and what is read too.
+translates=(--xattrmap=:map::user.virtiofs.: --translate-uid=map:1000:100000:65536
+    --translate-gid=squash-guest:1000:100000:65536 --allow-direct-io --no-killpriv-v2)
 part_count=$(($(grep -cE '^ *part "' "$0") + (${#ways[@]} - 1) * of_mounts))
 
 # Tells of what is wrong.
@@ -602,8 +605,7 @@ try_sanitizers() {
     build_transport share vfs_door "${flags[@]}"
     share=$transport
     ask_hostile "under the sanitizers $1" --xattr --announce-submounts "${words[@]}"
-    ask_hostile "with more words under the sanitizers $1" --security-label --xattrmap=:map::user.virtiofs.: \
-        --translate-uid=map:1:100000:65536 --allow-direct-io "${words[@]}"
+    ask_hostile "with more words under the sanitizers $1" "${translates[@]}" "${words[@]}"
     try_virtiofsd "${words[@]}"
     for way in "${ways[@]}"; do
         try_mount --thread-pool-size=4 --xattr --log-level=error -o "$way" "${words[@]}"
@@ -697,8 +699,7 @@ part "what a client knows of files"
 try_nodes
 part "hostile requests"
 ask_hostile "over vhost-user, in its sandbox" --xattr
-ask_hostile "with attributes and ids that are translated" --security-label --xattrmap=:map::user.virtiofs.: \
-    --translate-uid=map:1:100000:65536 --translate-gid=squash-guest:1:100000:65536 --allow-direct-io --allow-mmap
+ask_hostile "with attributes and ids that are translated" "${translates[@]}"
 part "hostile requests, without a sandbox and with one worker"
 ask_hostile "without a sandbox, one worker" --xattr --announce-submounts --sandbox=none --seccomp=none \
     --thread-pool-size=1

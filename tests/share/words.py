@@ -157,6 +157,13 @@ def options():
         with Daemon(*words) as one:
             agreed = " ".join(name for bit, name in OPTIONS.items() if one.agreed & bit)
             came[f"options of {' '.join(words) or 'no word'}"] = agreed
+    with Daemon("--security-label") as one:
+        for what, name, value in (("a long name", "user." + "n" * 300, b"1"), ("another kind", "kind", b"1"),
+                                  ("a list", "system.posix_acl_access", b"1"), ("a long value", "user.l", bytes(65537))):
+            made = what.replace(" ", "-")
+            error, _ = one.ask(MKDIR, struct.pack("<II", 0o755, 0) + made.encode() + b"\0", extensions=label(name, value))
+            is_there = os.path.exists(f"{one.folder}/{made}")
+            came[f"a label of {what}"] = f"{name_of(error)}, {'made' if is_there else 'not made'}"
     with Daemon("--security-label", flags=ASYNC_READ) as one:
         came["a client without labels"] = name_of(one.error)
 
