@@ -161,6 +161,7 @@ int xattr_map_to_host(const struct xattr_map *map, const char *name, struct xatt
 {
 	const struct rule *rule = map->rules;
 	const char *prepend = "";
+	const size_t size = strnlen(name, XATTR_NAME_MAX + 1);
 	size_t len;
 
 	/* (one holds: is_whole) */
@@ -174,10 +175,11 @@ int xattr_map_to_host(const struct xattr_map *map, const char *name, struct xatt
 		prepend = rule->prepend;
 	/* (as Linux answers of a longer one) */
 	len = strlen(prepend);
-	if (len + strlen(name) > XATTR_NAME_MAX)
+	if (len + size > XATTR_NAME_MAX)
 		return ERANGE;
 	memcpy(host->bytes, prepend, len);
-	strcpy(host->bytes + len, name);
+	memcpy(host->bytes + len, name, size);
+	host->bytes[len + size] = 0;
 	return 0;
 }
 

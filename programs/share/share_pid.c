@@ -63,9 +63,11 @@ int pid_file_take(const char *socket_path)
 	}
 	if (come > 0)
 		return 0;
-	if (come < 0 && errno == EWOULDBLOCK)
-		fprintf(stderr, "nizwarf-share: another server has %s\n", socket_path);
-	return failed();
+	if (come < 0 && errno != EWOULDBLOCK)
+		return failed();
+	fprintf(stderr, "nizwarf-share: another server has %s, or %s\n", socket_path, path);
+	pid_file_leave();
+	return -1;
 }
 
 int pid_file_write(void)

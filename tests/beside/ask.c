@@ -22,8 +22,9 @@
 #define PATIENCE 30
 #endif
 
-/* The request lies in the memory from REQUEST on, the room from ROOM on. */
-enum { ENTRIES = 128, PIECES = 64, REQUEST = 1 << 20, ROOM = 4 << 20, MEMORY = 8 << 20 };
+/* The request lies in the memory from REQUEST on, the room from ROOM on: so the data of a WRITE, and those of a READ in
+ * a room behind the header's, begin with a page. */
+enum { ENTRIES = 128, PIECES = 64, REQUEST = (1 << 20) - 80, ROOM = (4 << 20) - 16, MEMORY = 8 << 20 };
 
 /* Of the protocol, of the daemon's features, and messages and directions of a state. */
 enum {

@@ -19,11 +19,12 @@ sys.path.insert(0, os.path.dirname(os.path.abspath(__file__)) + "/../beside")
 from requests import line
 
 STORED = pathlib.Path(__file__).with_suffix(".txt")
-LOOKUP, GETATTR, SETATTR, SYMLINK, MKNOD, MKDIR, OPEN, WRITE = 1, 3, 4, 6, 8, 9, 14, 16
+LOOKUP, GETATTR, SETATTR, SYMLINK, MKNOD, MKDIR, OPEN, READ, WRITE = 1, 3, 4, 6, 8, 9, 14, 15, 16
 SETXATTR, GETXATTR, LISTXATTR, REMOVEXATTR, INIT, ACCESS, CREATE = 21, 22, 23, 24, 26, 34, 35
 KILLPRIV_V2, SECURITY_CTX, ALLOW_MMAP = 1 << 28, 1 << 32, 1 << 36
 OPTIONS = {KILLPRIV_V2: "HANDLE_KILLPRIV_V2", SECURITY_CTX: "SECURITY_CTX", ALLOW_MMAP: "DIRECT_IO_ALLOW_MMAP"}
 INIT_EXT, ASYNC_READ, CREATE_SUPP_GROUP = 1 << 30, 1, 1 << 34
+POSIX_ACL, DONT_MASK, SETXATTR_EXT = 1 << 20, 1 << 6, 1 << 29
 MODE, UID, GID, SIZE = 1, 2, 4, 8
 LAST = 2**32 - 2
 
@@ -42,6 +43,10 @@ KNOWN = {
     # (an attribute that is set is no change of the file)
     "capabilities after SETXATTR of another": "there",
     "capabilities after a change of a link's owner": "0",
+    # (the bit is the host's to take, and it knows no list by that name)
+    "a list of another name": "0 0o100755, user.virtiofs.system.posix_acl_access=1",
+    # (O_DIRECT takes no bytes that lie anywhere, and a client's cache has such)
+    "O_DIRECT: behind WRITE of nine bytes from a cache": "",
     # (a new file goes by the host's cache as others do)
     "flags of a new O_DIRECT without a word": "",
 }
@@ -88,11 +93,11 @@ class Daemon:
             if os.path.exists(path):
                 os.unlink(path)
 
-    def ask(self, opcode, body=b"", node=1, room=144, uid=0, gid=0, extensions=b""):
+    def ask(self, opcode, body=b"", node=1, room=144, uid=0, gid=0, extensions=b"", cuts=(40,)):
         """The error, and what is behind the header."""
         header = struct.pack("<IIQQIIIHH", 40 + len(body) + len(extensions), opcode, 1, node, uid, gid, 1,
                              len(extensions) // 8, 0)
-        self.front.stdin.write(line(f"16+{room}", header + body + extensions) + "\n")
+        self.front.stdin.write(line(f"16+{room}", header + body + extensions, cuts) + "\n")
         self.front.stdin.flush()
         said = self.front.stdout.readline().split()
         reply = bytes.fromhex(said[1]) if len(said) > 1 else b""
@@ -164,6 +169,8 @@ def options():
             error, _ = one.ask(MKDIR, struct.pack("<II", 0o755, 0) + made.encode() + b"\0", extensions=label(name, value))
             is_there = os.path.exists(f"{one.folder}/{made}")
             came[f"a label of {what}"] = f"{name_of(error)}, {'made' if is_there else 'not made'}"
+        error, _ = one.ask(MKDIR, struct.pack("<II", 0o755, 0) + b"none\0", extensions=struct.pack("<II", 8, 0))
+        came["no label"] = f"{name_of(error)}, {os.path.exists(one.folder + '/none')}"
     with Daemon("--security-label", flags=ASYNC_READ) as one:
         came["a client without labels"] = name_of(one.error)
 
@@ -247,6 +254,18 @@ def capabilities():
     hold("SETXATTR of another", lambda one, node: one.ask(SETXATTR, struct.pack("<II", 1, 0) + b"user.x\0001", node, 0)[0])
 
 
+def lists():
+    """What the list of a file leaves of its set-group-ID bit, set by who isn't of its group, where the host has it under
+    another name."""
+    words, had = ["--posix-acl", "--xattrmap=:map::user.virtiofs.:"], POSIX_ACL | DONT_MASK | SETXATTR_EXT
+    with Daemon(*words, flags=had) as one:
+        os.chmod(one.folder + "/file", 0o2755)
+        body = struct.pack("<IIII", 1, 0, 1, 0) + b"system.posix_acl_access\0" + b"1"
+        error, _ = one.ask(SETXATTR, body, one.look_up("file"), 0)
+        came["a list of another name"] = f"{name_of(error)} {oct(os.stat(one.folder + '/file').st_mode)}, " \
+            + changes({}, one.folder + "/file")
+
+
 def flags():
     for words in ([], ["--allow-direct-io"], ["--preserve-noatime"], ["-o", "allow_direct_io"],
                   ["-o", "allow_direct_io,no_allow_direct_io"]):
@@ -262,6 +281,23 @@ def flags():
             with Daemon(*words) as one:
                 one.ask(CREATE, struct.pack("<IIII", os.O_RDWR | os.O_DIRECT, 0o644, 0, 0) + b"made\0", room=160)
                 came[f"flags of a new O_DIRECT with{'out' if not words else ''} {with_words}"] = one.flags_of("made")
+
+
+def direct():
+    """What is written and read past the host's cache lies by pages; and what a client writes out of its own cache goes by
+    the host's from then on."""
+    def write(one, node, handle, size, cached):
+        body = struct.pack("<QQIIQII", handle, 0, size, cached, 0, 0, 0) + b"w" * size
+        return name_of(one.ask(WRITE, body, node, 8, cuts=(40, 80))[0])
+
+    with Daemon("--allow-direct-io") as one:
+        node = one.look_up("file")
+        handle = one.open(node, os.O_RDWR | os.O_DIRECT)[1]
+        came["O_DIRECT: WRITE of a page"] = write(one, node, handle, 4096, 0)
+        error, said = one.ask(READ, struct.pack("<QQIIQII", handle, 0, 8192, 0, 0, 0, 0), node, 8192)
+        came["O_DIRECT: READ of two"] = f"{name_of(error)} {said == b'w' * 4096 + bytes(4096)}"
+        write(one, node, handle, 9, 1)
+        came["O_DIRECT: behind WRITE of nine bytes from a cache"] = one.flags_of("file")
 
 
 # Words, who asks (a user and a group), and the owners of host's files that are looked at.
@@ -372,7 +408,7 @@ def all_words():
 
 
 def main():
-    for part in (options, labels, rules, capabilities, flags, ids, pid_file, all_words):
+    for part in (options, labels, rules, capabilities, lists, flags, direct, ids, pid_file, all_words):
         part()
     lines = [f"{key}: {value}".replace("\n", " ") for key, value in came.items()]
     if HOW == "--write":
