@@ -14,8 +14,6 @@
 enum { HEADER = 16, LONGEST_VALUE = 65536 };
 /* What is asked of a file. */
 enum { WANTED = STATX_BASIC_STATS | STATX_MNT_ID };
-/* The flag of a SETXATTR of an access control list by who isn't of the file's group. */
-enum { CLEARS_GROUP = 1 };
 /* For how many milliseconds a client remembers for a short time. */
 enum { SHORT_TIME = 1000 };
 

@@ -2,10 +2,8 @@
 #define _GNU_SOURCE
 #include <dirent.h>
 #include <errno.h>
-#include <fcntl.h>
 #include <stdlib.h>
 #include <string.h>
-#include <sys/stat.h>
 #include <sys/xattr.h>
 #include <unistd.h>
 #include "passthrough_call.h"
@@ -235,10 +233,13 @@ static int find_name_of(const struct call *call, const char **name, struct xattr
 int lose_capability(const struct call *call, int fd)
 {
 	const char *name = call->all->options.capability;
+	const struct fd_name file = name_fd(fd);
+	int error = name ? failed(removexattr(file.bytes, name)) : 0;
 
-	if (!name || !removexattr(name_fd(fd).bytes, name))
-		return 0;
-	return errno == ENODATA || errno == EOPNOTSUPP ? 0 : errno;
+	/* (of a file that the host lets be appended to alone none is removed) */
+	if (error == EPERM && getxattr(file.bytes, name, NULL, 0) < 0)
+		error = errno;
+	return error == ENODATA || error == EOPNOTSUPP ? 0 : error;
 }
 
 int label(const struct call *call, int fd)
@@ -253,22 +254,6 @@ int label(const struct call *call, int fd)
 				       asked->context.len, 0));
 }
 
-/* Takes the set-group-ID bit away, as the host does for who sets an access control list and isn't of the file's group,
- * where it doesn't know the list by its name. 0, or an error. */
-static int lose_group_bit(const struct call *call)
-{
-	struct stat seen;
-
-	if (!call->all->options.xattr_map || !(nizwarf_setxattr_more_flags(call->asked) & CLEARS_GROUP))
-		return 0;
-	if (fstatat(call->node.fd, "", &seen, AT_EMPTY_PATH))
-		return errno;
-	if (!(seen.st_mode & S_ISGID) || S_ISLNK(seen.st_mode))
-		return 0;
-	return failed(fchmodat(call->all->nodes.proc, name_fd(call->node.fd).bytes,
-			       seen.st_mode & 07777 & ~(mode_t)S_ISGID, 0));
-}
-
 int set_xattr(const struct call *call)
 {
 	const nizwarf_call *asked = call->asked;
@@ -276,8 +261,6 @@ int set_xattr(const struct call *call)
 	struct xattr_name host;
 	int error = find_name_of(call, &name, &host);
 
-	if (!error)
-		error = lose_group_bit(call);
 	if (error)
 		return error;
 	lose_fsetid(call);

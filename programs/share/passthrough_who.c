@@ -9,7 +9,8 @@
 #include <unistd.h>
 #include "passthrough_call.h"
 
-/* A group of nobody's. */
+/* The flag of a SETXATTR of an access control list by who isn't of the file's group; and a group of nobody's. */
+enum { CLEARS_GROUP = 1 };
 #define NO_GROUP (UINT32_MAX - 1)
 
 static int set_capabilities(uint64_t permitted, uint64_t effective)

@@ -95,79 +95,6 @@ static void take_log_level(const char *value)
 	words.traces = level >= 4;
 }
 
-/* The number of a capability. */
-static int capability_of(const char *name)
-{
-	/* Those of linux/capability.h, from 0 on. */
-	static const char *const known[] = {
-		"chown",
-		"dac_override",
-		"dac_read_search",
-		"fowner",
-		"fsetid",
-		"kill",
-		"setgid",
-		"setuid",
-		"setpcap",
-		"linux_immutable",
-		"net_bind_service",
-		"net_broadcast",
-		"net_admin",
-		"net_raw",
-		"ipc_lock",
-		"ipc_owner",
-		"sys_module",
-		"sys_rawio",
-		"sys_chroot",
-		"sys_ptrace",
-		"sys_pacct",
-		"sys_admin",
-		"sys_boot",
-		"sys_nice",
-		"sys_resource",
-		"sys_time",
-		"sys_tty_config",
-		"mknod",
-		"lease",
-		"audit_write",
-		"audit_control",
-		"setfcap",
-		"mac_override",
-		"mac_admin",
-		"syslog",
-		"wake_alarm",
-		"block_suspend",
-		"audit_read",
-		"perfmon",
-		"bpf",
-		"checkpoint_restore",
-	};
-
-	for (int i = 0; i < (int)(sizeof(known) / sizeof(*known)); i++)
-		if (!strcasecmp(name, known[i]))
-			return i;
-	refuse("--modcaps: there is no capability ", name);
-}
-
-/* Names with + or - before each, and colons between them. */
-static void take_capabilities(char *rest)
-{
-	char *one;
-
-	while ((one = strsep(&rest, ":"))) {
-		uint64_t bit;
-
-		if (!*one)
-			continue;
-		if (*one != '+' && *one != '-')
-			refuse("--modcaps: + or - is wanted before ", one);
-		bit = UINT64_C(1) << capability_of(one + 1);
-		words.files.more_capabilities &= ~bit;
-		words.files.fewer_capabilities &= ~bit;
-		*(*one == '+' ? &words.files.more_capabilities : &words.files.fewer_capabilities) |= bit;
-	}
-}
-
 /* Takes an option of mount(8) that all file systems have. Whether it is one. */
 static bool take_flag(const char *key)
 {
@@ -226,6 +153,13 @@ static bool take_switch(const char *key)
 	return false;
 }
 
+/* Whether an attribute has another name on the host. */
+static bool is_renamed(const char *name, struct xattr_name *host)
+{
+	return words.files.xattr_map && !xattr_map_to_host(words.files.xattr_map, name, host) &&
+	       strcmp(host->bytes, name) != 0;
+}
+
 /* Takes the rules of attributes, and finds what they make of the name of a file's capabilities. */
 static void take_xattr_map(const char *rules)
 {
@@ -240,10 +174,7 @@ static void take_xattr_map(const char *rules)
 		fprintf(stderr, "nizwarf-share: --xattrmap: %s%s\n", text, why);
 		refuse("--xattrmap is as :map::user.virtiofs.: and not ", rules);
 	}
-	words.files.capability = NULL;
-	if (!xattr_map_to_host(words.files.xattr_map, XATTR_NAME_CAPS, &capability) &&
-	    strcmp(capability.bytes, XATTR_NAME_CAPS) != 0)
-		words.files.capability = capability.bytes;
+	words.files.capability = is_renamed(XATTR_NAME_CAPS, &capability) ? capability.bytes : NULL;
 }
 
 static const char *const sandboxes[] = { "none", "chroot", "namespace", NULL };
@@ -697,6 +628,8 @@ static void hold_mount_together(void)
 /* Refuses words that can't be together. */
 static void hold_together(void)
 {
+	struct xattr_name host;
+
 	if (!words.folder || !*words.folder)
 		refuse("a folder is wanted", "");
 	if (is_mount() && !words.mount_point)
@@ -714,6 +647,10 @@ static void hold_together(void)
 	if ((words.uids.count || words.gids.count) &&
 	    (geteuid() == 0 || (words.sandbox >= 0 && words.sandbox != SANDBOX_NAMESPACE)))
 		refuse("who isn't root has --uid-map and --gid-map, and with --sandbox=namespace", "");
+	if (words.files.posix_acl && (is_renamed(XATTR_NAME_POSIX_ACL_ACCESS, &host) ||
+				      is_renamed(XATTR_NAME_POSIX_ACL_DEFAULT, &host)))
+		refuse("--posix-acl wants lists under their own names, which the host looks at: --xattrmap begins with ",
+		       ":ok:all:system.posix_acl_:system.posix_acl_:");
 	if (words.files.posix_acl &&
 	    (ids_are_translated(&words.files.users) || ids_are_translated(&words.files.groups)))
 		refuse("--translate-uid and --translate-gid go with no --posix-acl, whose lists have ids too",

@@ -36,6 +36,9 @@ void take_words(int count, char **given);
 /* Takes options with commas between them, which it takes apart. */
 void take_options(char *rest);
 
+/* Takes capabilities with + or - before each and colons between them, which it takes apart. */
+void take_capabilities(char *rest);
+
 /* Whether a folder is mounted, and not served on a socket. */
 bool is_mount(void);
 

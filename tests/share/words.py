@@ -24,7 +24,6 @@ SETXATTR, GETXATTR, LISTXATTR, REMOVEXATTR, INIT, ACCESS, CREATE = 21, 22, 23, 2
 KILLPRIV_V2, SECURITY_CTX, ALLOW_MMAP = 1 << 28, 1 << 32, 1 << 36
 OPTIONS = {KILLPRIV_V2: "HANDLE_KILLPRIV_V2", SECURITY_CTX: "SECURITY_CTX", ALLOW_MMAP: "DIRECT_IO_ALLOW_MMAP"}
 INIT_EXT, ASYNC_READ, CREATE_SUPP_GROUP = 1 << 30, 1, 1 << 34
-POSIX_ACL, DONT_MASK, SETXATTR_EXT = 1 << 20, 1 << 6, 1 << 29
 MODE, UID, GID, SIZE = 1, 2, 4, 8
 LAST = 2**32 - 2
 
@@ -43,8 +42,8 @@ KNOWN = {
     # (an attribute that is set is no change of the file)
     "capabilities after SETXATTR of another": "there",
     "capabilities after a change of a link's owner": "0",
-    # (the bit is the host's to take, and it knows no list by that name)
-    "a list of another name": "0 0o100755, user.virtiofs.system.posix_acl_access=1",
+    # (the host holds modes and lists together, by the name that it knows)
+    "word --posix-acl --xattrmap=:map::user.virtiofs.:": "refused",
     # (O_DIRECT takes no bytes that lie anywhere, and a client's cache has such)
     "O_DIRECT: behind WRITE of nine bytes from a cache": "",
     # (a new file goes by the host's cache as others do)
@@ -254,18 +253,6 @@ def capabilities():
     hold("SETXATTR of another", lambda one, node: one.ask(SETXATTR, struct.pack("<II", 1, 0) + b"user.x\0001", node, 0)[0])
 
 
-def lists():
-    """What the list of a file leaves of its set-group-ID bit, set by who isn't of its group, where the host has it under
-    another name."""
-    words, had = ["--posix-acl", "--xattrmap=:map::user.virtiofs.:"], POSIX_ACL | DONT_MASK | SETXATTR_EXT
-    with Daemon(*words, flags=had) as one:
-        os.chmod(one.folder + "/file", 0o2755)
-        body = struct.pack("<IIII", 1, 0, 1, 0) + b"system.posix_acl_access\0" + b"1"
-        error, _ = one.ask(SETXATTR, body, one.look_up("file"), 0)
-        came["a list of another name"] = f"{name_of(error)} {oct(os.stat(one.folder + '/file').st_mode)}, " \
-            + changes({}, one.folder + "/file")
-
-
 def flags():
     for words in ([], ["--allow-direct-io"], ["--preserve-noatime"], ["-o", "allow_direct_io"],
                   ["-o", "allow_direct_io,no_allow_direct_io"]):
@@ -375,6 +362,8 @@ WRONG = (
 )
 RIGHT = ("--tag=" + "t" * 36, "--inode-file-handles=fallback", "--log-level=WARN", "--cache=Never", "-d", "-f",
          "--thread-pool-size=100", "-o xattrmap=:map::user.virtiofs.:", "--translate-uid=map|1|2|3", "--writeback",
+         "--posix-acl --xattrmap=:map::user.virtiofs.:",
+         "--posix-acl --xattrmap=:ok:all:system.posix_acl_:system.posix_acl_::map::user.virtiofs.:",
          "--translate-uid=map:0:0:4294967295 --translate-gid=map:0:0:4294967295",
          "--translate-uid=guest:1:2:3 --translate-uid=host:1:2:3 --translate-uid=guest:4:2:3")
 
@@ -408,7 +397,7 @@ def all_words():
 
 
 def main():
-    for part in (options, labels, rules, capabilities, lists, flags, direct, ids, pid_file, all_words):
+    for part in (options, labels, rules, capabilities, flags, direct, ids, pid_file, all_words):
         part()
     lines = [f"{key}: {value}".replace("\n", " ") for key, value in came.items()]
     if HOW == "--write":

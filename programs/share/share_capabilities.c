@@ -1,0 +1,78 @@
+/* The capabilities that --modcaps says: share_words.h. */
+#define _GNU_SOURCE
+#include <string.h>
+#include <strings.h>
+#include "share_words.h"
+
+/* The number of a capability. */
+static int capability_of(const char *name)
+{
+	/* Those of linux/capability.h, from 0 on. */
+	static const char *const known[] = {
+		"chown",
+		"dac_override",
+		"dac_read_search",
+		"fowner",
+		"fsetid",
+		"kill",
+		"setgid",
+		"setuid",
+		"setpcap",
+		"linux_immutable",
+		"net_bind_service",
+		"net_broadcast",
+		"net_admin",
+		"net_raw",
+		"ipc_lock",
+		"ipc_owner",
+		"sys_module",
+		"sys_rawio",
+		"sys_chroot",
+		"sys_ptrace",
+		"sys_pacct",
+		"sys_admin",
+		"sys_boot",
+		"sys_nice",
+		"sys_resource",
+		"sys_time",
+		"sys_tty_config",
+		"mknod",
+		"lease",
+		"audit_write",
+		"audit_control",
+		"setfcap",
+		"mac_override",
+		"mac_admin",
+		"syslog",
+		"wake_alarm",
+		"block_suspend",
+		"audit_read",
+		"perfmon",
+		"bpf",
+		"checkpoint_restore",
+	};
+
+	for (int i = 0; i < (int)(sizeof(known) / sizeof(*known)); i++)
+		if (!strcasecmp(name, known[i]))
+			return i;
+	refuse("--modcaps: there is no capability ", name);
+}
+
+/* Names with + or - before each, and colons between them. */
+void take_capabilities(char *rest)
+{
+	char *one;
+
+	while ((one = strsep(&rest, ":"))) {
+		uint64_t bit;
+
+		if (!*one)
+			continue;
+		if (*one != '+' && *one != '-')
+			refuse("--modcaps: + or - is wanted before ", one);
+		bit = UINT64_C(1) << capability_of(one + 1);
+		words.files.more_capabilities &= ~bit;
+		words.files.fewer_capabilities &= ~bit;
+		*(*one == '+' ? &words.files.more_capabilities : &words.files.fewer_capabilities) |= bit;
+	}
+}
