@@ -19,6 +19,8 @@ struct rule {
 };
 
 struct xattr_map {
+	/* What the rules point into. */
+	char *text;
 	size_t count;
 	struct rule rules[];
 };
@@ -140,11 +142,12 @@ const struct xattr_map *xattr_map_read(const char *text, const char **why, unsig
 	/* (a rule has five signs, or four, and then it may stand for three) */
 	const size_t most = strlen(text) / 5 + 4;
 	struct xattr_map *map = calloc(1, sizeof(*map) + most * sizeof(*map->rules));
-	char *copy = strdup(text);
 
 	*rule = 0;
-	*why = map && copy ? read_rules(copy, map) : "there is no memory";
-	if (*why && map && copy)
+	if (map)
+		map->text = strdup(text);
+	*why = map && map->text ? read_rules(map->text, map) : "there is no memory";
+	if (*why && map && map->text)
 		*rule = (unsigned)map->count + 1;
 	else if (!*why && !map->count)
 		*why = "there is no rule";
@@ -152,8 +155,9 @@ const struct xattr_map *xattr_map_read(const char *text, const char **why, unsig
 		*why = "no rule holds for what is left, as :bad:all::: would at its end";
 	if (!*why)
 		return map;
+	if (map)
+		free(map->text);
 	free(map);
-	free(copy);
 	return NULL;
 }
 

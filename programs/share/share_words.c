@@ -164,13 +164,14 @@ static bool is_renamed(const char *name, struct xattr_name *host)
 static void take_xattr_map(const char *rules)
 {
 	static struct xattr_name capability;
-	char text[24];
+	char text[24] = "";
 	const char *why;
 	unsigned rule;
 
 	words.files.xattr_map = xattr_map_read(rules, &why, &rule);
 	if (!words.files.xattr_map) {
-		snprintf(text, sizeof(text), rule ? "rule %u: " : "", rule);
+		if (rule)
+			snprintf(text, sizeof(text), "rule %u: ", rule);
 		fprintf(stderr, "nizwarf-share: --xattrmap: %s%s\n", text, why);
 		refuse("--xattrmap is as :map::user.virtiofs.: and not ", rules);
 	}
@@ -416,28 +417,29 @@ static void take_translation(const char *key, const char *rule, struct ids *ids)
 static bool take_plain(int word)
 {
 	static const struct {
+		bool *what;
 		int word;
-		bool *what, is;
+		bool is;
 	} known[] = {
-		{ SYSLOG, &words.logs, true },
-		{ ALLOW_MMAP, &words.files.allow_mmap, true },
-		{ ALLOW_DIRECT_IO, &words.files.allow_direct, true },
-		{ WRITEBACK, &words.files.writeback, true },
-		{ XATTR, &words.files.xattr, true },
-		{ SECURITY_LABEL, &words.files.security_label, true },
-		{ POSIX_ACL, &words.files.posix_acl, true },
-		{ FLOCK, &words.files.flock, true },
-		{ POSIX_LOCK, &words.files.posix_lock, true },
-		{ PASSTHROUGH, &words.files.passthrough, true },
-		{ WATCH, &words.watches, true },
-		{ READONLY, &words.files.read_only, true },
-		{ NO_READDIRPLUS, &words.files.readdirplus, false },
-		{ ANNOUNCE, &words.files.announce_submounts, true },
-		{ NO_ANNOUNCE, &words.files.announce_submounts, false },
-		{ KILLPRIV, &words.files.kills_bits, true },
-		{ NO_KILLPRIV, &words.files.kills_bits, false },
-		{ NOATIME, &words.files.keeps_noatime, true },
-		{ DAEMONIZE, &words.daemonizes, true },
+		{ &words.logs, SYSLOG, true },
+		{ &words.files.allow_mmap, ALLOW_MMAP, true },
+		{ &words.files.allow_direct, ALLOW_DIRECT_IO, true },
+		{ &words.files.writeback, WRITEBACK, true },
+		{ &words.files.xattr, XATTR, true },
+		{ &words.files.security_label, SECURITY_LABEL, true },
+		{ &words.files.posix_acl, POSIX_ACL, true },
+		{ &words.files.flock, FLOCK, true },
+		{ &words.files.posix_lock, POSIX_LOCK, true },
+		{ &words.files.passthrough, PASSTHROUGH, true },
+		{ &words.watches, WATCH, true },
+		{ &words.files.read_only, READONLY, true },
+		{ &words.files.readdirplus, NO_READDIRPLUS, false },
+		{ &words.files.announce_submounts, ANNOUNCE, true },
+		{ &words.files.announce_submounts, NO_ANNOUNCE, false },
+		{ &words.files.kills_bits, KILLPRIV, true },
+		{ &words.files.kills_bits, NO_KILLPRIV, false },
+		{ &words.files.keeps_noatime, NOATIME, true },
+		{ &words.daemonizes, DAEMONIZE, true },
 	};
 
 	for (size_t i = 0; i < sizeof(known) / sizeof(*known); i++)
