@@ -239,6 +239,18 @@ try_user() {
         [ ! -e "$work/user/socket" ] || wrong "the socket of a user is left, with ${words%=*}"
     done
     umount -q /etc/subuid /etc/subgid || true
+    # A file of another user's is opened without O_NOATIME, or not at all: as virtiofsd does.
+    echo others > "$work/user/others"
+    for words in --log-level=error:0 --preserve-noatime:1; do
+        "${user[@]}" "$work/share" --log-level=error "${words%:*}" --socket-path="$work/user/socket" "$work/user" &
+        server=$!
+        await_socket "$work/user/socket"
+        came=$(timeout 20 python3 -B "$here/tests/share/noatime.py" "$ask" "$work/user/socket" others) || came=failed
+        [ "$came" = "${words#*:}" ] || wrong "O_NOATIME of another user's file with ${words%:*} came to $came"
+        kill "$server"
+        wait "$server" || wrong "a share by a user ended with $?, with ${words%:*}"
+        server=
+    done
     for words in --uid-map=0:65534:1 --uid-map=:0:65534:1 --uid-map=:0:65534:0: --gid-map=:0:65534:1:1: --gid-map=:0:x:1: \
         --gid-map=:0:4294967295:1: "--uid-map=:0:65534:1: --sandbox=none"; do
         came=0
