@@ -11,10 +11,14 @@ struct door_session {
 	struct fuse_session se;
 	uint64_t options;
 	uint32_t max_buffer;
+	/* How many interrupts are kept in libfuse's list: each is of a request that no file system asked about. */
+	unsigned int kept;
 };
 
 struct door_req {
 	struct fuse_req req;
+	/* It is in libfuse's list, or ends by more than one: its end takes the session's lock. */
+	int known;
 	/* Its `call` is 0 where the door told none: the reply is then a header alone, and nothing else is read. */
 	nizwarf_call call;
 };
@@ -24,14 +28,31 @@ static inline struct door_session *door_of(struct fuse_session *se)
 	return (struct door_session *)(void *)se;
 }
 
-static inline nizwarf_call *call_of(fuse_req_t req)
+static inline struct door_req *own_of(fuse_req_t req)
 {
-	return &((struct door_req *)(void *)req)->call;
+	return (struct door_req *)(void *)req;
 }
 
-/* A request of zeros, but for its call, and its end. */
+static inline nizwarf_call *call_of(fuse_req_t req)
+{
+	return &own_of(req)->call;
+}
+
+/* A request of zeros, but for its lock, which is ready, and its call; and its end. */
 static struct fuse_req *door_take_req(void);
 static void door_give_req(struct fuse_req *req);
+
+/* From now on an interrupt finds the request; and it knows of one that came before. */
+static void door_watch(fuse_req_t req);
+/* Ends a request of which no other thread knows. 0: it is not so, and nothing was done. */
+static int door_end_alone(fuse_req_t req);
+/* Ends what a session keeps. */
+static void door_end_session(struct fuse_session *se);
+
+/* What a reply and a listing tell of an entry. */
+static void fill_entry(struct fuse_entry_out *out, const struct fuse_entry_param *e);
+/* Whether records of a directory are whole, and what Linux takes. */
+static int are_records(const nizwarf_call *call, const char *at, size_t len);
 
 /* Each reply and each notice but those with data goes by these two. */
 static int send_reply_iov(fuse_req_t req, int error, struct iovec *iov, int count);

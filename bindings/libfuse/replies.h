@@ -3,14 +3,13 @@
  * answers is held against the call that it was asked: a record of another kind, a number that is no error, a text
  * that is too long come to the caller as an error, where the kernel would refuse the reply, and the caller wait. */
 
-/* Memory of a thread: a slot, a room for a reply that has no data, the request that ended last, and an answer of which
- * no more than `error` and `count` is ever set. */
+/* Memory of a thread: a slot, a room for a reply that has no data, the request that ended last, and an answer. */
 struct door_thread {
 	nizwarf_slot slot;
 	uint8_t *room;
 	size_t size;
 	struct door_req *spare;
-	nizwarf_answer plain;
+	nizwarf_answer answer;
 };
 
 enum {
@@ -26,13 +25,20 @@ enum {
 static pthread_key_t door_key;
 static __thread __attribute__((tls_model("initial-exec"))) struct door_thread *door_mine;
 
+static void end_req(struct door_req *req)
+{
+	pthread_mutex_destroy(&req->req.lock);
+	free(req);
+}
+
 static void end_thread(void *at)
 {
 	struct door_thread *t = at;
 
 	nizwarf_end_slot(&t->slot);
 	free(t->room);
-	free(t->spare);
+	if (t->spare)
+		end_req(t->spare);
 	free(t);
 	door_mine = NULL;
 }
@@ -47,8 +53,8 @@ static __attribute__((destructor)) void end_door(void)
 	pthread_key_delete(door_key);
 }
 
-/* This thread's memory, with a room of so many bytes at least. NULL: there is none. */
-static struct door_thread *door_thread(size_t size)
+/* Makes this thread's memory, or its room longer. */
+static __attribute__((noinline)) struct door_thread *make_thread(size_t size)
 {
 	struct door_thread *t = door_mine;
 	uint8_t *room;
@@ -61,14 +67,20 @@ static struct door_thread *door_thread(size_t size)
 		}
 		door_mine = t;
 	}
-	if (t->size < size) {
-		room = realloc(t->room, size);
-		if (!room)
-			return NULL;
-		t->room = room;
-		t->size = size;
-	}
+	room = realloc(t->room, size);
+	if (!room)
+		return NULL;
+	t->room = room;
+	t->size = size;
 	return t;
+}
+
+/* This thread's memory, with a room of so many bytes at least. NULL: there is none. */
+static inline struct door_thread *door_thread(size_t size)
+{
+	struct door_thread *t = door_mine;
+
+	return t && t->size >= size ? t : make_thread(size);
 }
 
 /* A thread mostly ends the request that it took: the next one has its memory. */
@@ -79,10 +91,15 @@ static struct fuse_req *door_take_req(void)
 
 	if (!taken) {
 		taken = calloc(1, sizeof(*taken));
-		return taken ? &taken->req : NULL;
+		if (!taken)
+			return NULL;
+		pthread_mutex_init(&taken->req.lock, NULL);
+		return &taken->req;
 	}
 	t->spare = NULL;
-	memset(&taken->req, 0, sizeof(taken->req));
+	/* (the lock stays, and libfuse sets what is before it) */
+	memset(&taken->req.ctx, 0, offsetof(struct door_req, call) - offsetof(struct door_req, req.ctx));
+	taken->req.unique = 0;
 	taken->call.call = 0;
 	return &taken->req;
 }
@@ -96,9 +113,9 @@ static void door_give_req(struct fuse_req *req)
 	t = NULL;
 #endif
 	if (t && !t->spare)
-		t->spare = (struct door_req *)(void *)req;
+		t->spare = own_of(req);
 	else
-		free(req);
+		end_req(own_of(req));
 }
 
 /* The session as it is now: an INIT may be answered meanwhile, if the client isn't a kernel. */
@@ -115,23 +132,53 @@ static nizwarf_session session_of(struct fuse_session *se)
 	return session;
 }
 
-/* Copies pieces together, if they are as long as that in all. */
-static inline int gather(void *to, size_t size, const struct iovec *iov, int count)
+/* An answer of this thread, in which a kind's own fields are still to be set: no other kind reads them. */
+static nizwarf_answer *begin_answer(struct door_thread *t, int error, uint64_t count)
+{
+	nizwarf_answer *answer = &t->answer;
+
+	answer->error = error;
+	answer->count = count;
+	answer->has_count = 0;
+	answer->has_handle = 0;
+	answer->text = NULL;
+	answer->text_len = 0;
+	return answer;
+}
+
+/* Copies pieces together. */
+static void gather(void *to, const struct iovec *iov, int count)
 {
 	size_t at = 0;
 	int i;
 
-	if (count == 1 && size && iov->iov_len == size) {
-		memcpy(to, iov->iov_base, size);
-		return 1;
-	}
-	if (iov_length(iov, count) != size)
-		return 0;
 	for (i = 0; i < count; i++) {
 		if (iov[i].iov_len)
 			memcpy((char *)to + at, iov[i].iov_base, iov[i].iov_len);
 		at += iov[i].iov_len;
 	}
+}
+
+/* A record of so many bytes, if there are as many in all: where it is, or `to`, if it comes in pieces. */
+static inline const char *record_of(void *to, size_t size, const struct iovec *iov, int count)
+{
+	if (count == 1)
+		return iov->iov_len == size ? iov->iov_base : NULL;
+	if (iov_length(iov, count) != size)
+		return NULL;
+	gather(to, iov, count);
+	return to;
+}
+
+/* Copies a record: 0, it is of another length. */
+static inline int take_record(void *to, size_t size, const struct iovec *iov, int count)
+{
+	const char *record = record_of(to, size, iov, count);
+
+	if (!record)
+		return 0;
+	if (record != to)
+		memcpy(to, record, size);
 	return 1;
 }
 
@@ -162,7 +209,7 @@ static int tell_init(fuse_req_t req, nizwarf_answer *answer, nizwarf_init_more *
 	struct door_init said;
 	uint64_t buffer, flags;
 
-	if (!gather(&said, sizeof(said), iov, count))
+	if (!take_record(&said, sizeof(said), iov, count))
 		return 0;
 	flags = said.flags | (uint64_t)said.flags2 << 32;
 	memset(more, 0, sizeof(*more));
@@ -192,18 +239,21 @@ static int tell_init(fuse_req_t req, nizwarf_answer *answer, nizwarf_init_more *
 static int tell_entry(nizwarf_answer *answer, const struct iovec *iov, int count)
 {
 	_Static_assert(sizeof(answer->entry) == sizeof(struct fuse_entry_out), "an entry as fuse.h has it");
-	return gather(&answer->entry, sizeof(answer->entry), iov, count);
+	return take_record(&answer->entry, sizeof(answer->entry), iov, count);
 }
 
 static int tell_attr(nizwarf_answer *answer, const struct iovec *iov, int count)
 {
 	struct fuse_attr_out attr;
+	const char *record = record_of(&attr, sizeof(attr), iov, count);
 
-	if (!gather(&attr, sizeof(attr), iov, count))
+	if (!record)
 		return 0;
-	answer->entry.attr_seconds = attr.attr_valid;
-	answer->entry.attr_nanoseconds = attr.attr_valid_nsec;
-	memcpy(&answer->entry.attr, &attr.attr, sizeof(answer->entry.attr));
+	memcpy(&answer->entry.attr_seconds, record + offsetof(struct fuse_attr_out, attr_valid),
+	       sizeof(attr.attr_valid));
+	memcpy(&answer->entry.attr_nanoseconds, record + offsetof(struct fuse_attr_out, attr_valid_nsec),
+	       sizeof(attr.attr_valid_nsec));
+	memcpy(&answer->entry.attr, record + offsetof(struct fuse_attr_out, attr), sizeof(attr.attr));
 	return 1;
 }
 
@@ -223,7 +273,7 @@ static int tell_opened(nizwarf_answer *answer, const struct iovec *iov, int coun
 {
 	struct fuse_open_out open;
 
-	if (!gather(&open, sizeof(open), iov, count))
+	if (!take_record(&open, sizeof(open), iov, count))
 		return 0;
 	tell_handle(answer, &open);
 	return 1;
@@ -236,7 +286,7 @@ static int tell_created(nizwarf_answer *answer, const struct iovec *iov, int cou
 		struct fuse_open_out open;
 	} created;
 
-	if (!gather(&created, sizeof(created), iov, count))
+	if (!take_record(&created, sizeof(created), iov, count))
 		return 0;
 	answer->entry = created.entry;
 	tell_handle(answer, &created.open);
@@ -247,7 +297,7 @@ static int tell_statistics(nizwarf_answer *answer, const struct iovec *iov, int 
 {
 	struct fuse_statfs_out out;
 
-	if (!gather(&out, sizeof(out), iov, count))
+	if (!take_record(&out, sizeof(out), iov, count))
 		return 0;
 	answer->statfs.bsize = out.st.bsize;
 	answer->statfs.frsize = out.st.frsize;
@@ -265,7 +315,7 @@ static int tell_number(nizwarf_answer *answer, const struct iovec *iov, int coun
 {
 	uint32_t number[2];
 
-	if (!gather(number, sizeof(number), iov, count))
+	if (!take_record(number, sizeof(number), iov, count))
 		return 0;
 	answer->count = number[0];
 	return 1;
@@ -283,7 +333,7 @@ static int tell_text(const nizwarf_call *call, nizwarf_answer *answer, const str
 		answer->error = ENOMEM;
 		return 1;
 	}
-	gather(t->room, len, iov, count);
+	gather(t->room, iov, count);
 	answer->text = t->room;
 	answer->text_len = len;
 	if (call->call == NIZWARF_READLINK)
@@ -331,7 +381,7 @@ static int tell(fuse_req_t req, nizwarf_answer *answer, nizwarf_init_more *more,
 	case NIZWARF_TEXT_OR_COUNT:
 		return tell_attribute(call, answer, iov, count);
 	case NIZWARF_OFFSET:
-		return gather(&answer->count, sizeof(answer->count), iov, count);
+		return take_record(&answer->count, sizeof(answer->count), iov, count);
 	case NIZWARF_WRITTEN:
 		return tell_number(answer, iov, count);
 	default:
@@ -364,32 +414,35 @@ static int send_put(fuse_req_t req, uint8_t *put, size_t len, struct iovec *iov,
 	return res;
 }
 
-/* Answers a call by an answer that has no data. */
-static int send_answer(fuse_req_t req, const nizwarf_answer *answer)
+/* Where a client gets neither an entry nor a handle, libfuse says ENOENT: they are to be given back. */
+static int send_lost(fuse_req_t req, int error)
+{
+	send_header(req, error);
+	return -ENOENT;
+}
+
+/* Answers a call by this thread's answer, which has no data. */
+static int send_answer(fuse_req_t req, struct door_thread *t)
 {
 	const nizwarf_session session = session_of(req->se);
+	const nizwarf_answer *answer = &t->answer;
+	/* (as much room as it needs, so that a slot needs no more) */
 	const size_t size = SMALL_ROOM + (answer->error ? 0 : answer->text_len);
-	struct door_thread *t = door_thread(size);
 	nizwarf_call *call = call_of(req);
 	nizwarf_told told;
 	nizwarf_room room;
 	struct iovec iov[1];
 	int32_t code;
 
-	if (!t) {
-		send_header(req, -ENOMEM);
-		return -ENOENT;
-	}
-	/* (it has as much room as it needs, so that a slot needs no more) */
+	if (!door_thread(size))
+		return send_lost(req, -ENOMEM);
 	call->room = size;
 	room.at = t->room;
 	room.len = size;
 	code = nizwarf_reply(&t->slot, &session, call, answer, &room, 1, &told);
 	if (code != NIZWARF_OK || !told.len) {
 		fuse_log(FUSE_LOG_ERR, "fuse: no reply to call %u: %d\n", call->call, code);
-		send_header(req, code == NIZWARF_OUT_OF_MEMORY ? -ENOMEM : -EIO);
-		/* what libfuse says where a client never gets an entry or a handle: they are to be given back */
-		return -ENOENT;
+		return send_lost(req, code == NIZWARF_OUT_OF_MEMORY ? -ENOMEM : -EIO);
 	}
 	if (call->call == NIZWARF_INIT && !answer->error)
 		__atomic_store_n(&door_of(req->se)->options, told.options, __ATOMIC_RELAXED);
@@ -403,9 +456,8 @@ static int send_plain(fuse_req_t req, int error)
 
 	if (!t)
 		return send_header(req, -ENOMEM);
-	t->plain.error = error;
-	t->plain.count = 0;
-	return send_answer(req, &t->plain);
+	begin_answer(t, error, 0);
+	return send_answer(req, t);
 }
 
 /* The header of a reply with `len` bytes of data, which the door doesn't see: those of a READ, or records of a
@@ -415,6 +467,7 @@ static size_t put_data_header(fuse_req_t req, uint64_t len, uint8_t *header)
 	const nizwarf_session session = session_of(req->se);
 	struct door_thread *t = door_thread(HEADER);
 	nizwarf_call *call = call_of(req);
+	const nizwarf_answer *answer;
 	nizwarf_told told;
 
 	if (!t)
@@ -426,34 +479,12 @@ static size_t put_data_header(fuse_req_t req, uint64_t len, uint8_t *header)
 	call->answer = NIZWARF_DATA;
 	call->length = call->size;
 	call->has = 0;
-	t->plain.error = 0;
-	t->plain.count = len;
-	if (nizwarf_answer_at(&t->slot, &session, call, &t->plain, header, 0,
-			      (const nizwarf_item *)(void *)&t->plain, 0, &told) != NIZWARF_OK)
+	answer = begin_answer(t, 0, len);
+	if (nizwarf_answer_at(&t->slot, &session, call, answer, header, 0,
+			      (const nizwarf_item *)(const void *)answer, 0, &told) != NIZWARF_OK)
 		return 0;
 	nizwarf_copy_slot_at(&t->slot, 0, header, HEADER);
 	return told.len;
-}
-
-/* Whether records of a directory are whole, and what Linux takes. */
-static int are_records(const nizwarf_call *call, const char *at, size_t len)
-{
-	const size_t front = call->has & NIZWARF_PLUS ? sizeof(struct fuse_entry_out) : 0;
-	struct fuse_dirent record;
-	size_t whole;
-
-	while (len) {
-		if (len < front + FUSE_NAME_OFFSET)
-			return 0;
-		memcpy(&record, at + front, FUSE_NAME_OFFSET);
-		whole = front + FUSE_DIRENT_ALIGN(FUSE_NAME_OFFSET + (uint64_t)record.namelen);
-		if (!record.namelen || whole > len ||
-		    memchr(at + front + FUSE_NAME_OFFSET, 0, record.namelen))
-			return 0;
-		at += whole;
-		len -= whole;
-	}
-	return 1;
 }
 
 /* A reply with data, which are sent from where they are. */
@@ -476,12 +507,13 @@ static int send_data(fuse_req_t req, struct iovec *iov, int count)
 /* A reply with a record that libfuse laid out. */
 static int send_told(fuse_req_t req, const struct iovec *iov, int count)
 {
-	nizwarf_answer answer = NIZWARF_NO_ANSWER;
+	struct door_thread *t = door_thread(SMALL_ROOM);
 	nizwarf_init_more more;
 
-	answer.error = 0;
-	if (tell(req, &answer, &more, iov, count))
-		return send_answer(req, &answer);
+	if (!t)
+		return send_lost(req, -ENOMEM);
+	if (tell(req, begin_answer(t, 0, 0), &more, iov, count))
+		return send_answer(req, t);
 	fuse_log(FUSE_LOG_ERR, "fuse: what was answered is no answer to call %u\n", call_of(req)->call);
 	return send_plain(req, EIO);
 }

@@ -162,11 +162,8 @@ static void on_batch_forget(fuse_req_t req, const nizwarf_call *c, const struct 
 		return;
 	}
 	if (se->op.forget) {
-		pthread_mutex_lock(&se->lock);
-		list_del_req(req);
-		list_init_req(req);
+		own_of(req)->known = 1;
 		req->REQ_COUNT += (int)pairs;
-		pthread_mutex_unlock(&se->lock);
 		for (i = 0; i < pairs; i++) {
 			memcpy(&one, at + i * sizeof(one), sizeof(one));
 			se->op.forget(req, one.ino, one.nlookup);
@@ -641,17 +638,13 @@ static int may_stay(const struct fuse_session *se, const struct door_message *m)
 	return (in->opcode == FUSE_WRITE && se->op.write_buf) || in->opcode == FUSE_NOTIFY_REPLY;
 }
 
-/* Takes of a message into memory what the door is to read. 0: the message is lost. */
+/* Takes of a message that is in a pipe into memory what the door is to read. 0: the message is lost. */
 static int take_message(struct fuse_session *se, struct door_message *m)
 {
 	struct fuse_bufvec pipe = { .count = 1, .buf[0] = *m->buf };
 	const size_t size = m->buf->size;
 	char *whole;
 
-	m->in = m->buf->mem;
-	m->len = size;
-	if (!(m->buf->flags & FUSE_BUF_IS_FD))
-		return 1;
 	m->len = size < WRITE_FRONT ? size : WRITE_FRONT;
 	m->own = malloc(WRITE_FRONT);
 	m->in = m->own;
@@ -710,33 +703,6 @@ static void refuse(fuse_req_t req, const struct door_message *m, int error)
 	fuse_reply_err(req, error);
 }
 
-/* Interrupts a request, or keeps that, if the request has not come yet. */
-static void interrupt(fuse_req_t req, uint64_t unique)
-{
-	struct fuse_session *se = req->se;
-
-	req->u.i.unique = unique;
-	pthread_mutex_lock(&se->lock);
-	if (find_interrupted(se, req)) {
-		fuse_chan_put(req->ch);
-		req->ch = NULL;
-		destroy_req(req);
-	} else {
-		list_add_req(req, &se->interrupts);
-	}
-	pthread_mutex_unlock(&se->lock);
-}
-
-static int has_interrupts(const struct fuse_session *se)
-{
-#ifdef HAVE_NO_INTERRUPT
-	return !se->conn.no_interrupt;
-#else
-	(void)se;
-	return 1;
-#endif
-}
-
 /* Ends a request that needs no file system. */
 static void finish(fuse_req_t req, struct door_thread *t, const struct door_message *m,
 		   const nizwarf_told *told)
@@ -791,22 +757,13 @@ static void make_call(fuse_req_t req, const struct door_message *m)
 {
 	const size_t known = sizeof(door_calls) / sizeof(*door_calls);
 	const nizwarf_call *c = call_of(req);
-	struct fuse_session *se = req->se;
-	struct fuse_req *early = NULL;
 
 	req->unique = c->unique;
 	req->ctx.uid = c->uid;
 	req->ctx.gid = c->gid;
 	req->ctx.pid = c->pid;
-	if (has_interrupts(se)) {
-		pthread_mutex_lock(&se->lock);
-		early = check_interrupt(se, req);
-		list_add_req(req, &se->list);
-		pthread_mutex_unlock(&se->lock);
-	}
-	/* (an interrupt that has overtaken its request: Linux sends it again) */
-	if (early)
-		fuse_reply_err(early, EAGAIN);
+	if (count_kept(req->se) > MOST_KEPT)
+		end_oldest(req->se);
 	if (c->call < known && door_calls[c->call])
 		door_calls[c->call](req, c, m);
 	else
@@ -896,15 +853,14 @@ static void send_no_memory(struct fuse_session *se, const struct door_message *m
 
 void PROCESS_BUF(struct fuse_session *se, const struct fuse_buf *buf, struct fuse_chan *ch)
 {
-	struct door_message m = { .buf = buf, .ch = ch };
-	const int taken = take_message(se, &m);
+	struct door_message m = { .buf = buf, .ch = ch, .in = buf->mem, .len = buf->size };
+	const int taken = !(buf->flags & FUSE_BUF_IS_FD) || take_message(se, &m);
 	struct door_thread *t = NULL;
 	struct fuse_req *req = NULL;
 	int tries = 0;
 
 	do {
-		if (!t)
-			t = door_thread(SMALL_ROOM);
+		t = door_thread(SMALL_ROOM);
 		if (taken && t)
 			req = fuse_ll_alloc_req(se);
 	} while (taken && !req && wait_for_memory(&m, &tries));
@@ -918,5 +874,6 @@ void PROCESS_BUF(struct fuse_session *se, const struct fuse_buf *buf, struct fus
 		else
 			serve(req, t, &m);
 	}
-	free(m.own);
+	if (m.own)
+		free(m.own);
 }

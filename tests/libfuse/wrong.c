@@ -3,9 +3,10 @@
  * Usage: wrong answers|memory
  * It hands requests to a session by fuse_session_process_buf, and takes the replies by custom io. With `answers` the
  * file system answers by a number that is no error, by a text that is too long, by the record of another call: each is
- * to come to who asked as an error that Linux takes, and the next request is served. With `memory` each allocation of
- * each of some requests is refused in turn, on a new thread: one reply comes, of an error or of success, and each entry
- * and each lookup that is given back is told. It prints how many of how many did so. Status 0: all. */
+ * to come to who asked as an error that Linux takes, and the next request is served; and interrupts come to their
+ * requests. With `memory` each allocation of each of some requests is refused in turn, on a new thread: one reply comes,
+ * of an error or of success, and each entry and each lookup that is given back is told. It prints how many of how many
+ * did so. Status 0: all. */
 #define _GNU_SOURCE
 #define FUSE_USE_VERSION 317
 #include <errno.h>
@@ -178,6 +179,22 @@ static void on_forget(fuse_req_t req, fuse_ino_t ino, uint64_t lookups)
 	fuse_reply_none(req);
 }
 
+/* A request that waits for its answer, and how often it was told of an interrupt. */
+static fuse_req_t waiting;
+static int interrupts;
+
+static void on_getattr(fuse_req_t req, fuse_ino_t ino, struct fuse_file_info *fi)
+{
+	(void)ino, (void)fi;
+	waiting = req;
+}
+
+static void on_interrupt(fuse_req_t req, void *data)
+{
+	(void)data;
+	interrupts += req == waiting;
+}
+
 /* How many bytes came of what a notice asked for. */
 static size_t retrieved;
 
@@ -190,6 +207,7 @@ static void on_retrieved(fuse_req_t req, void *cookie, fuse_ino_t ino, off_t off
 
 static const struct fuse_lowlevel_ops ops = {
 	.lookup = on_lookup,
+	.getattr = on_getattr,
 	.readlink = on_readlink,
 	.getxattr = on_getxattr,
 	.read = on_read,
@@ -335,6 +353,69 @@ static void try_retrieve(size_t size)
 	judge("what was retrieved", !replies && retrieved == size);
 }
 
+static void interrupt(uint64_t unique)
+{
+	const struct fuse_interrupt_in in = { .unique = unique };
+	const struct request r = { FUSE_INTERRUPT, 0, &in, sizeof(in), -1, "INTERRUPT", 0 };
+
+	send_request(&r);
+}
+
+/* Begins a request that waits, after its interrupt, or before that, or without. */
+static void begin(int before, int after)
+{
+	static const struct fuse_getattr_in none;
+	static const struct request r = { FUSE_GETATTR, 1, &none, sizeof(none), -1, "GETATTR", 0 };
+
+	if (before)
+		interrupt(7);
+	send_request(&r);
+	if (after)
+		interrupt(7);
+}
+
+static void end(const char *what, int good_so)
+{
+	replies = 0;
+	fuse_reply_err(waiting, EINTR);
+	judge(what, good_so && replies == 1 && header_of_reply().error == -EINTR);
+}
+
+/* An interrupt comes to its request, whichever of the two is first, and whenever the file system asks. */
+static void try_interrupts(void)
+{
+	int i;
+
+	begin(0, 0);
+	end("no interrupt", !fuse_req_interrupted(waiting));
+	begin(0, 1);
+	end("an interrupt", fuse_req_interrupted(waiting));
+	begin(1, 0);
+	end("an interrupt before its request", fuse_req_interrupted(waiting));
+	begin(0, 0);
+	i = fuse_req_interrupted(waiting);
+	interrupt(7);
+	end("an interrupt after it was asked for", !i && fuse_req_interrupted(waiting));
+	begin(0, 0);
+	fuse_req_interrupt_func(waiting, on_interrupt, NULL);
+	interrupt(8);
+	i = interrupts;
+	interrupt(7);
+	end("an interrupt for a function", !i && interrupts == 1);
+	begin(0, 1);
+	fuse_req_interrupt_func(waiting, on_interrupt, NULL);
+	end("a function for an interrupt", interrupts == 2);
+	begin(0, 1);
+	end("an interrupt that nobody asks for", 1);
+	begin(0, 0);
+	end("an interrupt of the one before", !fuse_req_interrupted(waiting));
+	for (i = 0; i < 100; i++)
+		interrupt(1000 + (uint64_t)i);
+	begin(0, 0);
+	i = replies == 1 && header_of_reply().error == -EAGAIN;
+	end("the oldest of 100 that have no request", i);
+}
+
 static void try_answers(void)
 {
 	size_t i;
@@ -350,6 +431,7 @@ static void try_answers(void)
 	try_retrieve(1);
 	try_retrieve(64);
 	try_retrieve(4096);
+	try_interrupts();
 }
 
 struct attempt {

@@ -1,0 +1,119 @@
+/* Interrupts. libfuse lists each request under a lock, for an interrupt to find it. But an interrupt means nothing to a
+ * request of which the file system never asks. So a request is listed when it first asks, by fuse_req_interrupted or
+ * fuse_req_interrupt_func, and goes without a lock before. An interrupt that finds no request is kept: for one that
+ * asks later, or that it has overtaken. */
+
+enum { MOST_KEPT = 64 };
+
+static int has_interrupts(const struct fuse_session *se)
+{
+#ifdef HAVE_NO_INTERRUPT
+	return !se->conn.no_interrupt;
+#else
+	(void)se;
+	return 1;
+#endif
+}
+
+static unsigned int count_kept(struct fuse_session *se)
+{
+	return __atomic_load_n(&door_of(se)->kept, __ATOMIC_RELAXED);
+}
+
+static void end_interrupt(struct fuse_req *interrupt)
+{
+	fuse_chan_put(interrupt->ch);
+	interrupt->ch = NULL;
+	destroy_req(interrupt);
+}
+
+/* Takes an interrupt off the list of those that are kept. The session is locked, here and in the next. */
+static struct fuse_req *take_kept(struct fuse_session *se, struct fuse_req *interrupt)
+{
+	list_del_req(interrupt);
+	list_init_req(interrupt);
+	__atomic_store_n(&door_of(se)->kept, count_kept(se) - 1, __ATOMIC_RELAXED);
+	return interrupt;
+}
+
+/* Ends the interrupt that is kept of a request: 0, there is none. */
+static int end_kept(struct fuse_session *se, uint64_t unique)
+{
+	struct fuse_req *interrupt;
+
+	for (interrupt = se->interrupts.next; interrupt != &se->interrupts; interrupt = interrupt->next)
+		if (interrupt->u.i.unique == unique) {
+			end_interrupt(take_kept(se, interrupt));
+			return 1;
+		}
+	return 0;
+}
+
+/* Interrupts a request, or keeps that. */
+static void interrupt(fuse_req_t req, uint64_t unique)
+{
+	struct fuse_session *se = req->se;
+
+	req->u.i.unique = unique;
+	pthread_mutex_lock(&se->lock);
+	if (find_interrupted(se, req)) {
+		end_interrupt(req);
+	} else {
+		list_add_req(req, &se->interrupts);
+		__atomic_store_n(&door_of(se)->kept, count_kept(se) + 1, __ATOMIC_RELAXED);
+	}
+	pthread_mutex_unlock(&se->lock);
+}
+
+/* Where many are kept, the oldest is most likely of a request that ended before it came: Linux sends it again, if that
+ * is not so. */
+static void end_oldest(struct fuse_session *se)
+{
+	struct fuse_req *oldest = NULL;
+
+	pthread_mutex_lock(&se->lock);
+	if (count_kept(se) > MOST_KEPT)
+		oldest = take_kept(se, se->interrupts.next);
+	pthread_mutex_unlock(&se->lock);
+	if (oldest)
+		fuse_reply_err(oldest, EAGAIN);
+}
+
+static void door_watch(fuse_req_t req)
+{
+	struct fuse_session *se = req->se;
+
+	if (!has_interrupts(se))
+		return;
+	pthread_mutex_lock(&se->lock);
+	if (!own_of(req)->known) {
+		own_of(req)->known = 1;
+		list_add_req(req, &se->list);
+		if (end_kept(se, req->unique))
+			req->interrupted = 1;
+	}
+	pthread_mutex_unlock(&se->lock);
+}
+
+static int door_end_alone(fuse_req_t req)
+{
+	struct fuse_session *se = req->se;
+
+	if (own_of(req)->known)
+		return 0;
+	if (count_kept(se)) {
+		pthread_mutex_lock(&se->lock);
+		end_kept(se, req->unique);
+		pthread_mutex_unlock(&se->lock);
+	}
+	fuse_chan_put(req->ch);
+	req->ch = NULL;
+	destroy_req(req);
+	return 1;
+}
+
+static void door_end_session(struct fuse_session *se)
+{
+	while (count_kept(se))
+		end_interrupt(take_kept(se, se->interrupts.next));
+}
