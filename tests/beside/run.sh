@@ -10,7 +10,8 @@
 # built, and until then it takes 1.5 GB. What can't be had, or doesn't build, is said, and the rest goes on.
 #
 # libfuse, fuser and go-fuse each serve a socket that keeps messages apart, in place of /dev/fuse. libfuse does
-# so twice: by itself, and behind examples/c/check.c, which hands on what is whole. libfuse is built with the
+# so by itself, behind examples/c/check.c, which hands on what is whole, and over the layer here, as tools/libfuse.sh
+# builds it, if meson and ninja are there. libfuse is built with the
 # address sanitizer, with the bytes behind each message poisoned. The server here is the library vfs_door; a
 # page that can't be read begins behind each of its messages. virtiofsd is asked by vhost-user.
 #
@@ -27,6 +28,7 @@ set -euo pipefail
 . "$(dirname "$0")/../../tools/lib/usage.sh"
 . "$(dirname "$0")/../../tools/lib/transport.sh"
 . "$(dirname "$0")/../../tools/lib/debian.sh"
+. "$(dirname "$0")/../../tools/lib/libfuse.sh"
 
 usage() {
     echo "Usage: tests/beside/run.sh [--seed N] [--count M] [--only NAME] [--suite SUITE] [--page]" >&2
@@ -95,6 +97,14 @@ get_once "$built/go-fuse" go-fuse "$suite"
 for of in "${daemons[@]}"; do
     get_once "$there/$of" virtiofsd "$of"
 done
+if [[ "libfuse over this layer" == *$only* ]]; then
+    echo "Building libfuse of $suite over this layer .." >&2
+    {
+        "$here/tools/libfuse.sh" --suite "$suite" "$there/libfuse" > "$work/said" 2>&1 &&
+            compile_libfuse "$there/libfuse" "$suite" "$here/tests/beside/libfuse.c" "$work/layer" \
+                -fsanitize=address -fsanitize=undefined -fno-sanitize-recover=undefined > "$work/said" 2>&1
+    } || { tail -n 3 "$work/said" && echo "libfuse over this layer can't be built here: it is left out."; } >&2
+fi
 
 # Adds a server, if it was built: server HOW NAME VERSION TRUSTS WORDS..
 server() {
@@ -115,6 +125,10 @@ without bounds checks\", so from 3.18.3 on that is off unless it is built with -
         "$built/libfuse" DESCRIPTOR
     server pair "libfuse behind the check" "$version" "the check, examples/c/check.c, which trusts nobody" \
         "$work/check" DESCRIPTOR "$built/libfuse"
+fi
+if [ -e "$work/layer" ]; then
+    server pair "libfuse over this layer" "$(cat "$there/libfuse/source-$suite/debian-version")" \
+        "nobody; the library is $is_proved" "$work/layer" DESCRIPTOR
 fi
 if [ -e "$built/fuser" ]; then
     server pair fuser "$(cat "$built/fuser.version")" \

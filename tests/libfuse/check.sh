@@ -9,7 +9,8 @@
 #   memory     each allocation of some requests is refused in turn: nothing is lost
 #   hostile    the sessions of tests/beside, and 300 generated, under sanitizers: none reads past, none ends it
 #   threads    libfuse's passthrough_ll under the thread sanitizer, used by four at once
-#   programs   sshfs, fuse-overlayfs, squashfuse, as the machine has them: trees are equal with both libraries
+#   programs   those of tests/libfuse/programs.txt, as the machine has them, or of another suite, downloaded: trees are
+#              equal with both libraries
 #   tests      libfuse's own tests with both libraries: the same cases pass; one that fails with one alone is tried
 #              twice more, since many go by the clock
 #
@@ -20,6 +21,7 @@
 set -euo pipefail
 . "$(dirname "$0")/../../tools/lib/usage.sh"
 . "$(dirname "$0")/../../tools/lib/transport.sh"
+. "$(dirname "$0")/../../tools/lib/libfuse.sh"
 
 usage() {
     echo "Usage: tests/libfuse/check.sh [--only PART].. [--suite SUITE] [FOLDER]" >&2
@@ -63,12 +65,7 @@ trap 'rm -rf "$work" "$short"' EXIT
 
 # Builds a program of libfuse's sources over the layer, and a file: compile FILE TO FLAGS..
 compile() {
-    local file=$1 to=$2 tree=$folder/$suite-nizwarf/tree sources
-    mapfile -t sources < <(find "$tree/lib" -maxdepth 1 -name '*.c' ! -name mount_bsd.c ! -name fuse_uring.c)
-    cc -w -g -O1 -fno-omit-frame-pointer "${@:3}" -D_GNU_SOURCE -D_FILE_OFFSET_BITS=64 -DFUSE_USE_VERSION=317 \
-        -DFUSERMOUNT_DIR='"/usr/bin"' -DHAVE_CUSTOM_IO -I "$folder/$suite-nizwarf/build" -I "$tree/include" \
-        -I "$tree/lib" -include fuse_config.h -o "$to" "$file" "${sources[@]}" "$tree"/lib/modules/*.c \
-        "${library[@]}" -pthread -ldl
+    compile_libfuse "$folder" "$suite" "$@"
 }
 
 sanitized=(-fsanitize=address -fsanitize=undefined -fno-sanitize-recover=undefined)
@@ -115,10 +112,12 @@ check_threads() {
 }
 
 check_programs() {
-    local lib status=0
+    local lib status=0 of=()
+    [ "$suite" = "$(sed -n 's/^VERSION_CODENAME=//p' /etc/os-release)" ] || of=(--suite "$suite")
     for lib in - "$ours"; do
-        "$here/tests/libfuse/programs.sh" "$lib" "$work/programs" || status=1
+        "$here/tests/libfuse/programs.sh" "${of[@]}" "$lib" "$folder/programs" || status=1
     done
+    rm -rf "$folder/programs"
     return $status
 }
 

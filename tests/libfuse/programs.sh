@@ -1,29 +1,94 @@
 #!/usr/bin/env bash
-# Mounts one tree by each program of the machine that links libfuse3, unchanged, with a library of it; and compares what
-# is read through the mount with the tree.
+# Mounts one tree by each program that links libfuse3, unchanged, with a library of it; and compares what is read
+# through the mount with the tree. tests/libfuse/programs.txt has the programs.
 #
-# Usage: tests/libfuse/programs.sh LIB FOLDER [PROGRAM..]
-# LIB is the folder with libfuse3.so.3, or `-` for the machine's own. FOLDER gets what it makes, and is made anew. The
-# programs are sshfs, over a server of its own, fuse-overlayfs and squashfuse: those that are not
-# installed are told. A line says of each whether the trees are equal by `diff -r`, and whether the program that served
-# has that library in its memory; of those that write, the tree is written through the mount. Root only, in a mount
-# namespace of its own.
+# Usage: tests/libfuse/programs.sh [--suite SUITE] LIB FOLDER [PROGRAM..]
+# LIB is the folder with the library, or `-` for the machine's own. FOLDER gets what it makes, and is made anew. Programs
+# that are not installed are told. A line says of each whether the trees are equal by `diff -r`, and whether the program
+# that served has that library in its memory; of those that write, a tree is written through the mount, and compared.
+#
+# With --suite the programs are those of another suite of Debian, as sid, in a folder beside FOLDER: apt-get downloads
+# them by lists of its own, 70 MB, and they are unpacked and run there, and never installed.
+#
+# Root only, in a mount namespace of its own.
 # Status 0: all that are there are equal; 1: not so; 2: it could not start.
 set -euo pipefail
 . "$(dirname "$0")/../../tools/lib/usage.sh"
 
-if [ $# -lt 2 ]; then
-    echo "Usage: tests/libfuse/programs.sh LIB FOLDER [PROGRAM..]" >&2
+usage() {
+    echo "Usage: tests/libfuse/programs.sh [--suite SUITE] LIB FOLDER [PROGRAM..]" >&2
     exit 2
+}
+
+given=("$@") suite=''
+if [ "${1:-}" = --suite ]; then
+    [[ ${2:-} =~ ^[a-z]+$ ]] || usage
+    suite=$2
+    shift 2
 fi
+[ $# -ge 2 ] || usage
 need_root "It mounts"
 if [ -z "${OWN_MOUNTS:-}" ]; then
-    OWN_MOUNTS=yes exec unshare -m --propagation private "$0" "$@"
+    OWN_MOUNTS=yes exec unshare -m --propagation private "$0" "${given[@]}"
 fi
+here=$(cd "$(dirname "$0")/../.." && pwd)
+list=$here/tests/libfuse/programs.txt
 lib=$1 folder=$(realpath -m "$2")
 shift 2
 programs=("$@")
-[ ${#programs[@]} != 0 ] || programs=(sshfs fuse-overlayfs squashfuse)
+[ ${#programs[@]} != 0 ] || mapfile -t programs < <(sed -nE 's/^([a-z][^ ]*) \|.*/\1/p' "$list")
+
+# A field of a program: field PROGRAM NUMBER
+field() {
+    local fields
+    IFS='|' read -ra fields < <(grep "^$1 |" "$list")
+    sed 's/^ *//; s/ *$//' <<< "${fields[$2 - 1]:-}"
+}
+
+# Unpacks the packages of the suite, with all that they depend on, into a folder that is a root.
+make_root() {
+    local root=$1 wanted=(bash coreutils diffutils grep sed util-linux mount fuse3) program packages all name
+    for program in "${programs[@]}"; do
+        read -ra packages <<< "$(field "$program" 2)"
+        wanted+=("${packages[@]}")
+    done
+    rm -rf "$root.part"
+    mkdir -p "$root.part"/usr/{bin,sbin,lib,lib64} "$root.part"/{etc,proc,dev,run,tmp}
+    for name in bin sbin lib lib64; do ln -s "usr/$name" "$root.part/$name"; done
+    use_suite "$suite" "$root.part/apt"
+    mapfile -t all < <(apt-get "${apt[@]}" install -y -s --no-install-recommends "${wanted[@]}" |
+        sed -nE 's/^Inst ([^ ]+) .*/\1/p')
+    mkdir "$root.part/debs"
+    (cd "$root.part/debs" && apt-get "${apt[@]}" download "${all[@]}")
+    for name in "$root.part"/debs/*.deb; do
+        dpkg-deb --fsys-tarfile "$name" | tar -x -C "$root.part" --keep-directory-symlink
+    done
+    rm -r "$root.part/debs" "$root.part/apt"
+    printf '%s\n' 'root:x:0:0::/root:/bin/sh' 'sshd:x:100:100::/run/sshd:/bin/false' > "$root.part/etc/passwd"
+    ln -s /proc/self/mounts "$root.part/etc/mtab"
+    mv "$root.part" "$root"
+}
+
+# Runs this script in the root of the suite, with what it reads there.
+enter() {
+    local root
+    . "$here/tools/lib/debian.sh"
+    root=$(dirname "$folder")/programs-$suite
+    [ -e "$root" ] || { echo "Downloading programs of $suite .." >&2 && quietly "$root.said" make_root "$root"; }
+    mkdir -p "$root/here" "$root/lib-of-it" "$root/work"
+    mount --bind "$here" "$root/here"
+    mount -t proc none "$root/proc"
+    mount --rbind /dev "$root/dev"
+    mount -t tmpfs none "$root/run"
+    [ "$lib" = - ] || mount --bind "$lib" "$root/lib-of-it"
+    mkdir -p "$folder"
+    mount --bind "$folder" "$root/work"
+    [ "$lib" = - ] || lib=/lib-of-it
+    exec chroot "$root" /usr/bin/env -i PATH=/usr/sbin:/usr/bin OWN_MOUNTS=yes HOME=/root \
+        /here/tests/libfuse/programs.sh "$lib" /work/it "${programs[@]}"
+}
+
+[ -z "$suite" ] || enter
 [ "$lib" = - ] || export LD_LIBRARY_PATH=$lib
 rm -rf "$folder"
 mkdir -p "$folder/tree" "$folder/mnt" "$folder/work"
@@ -62,53 +127,55 @@ has_library() {
     echo "not here"
 }
 
-start_sshfs() {
+# A server for sshfs. (It reads no link of such a server, with libfuse's own library either.)
+serve_ssh() {
     mkdir -p /run/sshd
-    [ -e key ] || ssh-keygen -q -t ed25519 -N '' -f key
-    [ -e host ] || ssh-keygen -q -t ed25519 -N '' -f host
+    ssh-keygen -q -t ed25519 -N '' -f key
+    ssh-keygen -q -t ed25519 -N '' -f host
     cp key.pub allowed
     printf '%s\n' "HostKey $folder/host" "AuthorizedKeysFile $folder/allowed" "StrictModes no" \
         "PidFile $folder/sshd.pid" "UsePAM no" "Subsystem sftp internal-sftp" "ListenAddress 127.0.0.1:42722" > config
-    LD_LIBRARY_PATH='' /usr/sbin/sshd -f config
-    sshfs -p 42722 -o "IdentityFile=$folder/key,StrictHostKeyChecking=no,UserKnownHostsFile=$folder/known" \
-        "root@127.0.0.1:$folder/$1" mnt
+    /usr/sbin/sshd -f config
+    rm served/many/link
 }
 
-end_sshfs() {
-    [ ! -e sshd.pid ] || kill "$(cat sshd.pid)"
+# What is encrypted begins as nothing: the tree is put there by a first mount, with the library of the machine.
+new_cryfs() {
+    mkdir -p encrypted
+    (unset LD_LIBRARY_PATH && open_cryfs)
+    wait_mounted
+    cp -a served/. mnt
+    umount mnt
 }
 
-start_fuse-overlayfs() {
-    mkdir -p upper work/overlay
-    fuse-overlayfs -o "lowerdir=$folder/$1,upperdir=$folder/upper,workdir=$folder/work/overlay" mnt
-}
-
-start_squashfuse() {
-    LD_LIBRARY_PATH='' mksquashfs "$1" packed.squashfs -quiet -noappend > /dev/null
-    squashfuse packed.squashfs mnt
+open_cryfs() {
+    echo a-password | CRYFS_FRONTEND=noninteractive CRYFS_NO_UPDATE_CHECK=true cryfs encrypted mnt
 }
 
 # Mounts the tree by a program, and compares it.
 read_by() {
-    local program=$1 came=equal where
+    local program=$1 came=equal where bad=''
     rm -rf served
     cp -a tree served
-    # (sshfs reads no link of a server of this kind, with libfuse's own library either)
-    [ "$program" != sshfs ] || rm served/many/link
-    if ! "start_$program" served > said 2>&1 || ! wait_mounted; then
-        echo "$program: it did not mount: $(head -n 1 said)"
+    if ! (unset LD_LIBRARY_PATH && eval "$(field "$program" 3)") > said 2>&1 ||
+        ! eval "$(field "$program" 4)" > said 2>&1 || ! wait_mounted; then
+        echo "$program: it did not mount: $(tail -n 1 said)"
         return 1
     fi
     where=$(has_library)
-    diff -r --no-dereference served mnt > differs 2>&1 || came="not equal: $(head -n 1 differs)"
-    if [ "$program" = fuse-overlayfs ] || [ "$program" = sshfs ]; then
-        cp -a tree/a mnt/written > differs 2>&1 && diff -r --no-dereference tree/a mnt/written > differs 2>&1 ||
-            came="$came, but not what was written: $(head -n 1 differs)"
+    diff -r --no-dereference served mnt > differs 2>&1 ||
+        { bad=yes && came="not equal: $(head -n 1 differs)"; }
+    if [ "$(field "$program" 5)" = writes ]; then
+        if cp -a tree/a mnt/written > differs 2>&1 && diff -r --no-dereference tree/a mnt/written > differs 2>&1; then
+            came="$came, written too"
+        else
+            bad=yes came="$came, but not what was written: $(head -n 1 differs)"
+        fi
     fi
     umount mnt || umount -l mnt
-    [ "$program" != sshfs ] || end_sshfs
+    [ ! -e sshd.pid ] || kill "$(cat sshd.pid)"
     echo "$program: $came, library $where"
-    [ "$came" = equal ] && [ "$where" != "not here" ]
+    [ -z "$bad" ] && [ "$where" != "not here" ]
 }
 
 fill tree

@@ -28,7 +28,7 @@ sources=("$here"/programs/*/*.c)
 part "clang-tidy over ${#sources[@]} files"
 clang-tidy --quiet --warnings-as-errors='*' "--checks=$(tr -s ' \n' , <<< "$checks")" "${sources[@]}" \
     -- "${flags[@]}" 2> >(grep -v 'warnings generated' >&2)
-files='[{"name":"door.h"},{"name":"replies.h"},{"name":"notices.h"},{"name":"requests.h"}]'
+files='[{"name":"door.h"},{"name":"replies.h"},{"name":"listings.h"},{"name":"notices.h"},{"name":"interrupts.h"},{"name":"requests.h"}]'
 for built in "$here"/out/libfuse/*-nizwarf; do
     part "clang-tidy over bindings/libfuse, in ${built##*/}"
     clang-tidy --quiet --warnings-as-errors='*' "--checks=$(tr -s ' \n' , <<< "$checks")" "--line-filter=$files" \
