@@ -9,9 +9,9 @@ import re
 import sys
 
 # Functions of which each must be there: those on which the door stands.
-REPLACED = """send_reply_iov send_notify_iov fuse_reply_data fuse_lowlevel_notify_store fill_entry fuse_add_direntry
-fuse_add_direntry_plus check_interrupt do_lookup do_forget do_read do_write_buf do_setattr do_interrupt do_notify_reply
-opname""".split()
+REPLACED = """send_reply_iov send_notify_iov fuse_reply_entry fuse_reply_attr fuse_reply_data fuse_lowlevel_notify_store
+fill_entry fuse_add_direntry fuse_add_direntry_plus check_interrupt do_lookup do_forget do_read do_write_buf do_setattr
+do_interrupt do_notify_reply opname""".split()
 # What only those call, and others of the same kind: every function that decodes a request, but an INIT's and a DESTROY's.
 CALLED = r"(?:_?do_(?!init\b|destroy\b|fuse_)\w+|copy_\w+_common|convert_attr|fuse_req_opcode_sanity_ok|fuse_session_in2req" \
          r"|fuse_req_check_allow_root|fuse_session_process_uring_cqe)"

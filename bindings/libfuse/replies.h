@@ -421,32 +421,66 @@ static int send_lost(fuse_req_t req, int error)
 	return -ENOENT;
 }
 
-/* Answers a call by this thread's answer, which has no data. */
-static int send_answer(fuse_req_t req, struct door_thread *t)
+/* The door's reply to a call, by this thread's answer, if it has neither text nor items: it stays in the slot. */
+static int32_t put_answer(fuse_req_t req, struct door_thread *t, nizwarf_told *told)
 {
 	const nizwarf_session session = session_of(req->se);
 	const nizwarf_answer *answer = &t->answer;
+	const nizwarf_call *call = call_of(req);
+
+	memset(told, 0, sizeof(*told));
+	told->options = call->options;
+	/* (a pointer to something, also where there is nothing) */
+	return nizwarf_answer_at(&t->slot, &session, call, answer, (const uint8_t *)answer, 0,
+				 (const nizwarf_item *)(const void *)answer, 0, told);
+}
+
+/* The same of any answer that has no data: it is in the thread's room. */
+static int32_t put_told(fuse_req_t req, struct door_thread *t, size_t size, nizwarf_told *told)
+{
+	const nizwarf_session session = session_of(req->se);
+	const nizwarf_room room = { t->room, size };
+	const nizwarf_call *call = call_of(req);
+	int32_t code;
+
+	code = nizwarf_reply(&t->slot, &session, call, &t->answer, &room, 1, told);
+	if (code == NIZWARF_OK && call->call == NIZWARF_INIT && !t->answer.error)
+		__atomic_store_n(&door_of(req->se)->options, told->options, __ATOMIC_RELAXED);
+	return code;
+}
+
+/* Whether an answer to a call is a record alone, which the door encodes as it is told. */
+static inline int is_plain(const nizwarf_call *call)
+{
+	const uint32_t plain =
+		1 << NIZWARF_DONE | 1 << NIZWARF_ENTRY | 1 << NIZWARF_ATTR | 1 << NIZWARF_WRITTEN;
+
+	return plain >> call->answer & 1;
+}
+
+/* Answers a call by this thread's answer, which has no data. */
+static int send_answer(fuse_req_t req, struct door_thread *t)
+{
 	/* (as much room as it needs, so that a slot needs no more) */
-	const size_t size = SMALL_ROOM + (answer->error ? 0 : answer->text_len);
+	const size_t size = SMALL_ROOM + (t->answer.error ? 0 : t->answer.text_len);
 	nizwarf_call *call = call_of(req);
 	nizwarf_told told;
-	nizwarf_room room;
 	struct iovec iov[1];
 	int32_t code;
 
 	if (!door_thread(size))
 		return send_lost(req, -ENOMEM);
 	call->room = size;
-	room.at = t->room;
-	room.len = size;
-	code = nizwarf_reply(&t->slot, &session, call, answer, &room, 1, &told);
-	if (code != NIZWARF_OK || !told.len) {
-		fuse_log(FUSE_LOG_ERR, "fuse: no reply to call %u: %d\n", call->call, code);
-		return send_lost(req, code == NIZWARF_OUT_OF_MEMORY ? -ENOMEM : -EIO);
+	if (is_plain(call)) {
+		code = put_answer(req, t, &told);
+		nizwarf_copy_slot_at(&t->slot, 0, t->room, SMALL_ROOM);
+	} else {
+		code = put_told(req, t, size, &told);
 	}
-	if (call->call == NIZWARF_INIT && !answer->error)
-		__atomic_store_n(&door_of(req->se)->options, told.options, __ATOMIC_RELAXED);
-	return send_put(req, t->room, told.put, iov, 1);
+	if (code == NIZWARF_OK && told.len)
+		return send_put(req, t->room, told.put, iov, 1);
+	fuse_log(FUSE_LOG_ERR, "fuse: no reply to call %u: %d\n", call->call, code);
+	return send_lost(req, code == NIZWARF_OUT_OF_MEMORY ? -ENOMEM : -EIO);
 }
 
 /* An error, or 0 where that is all there is to say. */
@@ -456,7 +490,7 @@ static int send_plain(fuse_req_t req, int error)
 
 	if (!t)
 		return send_header(req, -ENOMEM);
-	begin_answer(t, error, 0);
+	begin_answer(t, error > NIZWARF_LAST_ERROR ? EIO : error, 0);
 	return send_answer(req, t);
 }
 
@@ -464,24 +498,19 @@ static int send_plain(fuse_req_t req, int error)
  * directory. 0: there is no memory. A header that says an error has no data. */
 static size_t put_data_header(fuse_req_t req, uint64_t len, uint8_t *header)
 {
-	const nizwarf_session session = session_of(req->se);
 	struct door_thread *t = door_thread(HEADER);
 	nizwarf_call *call = call_of(req);
-	const nizwarf_answer *answer;
 	nizwarf_told told;
 
 	if (!t)
 		return 0;
-	memset(&told, 0, sizeof(told));
-	told.options = call->options;
 	/* A listing is told as bytes: libfuse has them in records already. */
 	call->call = NIZWARF_READ;
 	call->answer = NIZWARF_DATA;
 	call->length = call->size;
 	call->has = 0;
-	answer = begin_answer(t, 0, len);
-	if (nizwarf_answer_at(&t->slot, &session, call, answer, header, 0,
-			      (const nizwarf_item *)(const void *)answer, 0, &told) != NIZWARF_OK)
+	begin_answer(t, 0, len);
+	if (put_answer(req, t, &told) != NIZWARF_OK)
 		return 0;
 	nizwarf_copy_slot_at(&t->slot, 0, header, HEADER);
 	return told.len;
@@ -504,6 +533,21 @@ static int send_data(fuse_req_t req, struct iovec *iov, int count)
 	return send_put(req, header, HEADER, iov, whole > HEADER ? count : 1);
 }
 
+/* What was answered is no answer to the call: an error, if it is due a reply. */
+static int send_wrong(fuse_req_t req)
+{
+	const nizwarf_call *call = call_of(req);
+
+	if (!call->call || call->call == NIZWARF_DESTROY)
+		return send_header(req, 0);
+	if (call->answer == NIZWARF_QUIET) {
+		fuse_free_req(req);
+		return 0;
+	}
+	fuse_log(FUSE_LOG_ERR, "fuse: what was answered is no answer to call %u\n", call->call);
+	return send_plain(req, EIO);
+}
+
 /* A reply with a record that libfuse laid out. */
 static int send_told(fuse_req_t req, const struct iovec *iov, int count)
 {
@@ -514,21 +558,18 @@ static int send_told(fuse_req_t req, const struct iovec *iov, int count)
 		return send_lost(req, -ENOMEM);
 	if (tell(req, begin_answer(t, 0, 0), &more, iov, count))
 		return send_answer(req, t);
-	fuse_log(FUSE_LOG_ERR, "fuse: what was answered is no answer to call %u\n", call_of(req)->call);
-	return send_plain(req, EIO);
+	return send_wrong(req);
 }
 
-/* Each reply but those of fuse_reply_data. `iov` has a place for the header in front. */
+/* Each reply but those of the three below. `iov` has a place for the header in front. */
 static int send_reply_iov(fuse_req_t req, int error, struct iovec *iov, int count)
 {
 	const nizwarf_call *call = call_of(req);
 
 	if (!call->call || call->call == NIZWARF_DESTROY)
 		return send_header(req, error);
-	if (call->answer == NIZWARF_QUIET) {
-		fuse_free_req(req);
-		return 0;
-	}
+	if (call->answer == NIZWARF_QUIET)
+		return send_wrong(req);
 	if (error)
 		return send_plain(req, -error);
 	if (call->answer == NIZWARF_DATA || call->answer == NIZWARF_DIRECTORY)
@@ -536,6 +577,54 @@ static int send_reply_iov(fuse_req_t req, int error, struct iovec *iov, int coun
 	if (call->answer == NIZWARF_DONE && count == 1)
 		return send_plain(req, 0);
 	return send_told(req, iov + 1, count - 1);
+}
+
+/* Begins an answer by an entry of this kind. NULL: the call wants another one, or there is no memory; it has its
+ * reply, which came to `res`. */
+static nizwarf_entry *begin_entry(fuse_req_t req, uint32_t kind, struct door_thread **t, int *res)
+{
+	const nizwarf_call *call = call_of(req);
+
+	*t = door_thread(SMALL_ROOM);
+	if (!call->call || call->answer != kind) {
+		*res = send_wrong(req);
+		return NULL;
+	}
+	if (!*t) {
+		*res = send_lost(req, -ENOMEM);
+		return NULL;
+	}
+	begin_answer(*t, 0, 0);
+	(*t)->answer.entry.attr.flags = 0;
+	return &(*t)->answer.entry;
+}
+
+int fuse_reply_entry(fuse_req_t req, const struct fuse_entry_param *e)
+{
+	struct door_thread *t;
+	nizwarf_entry *entry;
+	int res;
+
+	entry = begin_entry(req, NIZWARF_ENTRY, &t, &res);
+	if (!entry)
+		return res;
+	fill_entry((struct fuse_entry_out *)(void *)entry, e);
+	return send_answer(req, t);
+}
+
+int fuse_reply_attr(fuse_req_t req, const struct stat *attr, double attr_timeout)
+{
+	struct door_thread *t;
+	nizwarf_entry *entry;
+	int res;
+
+	entry = begin_entry(req, NIZWARF_ATTR, &t, &res);
+	if (!entry)
+		return res;
+	entry->attr_seconds = calc_timeout_sec(attr_timeout);
+	entry->attr_nanoseconds = calc_timeout_nsec(attr_timeout);
+	convert_stat(attr, (struct fuse_attr *)(void *)&entry->attr);
+	return send_answer(req, t);
 }
 
 /* Data by descriptors, where the call isn't a READ. */

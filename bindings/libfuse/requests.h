@@ -663,11 +663,25 @@ static int take_message(struct fuse_session *se, struct door_message *m)
 	return 1;
 }
 
+/* Whether a request is of a row that is offered: of no other one the offers are looked at. */
+static inline int is_row(const struct door_message *m)
+{
+	const uint64_t rows = UINT64_C(1) << FUSE_GETLK | UINT64_C(1) << FUSE_SETLK |
+			      UINT64_C(1) << FUSE_SETLKW | UINT64_C(1) << FUSE_BMAP |
+			      UINT64_C(1) << FUSE_IOCTL | UINT64_C(1) << FUSE_POLL |
+			      UINT64_C(1) << FUSE_NOTIFY_REPLY | UINT64_C(1) << NIZWARF_TMPFILE |
+			      UINT64_C(1) << NIZWARF_STATX | UINT64_C(1) << NIZWARF_COPY_64;
+	const struct fuse_in_header *in = (const void *)m->in;
+
+	return m->len < sizeof(*in) || (in->opcode < 64 && rows >> in->opcode & 1);
+}
+
 /* Asks the door for the call of a message. */
 static int32_t ask(struct door_thread *t, struct fuse_session *se, const struct door_message *m,
 		   nizwarf_call *call, nizwarf_told *told)
 {
 	const nizwarf_session session = session_of(se);
+	const size_t room = session.max_buffer + FUSE_BUFFER_HEADER_SIZE;
 	nizwarf_segment segments[MOST_SEGMENTS];
 	size_t left = m->buf->size - m->len, count = 1;
 	int32_t code;
@@ -680,8 +694,11 @@ static int32_t ask(struct door_thread *t, struct fuse_session *se, const struct 
 		segments[count].at = door_absent;
 		segments[count].len = left < ABSENT ? left : ABSENT;
 	}
-	code = nizwarf_ask_offered_at(&t->slot, &session, DOOR_OFFERS, segments, count,
-				      session.max_buffer + FUSE_BUFFER_HEADER_SIZE, call, told);
+	if (is_row(m))
+		code = nizwarf_ask_offered_at(&t->slot, &session, DOOR_OFFERS, segments, count, room, call,
+					      told);
+	else
+		code = nizwarf_ask_at(&t->slot, &session, segments, count, room, call, told);
 	if (code == NIZWARF_ASKED && call->call == NIZWARF_INIT)
 		call->other_offset = nizwarf_init_offered_at(
 			(const uint8_t *)m->in, m->len < NIZWARF_INIT_FRONT ? m->len : NIZWARF_INIT_FRONT);

@@ -6,12 +6,14 @@
 # Usage: tests/suites/run.sh [OPTIONS] FOLDER BESIDE
 #        tests/suites/run.sh [OPTIONS] --share [--on FOLDER] [-- WORDS]
 #        tests/suites/run.sh [OPTIONS] --tree [-- WORDS]
+#        tests/suites/run.sh [OPTIONS] --libfuse passthrough_ll|passthrough_hp
 #        tests/suites/run.sh --list
 # With folders, each suite runs in a new one below each of the two, and what it made is removed. With --share
 # they run over what tools/share.sh shares: with one worker, with four, with a writeback cache, or with these
 # WORDS instead; beside the folder itself, and beside libfuse's own passthrough_ll, which is only shown. It is on a
 # tmpfs, or below the folder of --on. With --tree they run over the tree in memory of tools/mount.sh, with these
-# WORDS for it, beside a tmpfs. Each suite then has a server of its own, which must end well, with nothing left in
+# WORDS for it, beside a tmpfs. With --libfuse they run over this program of libfuse with the library of
+# tools/libfuse.sh, beside the same with libfuse's own. Each suite then has a server of its own, which must end well, with nothing left in
 # its folder.
 #
 #   --list           lists the suites
@@ -38,7 +40,7 @@ set -euo pipefail
 usage() {
     [ $# = 0 ] || echo "$1" >&2
     echo "Usage: tests/suites/run.sh [--only NAME..] [--quick] [--jobs N] [--sanitizer NAME] FOLDER BESIDE," >&2
-    echo "or --share [--on FOLDER] [-- WORDS], or --tree [-- WORDS], or --list" >&2
+    echo "or --share [--on FOLDER] [-- WORDS], or --tree [-- WORDS], or --libfuse PROGRAM, or --list" >&2
     exit 2
 }
 
@@ -46,7 +48,7 @@ given=("$@")
 need python3 "Install it: apt-get install python3."
 suites=("$here/tests/suites/suites.py")
 mapfile -t all < <(python3 -B "${suites[0]}" --list | sed 's/ .*//')
-only=() more=() folders=() words=() flags=() of_sanitizer=() what='' on='' jobs=1
+only=() more=() folders=() words=() flags=() of_sanitizer=() what='' on='' passthrough='' jobs=1
 while [ $# -gt 0 ]; do
     case $1 in
         --list) exec python3 -B "${suites[0]}" --list ;;
@@ -76,6 +78,12 @@ while [ $# -gt 0 ]; do
             [ -z "$what" ] || usage "$what and $1 can't both be."
             what=$1
             ;;
+        --libfuse)
+            [[ ${2:-} =~ ^passthrough_(ll|hp)$ ]] || usage "--libfuse wants passthrough_ll or passthrough_hp."
+            [ -z "$what" ] || usage "$what and $1 can't both be."
+            what=$1 passthrough=$2
+            shift
+            ;;
         --on)
             [ -d "${2:-}" ] || usage "--on wants a folder."
             on=$(realpath "$2")
@@ -97,8 +105,9 @@ if [ -n "$what" ]; then
     [ ${#folders[@]} = 0 ] || usage "$what wants no folders."
 else
     [ ${#folders[@]} = 2 ] || usage "Two folders are wanted."
-    [ ${#flags[@]} = 0 ] || usage "--sanitizer is for --share and --tree."
 fi
+[[ ${#flags[@]} = 0 || $what = --share || $what = --tree ]] || usage "--sanitizer is for --share and --tree."
+[[ ${#words[@]} = 0 || $what != --libfuse ]] || usage "Words are for --share and --tree."
 for name in "${only[@]}"; do
     [[ " ${all[*]} " == *" $name "* ]] || usage "There is no suite $name; --list has them."
 done
@@ -141,7 +150,25 @@ share_column() {
         "${of_sanitizer[@]}" "${@:2}" FOLDER MOUNT
 }
 
+# Adds a column of libfuse's program with a library, of which it may have as many descriptors as there are, since it
+# wants one for each file: passthrough_column NAME nizwarf|unmodified
+passthrough_column() {
+    local words=(--foreground FOLDER MOUNT) built
+    built=$here/out/libfuse/$(sed -n 's/^VERSION_CODENAME=//p' /etc/os-release)
+    [ "$passthrough" = passthrough_hp ] ||
+        words=(-f -o "allow_other,default_permissions,suid,dev,xattr,source=FOLDER" MOUNT)
+    # shellcheck disable=SC2016
+    column "$1" "fuse.$passthrough" judged mount env "LD_LIBRARY_PATH=$built-$2/build/lib" \
+        bash -c 'ulimit -n "$(ulimit -Hn)"; exec "$@"' bash "$built-unmodified/build/example/$passthrough" "${words[@]}"
+}
+
 case $what in
+    --libfuse)
+        "$here/tools/libfuse.sh" --all > /dev/null
+        "$here/tools/libfuse.sh" --unmodified --all > /dev/null
+        passthrough_column "$passthrough" unmodified
+        passthrough_column "over this layer" nizwarf
+        ;;
     --share)
         build_transport share vfs_door "${flags[@]}"
         column "the folder" folder judged bare
