@@ -51,6 +51,14 @@ if [ ! -e /dev/fuse ]; then
     echo "It takes /dev/fuse." >&2
     exit 2
 fi
+need unshare "Install it: apt-get install util-linux."
+need readelf "Install it: apt-get install binutils."
+if [[ " ${parts[*]} " == *" tests "* ]]; then
+    need fusermount3 "Install it: apt-get install fuse3."
+    need g++ "Install it: apt-get install g++."
+    /usr/bin/python3 -c 'import pytest' 2> /dev/null ||
+        { echo "Missing: pytest. Install it: apt-get install python3-pytest." >&2 && exit 2; }
+fi
 folder=$(realpath -m "${folder:-$here/out/libfuse}")
 words=(--suite "$suite" "$folder")
 [[ " ${parts[*]} " != *" tests "* ]] || words=(--all "${words[@]}")

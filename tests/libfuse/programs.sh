@@ -182,11 +182,11 @@ fill tree
 good=0 there=0
 for program in "${programs[@]}"; do
     if ! command -v "$program" > /dev/null; then
-        echo "$program: not installed"
+        echo "$program: not installed (apt-get install $(field "$program" 2))"
         continue
     fi
     there=$((there + 1))
     ! read_by "$program" || good=$((good + 1))
 done
 echo "$good of $there programs"
-[ "$good" = "$there" ]
+[ "$good" = "$there" ] && [ "$there" != 0 ]
