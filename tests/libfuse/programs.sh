@@ -64,7 +64,7 @@ make_root() {
         dpkg-deb --fsys-tarfile "$name" | tar -x -C "$root.part" --keep-directory-symlink
     done
     rm -r "$root.part/debs" "$root.part/apt"
-    printf '%s\n' 'root:x:0:0::/root:/bin/sh' 'sshd:x:100:100::/run/sshd:/bin/false' > "$root.part/etc/passwd"
+    printf '%s\n' 'root:x:0:0::/root:/bin/bash' 'sshd:x:100:100::/run/sshd:/bin/false' > "$root.part/etc/passwd"
     ln -s /proc/self/mounts "$root.part/etc/mtab"
     mv "$root.part" "$root"
 }
