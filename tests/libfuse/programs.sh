@@ -139,19 +139,6 @@ serve_ssh() {
     rm served/many/link
 }
 
-# What is encrypted begins as nothing: the tree is put there by a first mount, with the library of the machine.
-new_cryfs() {
-    mkdir -p encrypted
-    (unset LD_LIBRARY_PATH && open_cryfs)
-    wait_mounted
-    cp -a served/. mnt
-    umount mnt
-}
-
-open_cryfs() {
-    echo a-password | CRYFS_FRONTEND=noninteractive CRYFS_NO_UPDATE_CHECK=true cryfs encrypted mnt
-}
-
 # Mounts the tree by a program, and compares it.
 read_by() {
     local program=$1 came=equal where bad=''
