@@ -12,6 +12,7 @@
 #include <sys/sysmacros.h>
 #include <unistd.h>
 #include "passthrough_call.h"
+#include "passthrough_mounts.h"
 
 /* Options of INIT that older headers lack. */
 #define SETXATTR_EXT (UINT64_C(1) << 29)
@@ -73,7 +74,7 @@ static int get_attr(const struct call *call)
 	const int fd = call->file ? call->file->counted.fd : call->node.fd;
 	struct statx seen;
 
-	if (statx(fd, "", AT_EMPTY_PATH | AT_SYMLINK_NOFOLLOW, WANTED, &seen))
+	if (look_at(fd, &seen))
 		return errno;
 	tell_attr(call, &seen, call->node.node->is_apart, &call->answer->entry);
 	return 0;
@@ -209,7 +210,7 @@ static int access_node(const struct call *call)
 	struct statx seen;
 	uint32_t bits;
 
-	if (statx(call->node.fd, "", AT_EMPTY_PATH | AT_SYMLINK_NOFOLLOW, WANTED, &seen))
+	if (look_at(call->node.fd, &seen))
 		return errno;
 	if (nizwarf_access_mask(asked) & W_OK && options->read_only)
 		return EROFS;
@@ -341,19 +342,33 @@ static int open_file(const struct call *call)
 	return error;
 }
 
-/* Opens what was just made of a name with O_PATH: by the name, which costs less, or if that leads to another
- * file by now, by its descriptor. */
-static int open_made(const struct call *call, const char *name, int fd)
+/* Opens a new file with O_PATH by its descriptor, and tells what it is. -1: it failed as errno says. */
+static int open_unnamed(const struct call *call, int fd, struct statx *seen)
+{
+	const int path = open_again(&call->all->nodes, fd, O_PATH);
+	int error;
+
+	if (path < 0 || !look_at(path, seen))
+		return path;
+	error = errno;
+	close(path);
+	errno = error;
+	return -1;
+}
+
+/* Opens what was just made of a name with O_PATH, and tells what it is: by the name, which costs less, or if that leads
+ * to another file by now, by its descriptor. -1: it failed as errno says. */
+static int open_made(const struct call *call, const char *name, int fd, struct statx *seen)
 {
 	const int path = openat(call->node.fd, name, O_PATH | O_NOFOLLOW | O_CLOEXEC);
-	struct stat made, seen;
+	struct stat made;
 
-	if (path >= 0 && !fstat(fd, &made) && !fstat(path, &seen) && made.st_ino == seen.st_ino &&
-	    made.st_dev == seen.st_dev)
+	if (path >= 0 && !fstat(fd, &made) && !look_at(path, seen) && made.st_ino == seen->stx_ino &&
+	    made.st_dev == device_of(seen))
 		return path;
 	if (path >= 0)
 		close(path);
-	return open_again(&call->all->nodes, fd, O_PATH);
+	return open_unnamed(call, fd, seen);
 }
 
 /* Labels what was just made: 0, or an error, by which it is gone. */
@@ -394,14 +409,14 @@ static int open_new(const struct call *call, const char *name, int flags, int *f
 	return error;
 }
 
-/* Answers a new file, of which `path` is a descriptor made with O_PATH, or -1: it failed as errno says. If it can't be
- * answered it is still the caller's, but for the node that was reserved. */
-static int tell_new(const struct call *call, const char *name, int fd, int path)
+/* Answers a new file, of which `path` is a descriptor made with O_PATH, and what was seen of it; or -1: it failed as errno
+ * says. If it can't be answered it is still the caller's, but for the node that was reserved. */
+static int tell_new(const struct call *call, const char *name, int fd, int path, const struct statx *seen)
 {
 	const struct found found = found_in(&call->node, name);
 	struct nodes *nodes = &call->all->nodes;
 	const nizwarf_entry *entry = &call->answer->entry;
-	int error = path < 0 ? errno : enter(call, &found, path, &call->answer->entry, NULL);
+	int error = path < 0 ? errno : enter(call, &found, path, seen, &call->answer->entry, NULL);
 	struct backing *backing;
 
 	if (path < 0)
@@ -419,12 +434,14 @@ static int tell_new(const struct call *call, const char *name, int fd, int path)
 /* A file without a name, which a LINK may give it one. */
 static int create_unnamed(const struct call *call)
 {
-	int fd = -1, error;
+	int fd = -1, path, error;
+	struct statx seen;
 
 	error = open_new(call, ".", O_TMPFILE | (int)(call->asked->flags & O_EXCL), &fd);
 	if (error)
 		return error;
-	error = tell_new(call, "", fd, open_again(&call->all->nodes, fd, O_PATH));
+	path = open_unnamed(call, fd, &seen);
+	error = tell_new(call, "", fd, path, &seen);
 	if (error)
 		fd_let_go(&call->all->nodes, fd);
 	return error;
@@ -434,7 +451,8 @@ static int create_file(const struct call *call)
 {
 	const nizwarf_call *asked = call->asked;
 	const char *name = name_of(call, asked->name);
-	int fd = -1, error;
+	int fd = -1, path, error;
+	struct statx seen;
 
 	/* (a name that is there may be that of a pipe, which waits) */
 	error = open_new(call, name, O_CREAT | O_EXCL | O_NOFOLLOW, &fd);
@@ -442,7 +460,8 @@ static int create_file(const struct call *call)
 	 * meanwhile is not opened, and the client looks the name up again. */
 	if (error)
 		return error == EEXIST && !(asked->flags & O_EXCL) ? ESTALE : error;
-	error = tell_new(call, name, fd, open_made(call, name, fd));
+	path = open_made(call, name, fd, &seen);
+	error = tell_new(call, name, fd, path, &seen);
 	if (error) {
 		unmake_of(call->node.fd, name, fd);
 		fd_let_go(&call->all->nodes, fd);

@@ -99,9 +99,12 @@ uint64_t name_time(const struct call *call, const struct node *directory, uint64
 void tell_attr(const struct call *call, const struct statx *seen, bool is_apart, nizwarf_entry *entry);
 /* The inode number that is told. */
 uint64_t inode_of(const struct call *call, uint64_t device, uint64_t inode, bool is_apart);
-/* The entry of a file that was found so, and opened with O_PATH, or of the name: a node was reserved, which
+/* What a descriptor is of: 0, or -1 with errno. */
+int look_at(int fd, struct statx *seen);
+/* The entry of a file that was found so, opened with O_PATH and looked at, or of the name: a node was reserved, which
  * it is, or is given back. `*is_new`, if there is one, becomes true if the file wasn't known. 0, or an error. */
-int enter(const struct call *call, const struct found *found, int fd, nizwarf_entry *entry, bool *is_new);
+int enter(const struct call *call, const struct found *found, int fd, const struct statx *seen,
+	  nizwarf_entry *entry, bool *is_new);
 int enter_name(const struct call *call, const struct found *found, nizwarf_entry *entry, bool *is_new);
 /* The entry of a name: 0, or an error. */
 int look_up(const struct call *call, const struct found *found, nizwarf_entry *entry);

@@ -106,31 +106,33 @@ struct found found_in(const struct grip *directory, const char *name)
 	return (struct found){ directory->fd, directory->node, name };
 }
 
-int enter(const struct call *call, const struct found *found, int fd, nizwarf_entry *entry, bool *is_new)
+int look_at(int fd, struct statx *seen)
 {
-	struct statx seen;
-	uint64_t number;
-	int error;
+	return statx(fd, "", AT_EMPTY_PATH | AT_SYMLINK_NOFOLLOW, WANTED, seen);
+}
 
-	if (statx(fd, "", AT_EMPTY_PATH | AT_SYMLINK_NOFOLLOW, WANTED, &seen)) {
-		error = errno;
-		close(fd);
-		node_give_back(&call->all->nodes);
-		return error;
-	}
-	error = node_enter(&call->all->nodes, found, fd, &seen, &number, is_new);
+int enter(const struct call *call, const struct found *found, int fd, const struct statx *seen,
+	  nizwarf_entry *entry, bool *is_new)
+{
+	uint64_t number;
+	const int error = node_enter(&call->all->nodes, found, fd, seen, &number, is_new);
+
 	if (!error)
-		tell_entry(call, number, &seen, entry);
+		tell_entry(call, number, seen, entry);
 	return error;
 }
 
 int enter_name(const struct call *call, const struct found *found, nizwarf_entry *entry, bool *is_new)
 {
 	const int fd = openat(found->directory, found->name, O_PATH | O_NOFOLLOW | O_CLOEXEC);
-	const int error = fd < 0 ? errno : 0;
+	struct statx seen;
+	int error;
 
-	if (!error)
-		return enter(call, found, fd, entry, is_new);
+	if (fd >= 0 && !look_at(fd, &seen))
+		return enter(call, found, fd, &seen, entry, is_new);
+	error = errno;
+	if (fd >= 0)
+		close(fd);
 	node_give_back(&call->all->nodes);
 	return error;
 }
@@ -144,7 +146,7 @@ static int find_known(const struct call *call, const struct found *found, int er
 
 	if (fd < 0)
 		return errno;
-	if (!statx(fd, "", AT_EMPTY_PATH | AT_SYMLINK_NOFOLLOW, WANTED, &seen))
+	if (!look_at(fd, &seen))
 		number = node_find_opened(&call->all->nodes, fd, &seen);
 	close(fd);
 	if (!number)

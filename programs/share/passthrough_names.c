@@ -28,7 +28,7 @@ void unmake_of(int directory, const char *name, int fd)
 {
 	struct statx made;
 
-	if (!statx(fd, "", AT_EMPTY_PATH | AT_SYMLINK_NOFOLLOW, WANTED, &made))
+	if (!look_at(fd, &made))
 		unmake(directory, name, &made);
 }
 
@@ -142,7 +142,7 @@ int link_node(const struct call *call)
 	/* (that leads to the node itself, also where it is a symbolic link) */
 	error = failed(
 		linkat(nodes->proc, name_fd(call->node.fd).bytes, call->other.fd, name, AT_SYMLINK_FOLLOW));
-	if (!error && statx(call->node.fd, "", AT_EMPTY_PATH | AT_SYMLINK_NOFOLLOW, WANTED, &seen)) {
+	if (!error && look_at(call->node.fd, &seen)) {
 		error = errno;
 		unmake(call->other.fd, name, &made);
 	}
