@@ -96,3 +96,32 @@ quietly() {
         return 1
     fi
 }
+
+# Sets `beside` to a folder with libfuse's passthrough_ll, built from its sources, bindfs and their `versions`, which is
+# made if it isn't there, and has programs find libfuse's library. It wants cc.
+# shellcheck disable=SC2154
+get_passthrough() {
+    beside=$here/out/share-speed
+    if [ ! -x "$beside/passthrough_ll" ]; then
+        echo "Getting libfuse's sources and bindfs .." >&2
+        rm -rf "$beside"
+        mkdir -p "$beside"
+        quietly "$beside/said" make_passthrough "$beside"
+        [ -x "$beside/passthrough_ll" ] || exit 1
+    fi
+    LD_LIBRARY_PATH=$(dirname "$(find "$beside" -name libfuse3.so.3 -print -quit)")
+    export LD_LIBRARY_PATH
+}
+
+make_passthrough() {
+    local folder=$1 suite
+    suite=$(. /etc/os-release && echo "$VERSION_CODENAME")
+    use_suite "$suite" "$folder"
+    sed 's/^Types: deb$/Types: deb-src/' "$folder/sources/debian.sources" > "$folder/sources/source.sources"
+    apt-get "${apt[@]}" update
+    unpack_packages "$folder" libfuse2 libfuse3-3 libfuse3-dev bindfs
+    (cd "$folder" && apt-get "${apt[@]}" --download-only source fuse3 && tar -xf fuse3_*.orig.tar.?z)
+    cc -O2 -w -D_FILE_OFFSET_BITS=64 -pthread -I "$folder/usr/include/fuse3" -o "$folder/passthrough_ll" \
+        "$folder"/fuse-*/example/passthrough_ll.c "$folder"/lib/*/libfuse3.so.3
+    apt-cache "${apt[@]}" show libfuse3-3 bindfs | sed -n 's/^Version: //p' > "$folder/versions"
+}

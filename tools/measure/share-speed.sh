@@ -7,7 +7,8 @@
 #
 # Usage: tools/measure/share-speed.sh [--tree [-o OPTIONS]] [--page] [ROUNDS [CLASS..]]
 # Without a word 9 rounds of all classes, which take some ten minutes. With --page it writes that page instead of
-# printing it, once all is timed. Each has the options that it begins with,
+# printing it, once all is timed. Where Linux offers io_uring, by /sys/module/fuse/parameters/enable_uring, the share
+# is timed by both ways. Each has the options that it begins with,
 # but passthrough_ll `cache=auto`, which is that of nizwarf-share, and `default_permissions`, which the beside have.
 # The folders are in memory. CLASS is stat, stat-missing, open-close, create-unlink, readdir, ls-l, write-1m,
 # read-1m, write-4k, read-4k, 'git status', untar or names-100k. With --tree it is the tree as tools/mount.sh mounts
@@ -54,33 +55,7 @@ done
 # What is mounted here is in no other namespace, where it would stay in use.
 own_mounts "${given[@]}"
 
-# Gets the two beside.
-get_others() {
-    local folder=$1 suite
-    suite=$(. /etc/os-release && echo "$VERSION_CODENAME")
-    use_suite "$suite" "$folder"
-    sed 's/^Types: deb$/Types: deb-src/' "$folder/sources/debian.sources" > "$folder/sources/source.sources"
-    apt-get "${apt[@]}" update
-    unpack_packages "$folder" libfuse2 libfuse3-3 libfuse3-dev bindfs
-    (cd "$folder" && apt-get "${apt[@]}" --download-only source fuse3 && tar -xf fuse3_*.orig.tar.?z)
-    cc -O2 -w -D_FILE_OFFSET_BITS=64 -pthread -I "$folder/usr/include/fuse3" -o "$folder/passthrough_ll" \
-        "$folder"/fuse-*/example/passthrough_ll.c "$folder"/lib/*/libfuse3.so.3
-    apt-cache "${apt[@]}" show libfuse3-3 bindfs | sed -n 's/^Version: //p' > "$folder/versions"
-}
-
-beside=$here/out/share-speed
-if [ ! -x "$beside/passthrough_ll" ]; then
-    echo "Getting libfuse's sources and bindfs .." >&2
-    rm -rf "$beside"
-    mkdir -p "$beside"
-    quietly "$beside/said" get_others "$beside"
-    if [ ! -x "$beside/passthrough_ll" ]; then
-        cat "$beside/said" >&2
-        exit 1
-    fi
-fi
-LD_LIBRARY_PATH=$(dirname "$(find "$beside" -name libfuse3.so.3 -print -quit)")
-export LD_LIBRARY_PATH
+get_passthrough
 version='' floor=''
 if [ "$what" = tree ]; then
     build_transport mount vfs_c "$here/tools/measure/floor.c" -Wl,--wrap=nizwarf_message_at -Wl,--wrap=nizwarf_take_at
@@ -97,9 +72,9 @@ tidy() {
     rm -rf "$work"
 }
 trap 'tidy 2> /dev/null || true' EXIT
-# Where root has set it to Y, before this, requests of the tree come by io_uring.
+# Where root has set it to Y, before this, requests of the tree come by io_uring, and the share is timed so too.
 uring=/sys/module/fuse/parameters/enable_uring
-[ "$what" = share ] || version="$version; fuse.enable_uring $(cat "$uring" 2> /dev/null || echo none)"
+version="$version; fuse.enable_uring $(cat "$uring" 2> /dev/null || echo none)"
 built="built without a proof"
 [[ ${library[0]} == */out/unproved/* ]] || built="the proved one"
 facts="Begun on $(LC_ALL=C date '+%-d %B %Y'), commit $(git -C "$here" describe --always --dirty), the library $built$version;

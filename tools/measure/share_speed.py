@@ -37,6 +37,8 @@ TIMES = {"stat": (2000, "file"), "stat-missing": (2000, "name"), "open-close": (
          "read-1m": (48, "MiB"), "write-4k": (3000, "block"), "read-4k": (3000, "block")}
 # What takes long has so many rounds at most.
 FEW = {"names-100k": 3}
+# The names of our own.
+SHARE, BY_RING = "nizwarf-share", "nizwarf-share, io_uring"
 # Of mount(2).
 MS_REMOUNT = 32
 
@@ -66,7 +68,7 @@ what no file system over `/dev/fuse` can win: the first one of a server that doe
 said to the same LOOKUP or GETATTR."""
 BOTH_HEAD = """\
 passthrough_ll has `cache=auto`, `default_permissions`, and threads by need; of bindfs the quicker one of one thread and
-many is meant. Where a line stands passthrough_ll failed: it holds a descriptor for each file, and could have {most} here.
+many is meant. Where a line stands one failed that holds a descriptor for each file, and could have {most} here.
 With one job, and read and write, it is chance in each round whether client and server come to one processor or to two, by
 which a small request takes two or three times as long; so of few rounds the medians of small requests say little.
 """
@@ -77,8 +79,14 @@ Of the server, for each file, name, listing, MiB or block, by `strace -c`, under
 that names may be looked up again. A request takes a read and a reply a write, or both one io_uring_enter. Those of less than one in twenty are left out,
 and what waits: `poll` and `futex`.
 
-| Class | {ours} | passthrough_ll | bindfs |
-|---|---|---|---|"""
+| Class | {names} |
+|---|{line}"""
+RING_HEAD = """
+## By io_uring
+
+The same with `-o io_uring`, in the same rounds: a worker for each of the share's threads on each processor, where Linux
+offers it by `fuse.enable_uring`. Both ways the share has the sandbox and the filter.
+"""
 SHARE_WHY = """
 What the share alone does: each file that is looked up is opened with O_PATH, and closed when it is forgotten, so that
 a request goes to the file that was looked up, whatever is renamed meanwhile, and no path is walked or link followed.
@@ -206,9 +214,9 @@ def ratios(ours, theirs):
                  for at in (0, 1))
 
 
-def row(servers, what):
-    """The ratios of a class: of each number of jobs by the clock, and of the processor."""
-    names, cells, worst = list(servers), [], []
+def rows_of(servers, own, what):
+    """For each of our own servers the ratios of a class: of each number of jobs by the clock, and of the processor."""
+    names, cells, worst = list(servers), {it: [] for it in own}, {it: [] for it in own}
     for jobs in JOBS:
         print(f"{time.strftime('%H:%M:%S')} {what}, {jobs} job{'s' * (jobs > 1)}", file=sys.stderr)
         times = {name: [] for name in names}
@@ -216,17 +224,19 @@ def row(servers, what):
             for i in range(len(names)):
                 name = names[(i + turn) % len(names)]
                 times[name].append(servers[name].time(what, jobs))
-        if None in times[names[0]] and kind != "libfuse":
-            sys.exit(f"{names[0]} could not do {what}")
-        beside = {}
-        for name in names[1:]:
-            # (of bindfs the quicker one of the two ways)
-            both, other = ratios(times[names[0]], times[name]), name.split(",")[0]
-            beside[other] = max(beside.get(other, (0, 0)), both or (0, 0))
-        cells += [shown(beside[other], isinstance(servers[other], Tmpfs)) for other in beside]
-        if "bindfs" in beside:
-            worst.append(shown(max(beside["passthrough_ll"], beside["bindfs"])))
-    return "| " + " | ".join([SAID[what], *cells, *worst]) + " |"
+        for it in own:
+            if None in times[it] and kind == "tree":
+                sys.exit(f"{it} could not do {what}")
+            beside = {}
+            for name in names:
+                # (of bindfs the quicker one of the two ways)
+                other = name.split(",")[0]
+                if name not in own:
+                    beside[other] = max(beside.get(other, (0, 0)), ratios(times[it], times[name]) or (0, 0))
+            cells[it] += [shown(beside[other], isinstance(servers[other], Tmpfs)) for other in beside]
+            if "bindfs" in beside:
+                worst[it].append(shown(max(beside["passthrough_ll"], beside["bindfs"])))
+    return ["| " + " | ".join([SAID[what], *cells[it], *worst[it]]) + " |" for it in own]
 
 
 def appends(server):
@@ -264,40 +274,52 @@ def main():
         servers = {"over the layer": Server(["env", "LD_LIBRARY_PATH=" + ours, *words]), "passthrough_ll": Server(words)}
         print("| Class | 1 job | 4 jobs |\n|---|---|---|")
         for what in sys.argv[12:] or CLASSES:
-            print(row(servers, what), flush=True)
+            print(*rows_of(servers, ["over the layer"], what), flush=True)
         return
     others = {"passthrough_ll": Server(words),
               "bindfs": Server([bindfs, "-f", "{folder}", "{mount}"]),
               "bindfs, threads": Server([bindfs, "-f", "--multithreaded", "{folder}", "{mount}"])}
     if kind == "tree":
         others["tmpfs"] = Tmpfs([])
-        servers = {"the tree": Tree([ours, "-o", options, "{mount}"]), **others}
+        own = {"the tree": Tree([ours, "-o", options, "{mount}"])}
         head, why, classes = TREE_HEAD, "", MORE
     else:
-        servers = {"nizwarf-share": Server([ours, "--log-level=error", "{folder}", "{mount}"]), **others}
+        own = {SHARE: Server([ours, "--log-level=error", "{folder}", "{mount}"])}
+        if has_ring:
+            own[BY_RING] = Server([ours, "--log-level=error", "-o", "io_uring", "{folder}", "{mount}"])
         head, why, classes = SHARE_HEAD, SHARE_WHY, CLASSES
+    servers = {**own, **others}
     classes = sys.argv[12:] or classes
     most, _ = resource.getrlimit(resource.RLIMIT_NOFILE)
     print(head.format(rounds=rounds, facts=facts, options=options and f" -o {options}"))
     print(BOTH_HEAD.format(most=most))
-    columns = list(dict.fromkeys(name.split(",")[0] for name in list(servers)[1:]))
-    print("| Class | " + " | ".join(f"{it}, {jobs} job{'s' * (jobs > 1)}" for jobs in JOBS for it in columns) +
-          " | quicker, 1 job | quicker, 4 jobs |\n|---" + "|---" * (2 * len(columns) + 2) + "|")
+    columns = list(dict.fromkeys(name.split(",")[0] for name in others))
+    table = "| Class | " + " | ".join(f"{it}, {jobs} job{'s' * (jobs > 1)}" for jobs in JOBS for it in columns) + \
+        " | quicker, 1 job | quicker, 4 jobs |\n|---" + "|---" * (2 * len(columns) + 2) + "|"
+    print(table)
+    later = []
     for what in classes:
         of = {"the floor": Floor([floor, "-o", options, "{mount}"]), **others} if what == "floor" else servers
-        print(row(of, what), flush=True)
+        first, *more = rows_of(of, [it for it in of if it not in others], what)
+        print(first, flush=True)
+        later += more
+    if later:
+        print(RING_HEAD, table, *later, sep="\n", flush=True)
     print(why, end="")
     if "overwrite-1m" in classes:
         print(appends(servers["the tree"]), flush=True)
     counted = [what for what in classes if what in TIMES]
     if counted and shutil.which("strace"):
-        print(CALLS.format(ours=list(servers)[0]))
+        counting = [*own, "passthrough_ll", "bindfs"]
+        print(CALLS.format(names=" | ".join(counting), line="---|" * len(counting)))
         for what in counted:
-            cells = [calls_of(servers[name], what) for name in list(servers)[:3]]
+            cells = [calls_of(servers[name], what) for name in counting]
             print(f"| {SAID[what]}, a {TIMES[what][1]} | " + " | ".join(cells) + " |", flush=True)
 
 
 if __name__ == "__main__":
     kind, speed, ours, floor, options, passthrough_ll, bindfs, repository, work = sys.argv[1:10]
     rounds, facts = int(sys.argv[10]), sys.argv[11]
+    # (what Linux offers)
+    has_ring = "fuse.enable_uring Y" in facts
     main()
