@@ -1,4 +1,4 @@
-/* The front end of a vhost-user daemon of virtio-fs with a queue for requests, for the programs beside it. */
+/* The front end of a vhost-user daemon of virtio-fs with queues for requests, for the programs beside it. */
 #ifndef FRONT_H
 #define FRONT_H
 
@@ -16,10 +16,10 @@
 #include <unistd.h>
 
 /* The rings of a queue lie in QUEUE bytes of the memory: that of requests begins at QUEUE. */
-enum { QUEUE = 1 << 16, AVAILABLE = 1 << 14, USED = 1 << 15 };
+enum { QUEUE = 1 << 16, AVAILABLE = 1 << 14, USED = 1 << 15, MOST_QUEUES = 9 };
 
 static unsigned char *memory;
-static int connection, memory_file, kick[2], call[2];
+static int connection, memory_file, kick[MOST_QUEUES], call[MOST_QUEUES];
 /* The features of the protocol that are agreed on, if the daemon has them. */
 static uint64_t protocol;
 
@@ -103,9 +103,10 @@ static inline void meet(const char *path)
 	}
 }
 
-/* Shares a new memory of `size` bytes, and starts both queues, of `entries` descriptors. Gives the features
- * that were agreed on: those that it takes, and of those that are liked what the daemon has. */
-static inline uint64_t begin(size_t size, uint32_t entries, uint64_t liked)
+/* Shares a new memory of `size` bytes, and starts so many queues, of which those behind the first are for requests, of
+ * `entries` descriptors. Gives the features that were agreed on: those that it takes, and of those that are liked what
+ * the daemon has. */
+static inline uint64_t begin_queues(uint32_t queues, size_t size, uint32_t entries, uint64_t liked)
 {
 	const int file = memory_file = memfd_create("memory", MFD_CLOEXEC);
 	const uint64_t wanted = 1ull << 32 | 1ull << 30;
@@ -126,7 +127,7 @@ static inline uint64_t begin(size_t size, uint32_t entries, uint64_t liked)
 	tell(3, "", 0, -1);
 	tell_number(2, wanted | (offered & liked), -1);
 	tell(5, &table, sizeof(table), file);
-	for (uint32_t q = 0; q < 2; q++) {
+	for (uint32_t q = 0; q < queues; q++) {
 		const uint64_t ring = at + q * QUEUE;
 		const struct {
 			uint32_t queue, flags;
@@ -145,6 +146,12 @@ static inline uint64_t begin(size_t size, uint32_t entries, uint64_t liked)
 	/* An answer, so the queues are started: a daemon may pass over a kick before that. */
 	ask_number(1);
 	return wanted | (offered & liked);
+}
+
+/* The same with one queue for requests. */
+static inline uint64_t begin(size_t size, uint32_t entries, uint64_t liked)
+{
+	return begin_queues(2, size, entries, liked);
 }
 
 static inline struct vring_desc *descriptors(void)

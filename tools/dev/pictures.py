@@ -1,9 +1,10 @@
 """Draws docs/pictures, for pictures.sh, which says what: with --check it only compares."""
-import html, os, re, sys, textwrap
+import html, math, os, re, sys, textwrap
 
 ARCHITECTURE = "docs/ARCHITECTURE.md"
 END_TO_END = "docs/generated/end-to-end.md"
 RATIOS = "docs/generated/ratios.md"
+GROWTH = "docs/generated/growth.md"
 CODE = re.compile(r"`([^`]+)`")
 # Tints that black text is read on.
 TINTS = ["#cfe2ff", "#ffd9b8", "#c9ecca", "#e6d3f5", "#fff1a8", "#c4eeee", "#f9cfd8", "#dedede",
@@ -348,12 +349,55 @@ def end_to_end():
     return picture.drawn(axis + int(scale * end) + 150, bottom + 30)
 
 
+# What grows.
+
+def lines_of(picture, left, rows, names, which, words, scales):
+    """The lines of a table on scales of doubling: of each name the figures that its cells have at this place."""
+    top, width, height = 60, 300, 220
+    (first, last), (low, high) = ((math.log2(scale[0]), math.log2(scale[-1])) for scale in scales)
+
+    def place(files, figure):
+        return (left + (math.log2(files) - first) / (last - first) * width,
+                top + height - (math.log2(figure) - low) / (high - low) * height)
+
+    for figure in scales[1]:
+        _, y = place(scales[0][0], figure)
+        picture.shape("line", x1=left, y1=y, x2=left + width, y2=y, stroke="#ddd")
+        picture.text(left - 6, y + 4, f"{figure:g}", text_anchor="end", font_size=11)
+    for files in scales[0]:
+        picture.text(place(files, scales[1][0])[0], top + height + 16, f"{files:,}", text_anchor="middle", font_size=9)
+    picture.text(left, top - 14, words)
+    for column, (name, colour) in enumerate(names.items(), 1):
+        points = [(int(row[0].replace(",", "")), row[column].split(", ")[which]) for row in rows if row[column] != "-"]
+        places = [place(files, max(float(figure.replace(",", "")), scales[1][0])) for files, figure in points]
+        picture.shape("polyline", points=" ".join(f"{x:.1f},{y:.1f}" for x, y in places), fill="none", stroke=colour,
+                      stroke_width=2)
+        for x, y in places:
+            picture.shape("circle", cx=x, cy=y, r=3, fill=colour)
+
+
+def growth():
+    names = {"nizwarf-share": "#2f6fc4", "nizwarf-share, descriptors": "#2a8a7f", "virtiofsd": "#b3722a",
+             "passthrough_ll": "#b03a4b"}
+    picture = Picture("What a file takes by the number of files that are known")
+    files = [1000, 10000, 100000, 1000000, 3000000]
+    lines_of(picture, 50, table(GROWTH, "| Files |"), names, 0, "bytes a file", (files, [32 << i for i in range(6)]))
+    lines_of(picture, 410, table(GROWTH, "| LOOKUP among |"), names, 1, "microseconds of a later LOOKUP",
+             (files, [1 << i for i in range(8)]))
+    x = 20
+    for words, colour in names.items():
+        picture.box(x, 14, 20, 11, fill=colour, stroke="none")
+        picture.text(x + 25, 24, words)
+        x += 38 + wide(words)
+    return picture.drawn(740, 310)
+
+
 def main():
     if sys.argv[1:] not in ([], ["--check"]):
         fault("it takes --check or nothing")
     old = []
     for name, draw in (("crates", crates), ("lookup", lookup), ("ratios", ratios),
-                       ("end-to-end", end_to_end)):
+                       ("end-to-end", end_to_end), ("growth", growth)):
         path, drawn = f"docs/pictures/{name}.svg", draw()
         if sys.argv[1:]:
             old += [path] if not os.path.exists(path) or read(path) != drawn else []

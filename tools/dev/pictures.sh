@@ -11,6 +11,7 @@
 #                the first full stop, the first function, and the crates of all files
 #   ratios.svg   the ratios of the table in docs/generated/ratios.md
 #   end-to-end.svg  those of the table in docs/generated/end-to-end.md
+#   growth.svg   the first two tables of docs/generated/growth.md
 set -eu
 . "$(dirname "$0")/../lib/usage.sh"
 case $#,${1:-} in

@@ -1,0 +1,209 @@
+/* What a daemon of virtio-fs takes without a file system, and what the system calls of files take without a daemon: for
+ * growth.sh.
+ *
+ * Usage: floor_vhost SOCKET
+ *        floor_vhost CLASS FOLDER COUNT
+ * The first answers each request at once over the transport of programs/transport, by the same few bytes: data that it
+ * tells of are not there. The second makes the system calls of COUNT requests of a class of tests/beside/pace.c, as
+ * nizwarf-share makes them of files that are known, and prints the nanoseconds that they took on the processor. */
+#define _GNU_SOURCE
+#include <dirent.h>
+#include <fcntl.h>
+#include <inttypes.h>
+#include <stdio.h>
+#include <stdlib.h>
+#include <sys/stat.h>
+#include <sys/syscall.h>
+#include <sys/uio.h>
+#include <time.h>
+#include <unistd.h>
+#include "transport.h"
+
+enum {
+	FILE_SIZE = 32 << 20,
+	SMALL = 4096,
+	LARGE = 1 << 20,
+	LISTED = 40000,
+	NAMES = 32768,
+	HANDLE = 1,
+	NODE = 2
+};
+
+/* ---- a back end */
+
+/* Puts a header and a record into the room. How many bytes the reply has, with so many of data behind them. */
+static size_t put(const nizwarf_room *room, size_t rooms, uint64_t unique, int error, const void *record,
+		  size_t len, size_t data)
+{
+	struct fuse_out_header head = { (uint32_t)(sizeof(head) + len + data), error, unique };
+	unsigned char bytes[256];
+	size_t at = 0;
+
+	memcpy(bytes, &head, sizeof(head));
+	memcpy(bytes + sizeof(head), record, len);
+	len += sizeof(head);
+	for (size_t i = 0; i < rooms && at < len; i++) {
+		const size_t some = len - at < room[i].len ? len - at : room[i].len;
+
+		memcpy(room[i].at, bytes + at, some);
+		at += some;
+	}
+	return head.len;
+}
+
+static size_t answer_transfer(const struct fuse_in_header *asked, const unsigned char *record,
+			      const nizwarf_room *room, size_t rooms)
+{
+	struct fuse_read_in of;
+	struct fuse_write_out written = { 0 };
+
+	memcpy(&of, record, sizeof(of));
+	written.size = of.size;
+	if (asked->opcode == FUSE_WRITE)
+		return put(room, rooms, asked->unique, 0, &written, sizeof(written), 0);
+	return put(room, rooms, asked->unique, 0, "", 0, asked->opcode == FUSE_READ ? of.size : LISTED);
+}
+
+static int32_t serve(void *user, unsigned worker, const nizwarf_segment *request, size_t segments,
+		     const nizwarf_room *room, size_t rooms, size_t *len)
+{
+	static const struct fuse_init_out init = {
+		.major = 7, .minor = 38, .max_write = LARGE, .flags = FUSE_MAX_PAGES, .max_pages = 256
+	};
+	static const struct fuse_entry_out entry = { .nodeid = NODE,
+						     .attr = { .mode = S_IFREG, .nlink = 1 } };
+	static const struct fuse_attr_out attr = { .attr = { .mode = S_IFREG, .nlink = 1 } };
+	static const struct fuse_open_out open = { .fh = HANDLE };
+	struct fuse_in_header asked;
+
+	(void)user, (void)worker, (void)segments;
+	memcpy(&asked, request->at, sizeof(asked));
+	switch (asked.opcode) {
+	case FUSE_INIT:
+		*len = put(room, rooms, asked.unique, 0, &init, sizeof(init), 0);
+		break;
+	case FUSE_LOOKUP:
+		*len = put(room, rooms, asked.unique, 0, &entry, sizeof(entry), 0);
+		break;
+	case FUSE_GETATTR:
+		*len = put(room, rooms, asked.unique, 0, &attr, sizeof(attr), 0);
+		break;
+	case FUSE_OPEN:
+	case FUSE_OPENDIR:
+		*len = put(room, rooms, asked.unique, 0, &open, sizeof(open), 0);
+		break;
+	case FUSE_READ:
+	case FUSE_WRITE:
+	case FUSE_READDIR:
+	case FUSE_READDIRPLUS:
+		*len = answer_transfer(&asked, (const unsigned char *)request->at + sizeof(asked), room,
+				       rooms);
+		break;
+	default:
+		*len = put(room, rooms, asked.unique, -38, "", 0, 0);
+	}
+	return NIZWARF_OK;
+}
+
+/* ---- system calls */
+
+/* What they are of: the folder, its file, and its folder `names`. */
+static int folder, file, names;
+static unsigned char memory[LARGE];
+
+static void need(int fact, const char *what)
+{
+	if (!fact) {
+		perror(what);
+		exit(1);
+	}
+}
+
+static void look_at(int at, const char *name, int flags)
+{
+	struct statx seen;
+
+	need(!statx(at, name, flags, STATX_BASIC_STATS | STATX_MNT_ID, &seen), name);
+}
+
+/* Reads or writes so many bytes, in pieces of a page. */
+static void transfer(int writes, size_t size, unsigned long serial)
+{
+	struct iovec pieces[LARGE / SMALL];
+	const int count = (int)(size / SMALL);
+	const off_t at = (off_t)(serial * size % FILE_SIZE);
+
+	for (int i = 0; i < count; i++)
+		pieces[i] = (struct iovec){ memory + (size_t)i * SMALL, SMALL };
+	need((writes ? pwritev(file, pieces, count, at) : preadv(file, pieces, count, at)) == (ssize_t)size,
+	     "file");
+}
+
+/* Lists the names, and looks at each, if that is wanted. */
+static void list(int looks)
+{
+	static _Alignas(struct dirent64) char listed[NAMES];
+	long got;
+
+	need(!lseek(names, 0, SEEK_SET), "names");
+	while ((got = syscall(SYS_getdents64, names, listed, sizeof(listed))) > 0)
+		for (long at = 0; at < got;
+		     at += ((const struct dirent64 *)(void *)(listed + at))->d_reclen) {
+			const struct dirent64 *it = (const void *)(listed + at);
+
+			if (looks && it->d_name[0] != '.')
+				look_at(names, it->d_name, AT_SYMLINK_NOFOLLOW | AT_NO_AUTOMOUNT);
+		}
+	need(!got, "names");
+}
+
+static int make_calls(const char *class, unsigned long serial)
+{
+	const size_t size = strstr(class, "1m") ? LARGE : SMALL;
+
+	if (!strcmp(class, "getattr"))
+		look_at(folder, "", AT_EMPTY_PATH | AT_SYMLINK_NOFOLLOW);
+	else if (!strcmp(class, "lookup"))
+		look_at(folder, "file", AT_SYMLINK_NOFOLLOW | AT_NO_AUTOMOUNT);
+	else if (!strncmp(class, "read-", 5) || !strncmp(class, "write-", 6))
+		transfer(*class == 'w', size, serial);
+	else if (!strncmp(class, "readdir", 7))
+		list(class[7]);
+	else
+		return !strcmp(class, "unknown");
+	return 1;
+}
+
+static void time_calls(const char *class, const char *path, unsigned long count)
+{
+	struct timespec from, to;
+
+	folder = open(path, O_PATH | O_DIRECTORY | O_CLOEXEC);
+	file = openat(folder, "file", O_RDWR | O_CLOEXEC);
+	names = openat(folder, "names", O_RDONLY | O_DIRECTORY | O_CLOEXEC);
+	need(folder >= 0 && file >= 0 && names >= 0, path);
+	need(make_calls(class, 0), class);
+	clock_gettime(CLOCK_THREAD_CPUTIME_ID, &from);
+	for (unsigned long i = 0; i < count; i++)
+		make_calls(class, i);
+	clock_gettime(CLOCK_THREAD_CPUTIME_ID, &to);
+	printf("%.0f\n", ((double)(to.tv_sec - from.tv_sec) * 1e9 + (double)(to.tv_nsec - from.tv_nsec)) /
+				 (double)count);
+}
+
+int main(int count, char **words)
+{
+	const transport by = {
+		.program = "floor_vhost", .workers = 1, .writes_in_place = 1, .quiet = 1, .serve = serve
+	};
+	int listener;
+
+	if (count == 4)
+		return time_calls(words[1], words[2], strtoul(words[3], NULL, 10)), 0;
+	if (count != 2) {
+		fputs("Usage: floor_vhost SOCKET, or floor_vhost CLASS FOLDER COUNT\n", stderr);
+		return 2;
+	}
+	listener = vhost_user_listen(&by, words[1]);
+	return listener < 0 ? 1 : vhost_user_serve(&by, listener);
+}

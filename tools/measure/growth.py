@@ -1,0 +1,260 @@
+"""Measures how daemons grow with what they serve, for growth.sh, which says what.
+
+Usage: growth.py PACE FLOOR WORK MOST FACTS SHARE PASSTHROUGH_LL VIRTIOFSD..
+PACE is the built tests/beside/pace.c, FLOOR floor_vhost.c, WORK an empty folder in memory, MOST the most files. It prints
+the page."""
+import os
+import socket
+import statistics
+import subprocess
+import sys
+import time
+
+SIZES = 1_000, 10_000, 100_000, 1_000_000, 3_000_000
+FOLDERS = 10, 1_000, 100_000, 1_000_000
+QUEUES, DEPTHS, MACHINES = (1, 2, 4, 8), (1, 4, 16, 64), 8
+# How many files are looked up again at each size, and how many requests are timed; passthrough_ll has a descriptor for
+# each file, and walks a list of them.
+AGAIN, REQUESTS, MOST_OF_LIST = 20_000, 40_000, 10_000
+SHARE, HELD, VIRTIOFSD, LIBFUSE, FLOOR = "nizwarf-share", "nizwarf-share, descriptors", "virtiofsd", "passthrough_ll", "floor"
+# The classes of pace.c, how many requests of each are timed at once, and in how many rounds.
+CLASSES = {"unknown": ("an unknown opcode", 4000), "getattr": ("GETATTR", 4000), "lookup": ("LOOKUP of a known file", 4000),
+           "read-4k": ("READ of 4 KiB", 4000), "write-4k": ("WRITE of 4 KiB", 4000), "read-1m": ("READ of 1 MiB", 60),
+           "write-1m": ("WRITE of 1 MiB", 60), "readdir": ("READDIR of 1,000", 60), "readdirplus": ("READDIRPLUS of 1,000", 20)}
+ROUNDS = 31
+
+HEAD = """# What grows with what is served
+
+Of `nizwarf-share`, Debian's virtiofsd and libfuse's passthrough_ll, each of which shares the same folder in memory:
+`tools/measure/growth.sh`. The first two are asked over vhost-user by tests/beside/pace.c, and hold files by handles where
+they can, as they must where more files are known than a process may have open; passthrough_ll has a socket in place of
+`/dev/fuse`, a descriptor for each file, and a list of them, so it has up to {most:,}. Times are of the daemon's processor,
+its kernel's part too. {facts}
+"""
+
+
+def say(what):
+    print(f"{time.strftime('%H:%M:%S')} {what}", file=sys.stderr)
+
+
+class Daemon:
+    """A daemon, with a front end that asks it."""
+
+    def __init__(self, name, words, queues=1):
+        Daemon.count = getattr(Daemon, "count", 0) + 1
+        self.name, path, ours, theirs = name, f"{work}/socket-{Daemon.count}", None, None
+        if name == LIBFUSE:
+            ours, theirs = socket.socketpair(socket.AF_UNIX, socket.SOCK_SEQPACKET)
+            for end in (ours, theirs):
+                end.setsockopt(socket.SOL_SOCKET, socket.SO_SNDBUF, 4 << 20)
+            words, path = [*words, f"/dev/fd/{theirs.fileno()}"], str(ours.fileno())
+        elif name == FLOOR:
+            words = [*words, path]
+        else:
+            words = [*words, f"--socket-path={path}"]
+        kept = [end.fileno() for end in (ours, theirs) if end]
+        self.process = subprocess.Popen(words, stdin=subprocess.DEVNULL, stdout=subprocess.DEVNULL,
+                                        stderr=subprocess.DEVNULL, pass_fds=kept[1:])
+        self.front = subprocess.Popen([pace, path, str(self.process.pid), str(queues)], text=True, pass_fds=kept[:1],
+                                      stdin=subprocess.PIPE, stdout=subprocess.PIPE)
+        for end in (ours, theirs):
+            if end:
+                end.close()
+
+    def send(self, kind, depth, count):
+        self.front.stdin.write(f"{kind} {depth} {count}\n")
+        self.front.stdin.flush()
+
+    def take(self):
+        """Nanoseconds by the clock, and those of the processor."""
+        line = self.front.stdout.readline()
+        if not line:
+            sys.exit(f"{self.name} can't be asked")
+        return tuple(int(word) for word in line.split()[:2])
+
+    def ask(self, kind, depth, count):
+        self.send(kind, depth, count)
+        return self.take()
+
+    def memory(self):
+        """The bytes that are its own."""
+        with open(f"/proc/{self.process.pid}/status", encoding="utf-8") as file:
+            return next(int(line.split()[1]) * 1024 for line in file if line.startswith("RssAnon"))
+
+    def end(self):
+        self.front.stdin.close()
+        self.front.wait()
+        try:
+            self.process.wait(2)
+        except subprocess.TimeoutExpired:
+            self.process.terminate()
+            self.process.wait()
+
+
+def words_of(name, pool=0, handles="prefer"):
+    """The command of a daemon. (Without a thread of a pool virtiofsd answers by the thread of its queue.)"""
+    if name == LIBFUSE:
+        return [passthrough_ll, "-f", "-o", f"source={shared},cache=auto"]
+    if name == FLOOR:
+        return [floor]
+    is_ours = name in (SHARE, HELD)
+    own = [share, f"--node-limit={2 * SIZES[-1]}"] if is_ours else virtiofsd
+    return [*own, f"--shared-dir={shared}", "--sandbox=none", "--seccomp=none", "--no-announce-submounts",
+            "--inode-file-handles=" + ("never" if name == HELD else handles), f"--thread-pool-size={pool or int(is_ours)}"]
+
+
+def fill():
+    """The folder `many`, those that are listed, whose names are of one file, and what pace.c wants."""
+    os.makedirs(shared + "/names")
+    os.makedirs(shared + "/many")
+    with open(shared + "/file", "wb") as file:
+        file.write(bytes(32 << 20))
+    for number in range(1000):
+        os.mknod(f"{shared}/names/name-{number}")
+    for number in range(most):
+        os.mknod(f"{shared}/many/{number:07}")
+        if number % 500_000 == 0:
+            say(f"file {number:,} of {most:,}")
+    for size in FOLDERS:
+        os.mkdir(f"{shared}/list-{size}")
+        for number in range(min(size, most)):
+            os.link(shared + "/file", f"{shared}/list-{size}/{number:07}")
+
+
+def table(head, rows):
+    print("\n| " + " | ".join(head) + " |\n|" + "---|" * len(head))
+    for row in rows:
+        print("| " + " | ".join(row) + " |")
+    sys.stdout.flush()
+
+
+def grow(name):
+    """Of each size the bytes of a file, and the nanoseconds of the first LOOKUP and a later one; and the nanoseconds of a
+    file of a FORGET of all, and those in all of a DESTROY and an INIT."""
+    daemon, rows, known = Daemon(name, words_of(name)), {}, 0
+    daemon.ask("getattr", 1, 1000)
+    begun = daemon.memory()
+    for size in sizes:
+        if name in (HELD, LIBFUSE) and size > MOST_OF_LIST:
+            break
+        say(f"{name}, {size:,} files")
+        first = daemon.ask("know", 16, size - known)[1] / (size - known)
+        held = (daemon.memory() - begun) / size
+        # (what is allocated in larger pieces says nothing of few)
+        rows[size] = f"{held:,.0f}", f"{first / 1000:,.1f}", f"{daemon.ask('again', 16, AGAIN)[1] / AGAIN / 1000:,.1f}"
+        known = size
+    say(f"{name}: FORGET, DESTROY, INIT")
+    forget = f"{daemon.ask('forget', 1, 1)[1] / known:,.0f}"
+    left = f"{max(daemon.memory() - begun, 0) / known:,.0f}"
+    known = min(known, 1_000_000)
+    daemon.ask("know", 16, known)
+    destroy = f"{daemon.ask('destroy', 1, 1)[0] / known:,.0f}"
+    init = f"{daemon.ask('init', 1, 1)[0] / 1_000_000:,.2f}" if name != LIBFUSE else "-"
+    daemon.end()
+    return rows, (forget, left, destroy, init)
+
+
+def list_folders(name):
+    """Of each folder the nanoseconds of a name."""
+    daemon = Daemon(name, words_of(name))
+    cells = []
+    for size in FOLDERS:
+        if size > most:
+            break
+        say(f"{name}, a folder of {size:,}")
+        times = max(1, 20_000 // size)
+        cells.append(f"{sum(daemon.ask('list', 1, size)[1] for _ in range(times)) / times / size:,.0f}")
+    daemon.end()
+    return cells
+
+
+def rate(asked):
+    """Thousands of requests a second of daemons that are asked at once: each of them is told the depth."""
+    for daemon, depth in asked:
+        daemon.send("getattr", depth, REQUESTS)
+    taken = [daemon.take() for daemon, _ in asked]
+    return len(asked) * REQUESTS / max(wall for wall, _ in taken) * 1e6, sum(ran for _, ran in taken) / len(asked) / REQUESTS / 1000
+
+
+def in_flight(name, queues, pool):
+    daemon = Daemon(name, words_of(name, pool), queues)
+    cells = ["{:,.0f} ({:.1f})".format(*rate([(daemon, depth)])) for depth in DEPTHS]
+    daemon.end()
+    return cells
+
+
+def machines(name, count):
+    daemons = [Daemon(name, words_of(name)) for _ in range(count)]
+    cells = "{:,.0f} ({:.1f})".format(*rate([(daemon, 4) for daemon in daemons]))
+    for daemon in daemons:
+        daemon.end()
+    return cells
+
+
+def parts():
+    """Of each class what the transport takes, the file's calls, and each daemon, and what is left of that."""
+    daemons = [Daemon(name, words_of(name, handles="never")) for name in (FLOOR, HELD, VIRTIOFSD)]
+    rows = []
+    for kind, (what, count) in CLASSES.items():
+        say(what)
+        taken = []
+        for _ in range(ROUNDS):
+            calls = subprocess.run([floor, kind, shared, str(count)], stdout=subprocess.PIPE, text=True, check=True).stdout
+            taken.append((float(calls), *(daemon.ask(kind, 4, count)[1] / count for daemon in daemons)))
+        calls, transport, *whole = (statistics.median(column) / 1000 for column in zip(*taken))
+        rows.append([what, f"{transport:,.2f}", f"{calls:,.2f}"])
+        for one in whole:
+            left = one - transport - calls
+            rows[-1] += [f"{one:,.2f}", f"{left:,.2f}", f"{left / one:.2f}"]
+    for daemon in daemons:
+        daemon.end()
+    return rows
+
+
+def main():
+    names = SHARE, HELD, VIRTIOFSD, LIBFUSE
+    fill()
+    print(HEAD.format(most=MOST_OF_LIST, facts=facts))
+    grown = {name: grow(name) for name in names}
+
+    def cells(size, form):
+        return [f"{size:,}", *(form.format(*grown[name][0][size]) if size in grown[name][0] else "-" for name in names)]
+
+    print("## Files that are known\n\n![bytes and microseconds of a file by the number of files](../pictures/growth.svg)\n\n"
+          "Bytes a file that the daemon holds besides what it began with, names apart; the kernel's part of descriptors is not\n"
+          "seen there.")
+    table(["Files", *names], [cells(size, "{0}") for size in sizes])
+    print("\nMicroseconds of the first LOOKUP of a file, and of a later one of any of them.")
+    table(["LOOKUP among", *names], [cells(size, "{1}, {2}") for size in sizes])
+    print("\nNanoseconds a file of a BATCH_FORGET of all, 4,096 a message, and bytes a file that the daemon has afterwards;\n"
+          "nanoseconds a file of a DESTROY with a million known, or all; and milliseconds of the INIT and its first four requests behind it,\n"
+          "both by the clock.")
+    table(["Daemon", "FORGET, ns", "left, bytes", "DESTROY, ns", "INIT, ms"], [[name, *grown[name][1]] for name in names])
+    print("\n## A folder that is listed\n\nNanoseconds a name of a folder of so many, by LOOKUP, OPENDIR, READDIR with 256 KiB of room up to the end, and\nRELEASEDIR.")
+    table(["Daemon", *(f"{size:,}" for size in FOLDERS if size <= most)], [[name, *list_folders(name)] for name in (SHARE, VIRTIOFSD, LIBFUSE)])
+    print("\n## Queues and machines\n\nThousands of GETATTR a second by the clock, by so many in flight over all queues, and in brackets the microseconds of\n"
+          "processor time of each; one thread asks, which shares the processors with the daemon. virtiofsd has one queue for requests.")
+    pool = len(os.sched_getaffinity(0))
+    rows = []
+    for name, queues, size in (*((SHARE, queues, pool) for queues in QUEUES), (VIRTIOFSD, 1, 0), (VIRTIOFSD, 1, pool)):
+        say(f"{name}, {queues} queues")
+        rows.append([f"{name}, {queues} queue{'s' * (queues > 1)}, " + (f"{size} workers" if size else "no pool"), *in_flight(name, queues, size)])
+    table(["Daemon", *(f"{depth} in flight" for depth in DEPTHS)], rows)
+    print("\nThe same of machines at once, each with a daemon of its own, one worker and 4 in flight.")
+    rows = []
+    for name in (SHARE, VIRTIOFSD):
+        say(f"{name}, machines")
+        rows.append([name, *(machines(name, count) for count in (1, MACHINES))])
+    table(["Daemon", "1 machine", f"{MACHINES} machines"], rows)
+    print("\n## Where the processor's time goes\n\nMicroseconds of the processor for a request, 4 in flight, of a daemon with one worker that holds files by descriptors:\n"
+          "medians of {} rounds in turns. The transport is that of a back end that answers at once without a file system, and the\n"
+          "file's calls are those that the share makes, in a loop of their own: both by tools/measure/floor_vhost.c. What is left\n"
+          "is what a daemon does itself, and what its calls take longer between others; its part is that of the whole.".format(ROUNDS))
+    table(["Request", "transport", "the file's calls", "nizwarf-share", "left", "part", "virtiofsd", "left", "part"], parts())
+
+
+if __name__ == "__main__":
+    pace, floor, work, most, facts, share, passthrough_ll = sys.argv[1:8]
+    virtiofsd, shared, most = sys.argv[8:], work + "/shared", int(most)
+    sizes = [size for size in SIZES if size <= most]
+    main()

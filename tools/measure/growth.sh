@@ -1,0 +1,74 @@
+#!/usr/bin/env bash
+# Measures how nizwarf-share grows with what it serves, beside Debian's virtiofsd and libfuse's passthrough_ll: the
+# memory of a file from 1,000 to 3,000,000, the time of a LOOKUP among them, of a FORGET of all, of DESTROY and INIT; of
+# a name of a folder of 10 to 1,000,000; requests a second over 1 to 8 queues, by 1 to 64 in flight, and of eight machines
+# at once; and where the processor's time of a request goes. It prints a page; how far it is stands on standard error.
+#
+# Usage: tools/measure/growth.sh [--page] [MOST]
+# With --page it writes docs/generated/growth.md once all is measured, and has tools/dev/pictures.sh draw it. MOST is the
+# most files, 3000000 if none is given, which take 5 GB of memory in a tmpfs of its own, and some five minutes.
+# Nothing is mounted by FUSE: tests/beside/pace.c asks the daemons by itself.
+#
+# It wants root, python3, a C compiler and the Rattle toolchain. It gets passthrough_ll, from libfuse's sources, and virtiofsd
+# from Debian's packages, by apt-get, into ignored folders; nothing is installed. It links the proved library if that
+# is built and no source is newer; otherwise tools/lib/unproved.sh builds it without a proof.
+# Status 0: it was measured; 1: not so; 2: it could not start.
+set -euo pipefail
+. "$(dirname "$0")/../lib/usage.sh"
+. "$(dirname "$0")/../lib/transport.sh"
+. "$(dirname "$0")/../lib/debian.sh"
+. "$(dirname "$0")/../lib/front.sh"
+. "$(dirname "$0")/../lib/mounts.sh"
+
+given=("$@")
+page=''
+if [ "${1:-}" = --page ]; then
+    page=yes
+    shift
+fi
+most=${1:-3000000}
+if [ $# -gt 1 ] || ! [[ $most =~ ^[1-9][0-9]{3,6}$ ]] || [ "$most" -gt 3000000 ]; then
+    echo "Usage: tools/measure/growth.sh [--page] [MOST], of 1000 to 3000000 files" >&2
+    exit 2
+fi
+need_root "Daemons that open files by handles are started as root"
+for command in python3 cc dpkg-deb; do
+    need "$command" "Install it."
+done
+own_mounts "${given[@]}"
+get_passthrough
+there=$here/out/beside/trixie
+if [ ! -e "$there" ]; then
+    echo "Downloading virtiofsd of Debian's trixie .." >&2
+    mkdir -p "$here/out/beside"
+    quietly "$there.said" "$here/tests/beside/get.sh" virtiofsd trixie "$there" "$there.lists"
+    rm -r "$there.lists"
+fi
+# By its own loader and libraries, whatever the machine has.
+libraries=$there/usr/lib/x86_64-linux-gnu
+virtiofsd=("$libraries/ld-linux-x86-64.so.2" --library-path "$libraries" "$there/usr/libexec/virtiofsd")
+build_transport share vfs_door
+find_border
+folder=$here/out/c
+build_front pace
+sources=("$here"/programs/transport/{vhost_user,vhost_queue,later}.c)
+cc -std=c11 -O2 -Wall -Wextra -Werror -pthread -I "$here/include" -I "$here/programs/transport" \
+    -o "$folder/floor_vhost" "$here/tools/measure/floor_vhost.c" "${sources[@]}" "$border" "${library[@]}"
+# shellcheck disable=SC2119
+own_work
+mount -t tmpfs -o nr_inodes=0,size=90% growth "$work"
+built="built without a proof"
+[[ ${library[0]} == */out/unproved/* ]] || built="the proved one"
+facts="Begun on $(LC_ALL=C date '+%-d %B %Y'), commit $(git -C "$here" describe --always --dirty --exclude '*'), the library $built; \
+Linux $(uname -r), $(nproc) processors, load $(cut -d ' ' -f 1-3 /proc/loadavg); $("${virtiofsd[@]}" --version 2>&1), libfuse $(head -n 1 "$beside/versions")."
+measure() {
+    python3 -B "$here/tools/measure/growth.py" "$folder/pace" "$folder/floor_vhost" "$work" "$most" "$facts" "$transport" \
+        "$beside/passthrough_ll" "${virtiofsd[@]}"
+}
+if [ -z "$page" ]; then
+    measure
+else
+    measure > "$work/page.md"
+    cp "$work/page.md" "$here/docs/generated/growth.md"
+    "$here/tools/dev/pictures.sh"
+fi
