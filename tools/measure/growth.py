@@ -200,7 +200,7 @@ def parts():
         taken = []
         for _ in range(ROUNDS):
             calls = subprocess.run([floor, kind, shared, str(count)], stdout=subprocess.PIPE, text=True, check=True).stdout
-            taken.append((float(calls), *(daemon.ask(kind, 4, count)[1] / count for daemon in daemons)))
+            taken.append((float(calls), *(daemon.ask(kind, 16, count)[1] / count for daemon in daemons)))
         calls, transport, *whole = (statistics.median(column) / 1000 for column in zip(*taken))
         rows.append([what, f"{transport:,.2f}", f"{calls:,.2f}"])
         for one in whole:
@@ -246,7 +246,7 @@ def main():
         say(f"{name}, machines")
         rows.append([name, *(machines(name, count) for count in (1, MACHINES))])
     table(["Daemon", "1 machine", f"{MACHINES} machines"], rows)
-    print("\n## Where the processor's time goes\n\nMicroseconds of the processor for a request, 4 in flight, of a daemon with one worker that holds files by descriptors:\n"
+    print("\n## Where the processor's time goes\n\nMicroseconds of the processor for a request, 16 in flight, of a daemon with one worker that holds files by descriptors:\n"
           "medians of {} rounds in turns. The transport is that of a back end that answers at once without a file system, and the\n"
           "file's calls are those that the share makes, in a loop of their own: both by tools/measure/floor_vhost.c. What is left\n"
           "is what a daemon does itself, and what its calls take longer between others; its part is that of the whole.".format(ROUNDS))
