@@ -4,6 +4,7 @@
 #include <fcntl.h>
 #include <limits.h>
 #include <linux/openat2.h>
+#include <malloc.h>
 #include <stdio.h>
 #include <stdlib.h>
 #include <string.h>
@@ -15,6 +16,9 @@
 #include "passthrough_watch.h"
 
 enum { FIRST_SLOTS = 1024, FIRST_CHAINS = 1024, NO_SLOT = 0 };
+/* Of how many nodes that go at once the memory is given back; and how many bytes the C library doesn't keep for itself
+ * when they are free, nor maps apart. */
+enum { MANY = 65536, LARGE = 96 << 10 };
 
 /* ---- tables */
 
@@ -542,13 +546,26 @@ void node_forget(struct nodes *all, uint64_t number, uint64_t count)
 	free_node(node);
 }
 
+/* Gives the host memory back that is free. The C library keeps small pieces, also where they are many; and those at the
+ * end of a thread's heap go with a large one alone. */
+static void trim_heap(void)
+{
+	void *volatile large = malloc(LARGE);
+
+	free(large);
+	malloc_trim(0);
+}
+
 void nodes_forget_all(struct nodes *all)
 {
 	struct node *gone = NULL, *next;
 	struct counted *file;
+	uint32_t count;
 
 	pthread_rwlock_wrlock(&all->nodes.lock);
-	for (uint32_t i = ROOT_NODE + 1; i < all->nodes.used; i++) {
+	count = all->nodes.count;
+	/* (the root stays) */
+	for (uint32_t i = ROOT_NODE + 1; i < all->nodes.used && all->nodes.count > 1; i++) {
 		struct node *node = (struct node *)thing_in(&all->nodes, i);
 
 		if (!node)
@@ -562,9 +579,11 @@ void nodes_forget_all(struct nodes *all)
 		next = gone->next;
 		free_node(gone);
 	}
+	if (count >= MANY)
+		trim_heap();
 	for (uint32_t i = 1;; i++) {
 		pthread_rwlock_wrlock(&all->files.lock);
-		if (i >= all->files.used) {
+		if (i >= all->files.used || !all->files.count) {
 			pthread_rwlock_unlock(&all->files.lock);
 			break;
 		}
