@@ -365,7 +365,7 @@ def lines_of(picture, left, rows, names, which, words, scales):
         picture.shape("line", x1=left, y1=y, x2=left + width, y2=y, stroke="#ddd")
         picture.text(left - 6, y + 4, f"{figure:g}", text_anchor="end", font_size=11)
     for files in scales[0]:
-        picture.text(place(files, scales[1][0])[0], top + height + 16, f"{files:,}", text_anchor="middle", font_size=9)
+        picture.text(place(files, scales[1][0])[0], top + height + 16, f"{files // 1000:,}k", text_anchor="middle", font_size=11)
     picture.text(left, top - 14, words)
     for column, (name, colour) in enumerate(names.items(), 1):
         points = [(int(row[0].replace(",", "")), row[column].split(", ")[which]) for row in rows if row[column] != "-"]

@@ -149,6 +149,7 @@ def grow(name):
     known = min(known, 1_000_000)
     daemon.ask("know", 16, known)
     destroy = f"{daemon.ask('destroy', 1, 1)[0] / known:,.0f}"
+    left += f", {max(daemon.memory() - begun, 0) / max(rows):,.0f}"
     init = f"{daemon.ask('init', 1, 1)[0] / 1_000_000:,.2f}" if name != LIBFUSE else "-"
     daemon.end()
     return rows, (forget, left, destroy, init)
@@ -226,9 +227,9 @@ def main():
     table(["Files", *names], [cells(size, "{0}") for size in sizes])
     print("\nMicroseconds of the first LOOKUP of a file, and of a later one of any of them.")
     table(["LOOKUP among", *names], [cells(size, "{1}, {2}") for size in sizes])
-    print("\nNanoseconds a file of a BATCH_FORGET of all, 4,096 a message, and bytes a file that the daemon has afterwards;\n"
-          "nanoseconds a file of a DESTROY with a million known, or all; and milliseconds of the INIT and its first four requests behind it,\n"
-          "both by the clock.")
+    print("\nNanoseconds a file of a BATCH_FORGET of all, 4,096 a message; nanoseconds a file of a DESTROY with a million known, or\n"
+          "all, and milliseconds of the INIT and its first four requests behind it, both by the clock; and the bytes that the daemon\n"
+          "has after the FORGET, and after the DESTROY, for each file of the most that it knew.")
     table(["Daemon", "FORGET, ns", "left, bytes", "DESTROY, ns", "INIT, ms"], [[name, *grown[name][1]] for name in names])
     print("\n## A folder that is listed\n\nNanoseconds a name of a folder of so many, by LOOKUP, OPENDIR, READDIR with 256 KiB of room up to the end, and\nRELEASEDIR.")
     table(["Daemon", *(f"{size:,}" for size in FOLDERS if size <= most)], [[name, *list_folders(name)] for name in (SHARE, VIRTIOFSD, LIBFUSE)])
