@@ -47,6 +47,6 @@ fi
 build_front ask
 work=$(mktemp -d)
 trap 'rm -rf "$work"' EXIT
-python3 -B "$here/tests/beside/migrated.py" "$folder/ask" "$work" "$daemon" "${theirs[@]}"
+python3 -B "$here/tests/beside/migrated.py" "$folder/ask" "$work" "$daemon" "${virtiofsd[@]}"
 python3 -B "$here/tests/beside/replaced.py" "$folder/ask" "$work" "$seed" "$count" "$daemon" \
     "${virtiofsd[@]}"
