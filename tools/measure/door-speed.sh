@@ -1,6 +1,7 @@
 #!/usr/bin/env bash
-# Counts the instructions of an ask by the door (include/nizwarf.h), and of an ask with its answer, for some
-# requests in one piece, and takes their time: a line for each class, as a row of a table.
+# Counts the instructions of an ask by the door (include/nizwarf.h), of an ask with its answer, and of both by a table of
+# functions that answer at once (include/nizwarf_ops.h), for some requests in one piece, and takes their time: a line for
+# each class, as a row of a table.
 #
 # Usage: tools/measure/door-speed.sh
 # It takes the proved library where that is built (`rt lib` in crates/vfs_door), and says which one it is.
@@ -16,7 +17,8 @@ find_library vfs_door
 folder=$(mktemp -d)
 trap 'rm -rf "$folder"' EXIT
 program=$folder/door_speed
-cc -std=c11 -O2 -Wall -Wextra -Werror -I "$here/include" -o "$program" "$here/tools/measure/door_speed.c" "${library[@]}"
+cc -std=c11 -O2 -Wall -Wextra -Werror -I "$here/include" -o "$program" "$here/tools/measure/door_speed.c" \
+    "$here/tools/measure/door_speed_table.c" "${library[@]}"
 
 # How many instructions a run takes: counted WORD.. Valgrind counts `rep movsb`, by which glibc copies some KiB and
 # more, once for each byte, so glibc copies by vectors here.
@@ -34,8 +36,8 @@ instructions() {
     echo $(((long - short) / 200))
 }
 
-echo "| Request | instructions of an ask | of an ask and its answer | ns of both |"
-echo "|---|---|---|---|"
+echo "| Request | instructions of an ask | of an ask and its answer | of both by a table of functions | ns of both |"
+echo "|---|---|---|---|---|"
 for class in $("$program" || true); do
-    echo "| $class | $(instructions "$class" ask) | $(instructions "$class") | $("$program" "$class" 2000) |"
+    echo "| $class | $(instructions "$class" ask) | $(instructions "$class") | $(instructions "$class" table) | $("$program" "$class" 2000) |"
 done

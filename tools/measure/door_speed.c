@@ -1,8 +1,9 @@
 /* Asks and answers one request again and again, for tools/measure/door-speed.sh.
  *
- * Usage: door_speed CLASS TIMES [ask]
+ * Usage: door_speed CLASS TIMES [ask | table]
  *
- * With `ask` it is only asked. Standard output gets the nanoseconds of one: the least of 500 runs of TIMES
+ * With `ask` it is only asked; with `table` it is served by a table of functions, that of door_speed_table.c. Standard
+ * output gets the nanoseconds of one: the least of 500 runs of TIMES
  * each, or of one run where TIMES is at most 1000. Without a CLASS the classes are listed. Status 2: the
  * words can't be. */
 #define _POSIX_C_SOURCE 199309L
@@ -11,9 +12,9 @@
 #include <stdlib.h>
 #include <string.h>
 #include <time.h>
-#include "nizwarf.h"
+#include "door_speed.h"
 
-enum { MEBIBYTE = 1 << 20, ITEMS = 100, RUNS = 500 };
+enum { MEBIBYTE = 1 << 20, RUNS = 500 };
 
 static const char *const classes[] = { "none",	  "getattr",  "lookup",	 "read-4k",    "write-4k",
 				       "read-1m", "write-1m", "readdir", "readdirplus" };
@@ -38,7 +39,7 @@ static void begin(uint32_t opcode)
 /* The request of a class and its answer. Gives the room of its reply. */
 static size_t make(const char *class, nizwarf_answer *answer)
 {
-	static const char name[] = "file-0123456789-0000";
+	static const char name[] = ITEM_NAME;
 	const size_t bytes = strstr(class, "1m") ? MEBIBYTE : 4096;
 	struct fuse_getattr_in getattr = { .getattr_flags = 0 };
 	struct fuse_read_in read = { .size = (uint32_t)bytes };
@@ -110,13 +111,14 @@ int main(int argc, char **argv)
 	double least = 0;
 	long times, i;
 	uint32_t len;
+	int run, serves;
 	size_t at;
-	int run;
 
 	for (at = 0; argc > 2 && at < sizeof(classes) / sizeof(*classes); at++)
 		if (!strcmp(argv[1], classes[at]))
 			break;
 	times = argc > 2 ? strtol(argv[2], NULL, 10) : 0;
+	serves = argc > 3 && !strcmp(argv[3], "table");
 	if (argc < 3 || at == sizeof(classes) / sizeof(*classes) || times < 1) {
 		for (at = 0; at < sizeof(classes) / sizeof(*classes); at++)
 			puts(classes[at]);
@@ -129,7 +131,9 @@ int main(int argc, char **argv)
 	for (run = 0; run < (times > 1000 ? RUNS : 1); run++) {
 		const double start = nanoseconds();
 
-		for (i = 0; i < times; i++) {
+		for (i = 0; serves && i < times; i++)
+			serve_by_table(&slot, &answer, request, request_len, room, space.len);
+		for (i = 0; !serves && i < times; i++) {
 			if (nizwarf_ask(&slot, &session, &segment, 1, &space, 1, &call, &told) == NIZWARF_OK)
 				continue;
 			if (argc == 3 && nizwarf_reply(&slot, &session, &call, &answer, &space, 1, &told))
