@@ -14,7 +14,7 @@ ghost use Rattle.vfs_answer.specs.Offered.{ListsOffered};
 ghost use Rattle.vfs_answer.specs.Told.{AnswersEachCall, AnswersEachListing};
 
 use crate::answered::Answered;
-use crate::listing::{Listed, put_items};
+use crate::listing::{Listed, has_left, put_items};
 use crate::reply::{
     put_agreed, put_attributes, put_created, put_data, put_done, put_entry, put_fault,
     put_fault_alone, put_nothing, put_offset, put_opened, put_statistics, put_text, put_value,
@@ -28,22 +28,77 @@ use vfs_messages::{hold_header, reply_data};
 use vfs_segments::Writer;
 use vfs_wire::{AttrOut, ByteValued, EntryOut, OutHeader};
 
-/// Answers an entry, which is spelled right from the answer.
+/// Whether so many bytes are left, and the first segment has them all. No promise stands on it: what is put is
+/// the same.
 #[inline(always)]
-fn answer_entry(call: &CallData, answer: &AnswerData, w: &mut Writer) -> Answered
+fn fits_in_one(w: &Writer, len: usize) -> bool {
+    len <= w.available_bytes() && has_left(w, len)
+}
+
+/// Answers an entry, wherever the segments are cut.
+#[inline(always)]
+fn entry_here(call: &CallData, answer: &AnswerData, w: &mut Writer) -> Answered
     ensures { (limits : Limits) (text : List ℕ) →
         IsAnswered limits call.now Entries answer.now text w.old result w.new }
 {
     put_entry(call, value::entry(answer), w)
 }
 
-/// Answers attributes, which are spelled right from the answer.
+/// The same, over a cut.
+#[cold]
+#[inline(never)]
+fn entry_apart(call: &CallData, answer: &AnswerData, w: &mut Writer) -> Answered
+    ensures { (limits : Limits) (text : List ℕ) →
+        IsAnswered limits call.now Entries answer.now text w.old result w.new }
+{
+    entry_here(call, answer, w)
+}
+
+/// Answers an entry. As of an item of a directory, what puts it into one segment is spelled right from the
+/// answer, and stands apart from what puts together in memory what is cut.
+#[inline(always)]
+fn answer_entry(call: &CallData, answer: &AnswerData, w: &mut Writer) -> Answered
+    ensures { (limits : Limits) (text : List ℕ) →
+        IsAnswered limits call.now Entries answer.now text w.old result w.new }
+{
+    if fits_in_one(w, OutHeader::SIZE + EntryOut::SIZE) {
+        entry_here(call, answer, w)
+    } else {
+        entry_apart(call, answer, w)
+    }
+}
+
+/// Answers attributes, wherever the segments are cut.
+#[inline(always)]
+fn attributes_here(call: &CallData, answer: &AnswerData, w: &mut Writer) -> Answered
+    ensures { (limits : Limits) (text : List ℕ) →
+        IsAnswered limits call.now TimedAttributes answer.now text w.old result w.new }
+{
+    put_attributes(call, value::attributes(answer), w)
+}
+
+/// The same, over a cut.
+#[cold]
+#[inline(never)]
+fn attributes_apart(call: &CallData, answer: &AnswerData, w: &mut Writer) -> Answered
+    ensures { (limits : Limits) (text : List ℕ) →
+        IsAnswered limits call.now TimedAttributes answer.now text w.old result w.new }
+{
+    attributes_here(call, answer, w)
+}
+
+/// Answers attributes. As of an item of a directory, what puts them into one segment is spelled right from the
+/// answer, and stands apart from what puts together in memory what is cut.
 #[inline(always)]
 fn answer_attributes(call: &CallData, answer: &AnswerData, w: &mut Writer) -> Answered
     ensures { (limits : Limits) (text : List ℕ) →
         IsAnswered limits call.now TimedAttributes answer.now text w.old result w.new }
 {
-    put_attributes(call, value::attributes(answer), w)
+    if fits_in_one(w, OutHeader::SIZE + AttrOut::SIZE) {
+        attributes_here(call, answer, w)
+    } else {
+        attributes_apart(call, answer, w)
+    }
 }
 
 /// Answers a call of any kind but READ and READDIR, in the room that was told.
@@ -67,16 +122,8 @@ fn answer_told(
         kind::DONE => Some(put_done(call, value::done(answer), w)),
         kind::FAULT_OR_SILENCE => Some(put_fault(call, value::done(answer), w)),
         kind::WANT => Some(put_agreed(limits, call, value::want(answer), w)),
-        kind::ENTRY => Some(w.put_by(
-            true,
-            OutHeader::SIZE + EntryOut::SIZE,
-            move |w: &mut Writer| { answer_entry(call, answer, w) },
-        )),
-        kind::ATTR => Some(w.put_by(
-            true,
-            OutHeader::SIZE + AttrOut::SIZE,
-            move |w: &mut Writer| { answer_attributes(call, answer, w) },
-        )),
+        kind::ENTRY => Some(answer_entry(call, answer, w)),
+        kind::ATTR => Some(answer_attributes(call, answer, w)),
         kind::OPENED => Some(put_opened(call, value::opened(answer), w)),
         kind::CREATED => Some(put_created(call, value::created(answer), w)),
         kind::STATISTICS => Some(put_statistics(call, value::statistics(answer), w)),

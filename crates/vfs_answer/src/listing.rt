@@ -57,7 +57,7 @@ fn named<'a>(offered: &ItemData<'_>, name: CStr<'a>) -> DirEntry<'a>
 
 /// Whether the first segment has the next `len` bytes. No promise stands on it: what is put is the same.
 #[inline(always)]
-fn has_left(w: &Writer, len: usize) -> bool {
+pub(crate) fn has_left(w: &Writer, len: usize) -> bool {
     match w.segments().first() {
         Some(first) => { w.bytes_written() < first.len() && len <= first.len() - w.bytes_written() }
         None => false,

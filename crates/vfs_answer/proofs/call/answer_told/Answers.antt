@@ -1,9 +1,7 @@
 -- Each arm's reply is that of the kind which was matched.
-use Rattle.std.proofs.Common.{◌≡◌, ◌==◌, ℕ, List, true, length, refl, ap, arith, rules}
+use Rattle.std.proofs.Common.{◌≡◌, ◌==◌, true, length, refl, ap, arith}
 use Rattle.std.proofs.lemmas.Bool.Decides.{nat_tests}
 use Rattle.vfs_files.specs.Answers.{Quiet, Told, Untold, Agreements, Entries, TimedAttributes, Openings, Creations, Capacities, Texts, TextsOrCounts, Offsets, Writes, Faults, Done, Failed, init_answer, done_answer, opened_answer, created_answer, statistics_answer, offset_answer, written_answer}
-use Rattle.vfs_grammar.specs.declared.limits.Limits.{Limits}
-use Rattle.vfs_answer.specs.Answering.{IsAnswered}
 use Rattle.vfs_answer.specs.Kinds.{kind_told}
 use Rattle.vfs_answer.specs.Said.{text_said, value_said}
 use Rattle.vfs_answer.proofs.Told.{answered}
@@ -32,26 +30,20 @@ returns-in-4-clause-answers c =
 pub returns-in-5-clause-answers : goal.returns-in-5-clause-answers
 returns-in-5-clause-answers c =
     let room : (length c.args.w.now.left == c.args.call.now.room) ≡ true = grind (arith, nat_tests, c.requires.room) in
-    let each : (limits : Limits) (text : List ℕ) → IsAnswered limits c.args.call.now Entries c.args.answer.now text c.args.w.now c.put_by.result c.put_by.new.self = search rules in
-    let is = each c.args.limits c.args.text.now in
-    answered c.args.limits c.args.call.now Entries c.args.answer.now c.args.text.now c.args.w.now c.put_by.result c.put_by.new.self is.answer (ap (λ n. kind_told n c.args.call.now.size) c.in-5.is) c.requires.room room is.said is.comes tt
+    let is = c.answer_entry.ensures c.args.limits c.args.text.now in
+    answered c.args.limits c.args.call.now Entries c.args.answer.now c.args.text.now c.args.w.now c.answer_entry.result c.answer_entry.new.w is.answer (ap (λ n. kind_told n c.args.call.now.size) c.in-5.is) c.requires.room room is.said is.comes tt
 
 pub returns-in-5-clause-none_taken : goal.returns-in-5-clause-none_taken
-returns-in-5-clause-none_taken c =
-    let each : (limits : Limits) (text : List ℕ) → IsAnswered limits c.args.call.now Entries c.args.answer.now text c.args.w.now c.put_by.result c.put_by.new.self = search rules in
-    (each c.args.limits c.args.text.now).comes.4
+returns-in-5-clause-none_taken c = (c.answer_entry.ensures c.args.limits c.args.text.now).comes.4
 
 pub returns-in-6-clause-answers : goal.returns-in-6-clause-answers
 returns-in-6-clause-answers c =
     let room : (length c.args.w.now.left == c.args.call.now.room) ≡ true = grind (arith, nat_tests, c.requires.room) in
-    let each : (limits : Limits) (text : List ℕ) → IsAnswered limits c.args.call.now TimedAttributes c.args.answer.now text c.args.w.now c.put_by-in-6.result c.put_by-in-6.new.self = search rules in
-    let is = each c.args.limits c.args.text.now in
-    answered c.args.limits c.args.call.now TimedAttributes c.args.answer.now c.args.text.now c.args.w.now c.put_by-in-6.result c.put_by-in-6.new.self is.answer (ap (λ n. kind_told n c.args.call.now.size) c.in-6.is) c.requires.room room is.said is.comes tt
+    let is = c.answer_attributes.ensures c.args.limits c.args.text.now in
+    answered c.args.limits c.args.call.now TimedAttributes c.args.answer.now c.args.text.now c.args.w.now c.answer_attributes.result c.answer_attributes.new.w is.answer (ap (λ n. kind_told n c.args.call.now.size) c.in-6.is) c.requires.room room is.said is.comes tt
 
 pub returns-in-6-clause-none_taken : goal.returns-in-6-clause-none_taken
-returns-in-6-clause-none_taken c =
-    let each : (limits : Limits) (text : List ℕ) → IsAnswered limits c.args.call.now TimedAttributes c.args.answer.now text c.args.w.now c.put_by-in-6.result c.put_by-in-6.new.self = search rules in
-    (each c.args.limits c.args.text.now).comes.4
+returns-in-6-clause-none_taken c = (c.answer_attributes.ensures c.args.limits c.args.text.now).comes.4
 
 pub returns-in-7-clause-answers : goal.returns-in-7-clause-answers
 returns-in-7-clause-answers c =

@@ -1,5 +1,5 @@
 use Rattle.vfs_files.specs.Answers.{entry_answer}
-use Rattle.vfs_answer.proofs.call.answer_entry.Goals as goal
+use Rattle.vfs_answer.proofs.call.entry_here.Goals as goal
 
 pub returns : goal.returns
 returns c = λ limits text. record {

@@ -1,5 +1,5 @@
 use Rattle.vfs_files.specs.Answers.{attr_answer}
-use Rattle.vfs_answer.proofs.call.answer_attributes.Goals as goal
+use Rattle.vfs_answer.proofs.call.attributes_here.Goals as goal
 
 pub returns : goal.returns
 returns c = λ limits text. record {
