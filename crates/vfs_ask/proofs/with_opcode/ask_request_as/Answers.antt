@@ -1,11 +1,9 @@
 use Rattle.std.proofs.Common.{◌≡◌, ◌≤◌, ◌∙◌, length, drop, refl, arith, rules, subst, sym}
 use Rattle.vfs_flags.specs.Flags.{fs_options_bits}
 use Rattle.vfs_flags.specs.Numbers.{opcode_of}
-use Rattle.vfs_wire.specs.Records.{in_header}
 use Rattle.vfs_wire.specs.declared.headers.InHeader.{InHeader}
 use Rattle.vfs_segments.specs.Lengths.{lengths_from}
 use Rattle.vfs_grammar.specs.Ask.{ask}
-use Rattle.vfs_grammar.specs.Records.{record_of}
 use Rattle.vfs_server.specs.MemoryByPieces.{MayWantBehind}
 use Rattle.vfs_ask.specs.Asked.{Tells, interrupted_by}
 use Rattle.vfs_ask.specs.Memory.{MayWant}

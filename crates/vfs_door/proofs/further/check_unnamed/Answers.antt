@@ -1,4 +1,4 @@
-use Rattle.std.proofs.Common.{◌≡◌, ◌++◌, ℕ, List, [], append-nil, rules}
+use Rattle.std.proofs.Common.{◌≡◌, ◌++◌, [], append-nil, rules}
 use Rattle.vfs_calls.specs.declared.call.number.TheConstants.{CREATE}
 use Rattle.vfs_ask.specs.WithOpcode.{unread_with_opcode}
 use Rattle.vfs_door.specs.Checking.{IsWhole}

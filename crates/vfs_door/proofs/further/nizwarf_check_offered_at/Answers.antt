@@ -1,4 +1,4 @@
-use Rattle.std.proofs.Common.{◌≡◌, ◌++◌, List, ℕ, [], append-nil, rules}
+use Rattle.std.proofs.Common.{◌≡◌, ◌++◌, [], append-nil, rules}
 use Rattle.vfs_further.specs.Further.{what_of}
 use Rattle.vfs_door.specs.Session.{limits_of, options_of}
 use Rattle.vfs_door.proofs.OfferedAsks.{checks_ordinary, checks_row, checks_short, checks_unnamed, recode_checks, unnamed_whole}

@@ -1,4 +1,4 @@
-use Rattle.std.proofs.Common.{◌≡◌, rules, subst, sym, ◌∙◌}
+use Rattle.std.proofs.Common.{◌≡◌, rules, subst}
 use Rattle.std.specs.Prelude.{ℤ, []}
 use Rattle.vfs_door.specs.Answering.{AnswersOrNot}
 use Rattle.vfs_door.specs.Further.{usual_limits, with_eio}
