@@ -9,3 +9,4 @@ pub mod Memory
 pub mod Short
 pub mod Checking
 pub mod WithOpcode
+pub mod AtOnce

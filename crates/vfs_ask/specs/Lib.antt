@@ -8,3 +8,4 @@ pub mod Uses
 pub mod Checked
 pub mod Terms
 pub mod WithOpcode
+pub mod AtOnce

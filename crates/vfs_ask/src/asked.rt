@@ -317,9 +317,19 @@ fn tell(
     if call.call == 0 {
         return Asked::finished(outcome);
     }
+    complete(opcode, terms, unique, call);
+    Asked::Call
+}
+
+// Tells what a call of a request of this opcode has besides: its number, the terms, and the places of its
+// names and values.
+#[inline(always)]
+pub(crate) fn complete(opcode: Opcode, terms: Terms, unique: u64, call: &mut CallData)
+    ensures { call.new ≡ told_with unique (fs_options_bits terms.options) terms.room terms.len opcode
+        call.old }
+{
     call.unique = unique;
     call.options = terms.options.bits();
     call.room = terms.room as u64;
     Parts::of(opcode, terms.options).place(terms.len, terms.room as u64, call);
-    Asked::Call
 }

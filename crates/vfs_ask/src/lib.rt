@@ -2,6 +2,7 @@
 #![tactic(auto)]
 
 mod asked;
+mod at_once;
 mod checked;
 mod clear;
 mod contexts;
@@ -14,5 +15,6 @@ mod uses;
 mod with_opcode;
 
 pub use asked::{Asked, LONGEST_REPLY, ask};
+pub use at_once::{ask_at_once, record_in};
 pub use checked::{Checked, check, check_as};
 pub use with_opcode::ask_as;

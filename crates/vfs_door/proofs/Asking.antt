@@ -1,5 +1,5 @@
 -- What C is told of a request that was asked.
-use Rattle.std.proofs.Common.{◌≡◌, ◌≢◌, ◌≤◌, ◌+◌, ◌-◌, ◌++◌, ◌∙◌, ℕ, ℤ, List, length, replicate, Result, Ok, Err, IfOk, refl, ap, sym, subst, inl, inr, arith, length-append, append_assoc}
+use Rattle.std.proofs.Common.{◌≡◌, ◌≢◌, ◌≤◌, ◌+◌, ◌-◌, ◌++◌, ◌∙◌, ℕ, ℤ, List, [], length, replicate, Result, Ok, Err, IfOk, refl, ap, sym, subst, inl, inr, arith, length-append, append_assoc}
 use Rattle.std.proofs.lemmas.List.{length-replicate, take-append-le}
 use Rattle.std.specs.Prelude.{⊤}
 use Rattle.vfs_segments.specs.Lengths.{lengths_from}
@@ -143,3 +143,22 @@ module _ (limits : Limits) (options : ℕ) (request : List ℕ) (room : ℕ) (ca
           rw length_is first,
         );
       })
+
+-- a writer with so much room
+abbrev blank : ℕ → Written
+blank room = record { passed = []; left = replicate room 0; held_at = 0; held = 0; lengths = [] }
+
+-- a call is told at once, whatever a writer has
+pub told_at_once : (limits : Limits) (options : ℕ) (request : List ℕ) (room : ℕ) (call call_after : CallData) (told : ToldData)
+    → ((w after : Written) → length w.left ≡ room → IsAsked limits options request w asked.Call after call_after)
+    → AsksOrNot limits options request room is_asked call call_after told told []
+told_at_once limits options request room call call_after told is =
+    let space = length-replicate room 0 in
+    inl (record {
+      before = blank room;
+      space = space;
+      result = asked.Call;
+      after = blank room;
+      asked = is (blank room) (blank room) space;
+      passed_on = (refl, refl, refl);
+    })

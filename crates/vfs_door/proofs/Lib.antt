@@ -6,3 +6,4 @@ mod OneTurn
 mod LookupChecked
 mod Printing
 mod OfferedAsks
+mod Pieces

@@ -1,23 +1,32 @@
 //! Asking a request for its call.
 
-ghost use Rattle.std.specs.Prelude.{◌≡◌, ◌≢◌, ◌≤◌, length, min};
+ghost use Rattle.std.specs.Prelude.{◌≡◌, ◌≢◌, ◌≤◌, ◌++◌, ⊤, false, length, min, true, MatchOption};
 ghost use Rattle.vfs_flags.specs.Flags.{fs_options_bits};
 ghost use Rattle.vfs_segments.specs.Segments.{segments_of, flat_bytes};
+ghost use Rattle.vfs_segments.specs.Written.{Written};
 ghost use Rattle.vfs_grammar.specs.Limits.{AreLimits};
+ghost use Rattle.vfs_ask.specs.Asked.{IsAsked};
 ghost use Rattle.vfs_ask.specs.Memory.{MayWant};
+ghost use Rattle.vfs_ask.specs.declared.asked.Asked.TheVariants.{Call as IsCall};
 ghost use Rattle.vfs_rooms.specs.Codes.{length_of, no_memory, number_of};
 ghost use Rattle.vfs_door.specs.Asking.{AsksOrNot, unread_in};
+ghost use Rattle.vfs_door.specs.Session.{limits_of, options_of};
 ghost use Rattle.vfs_door.specs.Shown.{HasRoomFor, bytes_shown};
 
-use crate::data::ToldData;
+use crate::data::{SessionData, ToldData};
 use crate::memory::Memory;
 use std::alloc::Global;
-use vfs_ask::{Asked, LONGEST_REPLY, ask};
-use vfs_calls::CallData;
+use vfs_ask::{Asked, LONGEST_REPLY, ask, ask_at_once};
+use vfs_calls::{CallData, number};
 use vfs_flags::FsOptions;
 use vfs_grammar::{Limits, Result};
 use vfs_rooms::codes::{ASKED, OK, OUT_OF_MEMORY, TOO_LONG, told as code_of};
 use vfs_segments::Reader;
+use vfs_wire::parts::part_at;
+use vfs_wire::{ByteValued, InHeader};
+
+/// Where a header has its opcode.
+const OPCODE_PLACE: usize = 4;
 
 /// The number of an outcome, and the length of the reply, 0 where there is none.
 pub fn number_and_length(outcome: &Result<usize>) -> (i32, usize)
@@ -55,6 +64,59 @@ pub fn ask_segments(
         Err(vfs_segments::Error::DescriptorChainOverflow) => TOO_LONG,
         Err(_) => OUT_OF_MEMORY,
     }
+}
+
+/// Whether a request in one segment or in two is a LOOKUP, a GETATTR, a READ or a WRITE, if its header is whole. No promise
+/// stands on it: what is told is the same.
+#[inline(always)]
+pub fn is_asked_most(request: &[&[u8]]) -> bool {
+    if request.is_empty() || request.len() > 2 || request[0].len() < InHeader::SIZE {
+        return false;
+    }
+    matches!(
+        part_at::<u32>(request[0], OPCODE_PLACE),
+        number::LOOKUP | number::GETATTR | number::READ | number::WRITE
+    )
+}
+
+// The header of a request and all that follows it, where each lies in one piece.
+#[inline(always)]
+fn header_and_rest<'a>(request: &[&'a [u8]]) -> Option<(&'a [u8], &'a [u8])>
+    ensures { MatchOption result ⊤ (λ parts. (length parts.0.now ≡ 40)
+        × (flat_bytes (segments_of request.now) ≡ parts.0.now ++ parts.1.now)) }
+{
+    if request.len() == 1 && request[0].len() >= InHeader::SIZE {
+        let all = request[0];
+        return Some((&all[..InHeader::SIZE], &all[InHeader::SIZE..]));
+    }
+    if request.len() == 2 && request[0].len() == InHeader::SIZE {
+        return Some((request[0], request[1]));
+    }
+    None
+}
+
+/// Asks at once a request in one segment, or in two of which the first is the header, where it is one of those
+/// that are asked for most. False where it is to be asked by a reader: then nothing is told.
+#[inline(always)]
+pub fn ask_in_two(
+    session: &SessionData,
+    request: &[&[u8]],
+    room: usize,
+    call: &mut CallData,
+) -> bool
+    ensures limits { result ≡ true → AreLimits (limits_of session.now) }
+    ensures told { result ≡ true → (w after : Written) → length w.left ≡ room →
+        IsAsked (limits_of session.now) (options_of session.now)
+        (flat_bytes (segments_of request.now)) w IsCall after call.new }
+    ensures same { result ≡ false → call.new ≡ call.old }
+{
+    let Some((head, rest)) = header_and_rest(request) else {
+        return false;
+    };
+    let Some(limits) = session.limits() else {
+        return false;
+    };
+    ask_at_once(limits, session.options(), head, rest, room, call)
 }
 
 // Asks the request that this reader has left.

@@ -26,7 +26,7 @@ use crate::check::{code_and_number, nizwarf_check_at, reader_of};
 use crate::data::{SessionData, ToldData};
 use crate::handle::Handle;
 use crate::memory::Memory;
-use crate::{memory_of, nizwarf_answer_at, nizwarf_ask_at};
+use crate::{memory_of, nizwarf_answer_at, nizwarf_ask_at, show_nothing};
 use std::alloc::Global;
 use vfs_ask::{Asked, LONGEST_REPLY, ask_as, check_as};
 use vfs_calls::{AnswerData, CallData, ItemData, number};
@@ -35,17 +35,6 @@ use vfs_further::{EIO, Further, is_unfit, what};
 use vfs_grammar::{Error, Limits};
 use vfs_rooms::codes::{ASKED, OUT_OF_MEMORY, TOO_LONG, WRONG_SIZE, told as code_of};
 use vfs_segments::Reader;
-
-// Leaves nothing there to be copied out.
-#[tactic(auto, using(crate::proofs::Leaving::none_shown))]
-fn show_nothing(alloc: Global, handle: &mut Handle)
-    ensures { shown_in handle.new.value ≡ [] }
-{
-    if let Some(mut memory) = handle.take(alloc) {
-        memory.shown = 0;
-        handle.put(memory);
-    }
-}
 
 // Gives the call of a CREATE that was told the number of a TMPFILE.
 fn name(code: i32, call: &mut CallData)

@@ -25,7 +25,7 @@ mod uses_further;
 mod uses_notices;
 mod uses_text;
 
-ghost use Rattle.std.specs.Prelude.{◌≡◌, ◌≢◌, ◌≤◌, ◌++◌, length, take, drop, min, MatchOption};
+ghost use Rattle.std.specs.Prelude.{◌≡◌, ◌≢◌, ◌≤◌, ◌++◌, [], length, take, drop, min, MatchOption};
 ghost use Rattle.std.specs.declared.option.Option.TheVariants.{None, Some};
 ghost use Rattle.vfs_segments.specs.Segments.{segments_of, flat_bytes};
 ghost use Rattle.vfs_grammar.specs.Limits.{AreLimits};
@@ -38,13 +38,13 @@ ghost use Rattle.vfs_door.specs.Shown.{HasRoomFor, shown_in};
 ghost use Rattle.vfs_door.specs.declared.memory.Memory.{Memory};
 
 use crate::answer::{answer_call, entry_of};
-use crate::ask::ask_segments;
+use crate::ask::{ask_in_two, ask_segments, is_asked_most};
 use crate::data::{SessionData, ToldData};
 use crate::handle::Handle;
 use crate::memory::Memory;
 use std::alloc::Global;
 use vfs_calls::{AnswerData, CallData, ItemData};
-use vfs_rooms::codes::{NO_SERVER, OK, OUT_OF_MEMORY, WRONG_SIZE};
+use vfs_rooms::codes::{ASKED, NO_SERVER, OK, OUT_OF_MEMORY, WRONG_SIZE};
 
 // The memory behind a handle, or new. `None` where there is no memory.
 pub(crate) fn memory_of(alloc: Global, handle: &mut Handle) -> Option<Box<Memory>>
@@ -58,6 +58,17 @@ pub(crate) fn memory_of(alloc: Global, handle: &mut Handle) -> Option<Box<Memory
     }
 }
 
+// Leaves nothing there to be copied out.
+#[tactic(auto, using(crate::proofs::Leaving::none_shown))]
+pub(crate) fn show_nothing(alloc: Global, handle: &mut Handle)
+    ensures { shown_in handle.new.value ≡ [] }
+{
+    if let Some(mut memory) = handle.take(alloc) {
+        memory.shown = 0;
+        handle.put(memory);
+    }
+}
+
 /// Asks the request in these segments for its call, of which any may be empty. `room` is how many
 /// bytes there are for the reply.
 ///
@@ -67,6 +78,7 @@ pub(crate) fn memory_of(alloc: Global, handle: &mut Handle) -> Option<Box<Memory
 /// copied out up to the next call with this handle. 10 is also answered where there was no memory
 /// to begin with, 13 where the lengths sum past `usize::MAX`, and 12 where there is no server for
 /// the sizes of the session: then nothing is told.
+#[inline(always)]
 #[unsafe(no_mangle)]
 pub extern "C" fn nizwarf_ask_at(
     alloc: Global,
@@ -87,6 +99,66 @@ pub extern "C" fn nizwarf_ask_at(
 
     // A slot that has memory wants no more for a request in up to four segments, unless its tail is
     // cut, it may have a context, or it has pairs.
+    ensures memory { (m : Memory) → handle.old.value ≡ Some m → HasRoomFor (min room 80) m →
+        length request.now ≤ 4 →
+        ¬ (MayWant (limits_of session.now) (options_of session.now) room
+        (unread_in (segments_of request.now))) → result ≢ no_memory }
+{
+    if is_asked_most(request) {
+        ask_at_once(alloc, handle, session, request, room, call, told)
+    } else {
+        ask_by_reader(alloc, handle, session, request, room, call, told)
+    }
+}
+
+// The same, of a request that may be told at once. It stands apart, since any other is to go on with few steps.
+#[inline(never)]
+fn ask_at_once(
+    alloc: Global,
+    handle: &mut Handle,
+    session: &SessionData,
+    request: &[&[u8]],
+    room: usize,
+    call: &mut CallData,
+    told: &mut ToldData,
+) -> i32
+    ensures wrong { (AreLimits (limits_of session.now) → ⊥) →
+        (result ≡ wrong_size) × (handle.new.value ≡ handle.old.value)
+        × (call.new ≡ call.old) × (told.new ≡ told.old) }
+    ensures asked { AreLimits (limits_of session.now) →
+        AsksOrNot (limits_of session.now) (options_of session.now)
+        (flat_bytes (segments_of request.now)) room
+        result call.old call.new told.old told.new (shown_in handle.new.value) }
+    ensures memory { (m : Memory) → handle.old.value ≡ Some m → HasRoomFor (min room 80) m →
+        length request.now ≤ 4 →
+        ¬ (MayWant (limits_of session.now) (options_of session.now) room
+        (unread_in (segments_of request.now))) → result ≢ no_memory }
+{
+    if ask_in_two(session, request, room, call) {
+        show_nothing(alloc, handle);
+        return ASKED;
+    }
+    ask_by_reader(alloc, handle, session, request, room, call, told)
+}
+
+// The same, of any request.
+#[inline(never)]
+fn ask_by_reader(
+    alloc: Global,
+    handle: &mut Handle,
+    session: &SessionData,
+    request: &[&[u8]],
+    room: usize,
+    call: &mut CallData,
+    told: &mut ToldData,
+) -> i32
+    ensures wrong { (AreLimits (limits_of session.now) → ⊥) →
+        (result ≡ wrong_size) × (handle.new.value ≡ handle.old.value)
+        × (call.new ≡ call.old) × (told.new ≡ told.old) }
+    ensures asked { AreLimits (limits_of session.now) →
+        AsksOrNot (limits_of session.now) (options_of session.now)
+        (flat_bytes (segments_of request.now)) room
+        result call.old call.new told.old told.new (shown_in handle.new.value) }
     ensures memory { (m : Memory) → handle.old.value ≡ Some m → HasRoomFor (min room 80) m →
         length request.now ≤ 4 →
         ¬ (MayWant (limits_of session.now) (options_of session.now) room

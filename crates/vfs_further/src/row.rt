@@ -16,9 +16,10 @@ ghost use Rattle.vfs_further.specs.Further.{Row, Tells, bmap_told, copy_told, if
 use crate::front::{copy_front, is_as_long};
 use crate::offers;
 use bitflags::Flags;
+use vfs_ask::record_in;
 use vfs_calls::{CallData, Range, has, kind, number};
 use vfs_flags::{FsOptions, GETATTR_FH, LK_FLOCK};
-use vfs_grammar::{Error, Limits, Result};
+use vfs_grammar::Limits;
 use vfs_wire::parts::part_at;
 use vfs_wire::{ByteValued, InHeader};
 use vfs_wire_more::{BmapIn, CopyfilerangeIn, IoctlIn, LkIn, NotifyRetrieveIn, PollIn, StatxIn};
@@ -164,16 +165,6 @@ fn copy(h: &InHeader, r: CopyfilerangeIn) -> CallData
         other_offset: r.off_out,
         ..told(number::COPY_64, kind::OFFSET, h)
     }
-}
-
-// The record that bytes begin with. `DecodeMessage` where it isn't whole.
-fn record_in<T: ByteValued>(rest: &[u8]) -> Result<T>
-    ensures { result ≡ record_of T.table rest.now }
-{
-    if rest.len() < T::SIZE {
-        return Err(Error::DecodeMessage);
-    }
-    Ok(part_at(rest, 0))
 }
 
 // Puts a call in its place.

@@ -14,5 +14,5 @@ returns c = record {
   noted = c.note_opcode-outcome.new.call;
   outcome = c.note_opcode-outcome.result;
   is_noted = c.note_opcode-outcome.ensures;
-  told_so = inr (c.if-call-eq0.false, refl, rw (c.place.ensures, c.of.ensures, c.bits-call.ensures) refl);
+  told_so = inr (c.if-call-eq0.false, refl, c.complete.ensures);
 }

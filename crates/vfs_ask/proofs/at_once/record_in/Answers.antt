@@ -1,7 +1,7 @@
 use Rattle.std.proofs.Common.{◌≡◌, ◌≤◌, ◌<◌, true, false, length, nat_lt, arith, refl}
 use Rattle.std.proofs.lemmas.Bool.Decides.{nat_tests}
 use Rattle.vfs_grammar.specs.Records.{size_of}
-use Rattle.vfs_further.proofs.row.record_in.Goals as goal
+use Rattle.vfs_ask.proofs.at_once.record_in.Goals as goal
 
 pub returns-then-rest-SIZE : goal.returns-then-rest-SIZE
 returns-then-rest-SIZE g c =
