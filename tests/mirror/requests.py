@@ -28,7 +28,7 @@ AT_EMPTY_PATH = 0x1000
 CLOCK_REALTIME_COARSE = 5
 OPERATIONS = {
     "LOOKUP": 8, "CREATE": 8, "MKNOD": 4, "MKDIR": 8, "SYMLINK": 4, "LINK": 7, "UNLINK": 8, "RMDIR": 6, "RENAME": 14,
-    "SETATTR": 10, "READ": 6, "WRITE": 10, "OPEN": 4, "READLINK": 2, "READDIR": 4, "SETXATTR": 5, "GETXATTR": 3,
+    "TMPFILE": 4, "SETATTR": 10, "READ": 6, "WRITE": 10, "OPEN": 4, "READLINK": 2, "READDIR": 4, "SETXATTR": 5, "GETXATTR": 3,
     "LISTXATTR": 2, "REMOVEXATTR": 3, "FALLOCATE": 3, "LSEEK": 4, "FORGET": 5, "GETATTR": 3,
 }
 SPECIAL = {"FIFO": (stat.S_IFIFO, 0), "socket": (stat.S_IFSOCK, 0), "device": (stat.S_IFCHR, os.makedev(1, 3))}
@@ -48,6 +48,7 @@ def generate(random):
     words = {
         "LOOKUP": lambda: (node("d"), word()), "UNLINK": lambda: (node("d"), word()),
         "RMDIR": lambda: (node("d"), word()), "CREATE": lambda: (node("d"), word(), random.choice(MODES)),
+        "TMPFILE": lambda: (node("d"), random.choice(MODES), random.random() < 0.3),
         "MKNOD": lambda: (node("d"), word(), random.choice(["file", "file", *SPECIAL]), random.choice(MODES)),
         "MKDIR": lambda: (node("d"), word(), random.choice(MODES) & 0o1777),
         "SYMLINK": lambda: (node("d"), word(), random.choice([b"a", b"/x/y", b"t" * 200, b"u" * 4095])),
@@ -320,6 +321,14 @@ class Session:
         flags = os.O_CREAT | os.O_WRONLY | os.O_EXCL
         self.make(of, name, Op.CREATE, record(Op.CREATE, flags=flags, mode=0o100000 | mode) + name + b"\0",
                   lambda directory: os.close(os.open(name, flags, mode, dir_fd=directory)))
+
+    def tmpfile(self, of, mode, is_alone):
+        parent = self.pick(of)
+        flags = os.O_TMPFILE | os.O_RDWR | (os.O_EXCL if is_alone else 0)
+        body = record(Op.TMPFILE, flags=flags, mode=0o100000 | mode) + b"/\0"
+        if answers := self.both(lambda: self.library.entry(Op.TMPFILE, parent, body),
+                                lambda: os.open(".", flags, mode, dir_fd=self.file(parent)), (parent,)):
+            self.learn(answers)
 
     def mknod(self, of, name, kind, mode):
         bits, device = SPECIAL.get(kind, (stat.S_IFREG, 0))

@@ -2,10 +2,11 @@
 # Tests nizwarf-mount, with the tree in memory, on folders of its own.
 #
 # Usage: tests/mount/check.sh
-# Words that can't be are refused. session.sh does in a mount what a person does, memory goes back that was written and
-# cut, and it is unmounted; then so with writeback, and with no_io_uring; with other options, where it ends by a signal;
-# with a link above it, and over vhost-user with an event that is full (tests/share/ends.py); and once more, with
-# limits, which bound the server's memory, and hold again once what was there is removed.
+# Words that can't be are refused. In a mount files are made without a name (nameless.py), session.sh does what a
+# person does, memory goes back that was written and cut, and it is unmounted; then so with writeback, and with
+# no_io_uring; with other options, where it ends by a signal; with a link above it, and over vhost-user with an event
+# that is full (tests/share/ends.py); and once more, with limits, which bound the server's memory, and hold again once
+# what was there is removed.
 #
 # It takes a minute, and wants root, /dev/fuse, python3, a C compiler and the Rattle toolchain. It links the proved
 # library where that is built and no source is newer; otherwise tools/lib/unproved.sh builds it without a proof.
@@ -125,6 +126,7 @@ wrong() {
 session() {
     start -o "$2"
     echo "Requests come by $(way)."
+    python3 -B "$here/tests/mount/nameless.py" "$folder" || wrong "files without a name, $1"
     "$here/tests/mount/session.sh" "$folder" || wrong "the session, $1"
     cut_files || status=1
     umount "$folder"

@@ -1,7 +1,9 @@
 mod Crosses
 mod Steps
+mod Offering
 mod Histories
 mod Calling
 mod TreeNothingFound
 mod TreeNothingTaken
 mod TreeMessageTaken
+mod TreeTmpfile

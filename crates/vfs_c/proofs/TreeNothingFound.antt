@@ -16,10 +16,12 @@ use Rattle.vfs_grammar.specs.Turn.{Turn, Follows}
 use Rattle.vfs_grammar.specs.declared.error.Error.{Error}
 use Rattle.vfs_grammar.specs.declared.limits.Limits.{Limits}
 use Rattle.vfs_server.specs.Step.{ServerState}
+use Rattle.vfs_history.specs.Calls.{forget_of_5}
 use Rattle.vfs_history.specs.History.{Handled, IsHistory, IsHandled}
 use Rattle.vfs_rooms.specs.Codes.{ok, number_of, shown_of}
 use Rattle.vfs_c.specs.Files.{State, Allows, Gives, new_state, at_time}
 use Rattle.vfs_c.specs.History.{Turned, Answered, HandlesTwo}
+use Rattle.vfs_c.specs.Offered.{handed}
 use Rattle.vfs_rooms.specs.Parts.{part_from}
 use Rattle.vfs_c.specs.Served.{new_server, told_time}
 use Rattle.vfs_c.specs.TreeUses.{no_such_name}
@@ -38,6 +40,15 @@ lookup = Lookup (context_of (value_of in_header lookup_of_a)) 1 (0x61 ∷ [])
 asks : (space : ℕ) → ask limits 0 space lookup_of_a ≡ WithMemory (Asks echo lookup)
 unfolding number little opcode_of
 asks space = refl
+
+-- these are handed on as they are
+pub lookup_handed : (q : List ℕ) → q ≡ lookup_of_a → handed q ≡ lookup_of_a
+unfolding number little
+lookup_handed q is = ap handed is
+
+pub forget_handed : (q : List ℕ) → q ≡ forget_of_5 → handed q ≡ forget_of_5
+unfolding number little
+forget_handed q is = ap handed is
 
 -- a new tree has no such name
 refused : (settings : Settings) (answer : Answer) (new : State)

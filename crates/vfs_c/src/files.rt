@@ -7,10 +7,14 @@ ghost use Rattle.vfs_c.specs.Files.{new_state, at_time};
 use crate::settings::{Settings, WRITEBACK};
 use std::alloc::Global;
 use vfs_flags::{GuestGid, GuestUid};
+use vfs_further::offers;
 use vfs_tree::{Capacity, Time, TreeFs};
 
 /// The file system.
 pub type Files = TreeFs;
+
+/// The rows that it offers beyond virtiofsd's table. Of these TMPFILE alone is handed to it: as a CREATE.
+pub const OFFERS: u32 = offers::TMPFILE;
 
 /// A new one. `None` where there is no memory.
 pub fn new_files(alloc: Global, settings: &Settings) -> Option<Files>

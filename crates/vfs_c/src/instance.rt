@@ -3,12 +3,14 @@
 ghost use Rattle.std.specs.Prelude.{◌≡◌, ◌≤◌, ◌-◌, ◌++◌, length, take, drop, min, IfSome};
 ghost use Rattle.vfs_flags.specs.declared.constants.TheConstants.{LEAST_MAX_BUFFER, GREATEST_MAX_BUFFER};
 ghost use Rattle.vfs_segments.specs.Segments.{segments_of, contents, flat_bytes, lengths_of};
+ghost use Rattle.vfs_c.specs.Offered.{handed};
 ghost use Rattle.vfs_c.specs.Served.{new_server, told_time, ServedInC};
 ghost use Rattle.vfs_c.specs.Taken.{place_of};
 ghost use Rattle.vfs_rooms.specs.Parts.{part_from};
 
 use crate::files::{Files, new_files, tell_time};
 use crate::memory::{Memory, Place};
+use crate::offered::{as_create, is_tmpfile};
 use crate::settings::Settings;
 use std::alloc::Global;
 use std::mem;
@@ -65,6 +67,22 @@ impl Instance {
     /// Answers the request in these segments, with `total` bytes of room: the outcome's number, and
     /// the length of the reply, 0 where there is none.
     pub fn answer(&mut self, alloc: Global, request: &[&[u8]], total: usize) -> (i32, usize)
+        ensures { ServedInC self.old.server (handed (flat_bytes (segments_of request.now))) total
+            result.0 result.1 (drop self.new.start self.new.room.items) self.new.shown
+            self.new.server }
+    {
+        if !is_tmpfile(request) {
+            return self.answer_bytes(alloc, request, total);
+        }
+        let Ok(list) = as_create(alloc, request) else {
+            self.shown = 0;
+            return (OUT_OF_MEMORY, 0);
+        };
+        self.answer_bytes(alloc, &list, total)
+    }
+
+    // Answers the request of the bytes in these segments.
+    fn answer_bytes(&mut self, alloc: Global, request: &[&[u8]], total: usize) -> (i32, usize)
         ensures { ServedInC self.old.server (flat_bytes (segments_of request.now)) total
             result.0 result.1 (drop self.new.start self.new.room.items) self.new.shown
             self.new.server }

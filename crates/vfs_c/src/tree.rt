@@ -4,3 +4,4 @@
 mod laws;
 mod uses;
 mod uses_taken;
+mod uses_tmpfile;

@@ -4,6 +4,7 @@ ghost use Rattle.std.specs.Prelude.{◌≡◌, MatchOption};
 ghost use Rattle.vfs_segments.specs.Segments.{segments_of, flat_bytes};
 ghost use Rattle.vfs_rooms.specs.Codes.{ok};
 ghost use Rattle.vfs_c.specs.History.{HandlesTwo};
+ghost use Rattle.vfs_c.specs.Offered.{handed};
 ghost use Rattle.vfs_c.specs.Served.{new_server};
 
 use crate::files::Files;
@@ -25,7 +26,8 @@ fn two_messages(
 ) -> i32
     ensures { result ≡ ok → MatchOption handle.new.value ⊥ (λ s.
         HandlesTwo (new_server 4096 1048576 settings.now)
-        (flat_bytes (segments_of one.now)) (flat_bytes (segments_of two.now)) s.server) }
+        (handed (flat_bytes (segments_of one.now))) (handed (flat_bytes (segments_of two.now)))
+        s.server) }
 {
     history_keeps_books::<Files>();
     let made = nizwarf_new_at(alloc, handle, 4096, 1_048_576, settings);

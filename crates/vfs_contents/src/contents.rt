@@ -1,7 +1,8 @@
 //! The bytes of a file.
 
-ghost use Rattle.std.specs.Prelude.{◌≡◌, ◌≢◌, ◌<◌, ◌^◌, ◌≤◌, ◌+◌, ◌-◌, ◌*◌, ◌/◌, ℕ, List, [], Some, OnOk, IfErr, length, take};
+ghost use Rattle.std.specs.Prelude.{◌≡◌, ◌≢◌, ◌<◌, ◌^◌, ◌≤◌, ◌+◌, ◌-◌, ◌*◌, ◌/◌, nat_eq, ℕ, List, [], ◌∷◌, Some, OnOk, IfErr, length, take};
 ghost use Rattle.std.specs.Int.{div_ceil};
+ghost use Rattle.std.specs.List.{list_any};
 ghost use Rattle.vfs_files.specs.Bytes.{PutsPart};
 ghost use Rattle.vfs_flags.specs.Numbers.{enomem};
 ghost use Rattle.vfs_contents.specs.Contents.{no_contents, resized, allocated, fallocated, data_from, hole_from, lacking, pages_over, punched, zeroed, Writes};
@@ -22,6 +23,17 @@ pub const PUNCH_HOLE: u32 = 3;
 
 /// The bit by which its bytes become zeros.
 pub const ZERO_RANGE: u32 = 16;
+
+/// Whether FALLOCATE can be done by this mode.
+pub fn is_mode(mode: u32) -> bool
+    ensures { result ≡ list_any (nat_eq mode) (0 ∷ 1 ∷ 3 ∷ 16 ∷ 17 ∷ []) }
+{
+    mode == 0
+        || mode == KEEP_SIZE
+        || mode == PUNCH_HOLE
+        || mode == ZERO_RANGE
+        || mode == ZERO_RANGE | KEEP_SIZE
+}
 
 /// The bytes of a file.
 #[derive(Drop)]

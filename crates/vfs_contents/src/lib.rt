@@ -8,4 +8,4 @@ mod contents;
 mod pages;
 mod transfer;
 
-pub use contents::{Contents, KEEP_SIZE, PUNCH_HOLE, ZERO_RANGE};
+pub use contents::{Contents, KEEP_SIZE, PUNCH_HOLE, ZERO_RANGE, is_mode};

@@ -3,5 +3,7 @@ pub mod Held
 pub mod Index
 pub mod Listing
 pub mod Node
+pub mod Refusals
+pub mod Renames
 pub mod Writing
 pub mod Xattrs

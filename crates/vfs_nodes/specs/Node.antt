@@ -1,5 +1,5 @@
 -- What a node shows of itself, and what becomes of it.
-use Rattle.std.specs.Prelude.{ℕ, ◌+◌, ◌-◌, ◌*◌, ◌^◌, ◌==◌, ◌&&◌, ◌||◌, not, Bool, true, List, [], ◌∷◌, Option, find, length, min, codes, bit_or, bit_and, if◌then◌else◌, ◌%◌, nat_lt, nat_le}
+use Rattle.std.specs.Prelude.{ℕ, ◌+◌, ◌-◌, ◌*◌, ◌^◌, ◌==◌, ◌&&◌, ◌||◌, not, Bool, true, false, List, [], ◌∷◌, Option, find, length, min, codes, bit_or, bit_and, if◌then◌else◌, ◌%◌, nat_lt, nat_le}
 use Rattle.std.specs.declared.time.Duration.{Duration}
 use Rattle.vfs_wire.specs.declared.attributes.Attr.{Attr}
 use Rattle.vfs_wire.specs.declared.attributes.SetattrIn.{SetattrIn}
@@ -96,6 +96,7 @@ new_node now uid gid kind permissions parent text = record {
   text = text;
   xattrs = [];
   names = 1;
+  is_linkable = false;
   lookups = 1;
 }
 

@@ -10,13 +10,20 @@ mod held;
 mod kind;
 mod listing;
 mod node;
+mod refusals;
+mod renames;
 mod text;
 mod xattrs;
 
 pub use children::{Child, Children};
-pub use held::Held;
+pub use held::{Held, first_held, is_idle};
 pub use kind::Kind;
 pub use listing::entries_behind;
 pub use node::{Node, Time, is_other};
+pub use refusals::{
+    check_contents, check_namespace, directory, holds_names, is_directory, is_improper, no_device,
+    no_place, too_big,
+};
+pub use renames::{is_same, is_served, leaves_whiteout, replaced};
 pub use text::Text;
 pub use xattrs::{MOST_BYTES, Xattrs};

@@ -104,6 +104,8 @@ pub struct Node {
     pub xattrs: Xattrs,
     /// How many names lead to it. The root has one.
     pub names: u32,
+    /// Whether a name may lead to it though none does: to a file that was made without one.
+    pub is_linkable: bool,
     /// How many lookups of it the guest holds.
     pub lookups: u64,
 }
@@ -139,6 +141,7 @@ impl Node {
             text: Text::copy_of(alloc, text)?,
             xattrs: Xattrs::new(alloc),
             names: 1,
+            is_linkable: false,
             lookups: 1,
         })
     }

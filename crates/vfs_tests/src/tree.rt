@@ -8,7 +8,7 @@ use crate::support::{Message, handle, none_is_wrong};
 use crate::tree::asks::message_of;
 use crate::tree::session::memory::steps;
 use crate::tree::session::rest::{fifth, fourth, sixth, special};
-use crate::tree::session::{Step, first, long, second, third};
+use crate::tree::session::{Step, first, long, nameless, second, third};
 use std::alloc::Global;
 use std::test::Fail;
 use vfs_flags::{GuestGid, GuestUid};
@@ -149,4 +149,9 @@ fn a_hole_takes_the_place_of_bytes(rt: HostRuntime) -> Result<(), Fail> {
 #[test]
 fn special_nodes_are_made(rt: HostRuntime) -> Result<(), Fail> {
     none_is_wrong(wrong_long(rt.alloc(), special()))
+}
+
+#[test]
+fn a_file_is_made_without_a_name(rt: HostRuntime) -> Result<(), Fail> {
+    none_is_wrong(wrong_long(rt.alloc(), nameless::steps()))
 }

@@ -1,10 +1,11 @@
 -- How CREATE and LINK end, by what their steps left.
-use Rattle.std.proofs.Common.{◌≡◌, ◌+◌, ◌==◌, ◌&&◌, ◌||◌, ◌^◌, ◌-◌, ℕ, Bool, true, false, List, ◌∷◌, [], nat_lt, nat_le, not, length, take, Option, Some, None, IfSome, is_some, is_none, if◌then◌else◌, refl, sym, ap, ◌∙◌, subst}
+use Rattle.std.proofs.Common.{◌≡◌, ◌+◌, ◌==◌, ◌&&◌, ◌||◌, ◌^◌, ◌-◌, min, ℕ, Bool, true, false, List, ◌∷◌, [], nat_lt, nat_le, not, length, take, Option, Some, None, IfSome, is_some, is_none, if◌then◌else◌, refl, sym, ap, ◌∙◌, subst}
 use Rattle.std.specs.Option.{option_or}
 use Rattle.std.proofs.lemmas.Bool.{not-false}
 use Rattle.std.proofs.lemmas.Option.{same_Some}
 use Rattle.vfs_flags.specs.Numbers.{enoent, einval, eexist, eperm, enosys, eoverflow, enospc, enotdir, enametoolong, efbig, emlink}
-use Rattle.vfs_files.specs.Calls.{Failed, Found, Created, Wrote, Plain}
+use Rattle.vfs_files.specs.Values.{Item}
+use Rattle.vfs_files.specs.Calls.{Failed, Found, Created, Wrote, Handed, Plain}
 use Rattle.vfs_files.specs.declared.entry.Entry.{Entry}
 use Rattle.vfs_nodes.specs.Children.{leading, is_directory}
 use Rattle.vfs_nodes.specs.Node.{entry_of, overwritten}
@@ -18,32 +19,35 @@ use Rattle.vfs_tree.specs.State.{State, node_at, child_at, with_node, with_resiz
 use Rattle.vfs_tree.specs.Tree.{contents_refusal, link_refusal, linked, longest, most_size}
 use Rattle.vfs_tree.proofs.Nodes.{changed, kinds_apart}
 
--- where an entry is answered, a file is opened too, of a client that opens files
-pub created_too : (old new : State) (alone : Bool) (refusal : Option ℕ) (made : Entry) (left : State)
-    (entry : Entry) (options : ℕ) → alone ≡ false → options ≡ 0
+-- it ends as the first of two, or the second
+pub as_first : (old new : State) (handed : Handed (List Item)) (t : Bool) (a b : Outcome) → t ≡ true
+    → Ends old a handed new → Ends old (if t then a else b) handed new
+as_first old new handed true a b is ends = ends
+as_first old new handed false a b is ends = cc is
+
+pub as_second : (old new : State) (handed : Handed (List Item)) (t : Bool) (a b : Outcome) → t ≡ false
+    → Ends old b handed new → Ends old (if t then a else b) handed new
+as_second old new handed true a b is ends = cc is
+as_second old new handed false a b is ends = ends
+
+-- where an entry is answered, a file is opened too
+pub created_too : (old new : State) (refusal : Option ℕ) (made : Entry) (left : State) (entry : Entry)
+    (options : ℕ) → options ≡ 0
     → Ends old (unless refusal (Tried true (Plain (Found made)) left)) (Plain (Found entry)) new
-    → Ends old
-    (if alone then Refused enosys
-    else unless refusal (Tried true (Plain (Created made None 0)) left))
+    → Ends old (unless refusal (Tried true (Plain (Created made None 0)) left))
     (Plain (Created entry None options)) new
-created_too old new true refusal made left entry options opens none ends = cc opens
-created_too old new false (Some error) made left entry options opens none ends = cc (ends.0)
-created_too old new false None made left entry options opens none ends =
+created_too old new (Some error) made left entry options none ends = cc (ends.0)
+created_too old new None made left entry options none ends =
     let same = ends.0 in
     let is : entry ≡ made = cc same in
     (cc (is, none), ends.1)
 
 -- where it is refused, or there is no memory, so it is here
-pub failed_too : (old new : State) (alone : Bool) (refusal : Option ℕ) (made : Entry) (left : State)
-    (fault : Option ℕ) → alone ≡ false
+pub failed_too : (old new : State) (refusal : Option ℕ) (made : Entry) (left : State) (fault : Option ℕ)
     → Ends old (unless refusal (Tried true (Plain (Found made)) left)) (Plain (Failed fault)) new
-    → Ends old
-    (if alone then Refused enosys
-    else unless refusal (Tried true (Plain (Created made None 0)) left))
-    (Plain (Failed fault)) new
-failed_too old new true refusal made left fault opens ends = cc opens
-failed_too old new false (Some error) made left fault opens ends = ends
-failed_too old new false None made left fault opens ends = ends
+    → Ends old (unless refusal (Tried true (Plain (Created made None 0)) left)) (Plain (Failed fault)) new
+failed_too old new (Some error) made left fault ends = ends
+failed_too old new None made left fault ends = ends
 
 -- an entry is answered where nothing is refused
 pub made_ends : (s new : State) (refusal : Option ℕ) (entry made : Entry) (left : State)
@@ -53,6 +57,13 @@ made_ends s new None entry made left none is leaves = (ap (λ e. Plain (Found e)
 made_ends s new (Some error) entry made left none is leaves = cc none
 
 -- ---- refusals
+
+-- a file without a name is not refused
+pub nameless_free : (there : Option ℕ) (full : Bool) → there ≡ None → full ≡ false
+    → option_or there (first_of ((full, enospc) ∷ [])) ≡ None
+nameless_free None false is room = refl
+nameless_free None true is room = cc room
+nameless_free (Some error) full is room = cc is
 
 -- why WRITE does nothing, and how it ends for a node
 abbrev pub write_refusal : State → (off size : ℕ) → Node → Option ℕ
@@ -107,10 +118,10 @@ file_linked : (s : State) (parent : ℕ) (name : List ℕ) (node : Node)
     → (is_directory_at (node_at s parent) ≡ true) × (is_directory node.kind ≡ false)
 file_linked s parent name node none =
     let above = node_at s parent in
-    let last : List (Bool × ℕ) = (node.names == 0, enoent)
+    let last : List (Bool × ℕ) = (node.names == 0 && not node.is_linkable, enoent)
     ∷ (nat_le 65000 node.names, emlink)
     ∷ (node.lookups == 2 ^ 64 - 1, eoverflow)
-    ∷ (nat_le s.limits.nodes s.inodes || is_crowded above, enospc) ∷ [] in
+    ∷ ((not (node.names == 0) && nat_le s.limits.nodes s.inodes) || is_crowded above, enospc) ∷ [] in
     let parts = both_none (name_refusal s parent name) (first_of ((is_directory node.kind, eperm) ∷ last))
     none in
     let names : List (Bool × ℕ) = (is_nameless above, enoent) ∷ (is_improper name, einval)
@@ -140,47 +151,49 @@ changed_now s n f None = refl
 changed_now s n f (Some node) = refl
 
 module _ (s : State) (n parent : ℕ) (name : List ℕ) (entry : Entry) (last : State) where
-  -- with one inode more
-  abbrev counted : Child → State
-  counted child =
-      let named = lead s parent name false (Some child) in
-      record named { inodes = named.inodes + 1 }
+  -- a name more is there
+  abbrev named_too : Child → State
+  named_too child = lead s parent name false (Some child)
+
+  -- with the inodes that are counted more
+  abbrev counted : State → Node → State
+  counted t node = record t { inodes = t.inodes + min node.names 1 }
 
   -- how LINK ends
   abbrev pub links : Outcome
   links = on (node_at s n) (link_refusal s parent name) (λ node.
       let child : Child = record { node = n; kind = node.kind } in
       Tried true (Plain (Found (entry_of n (linked s.now node))))
-      (change (counted child) n (linked s.now)))
+      (change (counted (named_too child) node) n (linked s.now)))
 
   -- the node of a state has one name and one lookup more
   abbrev pub IsCounted : State → Option Node → Type 0
   IsCounted t o = IfSome o (λ node. (entry ≡ entry_of n (linked t.now node))
-      × (last ≡ with_node t n (linked t.now node)))
+      × (last ≡ with_node (counted t node) n (linked t.now node)))
 
   ends : (node : Node) → node_at s n ≡ Some node → link_refusal s parent name node ≡ None
-      → IsCounted (counted (record { node = n; kind = node.kind }))
-      (node_at (counted (record { node = n; kind = node.kind })) n)
+      → IsCounted (named_too (record { node = n; kind = node.kind }))
+      (node_at (named_too (record { node = n; kind = node.kind })) n)
       → Ends s links (Plain (Found entry)) last
   ends node is free counts =
       let child : Child = record { node = n; kind = node.kind } in
-      let t = counted child in
+      let named = named_too child in
+      let t = counted named node in
       let file = file_linked s parent name node free in
-      let found : node_at t n ≡ Some node =
+      let found : node_at named n ≡ Some node =
       kinds_apart s n parent (leading name false (Some child)) (ap is_directory_at is ∙ file.1) file.0
       ∙ is in
-      let now : t.now ≡ s.now =
+      let now : named.now ≡ s.now =
       changed_now s parent
       (λ (x : Node).
       record x { children = leading name false (Some child) x.children; mtime = s.now; ctime = s.now })
       (node_at s parent) in
-      let here : IsCounted t (Some node) = subst (IsCounted t) found counts in
+      let here : IsCounted named (Some node) = subst (IsCounted named) found counts in
       on_there s last (node_at s n) (link_refusal s parent name)
       (λ node.
       let child : Child = record { node = n; kind = node.kind } in
-      let named = lead s parent name false (Some child) in
       Tried true (Plain (Found (entry_of n (linked s.now node))))
-      (change (record named { inodes = named.inodes + 1 }) n (linked s.now)))
+      (change (counted (named_too child) node) n (linked s.now)))
       node entry is free (
         ap (λ e. Plain (Found e)) (here.0 ∙ ap (λ k. entry_of n (linked k node)) now),
         here.1 ∙ ap (λ k. with_node t n (linked k node)) now
@@ -191,13 +204,10 @@ module _ (s : State) (n parent : ℕ) (name : List ℕ) (entry : Entry) (last : 
       → IfSome o (λ node. child ≡ record { node = n; kind = node.kind })
       → refusal_of o (link_refusal s parent name) ≡ None
       → named ≡ lead s parent name false (Some child)
-      → let t = record named { inodes = named.inodes + 1 } in
-      IsCounted t (node_at t n)
+      → IsCounted named (node_at named n)
       → Ends s links (Plain (Found entry)) last
   linked_ends None child named is same free step counts = cc free
   linked_ends (Some node) child named is same free step counts =
       ends node is free
-      (subst (λ (c : Child). IsCounted (counted c) (node_at (counted c) n)) same
-      (subst (λ (t : State).
-      IsCounted (record t { inodes = t.inodes + 1 }) (node_at (record t { inodes = t.inodes + 1 }) n))
-      step counts))
+      (subst (λ (c : Child). IsCounted (named_too c) (node_at (named_too c) n)) same
+      (subst (λ (t : State). IsCounted t (node_at t n)) step counts))

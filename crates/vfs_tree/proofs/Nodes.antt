@@ -87,6 +87,16 @@ node_at-change_other s n m f apart = changed_other s n m f (node_at s n) apart
 abbrev pub with_names : State → (directory : ℕ) → (Children → Children) → State
 with_names s d f = change s d (λ node. record node { children = f node.children; mtime = s.now; ctime = s.now })
 
+-- that counts no inode
+pub inodes-with_names : (s : State) (d : ℕ) (f : Children → Children) → (with_names s d f).inodes ≡ s.inodes
+inodes-with_names s d f = by (node_at s d)
+  where
+    by : (o : Option Node)
+        → (changed s d (λ node. record node { children = f node.children; mtime = s.now; ctime = s.now }) o).inodes
+        ≡ s.inodes
+    by None = refl
+    by (Some node) = refl
+
 -- a node that is no directory stays as it was where a directory's names are changed
 pub kinds_apart : (s : State) (n parent : ℕ) (f : Children → Children)
     → is_directory_at (node_at s n) ≡ false → is_directory_at (node_at s parent) ≡ true

@@ -1,19 +1,11 @@
 -- Which nodes a release has to look at.
-use Rattle.std.specs.Prelude.{◌≡◌, ◌≤◌, ℕ, ◌==◌, ◌&&◌, not, Bool, true, false, List, [], ◌∷◌, Option, Some, None, if◌then◌else◌}
+use Rattle.std.specs.Prelude.{◌≡◌, ◌≤◌, ℕ, Bool, true, false, List, Option, Some, None}
 use Rattle.std.specs.Ordering.{nat_cmp}
 use Rattle.std.specs.Map.{lookup}
 use Rattle.std.specs.BTreeMap.{is_at}
+pub use Rattle.vfs_nodes.specs.Held.{is_idle, first_held}
 use Rattle.vfs_nodes.specs.Held.{may_hold}
 use Rattle.vfs_nodes.specs.declared.node.Node.{Node}
-
--- whether no lookup of a node is held, and a name leads to it: it stays as it is
-abbrev pub is_idle : Node → Bool
-is_idle node = node.lookups == 0 && not (node.names == 0)
-
--- the first of these nodes that is not idle, and how many lookups of it are held
-abbrev pub first_held : List (ℕ × Node) → Option (ℕ × ℕ)
-first_held [] = None
-first_held (e ∷ es) = if is_idle e.1 then first_held es else Some (e.0, e.1.lookups)
 
 -- whether a release leaves what is found of a number as it is
 abbrev pub rests : Option Node → Bool

@@ -1,30 +1,17 @@
 -- What names of directories ask, and what is made under them.
 use Rattle.std.specs.Prelude.{ℕ, ◌==◌, ◌&&◌, ◌||◌, ◌-◌, ◌^◌, nat_le, nat_lt, not, Bool, true, false, List, [], ◌∷◌, length, codes, bit_and, bit_or, Option, Some, None, is_some, is_none, unwrap_or, option_and_then, if◌then◌else◌}
-use Rattle.std.specs.List.{list_any}
 use Rattle.std.specs.Option.{option_map_or, option_or}
 use Rattle.std.specs.Str.{bytes_eq}
-use Rattle.vfs_flags.specs.Numbers.{enoent, eexist, enotdir, einval, enametoolong}
+use Rattle.vfs_flags.specs.Numbers.{enoent, eexist, einval, enospc}
 use Rattle.vfs_files.specs.declared.entry.Context.{Context}
 use Rattle.vfs_nodes.specs.Children.{is_directory}
 use Rattle.vfs_nodes.specs.Node.{new_node}
+pub use Rattle.vfs_nodes.specs.Refusals.{is_directory_at, directory_refusal, is_improper}
 use Rattle.vfs_nodes.specs.declared.kind.Kind.{Kind}
+use Rattle.vfs_nodes.specs.declared.kind.Kind.TheVariants as kind
 use Rattle.vfs_nodes.specs.declared.node.Node.{Node}
 use Rattle.vfs_tree.specs.Outcome.{first_of}
 use Rattle.vfs_tree.specs.State.{State, node_at, child_at}
-
-abbrev pub is_directory_at : Option Node → Bool
-is_directory_at node = option_map_or (λ node. is_directory node.kind) node false
-
--- why no name is looked for in a node: it is not there, it is no directory, or the name is too long
-abbrev pub directory_refusal : Option Node → (name : List ℕ) → Option ℕ
-directory_refusal node name =
-    first_of ((is_none node, enoent) ∷ (not (is_directory_at node), enotdir)
-    ∷ (nat_lt 255 (length name), enametoolong) ∷ [])
-
--- whether a name can't be made: it is empty, `.`, `..`, or has a '/'. A kernel asks for none of these
-abbrev pub is_improper : (name : List ℕ) → Bool
-is_improper name =
-    list_any (bytes_eq name) ([] ∷ codes "." ∷ codes ".." ∷ []) || list_any (λ b. b == 0x2f) name
 
 -- whether no name leads to a node any more: a directory that was taken out
 abbrev pub is_nameless : Option Node → Bool
@@ -52,3 +39,22 @@ new_in s ctx kind permissions parent text =
     (λ node. if bit_and node.permissions 0o2000 == 0o2000 then Some node.gid else None) (node_at s parent) in
     new_node s.now ctx.uid (unwrap_or group ctx.gid) kind
     (if is_some group && is_directory kind then bit_or permissions 0o2000 else permissions) parent text
+
+-- ---- files without a name
+
+-- whether a CREATE asks for a file without a name: Linux's TMPFILE gives it this one, which none can have
+abbrev pub asks_nameless : (name : List ℕ) → Bool
+asks_nameless name = bytes_eq name (codes "/")
+
+-- a new file that no name leads to. One may, unless the file was made for its opener alone (O_EXCL, 0o200)
+abbrev pub new_nameless : State → Context → (permissions parent flags : ℕ) → Node
+new_nameless s ctx permissions parent flags =
+    record (new_in s ctx kind.File permissions parent []) {
+      names = 0;
+      is_linkable = bit_and flags 0o200 == 0;
+    }
+
+-- why no file without a name can be made in a directory: also in one that was taken out it can
+abbrev pub nameless_refusal : State → (parent : ℕ) → (name : List ℕ) → Option ℕ
+nameless_refusal s parent name =
+    option_or (directory_refusal (node_at s parent) name) (first_of ((has_no_number s, enospc) ∷ []))

@@ -1,9 +1,10 @@
 -- How a call ends: what it hands back, and which state it leaves.
-use Rattle.std.specs.Prelude.{◌≡◌, ℕ, Bool, List, [], ◌∷◌, IsTrue, Option, Some, None, if◌then◌else◌}
+use Rattle.std.specs.Prelude.{◌≡◌, ℕ, Bool, List, IsTrue, Option, Some}
 use Rattle.std.specs.Option.{option_map_or}
 use Rattle.vfs_flags.specs.Numbers.{enoent, enomem}
 use Rattle.vfs_files.specs.Values.{Item}
 use Rattle.vfs_files.specs.Calls.{Done, Failed, Handed, Plain}
+pub use Rattle.vfs_nodes.specs.Refusals.{first_of}
 use Rattle.vfs_nodes.specs.declared.node.Node.{Node}
 use Rattle.vfs_tree.specs.State.{State}
 
@@ -27,11 +28,6 @@ abbrev pub done : State → Outcome
 done left = Answered (Plain Done) left
 
 -- ---- refusals
-
--- the error of the first line that holds
-abbrev pub first_of : List (Bool × ℕ) → Option ℕ
-first_of [] = None
-first_of (r ∷ rs) = if r.0 then Some r.1 else first_of rs
 
 -- refused with this error, or else ended so
 abbrev pub unless : Option ℕ → Outcome → Outcome

@@ -5,6 +5,7 @@ use Rattle.std.specs.Option.{option_map_or, option_or}
 use Rattle.vfs_flags.specs.Numbers.{enoent, eexist, enotdir, eisdir, enospc, enotempty, einval}
 use Rattle.vfs_files.specs.Calls.{Done, Plain}
 use Rattle.vfs_files.specs.declared.entry.Context.{Context}
+pub use Rattle.vfs_nodes.specs.Renames.{is_served, same_node}
 use Rattle.vfs_nodes.specs.declared.children.Child.{Child}
 use Rattle.vfs_nodes.specs.declared.kind.Kind.TheVariants as kind
 use Rattle.vfs_nodes.specs.declared.node.Node.{Node}
@@ -26,15 +27,6 @@ is_below s (suc k) n directory =
 abbrev pub is_own_child : State → Option Child → (directory : ℕ) → Bool
 is_own_child s child directory = option_map_or
     (λ c. is_directory_at (node_at s c.node) && is_below s (length s.nodes) c.node directory) child false
-
-abbrev pub same_node : Option Child → Option Child → Bool
-same_node (Some a) (Some b) = a.node == b.node
-same_node _ _ = false
-
--- flags: 1 is RENAME_NOREPLACE, 2 RENAME_EXCHANGE, and those from 4 on have RENAME_WHITEOUT, with which only
--- the first goes
-abbrev pub is_served : (flags : ℕ) → Bool
-is_served flags = nat_le flags 2 || flags == 4 || flags == 5
 
 -- a node lies in this directory
 abbrev pub moved_into : State → (number directory : ℕ) → State

@@ -1,8 +1,7 @@
 -- How each call ends.
 use Rattle.std.specs.Prelude.{ℕ, ◌==◌, ◌+◌, ◌-◌, ◌*◌, ◌/◌, ◌^◌, ◌||◌, ◌&&◌, nat_eq, nat_le, nat_lt, not, min, Bool, true, false, List, [], ◌∷◌, length, map, fold, take, codes, bit_and, Option, Some, None, is_some, is_none, if◌then◌else◌}
-use Rattle.std.specs.List.{list_any, starts_with}
+use Rattle.std.specs.List.{list_any}
 use Rattle.std.specs.Option.{option_map_or, option_or, unwrap_or}
-use Rattle.std.specs.Str.{bytes_eq}
 use Rattle.vfs_flags.specs.Numbers.{eperm, enoent, eexist, enotdir, eisdir, einval, enospc, erange, enotempty, enodata, enosys, eoverflow, eopnotsupp, efbig, emlink, enodev, enxio}
 use Rattle.vfs_files.specs.declared.entry.Context.{Context}
 use Rattle.vfs_files.specs.declared.entry.Entry.{Entry}
@@ -14,13 +13,14 @@ use Rattle.vfs_contents.specs.Contents.{fallocated, data_from, hole_from, lackin
 use Rattle.vfs_nodes.specs.Children.{is_directory, is_file, is_link}
 use Rattle.vfs_nodes.specs.Listing.{items_behind}
 use Rattle.vfs_nodes.specs.Node.{attr_of, lasting, entry_of, kind_by_mode, new_node, picked, set_attr, rewritten, truncates, is_other, opened, overwritten, accessed}
+pub use Rattle.vfs_nodes.specs.Refusals.{contents_refusal, namespace_refusal}
 use Rattle.vfs_nodes.specs.Xattrs.{xattr_named, xattr_bytes, with_xattr, without_xattr, name_list}
 use Rattle.vfs_nodes.specs.declared.children.Child.{Child}
 use Rattle.vfs_nodes.specs.declared.kind.Kind.{Kind}
 use Rattle.vfs_nodes.specs.declared.kind.Kind.TheVariants as kind
 use Rattle.vfs_nodes.specs.declared.node.Node.{Node}
 use Rattle.vfs_nodes.specs.declared.node.Time.{Time}
-use Rattle.vfs_tree.specs.Naming.{directory_refusal, is_crowded, name_refusal, has_no_number, new_in}
+use Rattle.vfs_tree.specs.Naming.{directory_refusal, is_crowded, name_refusal, has_no_number, new_in, asks_nameless, new_nameless, nameless_refusal}
 use Rattle.vfs_tree.specs.Outcome.{Outcome, Refused, Answered, Tried, Ends, done, first_of, unless, with_it, on}
 use Rattle.vfs_tree.specs.Rename.{renames}
 use Rattle.vfs_tree.specs.State.{State, node_at, room_of, with_node, with_resized, with_new, settled, change, lead, unnamed, child_at}
@@ -66,7 +66,7 @@ all_forgotten s requests = fold (λ t r. forgotten t r.0 r.1) s requests
 abbrev pub released : State → State
 released s = all_forgotten s (map (λ e. (e.0, e.1.lookups)) s.nodes)
 
--- ---- MKDIR, MKNOD, CREATE, SYMLINK, LINK, UNLINK, RMDIR
+-- ---- MKDIR, MKNOD, CREATE, TMPFILE, SYMLINK, LINK, UNLINK, RMDIR
 
 -- why nothing of this name, with a text of so many bytes, can be made in this directory
 abbrev pub make_refusal : State → (parent : ℕ) → (name : List ℕ) → (size : ℕ) → Option ℕ
@@ -83,29 +83,39 @@ makes s ctx told kind permissions parent name text =
     (Tried true (Plain (told (entry_of s.next node)))
     (lead (with_new s node) parent name false (Some (record { node = s.next; kind = kind }))))
 
--- why no further name can lead to a node: not to a directory, nor to a file with 65000 names
+-- a file is made under the next number that no name leads to, and its entry told so; or that is refused
+abbrev pub makes_nameless :
+    State → Context → (Entry → Answer) → (permissions parent : ℕ) → (name : List ℕ) → (flags : ℕ) → Outcome
+makes_nameless s ctx told permissions parent name flags =
+    let node = new_nameless s ctx permissions parent flags in
+    unless (nameless_refusal s parent name)
+    (Tried true (Plain (told (entry_of s.next node))) (with_new s node))
+
+-- why no further name can lead to a node: not to a directory, nor to a file with 65000 names, nor to one that has
+-- none and was not made so. An inode is counted for each name but the first
 abbrev pub link_refusal : State → (parent : ℕ) → (name : List ℕ) → Node → Option ℕ
 link_refusal s parent name node =
     option_or (name_refusal s parent name)
     (first_of ((is_directory node.kind, eperm)
-    ∷ (node.names == 0, enoent)
+    ∷ (node.names == 0 && not node.is_linkable, enoent)
     ∷ (nat_le 65000 node.names, emlink)
     ∷ (node.lookups == 2 ^ 64 - 1, eoverflow)
-    ∷ (nat_le s.limits.nodes s.inodes || is_crowded (node_at s parent), enospc) ∷ []))
+    ∷ ((not (node.names == 0) && nat_le s.limits.nodes s.inodes) || is_crowded (node_at s parent), enospc) ∷ []))
 
--- one name more leads to a node, and one lookup more is held
+-- one name more leads to a node, and one lookup more is held. Once names were taken from it, none can lead to it
 abbrev pub linked : (now : Time) → Node → Node
-linked now node = record node { names = node.names + 1; lookups = node.lookups + 1; ctime = now }
+linked now node = record node {
+  names = node.names + 1;
+  is_linkable = false;
+  lookups = node.lookups + 1;
+  ctime = now;
+}
 
 -- a name is taken out of a directory, and one name less leads to its node
 abbrev pub taken_out : State → (parent : ℕ) → (name : List ℕ) → Child → State
 taken_out s parent name child = unnamed (lead s parent name true None) child.node
 
 -- ---- SETATTR, OPEN, FALLOCATE, READ, WRITE
-
--- why a node has no contents to be read, written or cut
-abbrev pub contents_refusal : Node → Option ℕ
-contents_refusal node = first_of ((is_directory node.kind, eisdir) ∷ (not (is_file node.kind), einval) ∷ [])
 
 -- how many bytes a file may have: a signed number of 64 bits counts them
 abbrev pub longest : State → ℕ
@@ -127,14 +137,6 @@ fallocate_refusal s mode off len node =
     ∷ (not (mode == 3) && nat_lt (most_size s off len node) (off + len), enospc) ∷ [])
 
 -- ---- SETXATTR, GETXATTR, LISTXATTR, REMOVEXATTR
-
--- why there can be no attribute of this name: it is of no namespace that is kept, or says nothing within it.
--- Access control lists are of another: they would have to be obeyed
-abbrev pub namespace_refusal : (name : List ℕ) → Option ℕ
-namespace_refusal name =
-    let namespaces = codes "user." ∷ codes "trusted." ∷ codes "security." ∷ [] in
-    first_of ((not (list_any (starts_with nat_eq name) namespaces), eopnotsupp)
-    ∷ (list_any (bytes_eq name) namespaces, einval) ∷ [])
 
 -- a text is answered to one who has place for so many bytes, or its length to one who has none
 abbrev pub tells : State → (size : ℕ) → Option (List ℕ) → Outcome
@@ -184,13 +186,15 @@ outcome s (Setattr _ n attr handle valid) = with_it (node_at s n) (λ node.
 outcome s (Mkdir ctx parent name mode _ _) = makes s ctx Found kind.Directory mode parent name []
 outcome s (Mknod ctx parent name mode device _ _) = option_map_or
     (λ kind. makes s ctx Found kind mode parent name []) (kind_by_mode mode device) (Refused eperm)
-outcome s (Create ctx parent name mode _ _ _ _) = if opens_nothing s.offered then Refused enosys
+outcome s (Create ctx parent name mode _ flags _ _) = if asks_nameless name
+    then makes_nameless s ctx (λ entry. Created entry None 0) mode parent name flags
+    else if opens_nothing s.offered then Refused enosys
     else makes s ctx (λ entry. Created entry None 0) kind.File mode parent name []
 outcome s (Symlink ctx text parent name _) = makes s ctx Found kind.Link 0o777 parent name text
 outcome s (Link _ n parent name) = on (node_at s n) (link_refusal s parent name) (λ node.
     let named = lead s parent name false (Some (record { node = n; kind = node.kind })) in
     Tried true (Plain (Found (entry_of n (linked s.now node))))
-    (change (record named { inodes = named.inodes + 1 }) n (linked s.now)))
+    (change (record named { inodes = named.inodes + min node.names 1 }) n (linked s.now)))
 outcome s (Unlink _ parent name) = at_name s parent name (λ child node.
     unless (first_of ((is_directory node.kind, eisdir) ∷ [])) (done (taken_out s parent name child)))
 outcome s (Rmdir _ parent name) = at_name s parent name (λ child node.

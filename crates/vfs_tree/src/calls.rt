@@ -6,10 +6,8 @@ ghost use Rattle.vfs_files.specs.Calls.{Plain, Getattr, Setattr, attr_answer};
 ghost use Rattle.vfs_flags.specs.Flags.{fs_options_bits, setattr_valid_bits};
 ghost use Rattle.vfs_tree.specs.Tree.{TreeAllows, all_forgotten, opens_nothing};
 
-use crate::changes::{PAGE, check_contents, check_namespace, no_place, too_big};
+use crate::changes::PAGE;
 use crate::fs::TreeFs;
-use crate::naming::directory;
-use crate::rename::is_same;
 use bitflags::Flags;
 use std::time::Duration;
 use vfs_files::{
@@ -17,7 +15,10 @@ use vfs_files::{
     ZeroCopyReader, ZeroCopyWriter, copy_of, defaults,
 };
 use vfs_flags::{Errno, Fault, FsOptions, OpenOptions, SetattrValid, SetxattrFlags};
-use vfs_nodes::{Kind, entries_behind, is_other};
+use vfs_nodes::{
+    Kind, check_contents, check_namespace, directory, entries_behind, is_other, is_same, no_place,
+    too_big,
+};
 use vfs_wire::{Attr, SetattrIn, Statvfs64};
 
 /// What LSEEK looks for.
@@ -246,7 +247,6 @@ impl FileSystem for TreeFs {
     ) -> Result<Entry, Fault> {
         let child = self.check_link(inode, newparent, newname.to_bytes())?;
         self.add_name(newparent, newname, child)?;
-        self.inodes += 1;
         Ok(self.count_link(inode))
     }
 
@@ -573,10 +573,14 @@ impl FileSystem for TreeFs {
         name: CStr<'_>,
         mode: u32,
         _kill_priv: bool,
-        _flags: u32,
+        flags: u32,
         _umask: u32,
         _ext: Extensions,
     ) -> Result<(Entry, Option<u64>, OpenOptions), Fault> {
+        if name.to_bytes() == b"/".as_slice() {
+            let entry = self.make_nameless(ctx, mode, parent, name, flags)?;
+            return Ok((entry, None, OpenOptions::empty()));
+        }
         if opens_nothing(self.offered) {
             return Err(Some(Errno::ENOSYS));
         }

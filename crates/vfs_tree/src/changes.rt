@@ -1,93 +1,17 @@
-//! What is asked of a node before its contents or its extended attributes change.
+//! What is asked of a node before its contents change.
 
-ghost use Rattle.std.specs.Prelude.{◌≡◌, [], ◌∷◌, nat_eq, ◌<◌, ◌≤◌, ◌^◌, ◌+◌, ◌-◌, Some, None, IfErr, OnOk};
-ghost use Rattle.std.specs.List.{list_any};
+ghost use Rattle.std.specs.Prelude.{◌≡◌, ◌<◌, ◌^◌, ◌+◌, ◌-◌, Some, None, IfErr, OnOk};
 ghost use Rattle.vfs_tree.specs.Outcome.{refusal_of};
 ghost use Rattle.vfs_tree.specs.State.{node_at};
-ghost use Rattle.vfs_tree.specs.Tree.{contents_refusal, fallocate_refusal, longest, most_size, namespace_refusal};
+ghost use Rattle.vfs_tree.specs.Tree.{fallocate_refusal, longest, most_size};
 
 use crate::fs::TreeFs;
-use vfs_contents::{KEEP_SIZE, PUNCH_HOLE, ZERO_RANGE};
+use vfs_contents::{PUNCH_HOLE, is_mode};
 use vfs_flags::Errno;
-use vfs_nodes::Node;
+use vfs_nodes::{Node, no_device, too_big};
 
 /// How many bytes a page of a file's contents has.
 pub(crate) const PAGE: u64 = 4096;
-
-/// The error EFBIG: a file would be longer than one may be.
-pub(crate) fn too_big() -> Errno
-    ensures { result ≡ 27 }
-{
-    match Errno::new(27) {
-        Some(errno) => errno,
-        None => unreachable!(),
-    }
-}
-
-/// The error ENXIO: there is no such place.
-pub(crate) fn no_place() -> Errno
-    ensures { result ≡ 6 }
-{
-    match Errno::new(6) {
-        Some(errno) => errno,
-        None => unreachable!(),
-    }
-}
-
-// The error ENODEV: it is no file with contents.
-fn no_device() -> Errno
-    ensures { result ≡ 19 }
-{
-    match Errno::new(19) {
-        Some(errno) => errno,
-        None => unreachable!(),
-    }
-}
-
-/// Whether a node has contents that can be read and written.
-pub(crate) fn check_contents(node: &Node) -> Result<(), Errno>
-    ensures ok { OnOk result (contents_refusal node.now ≡ None) }
-    ensures err { IfErr result (λ errno. contents_refusal node.now ≡ Some errno) }
-{
-    if node.kind.is_directory() {
-        return Err(Errno::EISDIR);
-    }
-    if !node.kind.is_file() {
-        return Err(Errno::EINVAL);
-    }
-    Ok(())
-}
-
-/// Whether there can be an extended attribute of this name.
-pub(crate) fn check_namespace(name: &[u8]) -> Result<(), Errno>
-    ensures ok { OnOk result (namespace_refusal name.now ≡ None) }
-    ensures err { IfErr result (λ errno. namespace_refusal name.now ≡ Some errno) }
-{
-    let is_kept = name.starts_with(b"user.")
-        || name.starts_with(b"trusted.")
-        || name.starts_with(b"security.");
-    if !is_kept {
-        return Err(Errno::EOPNOTSUPP);
-    }
-    if name == b"user.".as_slice()
-        || name == b"trusted.".as_slice()
-        || name == b"security.".as_slice()
-    {
-        return Err(Errno::EINVAL);
-    }
-    Ok(())
-}
-
-// Whether FALLOCATE can be done by this mode.
-fn is_served(mode: u32) -> bool
-    ensures { result ≡ list_any (nat_eq mode) (0 ∷ 1 ∷ 3 ∷ 16 ∷ 17 ∷ []) }
-{
-    mode == 0
-        || mode == KEEP_SIZE
-        || mode == PUNCH_HOLE
-        || mode == ZERO_RANGE
-        || mode == ZERO_RANGE | KEEP_SIZE
-}
 
 impl TreeFs {
     /// How many bytes a file may have.
@@ -131,7 +55,7 @@ impl TreeFs {
         if len == 0 {
             return Err(Errno::EINVAL);
         }
-        if !is_served(mode) {
+        if !is_mode(mode) {
             return Err(Errno::EOPNOTSUPP);
         }
         if !node.kind.is_file() {

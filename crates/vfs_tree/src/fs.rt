@@ -1,6 +1,6 @@
 //! The file system: its nodes by number.
 
-ghost use Rattle.std.specs.Prelude.{◌≡◌, ◌≤◌, ◌<◌, ◌^◌, ◌+◌, ◌-◌, ◌==◌, ◌||◌, ◌∷◌, [], ℕ, List, true, false, not, nat_eq, option_map, bit_and, bit_or, option_and_then, IsTrue, IsSome, IfSome, Some, None, is_some, IfErr, OnOk, MatchOption, MatchResult, if◌then◌else◌};
+ghost use Rattle.std.specs.Prelude.{◌≡◌, ◌≤◌, ◌<◌, ◌^◌, ◌+◌, ◌-◌, ◌==◌, ◌||◌, ◌∷◌, [], ℕ, List, true, false, not, nat_eq, option_map, bit_and, option_and_then, IsTrue, IsSome, IfSome, Some, None, is_some, IfErr, OnOk, MatchOption, MatchResult, if◌then◌else◌};
 ghost use Rattle.std.specs.Option.{option_map_or};
 ghost use Rattle.std.specs.Ordering.{nat_cmp};
 ghost use Rattle.std.specs.BTreeMap.{is_at};
@@ -12,24 +12,23 @@ ghost use Rattle.vfs_files.specs.Values.{name_text};
 ghost use Rattle.vfs_files.specs.Calls.{Plain, Found, entry_answer};
 ghost use Rattle.vfs_nodes.specs.Held.{may_hold};
 ghost use Rattle.vfs_nodes.specs.Node.{weight};
-ghost use Rattle.vfs_tree.specs.Naming.{has_no_number, is_crowded, new_in};
+ghost use Rattle.vfs_tree.specs.Naming.{has_no_number, is_crowded, new_in, new_nameless};
 ghost use Rattle.vfs_tree.specs.Outcome.{Ends};
 ghost use Rattle.vfs_nodes.specs.declared.node.Node.{Node};
-ghost use Rattle.vfs_tree.specs.Holding.{first_held, is_idle, rests};
+ghost use Rattle.vfs_tree.specs.Holding.{first_held, rests};
 ghost use Rattle.vfs_tree.specs.State.{behind, child_at, lead, node_at, room_of, with_new};
-ghost use Rattle.vfs_tree.specs.Tree.{makes, make_refusal, first_state, forgotten, all_forgotten, released};
+ghost use Rattle.vfs_tree.specs.Tree.{makes, makes_nameless, make_refusal, first_state, forgotten, all_forgotten, released};
 
 use crate::naming::add_name;
 use bitflags::Flags;
 use std::alloc::Global;
-use std::collections::btree_map::Range;
 use std::collections::{BTreeMap, HashSet};
 use std::fmt::{self, Debug, Formatter};
 use std::marker::Model;
 use std::ops::Bound;
 use vfs_files::{CStr, Context, Entry};
 use vfs_flags::{Errno, Fault, FsOptions, GuestGid, GuestUid, ROOT_ID};
-use vfs_nodes::{Child, Held, Kind, Node, Time};
+use vfs_nodes::{Child, Held, Kind, Node, Time, directory, first_held, is_idle};
 
 /// How much a file system holds at most.
 #[derive(Clone, Copy, Debug, PartialEq, Eq)]
@@ -42,6 +41,9 @@ pub struct Capacity {
     /// How many bytes a file has at most, up to 2^63 - 1.
     pub file: u64,
 }
+
+/// The flag of `open(2)` by which a file without a name never gets one.
+const O_EXCL: u32 = 0o200;
 
 /// The permission bit by which a directory hands its group to what is made in it.
 const SET_GROUP_ID: u32 = 0o2000;
@@ -194,6 +196,31 @@ impl TreeFs {
         Ok(entry)
     }
 
+    /// Makes a file that no name leads to, and counts one lookup of it.
+    pub(crate) fn make_nameless(
+        &mut self,
+        ctx: Context,
+        permissions: u32,
+        parent: u64,
+        name: CStr<'_>,
+        flags: u32,
+    ) -> Result<Entry, Fault>
+        ensures { Ends self.old
+            (makes_nameless self.old ctx Found permissions parent (name_text name.entry) flags)
+            (Plain (entry_answer result)) self.new }
+    {
+        directory(&self.nodes, parent, name.to_bytes())?;
+        if self.has_no_number() {
+            return Err(Some(Errno::ENOSPC));
+        }
+        let mut node = self.new_in(ctx, Kind::File, permissions, parent, &[])?;
+        node.names = 0;
+        node.is_linkable = flags & O_EXCL == 0;
+        let entry = node.entry(self.next);
+        self.add_node(node)?;
+        Ok(entry)
+    }
+
     /// A new node in a directory, which hands down its group where it has set-group-ID, and that to a
     /// directory too. ENOMEM where there is no memory for its text.
     pub(crate) fn new_in(
@@ -209,7 +236,11 @@ impl TreeFs {
             (λ fault. fault ≡ Some enomem) }
     {
         let group = self.handed_group(parent);
-        let permissions = handed_down(group.is_some() && kind.is_directory(), permissions);
+        let permissions = if group.is_some() && kind.is_directory() {
+            permissions | SET_GROUP_ID
+        } else {
+            permissions
+        };
         let (alloc, now, gid) = (self.alloc, self.now, group.unwrap_or(ctx.gid));
         Node::new(alloc, now, ctx.uid, gid, kind, permissions, parent, text)
     }
@@ -450,34 +481,4 @@ impl TreeFs {
             ),
         }
     }
-}
-
-// Permission bits, with set-group-ID where it is handed down.
-fn handed_down(is_handed: bool, permissions: u32) -> u32
-    ensures { result ≡ (if is_handed then bit_or permissions 0o2000 else permissions) }
-{
-    if is_handed {
-        permissions | SET_GROUP_ID
-    } else {
-        permissions
-    }
-}
-
-// The first of these nodes that is not idle, and how many lookups of it are held.
-fn first_held(nodes: Range<'_, u64, Node>) -> Option<(u64, u64)>
-    ensures { result ≡ first_held nodes.entry }
-{
-    for (number, node) in nodes {
-        if !is_idle(node) {
-            return Some((*number, node.lookups));
-        }
-    }
-    None
-}
-
-// Whether no lookup of a node is held, and a name leads to it: a release leaves it as it is.
-fn is_idle(node: &Node) -> bool
-    ensures { result ≡ is_idle node.now }
-{
-    node.lookups == 0 && node.names != 0
 }

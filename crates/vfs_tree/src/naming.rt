@@ -1,6 +1,6 @@
 //! Names in directories: how they are added, taken out, and made to lead elsewhere.
 
-ghost use Rattle.std.specs.Prelude.{◌≡◌, ℕ, ◌<◌, ◌^◌, ◌-◌, true, false, IsSome, IfSome, Some, None, IfOk, IfErr, OnOk, option_and_then};
+ghost use Rattle.std.specs.Prelude.{◌≡◌, ℕ, ◌<◌, ◌^◌, ◌+◌, ◌-◌, min, true, false, IsSome, IfSome, Some, None, IfOk, IfErr, OnOk, option_and_then};
 ghost use Rattle.std.specs.Ordering.{nat_cmp};
 ghost use Rattle.std.specs.Map.{set_value};
 ghost use Rattle.std.specs.BTreeMap.{get, is_at};
@@ -9,7 +9,7 @@ ghost use Rattle.vfs_files.specs.Values.{name_text};
 ghost use Rattle.vfs_nodes.specs.Children.{child_named, leading};
 ghost use Rattle.vfs_nodes.specs.Node.{entry_of};
 ghost use Rattle.vfs_tree.specs.Holding.{rests};
-ghost use Rattle.vfs_tree.specs.Naming.{directory_refusal, is_directory_at, is_improper, is_crowded, name_refusal};
+ghost use Rattle.vfs_tree.specs.Naming.{is_directory_at, is_crowded, name_refusal};
 ghost use Rattle.vfs_tree.specs.Outcome.{refusal_of};
 ghost use Rattle.vfs_tree.specs.Rename.{moved_into};
 ghost use Rattle.vfs_tree.specs.State.{child_at, lead, node_at, with_node, unnamed};
@@ -20,43 +20,10 @@ use std::alloc::Global;
 use std::collections::BTreeMap;
 use vfs_files::{CStr, Entry};
 use vfs_flags::{Errno, Fault};
-use vfs_nodes::{Child, Node, Time};
-
-/// The most bytes of a name.
-const MOST_NAME: usize = 255;
+use vfs_nodes::{Child, Node, Time, directory, is_improper};
 
 /// The most names that lead to a file.
 const MOST_LINKS: u32 = 65_000;
-
-/// The directory of this number, in which this name may be looked for.
-pub(crate) fn directory<'a>(
-    nodes: &'a BTreeMap<u64, Node>,
-    number: u64,
-    name: &[u8],
-) -> Result<&'a Node, Errno>
-    ensures found { IfOk result (λ node. get nat_cmp nodes.now number ≡ Some node.now) }
-    ensures ok { OnOk result (directory_refusal (get nat_cmp nodes.now number) name.now ≡ None) }
-    ensures err { IfErr result (λ errno.
-        directory_refusal (get nat_cmp nodes.now number) name.now ≡ Some errno) }
-{
-    let Some(node) = nodes.get(&number) else {
-        return Err(Errno::ENOENT);
-    };
-    if !node.kind.is_directory() {
-        return Err(Errno::ENOTDIR);
-    }
-    if name.len() > MOST_NAME {
-        return Err(Errno::ENAMETOOLONG);
-    }
-    Ok(node)
-}
-
-/// Whether a name can't be made: it is empty, `.`, `..`, or has a '/'. A kernel asks for none of these.
-pub(crate) fn is_improper(name: &[u8]) -> bool
-    ensures { result ≡ is_improper name.now }
-{
-    name.is_empty() || name == b".".as_slice() || name == b"..".as_slice() || name.contains(&b'/')
-}
 
 /// Adds a name to a directory that is there. ENOMEM where there is no memory for it, and all stays.
 #[tactic(auto, using(std::proofs::lemmas::Map::Steps::set_value_same, crate::proofs::Nodes::still_free, crate::proofs::Noting::rests_same))]
@@ -191,7 +158,8 @@ impl TreeFs {
             node.names < MOST_LINKS)) }
         ensures lookups { OnOk result (IfSome (node_at self.entry.now number) (λ node.
             node.lookups < 2 ^ 64 - 1)) }
-        ensures inodes { OnOk result (self.entry.now.inodes < 2 ^ 64 - 1) }
+        ensures inodes { OnOk result (IfSome (node_at self.entry.now number) (λ node.
+            self.entry.now.inodes + min node.names 1 < 2 ^ 64)) }
         ensures err { IfErr result (λ fault. IfSome fault (λ errno.
             refusal_of (node_at self.entry.now number)
             (link_refusal self.entry.now parent name.now) ≡ Some errno)) }
@@ -204,7 +172,7 @@ impl TreeFs {
         if node.kind.is_directory() {
             return Err(Some(Errno::EPERM));
         }
-        if node.names == 0 {
+        if node.names == 0 && !node.is_linkable {
             return Err(Some(Errno::ENOENT));
         }
         if node.names >= MOST_LINKS {
@@ -213,7 +181,10 @@ impl TreeFs {
         if node.lookups == u64::MAX {
             return Err(Some(Errno::EOVERFLOW));
         }
-        if self.inodes >= self.limits.nodes || !above.children.has_place() {
+        if self.inodes >= self.limits.nodes && node.names != 0 {
+            return Err(Some(Errno::ENOSPC));
+        }
+        if !above.children.has_place() {
             return Err(Some(Errno::ENOSPC));
         }
         Ok(Child {
@@ -222,21 +193,27 @@ impl TreeFs {
         })
     }
 
-    /// Counts one name and one lookup more of a node that is there, and gives its entry.
+    /// Counts one name and one lookup more of a node that is there, and gives its entry. For a further name an
+    /// inode is counted.
     pub(crate) fn count_link(&mut self, number: u64) -> Entry
         requires there { IsSome (node_at self.old number) }
         requires names { IfSome (node_at self.old number) (λ node. node.names < MOST_LINKS) }
         requires lookups { IfSome (node_at self.old number) (λ node. node.lookups < 2 ^ 64 - 1) }
+        requires inodes { IfSome (node_at self.old number) (λ node.
+            self.old.inodes + min node.names 1 < 2 ^ 64) }
         ensures { IfSome (node_at self.old number) (λ node.
             (result ≡ entry_of number (linked self.old.now node))
-            × (self.new ≡ with_node self.old number (linked self.old.now node))) }
+            × (self.new ≡ with_node (record self.old { inodes = self.old.inodes + min node.names 1 })
+            number (linked self.old.now node))) }
     {
         let now = self.now;
         let Some(node) = self.nodes.get_mut(&number) else {
             unreachable!()
         };
+        self.inodes += u64::from(node.names.min(1));
         self.held.note(number, node.lookups == 0);
         node.names += 1;
+        node.is_linkable = false;
         node.lookups += 1;
         node.ctime = now;
         node.entry(number)

@@ -5,15 +5,17 @@ ghost use Rattle.std.specs.Option.{option_copied, option_map_or};
 ghost use Rattle.vfs_flags.specs.Numbers.{enomem};
 ghost use Rattle.vfs_files.specs.Values.{name_text};
 ghost use Rattle.vfs_nodes.specs.Node.{weight};
-ghost use Rattle.vfs_tree.specs.Naming.{is_crowded, is_directory_at};
-ghost use Rattle.vfs_tree.specs.Rename.{is_below, is_own_child, is_served, moved_into, parent_of, rename_refusal, renamed, same_node, whiteout};
+ghost use Rattle.vfs_tree.specs.Naming.{is_crowded};
+ghost use Rattle.vfs_tree.specs.Rename.{is_below, is_own_child, moved_into, parent_of, rename_refusal, renamed, same_node, whiteout};
 ghost use Rattle.vfs_tree.specs.State.{child_at, lead, node_at, node_of, room_of, unnamed, with_new};
 
 use crate::fs::TreeFs;
-use crate::naming::is_improper;
 use vfs_files::{CStr, Context};
-use vfs_flags::{Errno, Fault, RENAME_EXCHANGE, RENAME_NOREPLACE, RENAME_WHITEOUT, ROOT_ID};
-use vfs_nodes::{Child, Kind, Node};
+use vfs_flags::{Errno, Fault, RENAME_EXCHANGE, RENAME_NOREPLACE, ROOT_ID};
+use vfs_nodes::{
+    Child, Kind, Node, holds_names, is_directory, is_improper, is_same, is_served, leaves_whiteout,
+    replaced,
+};
 
 impl TreeFs {
     /// Whether a name that leads to `moved` can give it to one of `into` that leads to `target`.
@@ -206,63 +208,5 @@ impl TreeFs {
         } else {
             self.lose_name(old.node);
         }
-    }
-}
-
-// Whether RENAME has these flags: `RENAME_WHITEOUT` goes with `RENAME_NOREPLACE` alone.
-fn is_served(flags: u32) -> bool
-    ensures { result ≡ is_served flags }
-{
-    flags <= RENAME_EXCHANGE
-        || flags == RENAME_WHITEOUT
-        || flags == RENAME_WHITEOUT | RENAME_NOREPLACE
-}
-
-// Whether a whiteout takes the old name, by flags that RENAME has.
-fn leaves_whiteout(flags: u32) -> bool
-    ensures { result ≡ nat_le 4 flags }
-{
-    flags >= RENAME_WHITEOUT
-}
-
-/// Whether two names lead to one node.
-pub(crate) fn is_same(a: Option<Child>, b: Option<Child>) -> bool
-    ensures { result ≡ same_node a b }
-{
-    match (a, b) {
-        (Some(a), Some(b)) => a.node == b.node,
-        _ => false,
-    }
-}
-
-// What is replaced: nothing by an exchange, or where both names lead to one node.
-fn replaced(flags: u32, moved: Option<Child>, target: Option<Child>) -> Option<Child>
-    ensures { result ≡ (if flags == 2 || same_node moved target then None else target) }
-{
-    if flags == RENAME_EXCHANGE || is_same(moved, target) {
-        None
-    } else {
-        target
-    }
-}
-
-// Whether a node is there and a directory.
-fn is_directory(node: Option<&Node>) -> bool
-    ensures { result ≡ is_directory_at (option_copied node.entry) }
-{
-    match node {
-        Some(node) => node.kind.is_directory(),
-        None => false,
-    }
-}
-
-// Whether a directory holds names.
-fn holds_names(node: Option<&Node>) -> bool
-    ensures { result ≡ option_map_or (λ node. not (length node.children.links == 0))
-        (option_copied node.entry) false }
-{
-    match node {
-        Some(node) => !node.children.is_empty(),
-        None => false,
     }
 }

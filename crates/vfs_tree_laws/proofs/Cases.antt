@@ -19,9 +19,9 @@ use Rattle.vfs_tree.specs.Listing.{items_behind}
 use Rattle.vfs_tree.specs.Node.{attr_of, entry_of, lasting, weight, stripped, rewritten, is_other, truncates, opened, set_attr, overwritten, kind_by_mode, new_node, accessed}
 use Rattle.vfs_tree.specs.Outcome.{Outcome, Refused, Answered, Tried, Ends, done, first_of, unless, with_it, on}
 use Rattle.vfs_tree.specs.Rename.{same_node, rename_refusal, renamed}
-use Rattle.vfs_tree.specs.State.{State, node_at, room_of, with_node, with_resized, change, child_at}
+use Rattle.vfs_tree.specs.State.{State, node_at, room_of, with_new, with_node, with_resized, change, child_at}
 use Rattle.vfs_tree_laws.specs.Laws.{IsShort}
-use Rattle.vfs_tree.specs.Tree.{namespace_refusal, TreeAllows, outcome, wanted_options, opens_nothing, at_name, makes, linked, all_forgotten, contents_refusal, longest, most_size, fallocate_refusal, make_refusal, taken_out, link_refusal, tells}
+use Rattle.vfs_tree.specs.Tree.{namespace_refusal, TreeAllows, outcome, wanted_options, opens_nothing, at_name, makes, makes_nameless, linked, all_forgotten, contents_refusal, longest, most_size, fallocate_refusal, make_refusal, taken_out, link_refusal, tells}
 use Rattle.vfs_tree.specs.Xattrs.{Xattr, xattr_named, xattr_bytes, with_xattr, without_xattr, name_list}
 use Rattle.vfs_nodes.specs.declared.children.Child.{Child}
 use Rattle.vfs_nodes.specs.declared.kind.Kind.{Kind}
@@ -32,8 +32,8 @@ use Rattle.vfs_nodes.proofs.Weights.{resized_holds, set_attr_weighs, stripped_by
 use Rattle.vfs_tree.proofs.Nodes.{with_names}
 use Rattle.vfs_tree.proofs.Weights.{fitting_ends, written_fits, fallocate_room, fallocated_fits}
 use Rattle.std.specs.Option.{option_map_or, option_or}
-use Rattle.vfs_tree.specs.Naming.{directory_refusal, new_in}
-use Rattle.vfs_tree_laws.proofs.Changes.{held_of, made}
+use Rattle.vfs_tree.specs.Naming.{directory_refusal, new_in, asks_nameless, new_nameless, nameless_refusal}
+use Rattle.vfs_tree_laws.proofs.Changes.{held_of, made, nameless}
 use Rattle.vfs_tree_laws.proofs.Refused.{all_false, or_none, Renames, rename_takes}
 
 -- a node with other contents or extended attributes, for which there is room
@@ -52,9 +52,9 @@ taken_pairs old (Init _) = held_of old.nodes
 taken_pairs old Destroy = held_of old.nodes
 taken_pairs old call = forgets_of call
 
--- one inode more is counted
-abbrev pub one_inode_more : State → State
-one_inode_more s = record s { inodes = s.inodes + 1 }
+-- so many inodes more are counted
+abbrev pub more_inodes : (count : ℕ) → State → State
+more_inodes count s = record s { inodes = s.inodes + count }
 
 -- the node of the entry that is answered, where one is
 abbrev pub nodes_of : Handed (List Item) → List ℕ
@@ -96,10 +96,14 @@ pub record Covers
       → (uid gid : ℕ) (kind : Kind) (permissions parent : ℕ) (name text : List ℕ)
       → make_refusal old parent name (length text) ≡ None
       → P [] reply (made old parent name (new_node old.now uid gid kind permissions parent text))
+  pub makes_nameless : (reply : Handed (List Item)) → nodes_of reply ≡ old.next ∷ []
+      → (uid gid permissions parent : ℕ) (name : List ℕ) (is_linkable : Bool)
+      → nameless_refusal old parent name ≡ None
+      → P [] reply (with_new old (nameless old.now uid gid permissions parent is_linkable))
   pub links : (n : ℕ) (node : Node) (parent : ℕ) (name : List ℕ) → node_at old n ≡ Some node
       → link_refusal old parent name node ≡ None
       → P [] (Plain (Found (entry_of n (linked old.now node))))
-      (change (one_inode_more (with_names old parent
+      (change (more_inodes (min node.names 1) (with_names old parent
       (leading name false (Some (record { node = n; kind = node.kind }))))) n (linked old.now))
   pub unlinks : (parent : ℕ) (name : List ℕ) (child : Child) (node : Node)
       → directory_refusal (node_at old parent) name ≡ None → child_at old parent name ≡ Some child
@@ -411,6 +415,28 @@ module _ (old : State) (P : List (ℕ × ℕ) → Handed (List Item) → State �
         ),
       ))
 
+  nameless_covered : (call : Call)
+      → ((answer : Answer) → answered_nodes call answer ≡ entry_node answer)
+      → taken_pairs old call ≡ [] → (ctx : Context) (told : Entry → Answer)
+      → ((entry : Entry) → entry_node (told entry) ≡ entry.inode ∷ [])
+      → (permissions parent : ℕ) (name : List ℕ) (flags : ℕ)
+      → Each (Fails old call) (Leaves call) (makes_nameless old ctx told permissions parent name flags)
+  nameless_covered call same none ctx told tells permissions parent name flags =
+      let node = new_nameless old ctx permissions parent flags in
+      let reply : Handed (List Item) = Plain (told (entry_of old.next node)) in
+      let last = with_new old node in
+      let fails : Fails old call = (none, λ error. same (Failed error)) in
+      each-unless (Fails old call) (Leaves call) fails (nameless_refusal old parent name) (Tried true reply last)
+      (λ free. (
+        fails,
+        (
+          same (told (entry_of old.next node)),
+          subst (λ pairs. P pairs reply last) (sym none)
+              (q.makes_nameless reply (tells (entry_of old.next node)) ctx.uid node.gid node.permissions
+              parent name node.is_linkable free),
+        ),
+      ))
+
   tells_covered : (call : Call) → ((answer : Answer) → answered_nodes call answer ≡ [])
       → taken_pairs old call ≡ [] → (size : ℕ) (text : Option (List ℕ))
       → Each (Fails old call) (Leaves call) (tells old size text)
@@ -539,9 +565,14 @@ module _ (old : State) (P : List (ℕ × ℕ) → Handed (List Item) → State �
       let call = (Create c parent name mode k f u e) in
       let fails : Fails old call = (refl, λ e. refl) in
       let told : Entry → Answer = λ entry. Created entry None 0 in
-      each-if (Fails old call) (Leaves call) fails (opens_nothing old.offered) (Refused enosys)
-      (makes old c told kind.File mode parent name []) (λ none. fails)
-      (λ some. makes_covered call (λ a. refl) refl c told (λ entry. refl) kind.File mode parent name [])
+      let makes_file = makes old c told kind.File mode parent name [] in
+      each-if (Fails old call) (Leaves call) fails (asks_nameless name)
+      (makes_nameless old c told mode parent name f)
+      (if opens_nothing old.offered then Refused enosys else makes_file)
+      (λ none. nameless_covered call (λ a. refl) refl c told (λ entry. refl) mode parent name f)
+      (λ named. each-if (Fails old call) (Leaves call) fails (opens_nothing old.offered) (Refused enosys)
+      makes_file (λ none. fails)
+      (λ some. makes_covered call (λ a. refl) refl c told (λ entry. refl) kind.File mode parent name []))
   covered (Symlink c text parent name e) =
       makes_covered (Symlink c text parent name e) (λ a. refl) refl c Found (λ entry. refl) kind.Link 0o777 parent name text
   covered (Mknod c parent name mode r u e) =
@@ -555,7 +586,7 @@ module _ (old : State) (P : List (ℕ × ℕ) → Handed (List Item) → State �
       let fails : Fails old call = (refl, λ e. refl) in
       each-on (Fails old call) (Leaves call) fails (node_at old n) (link_refusal old parent name)
       (λ node. Tried true (Plain (Found (entry_of n (linked old.now node))))
-      (change (one_inode_more (with_names old parent
+      (change (more_inodes (min node.names 1) (with_names old parent
       (leading name false (Some (record { node = n; kind = node.kind }))))) n (linked old.now)))
       (λ node is free. (
         fails,

@@ -1,10 +1,13 @@
 -- Changes of a tree, by the node that each finds.
-use Rattle.std.specs.Prelude.{ℕ, ◌-◌, ◌==◌, nat_le, min, Bool, true, false, List, map, Option, Some, None, is_some, option_map, option_and_then, if◌then◌else◌}
+use Rattle.std.specs.Prelude.{ℕ, ◌-◌, ◌==◌, nat_le, min, Bool, true, false, List, [], map, Option, Some, None, is_some, option_map, option_and_then, if◌then◌else◌}
 use Rattle.std.specs.Option.{option_map_or}
 use Rattle.vfs_files.specs.declared.entry.Context.{Context}
 use Rattle.vfs_nodes.specs.Children.{child_named}
+use Rattle.vfs_nodes.specs.Node.{new_node}
 use Rattle.vfs_nodes.specs.declared.children.Child.{Child}
+use Rattle.vfs_nodes.specs.declared.kind.Kind.TheVariants as kind
 use Rattle.vfs_nodes.specs.declared.node.Node.{Node}
+use Rattle.vfs_nodes.specs.declared.node.Time.{Time}
 use Rattle.vfs_tree.specs.Rename.{moved_into, whiteout}
 use Rattle.vfs_tree.specs.State.{State, lead, settled, unnamed, with_new}
 
@@ -28,6 +31,11 @@ held_of nodes = map (λ e. (e.0, e.1.lookups)) nodes
 abbrev pub made : State → (parent : ℕ) → (name : List ℕ) → Node → State
 made s parent name node =
     lead (with_new s node) parent name false (Some (record { node = s.next; kind = node.kind }))
+
+-- a file that no name leads to
+abbrev pub nameless : (now : Time) → (uid gid permissions parent : ℕ) → (is_linkable : Bool) → Node
+nameless now uid gid permissions parent is_linkable =
+    record (new_node now uid gid kind.File permissions parent []) { names = 0; is_linkable = is_linkable }
 
 -- where a name of this node leads
 abbrev pub child_of : Option Node → (name : List ℕ) → Option Child

@@ -100,10 +100,8 @@ shape_empty kind names links empty old = record {
 
 -- ---- a node that is new
 
-module _ (s : State) (sound : IsSound s) (linked : IsLinked s) (parent : ℕ)
-    (node above : Node) (is : node_at s parent ≡ Some above)
-    (first : node.names ≡ 1) (empty : node.children.links ≡ [])
-    (lies : is_directory node.kind ≡ true → node.parent ≡ parent) where
+module _ (s : State) (sound : IsSound s) (linked : IsLinked s) (node : Node)
+    (few : node.names ≤ 1) (empty : node.children.links ≡ []) where
   abbrev mid : State
   mid = with_new s node
 
@@ -127,9 +125,6 @@ module _ (s : State) (sound : IsSound s) (linked : IsLinked s) (parent : ℕ)
       let none = ap names_of free_next in
       omega (arith, none, counted s.next)
 
-  pub parent_there : parent ≢ s.next
-  parent_there e = none-some above (sym free_next ∙ ap (node_at s) (sym e) ∙ is)
-
   pub good_mid : Good mid
   good_mid =
       good-with_new s node sound root_there good
@@ -137,7 +132,7 @@ module _ (s : State) (sound : IsSound s) (linked : IsLinked s) (parent : ℕ)
         apart = subst Apart (sym empty) tt;
         files = λ file. empty;
         nameless = λ zero. empty;
-        single = λ dir. omega (arith, first);
+        single = λ dir. few;
       })
       (subst (AllFit s) (sym empty) tt)
 
@@ -158,16 +153,24 @@ module _ (s : State) (sound : IsSound s) (linked : IsLinked s) (parent : ℕ)
       ∙ sym (ap (λ o. names_in m (links_in o)) free_next)))
       (λ apart. ap (λ o. names_in m (links_in o)) (node_at-with_new_other s e node apart))
 
-  pub counted_mid : (m : ℕ) → names_of (node_at mid m) ≡ names_to mid m + one m 1 + one s.next m
-  counted_mid m =
-      at s.next m (names_of (node_at mid m) ≡ names_to mid m + one m 1 + one s.next m)
-      (λ e. subst (λ j. names_of (node_at mid j) ≡ names_to mid j + one j 1 + one s.next j) e
+  -- so many more names each node says that it has than lead to it
+  counted_by : (more : ℕ → ℕ) → more s.next ≡ node.names → ((m : ℕ) → m ≢ s.next → more m ≡ 0) → (m : ℕ)
+      → names_of (node_at mid m) ≡ names_to mid m + one m 1 + more m
+  counted_by more here other m =
+      at s.next m (names_of (node_at mid m) ≡ names_to mid m + one m 1 + more m)
+      (λ e. subst (λ j. names_of (node_at mid j) ≡ names_to mid j + one j 1 + more j) e
       (let now = ap names_of (node_at-with_new s s.next node) in
       let root = one_other s.next 1 (λ e. root_there (sym e)) in
-      omega (arith, now, first, root, one_same s.next s.next refl, same_to s.next, next_none)))
+      omega (arith, now, here, root, same_to s.next, next_none)))
       (λ apart.
       let as_was = ap names_of (node_at-with_new_other s m node apart) in
-      omega (arith, as_was, one_other s.next m (λ e. apart (sym e)), same_to m, counted m))
+      omega (arith, as_was, other m apart, same_to m, counted m))
+
+  pub counted_mid : node.names ≡ 1 → (m : ℕ)
+      → names_of (node_at mid m) ≡ names_to mid m + one m 1 + one s.next m
+  counted_mid first =
+      counted_by (one s.next) (one_same s.next s.next refl ∙ sym first)
+      (λ m apart. one_other s.next m (λ e. apart (sym e)))
 
   pub home_mid : (c : ℕ) → Home mid c
   home_mid c =
@@ -182,11 +185,23 @@ module _ (s : State) (sound : IsSound s) (linked : IsLinked s) (parent : ℕ)
   pub top_mid : parent_of (node_at mid 1) ≡ 1
   top_mid = ap parent_of (node_at-with_new_other s 1 node root_there) ∙ linked.top
 
-  -- MKDIR and the like: a name of the directory leads to it
-  module _ (name : List ℕ) (dir : is_directory above.kind ≡ true) (named : above.names ≡ 0 → ⊥)
+  -- TMPFILE: no name leads to it
+  pub linked-nameless : node.names ≡ 0 → IsLinked mid
+  linked-nameless none =
+      linked_from mid good_mid top_mid
+      (λ m. omega (arith, counted_by (λ m. 0) (sym none) (λ m apart. refl) m))
+      home_mid
+
+  -- MKDIR and the like: a name of a directory leads to it
+  module _ (parent : ℕ) (above : Node) (is : node_at s parent ≡ Some above) (first : node.names ≡ 1)
+      (lies : is_directory node.kind ≡ true → node.parent ≡ parent)
+      (name : List ℕ) (dir : is_directory above.kind ≡ true) (named : above.names ≡ 0 → ⊥)
       (free : child_named above.children name ≡ None) where
     abbrev new : State
     new = made s parent name node
+
+    parent_there : parent ≢ s.next
+    parent_there e = none-some above (sym free_next ∙ ap (node_at s) (sym e) ∙ is)
 
     step_made : Step mid new parent none_lost (one s.next)
     step_made =
@@ -210,7 +225,7 @@ module _ (s : State) (sound : IsSound s) (linked : IsLinked s) (parent : ℕ)
     pub linked-made : IsLinked new
     linked-made =
         linked_from new step_made.good (step_made.parents 1 ∙ top_mid)
-        (λ m. omega (arith, step_made.names m, step_made.to m, counted_mid m))
+        (λ m. omega (arith, step_made.names m, step_made.to m, counted_mid first m))
         home_new
 
 -- ---- LINK
@@ -243,16 +258,16 @@ module _ (s : State) (linked_s : IsLinked s) (n : ℕ) (node : Node)
   is_mid : node_at mid_linked n ≡ Some node
   is_mid = step_linked.nodes n n_apart ∙ is
 
-  -- with one inode more
+  -- with the inodes that it counts for more
   abbrev counted_linked : State
-  counted_linked = record mid_linked { inodes = mid_linked.inodes + 1 }
+  counted_linked = record mid_linked { inodes = mid_linked.inodes + min node.names 1 }
 
   pub linked-linked : IsLinked (change counted_linked n (linked s.now))
   linked-linked =
       let old = (good_s.nodes n node is).shape in
       let counted = counted_from s linked_s in
       subst IsLinked (sym (ap (changed counted_linked n (linked s.now)) is_mid))
-      (linked_counted (with_node mid_linked n (linked s.now node)) (mid_linked.inodes + 1)
+      (linked_counted (with_node mid_linked n (linked s.now node)) (mid_linked.inodes + min node.names 1)
       (linked-with_node mid_linked n node (linked s.now node) is_mid refl refl refl step_linked.good
       (step_linked.parents 1 ∙ linked_s.top)
       (record {

@@ -1,5 +1,5 @@
 -- Calls keep links: as many names lead to a node as it says, and each to one that is there.
-use Rattle.std.proofs.Common.{◌≡◌, ◌≢◌, ◌+◌, ◌-◌, ◌==◌, if◌then◌else◌, ℕ, Bool, true, false, List, [], ◌∷◌, length, Option, Some, None, refl, sym, ap, ◌∙◌, subst, ⊎_elim, arith, nat_le}
+use Rattle.std.proofs.Common.{◌≡◌, ◌≢◌, ◌+◌, ◌-◌, ◌==◌, if◌then◌else◌, min, ℕ, Bool, true, false, List, [], ◌∷◌, length, Option, Some, None, refl, sym, ap, ◌∙◌, subst, ⊎_elim, arith, nat_le}
 use Rattle.std.proofs.lemmas.Bool.{both_ways, cases_Bool, eqb-true, eqb-false, false≢true}
 use Rattle.std.proofs.lemmas.Option.{none-some, same_Some}
 use Rattle.vfs_files.specs.declared.entry.Context.{Context}
@@ -15,15 +15,15 @@ use Rattle.vfs_tree.specs.Tree.{linked, all_forgotten, make_refusal, link_refusa
 use Rattle.vfs_nodes.specs.declared.children.Child.{Child}
 use Rattle.vfs_nodes.specs.declared.kind.Kind.{Kind}
 use Rattle.vfs_nodes.specs.declared.node.Node.{Node}
-use Rattle.vfs_tree_laws.proofs.Cases.{Covers, Resizes, one_inode_more, calls_covered}
-use Rattle.vfs_tree_laws.proofs.Compounds.{there_is, found_fits, good_mid, counted_mid, home_mid, top_mid, linked-made, linked-linked, linked-taken_out}
+use Rattle.vfs_tree_laws.proofs.Cases.{Covers, Resizes, more_inodes, calls_covered}
+use Rattle.vfs_tree_laws.proofs.Compounds.{there_is, found_fits, good_mid, counted_mid, home_mid, top_mid, linked-made, linked-nameless, linked-linked, linked-taken_out}
 use Rattle.vfs_tree_laws.proofs.Held.{sound-with_new, settles}
 use Rattle.vfs_tree_laws.proofs.Refused.{directory_there, has_names, make_takes, link_takes, none_in, Renames}
 use Rattle.vfs_tree_laws.proofs.Renaming.{Begins, begins_itself, linked-free, linked-over, linked-exchanged}
 use Rattle.vfs_tree_laws.proofs.Shapes.{Shape, Fits, kind_new, good_from, counted_from, home_from, linked_from}
 use Rattle.vfs_tree_laws.proofs.Steps.{none_lost, one_of, linked-with_node, linked-settled}
 use Rattle.vfs_tree.specs.Naming.{directory_refusal}
-use Rattle.vfs_tree_laws.proofs.Changes.{forgotten_at, made, child_of, begun, back_of, laid, left_with}
+use Rattle.vfs_tree_laws.proofs.Changes.{forgotten_at, made, nameless, child_of, begun, back_of, laid, left_with}
 use Rattle.vfs_tree_laws.proofs.Telling.{told_linked}
 
 -- ---- changes of one node that leave its names
@@ -108,13 +108,18 @@ module _ (old : State) (sound : IsSound old) (linked_old : IsLinked old) where
       → IsLinked (made old parent name (new_node old.now uid gid kind permissions parent text))
   makes uid gid kind permissions parent name text free =
       let t = make_takes old parent name (length text) free in
-      linked-made old sound linked_old parent
-      (new_node old.now uid gid kind permissions parent text) t.above t.is refl refl (λ dir. refl)
-      name t.dir t.named t.free
+      linked-made old sound linked_old (new_node old.now uid gid kind permissions parent text)
+      (omega arith) refl parent t.above t.is refl (λ dir. refl) name t.dir t.named t.free
+
+  makes_nameless : (uid gid permissions parent : ℕ) (is_linkable : Bool)
+      → IsLinked (with_new old (nameless old.now uid gid permissions parent is_linkable))
+  makes_nameless uid gid permissions parent is_linkable =
+      linked-nameless old sound linked_old (nameless old.now uid gid permissions parent is_linkable)
+      (omega arith) refl refl
 
   links : (n : ℕ) (node : Node) (parent : ℕ) (name : List ℕ) → node_at old n ≡ Some node
       → link_refusal old parent name node ≡ None
-      → IsLinked (change (one_inode_more (with_names old parent
+      → IsLinked (change (more_inodes (min node.names 1) (with_names old parent
       (leading name false (Some (record { node = n; kind = node.kind }))))) n (linked old.now))
   links n node parent name is free =
       let t = link_takes old node parent name free in
@@ -193,10 +198,10 @@ module _ (old : State) (sound : IsSound old) (linked_old : IsLinked old) where
     begins_white : Begins (with_new old white) (one old.next)
     begins_white = record {
       sound = sound-with_new old white sound (λ zero. cc zero);
-      good = good_mid old sound linked_old od white from.0 from.1 refl refl (λ dir. refl);
-      top = top_mid old sound linked_old od white from.0 from.1 refl refl (λ dir. refl);
-      counted = counted_mid old sound linked_old od white from.0 from.1 refl refl (λ dir. refl);
-      home = home_mid old sound linked_old od white from.0 from.1 refl refl (λ dir. refl);
+      good = good_mid old sound linked_old white (omega arith) refl;
+      top = top_mid old sound linked_old white (omega arith) refl;
+      counted = counted_mid old sound linked_old white (omega arith) refl refl;
+      home = home_mid old sound linked_old white (omega arith) refl;
     }
 
     whites : (flags == 2) ≡ false
@@ -286,6 +291,8 @@ module _ (old : State) (sound : IsSound old) (linked_old : IsLinked old) where
         let left = all_forgotten old pairs in told_linked left left.now offered (forgot pairs);
     resizes = λ n was now reply told is r. resizes n was now is r;
     makes = λ reply is. makes;
+    makes_nameless = λ reply is uid gid permissions parent name is_linkable none.
+        makes_nameless uid gid permissions parent is_linkable;
     links = links;
     unlinks = λ parent name child node there found is file.
         takes_out parent name child node there found is

@@ -93,10 +93,11 @@ pub link_takes : (s : State) (node : Node) (parent : ℕ) (name : List ℕ)
     → Takes s parent name × (is_directory node.kind ≡ false)
 link_takes s node parent name free =
     let rs : List (Bool × ℕ) = (is_directory node.kind, eperm)
-    ∷ (node.names == 0, enoent)
+    ∷ (node.names == 0 && not node.is_linkable, enoent)
     ∷ (nat_le 65000 node.names, emlink)
     ∷ (node.lookups == 2 ^ 64 - 1, eoverflow)
-    ∷ (nat_le s.limits.nodes s.inodes || is_crowded (node_at s parent), enospc) ∷ [] in
+    ∷ ((not (node.names == 0) && nat_le s.limits.nodes s.inodes) || is_crowded (node_at s parent), enospc)
+    ∷ [] in
     let parts = or_none (name_refusal s parent name) (first_of rs) free in
     (name_takes s parent name parts.0, (all_false rs parts.1).0)
 

@@ -14,7 +14,7 @@ use Rattle.vfs_nodes.specs.declared.children.Child.{Child}
 use Rattle.vfs_nodes.specs.declared.kind.Kind.{Kind}
 use Rattle.vfs_nodes.specs.declared.node.Node.{Node}
 use Rattle.vfs_tree_laws.proofs.Ascending.{gone-remove_entry, none_from}
-use Rattle.vfs_tree_laws.proofs.Cases.{one_inode_more, Covers, calls_covered}
+use Rattle.vfs_tree_laws.proofs.Cases.{more_inodes, Covers, calls_covered}
 use Rattle.vfs_tree_laws.proofs.Held.{at, sound_counted, sound-with_new, settles}
 use Rattle.vfs_tree_laws.proofs.Keeping.{keeps-with_names, keeps-begun, keeps-laid, there-change}
 use Rattle.vfs_tree.proofs.Nodes.{node_at-with_node, node_at-with_node_other, node_at-without_node_other, node_at-with_new, node_at-with_new_other, kinds_apart, changed, with_names}
@@ -22,7 +22,7 @@ use Rattle.vfs_tree_laws.proofs.WayUp.{IsPlaced, Goes, Avoids, rooted_from, goes
 use Rattle.vfs_tree_laws.proofs.Refused.{all_false, or_none, Renames}
 use Rattle.std.specs.Option.{option_or}
 use Rattle.vfs_tree.specs.Naming.{is_improper, directory_refusal, is_directory_at, is_nameless, is_crowded, name_refusal, has_no_number}
-use Rattle.vfs_tree_laws.proofs.Changes.{unnamed_at, forgotten_at, made, white_of, begun, back_of, laid, left_with}
+use Rattle.vfs_tree_laws.proofs.Changes.{unnamed_at, forgotten_at, made, nameless, white_of, begun, back_of, laid, left_with}
 use Rattle.vfs_files.specs.declared.entry.Context.{Context}
 use Rattle.vfs_tree_laws.proofs.Telling.{told_rooted}
 
@@ -536,20 +536,41 @@ module _ (old : State) (sound : IsSound old) (links : IsLinked old) (rooted : Is
       (follows_stays mid (made old parent name node) (stays-with_names mid parent _))
       (rooted-with_new node above_it)
 
+  makes_nameless : (uid gid permissions parent : ℕ) (is_linkable : Bool)
+      → IsRooted (with_new old (nameless old.now uid gid permissions parent is_linkable))
+  makes_nameless uid gid permissions parent is_linkable =
+      let node = nameless old.now uid gid permissions parent is_linkable in
+      let new = with_new old node in
+      let free : node_at old old.next ≡ None =
+      none_from 1 old.next old.next old.nodes sound.ordered (omega arith) in
+      rooted_ways old new sound links rooted
+      (λ m there. at old.next m (IsPlaced old m ⊎ Goes new m)
+      (λ e. absurd (false≢true (placed_at new old.next node (node_at-with_new old old.next node)
+      (subst (λ k. IsPlaced new k) (sym e) there)).0))
+      (λ apart. inl (record {
+        node = there.node;
+        is = sym (node_at-with_new_other old m node apart) ∙ there.is;
+        directory = there.directory;
+        named = there.named;
+      })))
+      (λ m there root. inl (ap parent_of (node_at-with_new_other old m node
+      (λ e. none-some there.node (sym free ∙ ap (node_at old) (sym e) ∙ there.is)))))
+
   adds_name : (n : ℕ) (node : Node) (parent : ℕ) (name : List ℕ) → node_at old n ≡ Some node
       → link_refusal old parent name node ≡ None
-      → IsRooted (change (one_inode_more (with_names old parent
+      → IsRooted (change (more_inodes (min node.names 1) (with_names old parent
       (leading name false (Some (record { node = n; kind = node.kind }))))) n (linked old.now))
   adds_name n node parent name is none =
       let child : Child = record { node = n; kind = node.kind } in
       let f : Children → Children = leading name false (Some child) in
       let named = with_names old parent f in
-      let mid = one_inode_more named in
+      let mid = more_inodes (min node.names 1) named in
       let rs : List (Bool × ℕ) = (is_directory node.kind, eperm)
-      ∷ (node.names == 0, enoent)
+      ∷ (node.names == 0 && not node.is_linkable, enoent)
       ∷ (nat_le 65000 node.names, emlink)
       ∷ (node.lookups == 2 ^ 64 - 1, eoverflow)
-      ∷ (nat_le old.limits.nodes old.inodes || is_crowded (node_at old parent), enospc) ∷ [] in
+      ∷ ((not (node.names == 0) && nat_le old.limits.nodes old.inodes) || is_crowded (node_at old parent), enospc)
+      ∷ [] in
       let parts = or_none (name_refusal old parent name) (first_of rs) none in
       let none_of = (all_false rs parts.1).0 in
       let found : node_at mid n ≡ Some node =
@@ -559,7 +580,7 @@ module _ (old : State) (sound : IsSound old) (links : IsLinked old) (rooted : Is
       subst IsRooted (sym (ap (changed mid n (linked old.now)) found))
       (after last (follows_stays old last
       (stays_both old mid last
-      (stays_both old named mid (stays-with_names old parent f) (stays_counted named (named.inodes + 1)))
+      (stays_both old named mid (stays-with_names old parent f) (stays_counted named (named.inodes + min node.names 1)))
       (stays-with_node mid n node (linked old.now node) found
       (record {
         kind = refl;
@@ -583,6 +604,8 @@ module _ (old : State) (sound : IsSound old) (links : IsLinked old) (rooted : Is
     resizes = λ n was now reply told is r. after _ (follows-with_resized old n was now is
         (record { kind = r.kind; parent = r.parent; named = λ dir some. omega (arith, r.names, some) }));
     makes = λ reply is. makes;
+    makes_nameless = λ reply is uid gid permissions parent name is_linkable none.
+        makes_nameless uid gid permissions parent is_linkable;
     links = adds_name;
     unlinks = λ parent name child node there found is file.
         after _ (follows-taken_out old parent name child sound);

@@ -1,5 +1,5 @@
 -- Calls keep a sound state sound, and count lookups.
-use Rattle.std.proofs.Common.{rules, tests, nat_cmp, is_eq, true, false, ⊎_elim, ◌≡◌, ◌≢◌, ◌≤◌, ◌+◌, ◌-◌, ◌==◌, ℕ, List, [], ◌∷◌, Option, Some, None, IsSome, is_some, refl, sym, ap, subst, ◌∙◌, arith, if◌then◌else◌}
+use Rattle.std.proofs.Common.{rules, tests, nat_cmp, is_eq, true, false, ⊎_elim, ◌≡◌, ◌≢◌, ◌≤◌, ◌+◌, ◌-◌, ◌==◌, min, ℕ, List, [], ◌∷◌, Option, Some, None, IsSome, is_some, refl, sym, ap, subst, ◌∙◌, arith, if◌then◌else◌}
 use Rattle.std.specs.BTreeMap.{is_at}
 use Rattle.std.specs.Map.{lookup}
 use Rattle.std.proofs.lemmas.Bool.{cond-true, cond-false}
@@ -18,10 +18,10 @@ use Rattle.vfs_tree_laws.specs.Laws.{Ascend, lookups_in, lookups_of, taken_back,
 use Rattle.vfs_tree.proofs.Nodes.{is_at_other, changed, with_names}
 use Rattle.vfs_tree_laws.proofs.Ascending.{none_below}
 use Rattle.vfs_tree_laws.proofs.Endings.{IsOrdinary, IsEnding, which}
-use Rattle.vfs_tree_laws.proofs.Cases.{Covers, Fails, IsTold, Reads, Leaves, taken_pairs, one_inode_more, covered, left_so, nodes_of, handed_nodes}
+use Rattle.vfs_tree_laws.proofs.Cases.{Covers, Fails, IsTold, Reads, Leaves, taken_pairs, more_inodes, covered, left_so, nodes_of, handed_nodes}
 use Rattle.vfs_tree_laws.proofs.Held.{at, sound_counted, lookups_here, lookups_other, none_yet, lookups_new, lookups_new_other, sound-with_node, sound-with_new, settles}
 use Rattle.vfs_tree_laws.proofs.Keeping.{there-change, Keeps, keeps_itself, keeps-with_node, keeps-with_names, keeps-taken_out, keeps-renamed, keeps-resized}
-use Rattle.vfs_tree_laws.proofs.Changes.{forgotten_at, made, held_of}
+use Rattle.vfs_tree_laws.proofs.Changes.{forgotten_at, made, held_of, nameless}
 use Rattle.vfs_tree_laws.proofs.Telling.{told_sound}
 
 -- a sound state, in which so many lookups are held as were, with those that were given and without those
@@ -78,20 +78,28 @@ makes s parent name node sound one =
     ∙ ap (λ n. n + 1) (sym (none_yet s node sound)))
     (λ m apart. keeps.lookups m ∙ lookups_new_other s node sound m apart)
 
+-- the new file of a TMPFILE
+makes_nameless : (s : State) (node : Node) → IsSound s → node.lookups ≡ 1
+    → Counts s (with_new s node) [] (s.next ∷ [])
+makes_nameless s node sound one =
+    one_more s (with_new s node) s.next (sound-with_new s node sound (λ zero. omega (arith, one)))
+    (lookups_new s node sound ∙ one ∙ ap (λ n. n + 1) (sym (none_yet s node sound)))
+    (lookups_new_other s node sound)
+
 -- LINK
 module _ (s : State) (n : ℕ) (node : Node) (parent : ℕ) (name : List ℕ) (sound : IsSound s)
     (is : node_at s n ≡ Some node) where
   abbrev named : State
   named =
       let child : Child = record { node = n; kind = node.kind } in
-      one_inode_more (with_names s parent (leading name false (Some child)))
+      more_inodes (min node.names 1) (with_names s parent (leading name false (Some child)))
 
   keeps-named : Keeps s named
   keeps-named =
       let child : Child = record { node = n; kind = node.kind } in
       let mid = with_names s parent (leading name false (Some child)) in
       let keeps : Keeps s mid = keeps-with_names s parent _ sound in
-      record { sound = sound_counted mid (mid.inodes + 1) keeps.sound; lookups = keeps.lookups }
+      record { sound = sound_counted mid (mid.inodes + min node.names 1) keeps.sound; lookups = keeps.lookups }
 
   -- one lookup more of the node that is there now
   links_there : (there : Node) → node_at named n ≡ Some there
@@ -207,6 +215,9 @@ covers old sound = record {
   makes = λ reply is uid gid kind permissions parent name text none.
       let node = new_node old.now uid gid kind permissions parent text in
       subst (Counts old (made old parent name node) []) (sym is) (makes old parent name node sound refl);
+  makes_nameless = λ reply is uid gid permissions parent name is_linkable none.
+      let node = nameless old.now uid gid permissions parent is_linkable in
+      subst (Counts old (with_new old node) []) (sym is) (makes_nameless old node sound refl);
   links = λ n node parent name is none. links old n node parent name sound is;
   unlinks = λ parent name child node there found is file.
       quiet old _ (keeps-taken_out old parent name child sound);

@@ -1,5 +1,5 @@
 -- Calls keep a state within its limits, which stay.
-use Rattle.std.proofs.Common.{◌≡◌, ◌≢◌, ◌≤◌, ◌<◌, ◌+◌, ◌-◌, ◌==◌, ◌&&◌, ◌||◌, not, nat_lt, nat_le, min, ℕ, Bool, true, false, cond, List, [], ◌∷◌, length, Option, Some, None, is_some, nat_cmp, Ordering, Less, Equal, Greater, option_map, refl, sym, ap, ◌∙◌, subst, arith, if◌then◌else◌, ◌^◌}
+use Rattle.std.proofs.Common.{◌≡◌, ◌≢◌, ◌≤◌, ◌<◌, ◌+◌, ◌-◌, ◌==◌, ◌&&◌, ◌||◌, not, nat_lt, nat_le, min, max, ℕ, Bool, true, false, cond, List, [], ◌∷◌, length, Option, Some, None, is_some, nat_cmp, Ordering, Less, Equal, Greater, option_map, refl, sym, ap, ◌∙◌, subst, arith, if◌then◌else◌, ◌^◌}
 use Rattle.std.specs.List.{sum_by}
 use Rattle.std.specs.Option.{unwrap_or}
 use Rattle.std.specs.BTreeMap.{insert_entry, is_at}
@@ -24,10 +24,10 @@ use Rattle.vfs_nodes.specs.declared.kind.Kind.{Kind}
 use Rattle.vfs_nodes.specs.declared.node.Node.{Node}
 use Rattle.vfs_tree.proofs.Nodes.{kinds_apart, changed, with_names}
 use Rattle.vfs_tree_laws.proofs.Ascending.{ascend_within}
-use Rattle.vfs_tree_laws.proofs.Cases.{Covers, Resizes, one_inode_more, calls_covered}
+use Rattle.vfs_tree_laws.proofs.Cases.{Covers, Resizes, more_inodes, calls_covered}
 use Rattle.vfs_tree_laws.proofs.Refused.{all_false, or_none, link_takes, Renames}
-use Rattle.vfs_tree.specs.Naming.{is_directory_at, is_crowded, name_refusal, has_no_number}
-use Rattle.vfs_tree_laws.proofs.Changes.{unnamed_at, forgotten_at, made, white_of, begun, back_of, laid, left_with}
+use Rattle.vfs_tree.specs.Naming.{is_directory_at, is_crowded, directory_refusal, name_refusal, nameless_refusal, has_no_number}
+use Rattle.vfs_tree_laws.proofs.Changes.{unnamed_at, forgotten_at, made, nameless, white_of, begun, back_of, laid, left_with}
 use Rattle.vfs_tree_laws.proofs.Telling.{told_within}
 
 -- what the nodes take together, and how many inodes they are counted as
@@ -349,7 +349,7 @@ module _ (old : State) (sound : IsSound old) (within : IsWithin old) where
         limits = refl;
       }
 
-  adds : (node : Node) → node.names ≡ 1 → old.inodes < old.limits.nodes
+  adds : (node : Node) → node.names ≤ 1 → old.inodes < old.limits.nodes
       → weight node ≤ room_of old → IsShort old.limits.file node → StaysWithin old (with_new old node)
   adds node one place room short =
       let more = adds-insert_entry 1 old.next old.nodes node sound.ordered in
@@ -379,10 +379,20 @@ module _ (old : State) (sound : IsSound old) (within : IsWithin old) where
       let place = or_parts (nat_le old.limits.nodes old.inodes) (old.next == 2 ^ 64 - 1)
       (or_parts none_left crowded not.0).0 in
       stays-slims old (with_new old node) (made old parent name node)
-      (adds node refl (leb-false old.limits.nodes old.inodes place.0)
+      (adds node (omega arith) (leb-false old.limits.nodes old.inodes place.0)
       (omega (arith, ltb-false (room_of old) (length text) not.1))
       (λ is. omega arith))
       (slims-with_names (with_new old node) parent _)
+
+  makes_nameless : (uid gid permissions parent : ℕ) (name : List ℕ) (is_linkable : Bool)
+      → nameless_refusal old parent name ≡ None
+      → StaysWithin old (with_new old (nameless old.now uid gid permissions parent is_linkable))
+  makes_nameless uid gid permissions parent name is_linkable none =
+      let rs : List (Bool × ℕ) = (has_no_number old, enospc) ∷ [] in
+      let free = (all_false rs (or_none (directory_refusal (node_at old parent) name) (first_of rs) none).1).0 in
+      let place = or_parts (nat_le old.limits.nodes old.inodes) (old.next == 2 ^ 64 - 1) free in
+      adds (nameless old.now uid gid permissions parent is_linkable) (omega arith)
+      (leb-false old.limits.nodes old.inodes place.0) (omega arith) (λ is. omega arith)
 
   begins : (ctx : Context) (od flags : ℕ) → (nat_le 4 flags && has_no_number old) ≡ false
       → StaysWithin old (begun old (white_of old ctx od flags))
@@ -391,7 +401,7 @@ module _ (old : State) (sound : IsSound old) (within : IsWithin old) where
       by : (t : Bool) → (t && has_no_number old) ≡ false
           → StaysWithin old (begun old (if t then Some (whiteout old ctx od) else None))
       by true room =
-          adds (whiteout old ctx od) refl
+          adds (whiteout old ctx od) (omega arith)
           (leb-false old.limits.nodes old.inodes
           (or_parts (nat_le old.limits.nodes old.inodes) (old.next == 2 ^ 64 - 1) room).0)
           (omega arith) (λ is. omega arith)
@@ -413,27 +423,27 @@ module _ (old : State) (sound : IsSound old) (within : IsWithin old) where
 
   links : (n : ℕ) (node : Node) (parent : ℕ) (name : List ℕ) → node_at old n ≡ Some node
       → link_refusal old parent name node ≡ None
-      → StaysWithin old (change (one_inode_more (with_names old parent
+      → StaysWithin old (change (more_inodes (min node.names 1) (with_names old parent
       (leading name false (Some (record { node = n; kind = node.kind }))))) n (linked old.now))
   links n node parent name is none =
       let child : Child = record { node = n; kind = node.kind } in
       let f : Children → Children = leading name false (Some child) in
       let named = with_names old parent f in
-      let mid = one_inode_more named in
+      let mid = more_inodes (min node.names 1) named in
       let full = nat_le old.limits.nodes old.inodes in
       let crowded = is_crowded (node_at old parent) in
       let rs : List (Bool × ℕ) = (is_directory node.kind, eperm)
-      ∷ (node.names == 0, enoent)
+      ∷ (node.names == 0 && not node.is_linkable, enoent)
       ∷ (nat_le 65000 node.names, emlink)
       ∷ (node.lookups == 2 ^ 64 - 1, eoverflow)
-      ∷ (full || crowded, enospc) ∷ [] in
-      let not = all_false rs (or_none (name_refusal old parent name) (first_of rs) none).1 in
-      let some : node.names ≢ 0 = eqb-false node.names 0 not.1.0 in
-      let place = leb-false old.limits.nodes old.inodes (or_parts full crowded not.1.1.1.1.0).0 in
+      ∷ ((not (node.names == 0) && full) || crowded, enospc) ∷ [] in
+      let free = all_false rs (or_none (name_refusal old parent name) (first_of rs) none).1 in
+      let place = has_place (node.names == 0) refl
+      (or_parts (not (node.names == 0) && full) crowded free.1.1.1.1.0).0 in
       let to = (link_takes old node parent name none).0 in
       let above : is_directory_at (node_at old parent) ≡ true = ap is_directory_at to.is ∙ to.dir in
       let found : node_at mid n ≡ Some node =
-      kinds_apart old n parent f (ap is_directory_at is ∙ not.0) above ∙ is in
+      kinds_apart old n parent f (ap is_directory_at is ∙ free.0) above ∙ is in
       let slims = slims-with_names old parent f in
       let stays = (slim named slims).within in
       let same : named.inodes ≡ old.inodes = changed_inodes old parent
@@ -448,13 +458,19 @@ module _ (old : State) (sound : IsSound old) (within : IsWithin old) where
         within = record {
           used = omega (arith, weights, stays.used);
           bytes = stays.bytes;
-          counted = omega (arith, counts, stays.counted, some);
+          counted = omega (arith, counts, stays.counted);
           inodes = omega (arith, same, place, nodes);
           files = short-set_value named.limits.file (is_at (nat_cmp n)) named.nodes more stays.files
               short;
         };
         limits = slims.limits;
       })
+    where
+      -- the first name counts for nothing, and for another there is a place
+      has_place : (t : Bool) → (node.names == 0) ≡ t → (not t && nat_le old.limits.nodes old.inodes) ≡ false
+          → old.inodes + min node.names 1 ≤ max 1 old.limits.nodes
+      has_place true zero is = omega (arith, eqb-true node.names 0 zero, within.inodes)
+      has_place false some is = omega (arith, leb-false old.limits.nodes old.inodes is)
 
   pub covers : Covers old (λ taken reply left. StaysWithin old left)
   covers = record {
@@ -472,6 +488,7 @@ module _ (old : State) (sound : IsSound old) (within : IsWithin old) where
         };
     resizes = λ n was now reply told is r. resizes n was now is r;
     makes = λ reply is. makes;
+    makes_nameless = λ reply is. makes_nameless;
     links = links;
     unlinks = λ parent name child node there found is file.
         slim _ (slims-taken_out old parent name child);

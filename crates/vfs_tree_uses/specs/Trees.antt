@@ -1,5 +1,5 @@
 -- Trees to call, written out.
-use Rattle.std.specs.Prelude.{ℕ, ◌^◌, ◌+◌, ◌-◌, true, false, List, [], ◌∷◌, codes, Some}
+use Rattle.std.specs.Prelude.{ℕ, ◌^◌, ◌+◌, ◌-◌, Bool, true, false, List, [], ◌∷◌, codes, Some}
 use Rattle.vfs_contents.specs.Contents.{Contents, no_contents}
 use Rattle.vfs_nodes.specs.Children.{Children, Link, no_children}
 use Rattle.vfs_nodes.specs.Node.{weight}
@@ -60,6 +60,7 @@ node_in_root kind permissions children contents names lookups = record {
   text = [];
   xattrs = [];
   names = names;
+  is_linkable = false;
   lookups = lookups;
 }
 
@@ -220,3 +221,13 @@ whitened_tree f g whiteout =
 
 abbrev pub to_whiteout : (number : ℕ) → Child
 to_whiteout number = record { node = number; kind = kind.Character 0 }
+
+-- a file that no name leads to, which is held by one lookup; whether one may lead to it
+abbrev pub nameless_file : (is_linkable : Bool) → Node
+nameless_file is_linkable =
+    record (node_in_root kind.File 0o644 no_children no_contents 0 1) { is_linkable = is_linkable }
+
+-- the root alone, and such a file, node 2
+abbrev pub nameless_tree : Capacity → (is_linkable : Bool) → State
+nameless_tree limits is_linkable =
+    with_new (first_state 0 0 0o755 limits false second_7) (nameless_file is_linkable)

@@ -12,6 +12,7 @@ mod first;
 mod full;
 mod laws;
 mod lookups;
+mod nameless;
 mod names;
 mod opening;
 mod privileges;

@@ -4,6 +4,7 @@
 
 pub mod long;
 pub mod memory;
+pub mod nameless;
 pub mod rest;
 
 use crate::tree::asks::Asks;

@@ -1,12 +1,11 @@
-use Rattle.std.proofs.Common.{◌≡◌, ◌<◌, ◌^◌, ◌-◌, ℕ, List, Option, None, IsSome, IfSome, refl, sym, ◌∙◌, subst}
-use Rattle.vfs_flags.specs.Flags.{fs_options_bits}
+use Rattle.std.proofs.Common.{◌≡◌, ◌<◌, ◌+◌, ◌^◌, ◌-◌, min, ℕ, List, Option, None, IsSome, IfSome, refl, sym, ap, ◌∙◌, subst}
 use Rattle.vfs_files.specs.Values.{name_text}
 use Rattle.vfs_tree.specs.Outcome.{refusal_of}
 use Rattle.vfs_tree.specs.State.{State, node_at}
 use Rattle.vfs_tree.specs.Tree.{link_refusal}
 use Rattle.vfs_nodes.specs.declared.node.Node.{Node}
 use Rattle.vfs_tree.proofs.Answering.{linked_ends}
-use Rattle.vfs_tree.proofs.Nodes.{found_still}
+use Rattle.vfs_tree.proofs.Nodes.{found_still, inodes-with_names}
 use Rattle.vfs_tree.proofs.calls.TreeFsFileSystem.link.Goals as goal
 
 pub add_name-requires-clause-place : goal.add_name-requires-clause-place
@@ -15,20 +14,32 @@ add_name-requires-clause-place c = c.in_ok-child.ensures.place
 pub count_link-requires-clause-there : goal.count_link-requires-clause-there
 count_link-requires-clause-there c =
     subst (λ (o : Option Node). IsSome o) (sym (found_still c.args.self.now _ c.args.inode c.args.newparent _
-    (c.self.view_is ∙ c.in_ok-add_name.ensures.ok) c.in_ok-child.ensures.file c.in_ok-child.ensures.above))
+    c.in_ok-add_name.ensures.ok c.in_ok-child.ensures.file c.in_ok-child.ensures.above))
     c.in_ok-child.ensures.there
 
 pub count_link-requires-clause-names : goal.count_link-requires-clause-names
 count_link-requires-clause-names c =
     subst (λ (o : Option Node). IfSome o (λ node. node.names < 65000)) (sym (found_still c.args.self.now _ c.args.inode c.args.newparent _
-    (c.self.view_is ∙ c.in_ok-add_name.ensures.ok) c.in_ok-child.ensures.file c.in_ok-child.ensures.above))
+    c.in_ok-add_name.ensures.ok c.in_ok-child.ensures.file c.in_ok-child.ensures.above))
     c.in_ok-child.ensures.names
 
 pub count_link-requires-clause-lookups : goal.count_link-requires-clause-lookups
 count_link-requires-clause-lookups c =
     subst (λ (o : Option Node). IfSome o (λ node. node.lookups < 2 ^ 64 - 1)) (sym (found_still c.args.self.now _ c.args.inode c.args.newparent _
-    (c.self.view_is ∙ c.in_ok-add_name.ensures.ok) c.in_ok-child.ensures.file c.in_ok-child.ensures.above))
+    c.in_ok-add_name.ensures.ok c.in_ok-child.ensures.file c.in_ok-child.ensures.above))
     c.in_ok-child.ensures.lookups
+
+pub count_link-requires-clause-inodes : goal.count_link-requires-clause-inodes
+count_link-requires-clause-inodes c =
+    let named : State = c.add_name.new.self in
+    let same : named.inodes ≡ c.args.self.now.inodes =
+    ap (λ (t : State). t.inodes) c.in_ok-add_name.ensures.ok
+    ∙ inodes-with_names c.args.self.now c.args.newparent _ in
+    subst (λ (k : ℕ). IfSome (node_at named c.args.inode) (λ node. k + min node.names 1 < 2 ^ 64)) (sym same)
+    (subst (λ (o : Option Node). IfSome o (λ node. c.args.self.now.inodes + min node.names 1 < 2 ^ 64))
+    (sym (found_still c.args.self.now _ c.args.inode c.args.newparent _
+    c.in_ok-add_name.ensures.ok c.in_ok-child.ensures.file c.in_ok-child.ensures.above))
+    c.in_ok-child.ensures.inodes)
 
 pub returns : goal.returns
 returns c =
@@ -38,17 +49,6 @@ returns c =
     let free : refusal_of node (link_refusal s parent (name_text c.args.newname)) ≡ None =
     subst (λ (l : List ℕ). refusal_of node (link_refusal s parent l) ≡ None) c.to_bytes.ensures
     c.in_ok-child.ensures.ok in
-    let inside = c.self.inside in
-    let named : State = record {
-      nodes = inside.nodes.entries;
-      next = inside.next;
-      used = inside.used;
-      inodes = inside.inodes;
-      limits = inside.limits;
-      writeback = inside.writeback;
-      offered = fs_options_bits inside.offered;
-      now = inside.now;
-    } in
     linked_ends s c.args.inode parent (name_text c.args.newname) c.count_link.result
-    c.count_link.new.self node c.in_ok-child.child named refl c.in_ok-child.ensures.child free
-    (c.self.view_is ∙ c.in_ok-add_name.ensures.ok) c.count_link.ensures
+    c.count_link.new.self node c.in_ok-child.child c.add_name.new.self refl c.in_ok-child.ensures.child free
+    c.in_ok-add_name.ensures.ok c.count_link.ensures

@@ -1,6 +1,6 @@
 use Rattle.std.proofs.Common.{◌≡◌}
-use Rattle.vfs_tree.specs.Holding.{first_held}
-use Rattle.vfs_tree.proofs.fs.first_held.Given as goal
+use Rattle.vfs_nodes.specs.Held.{first_held}
+use Rattle.vfs_nodes.proofs.held.first_held.Given as goal
 
 abbrev pub invariant-loop-number : goal.invariant-loop-number
 invariant-loop-number l =
