@@ -28,7 +28,8 @@ ELSEWHERE = ["crates/vfs_further/*", "crates/vfs_print/src/further.rt", "program
              "tests/suites/get.sh",
              "tests/mirror/calls.py", "tests/mount/session.sh", "tests/share/apart.py", "tests/share/calls.py", "tests/share/load.py",
              "bindings/rust/fuser/session.py",
-             "bindings/libfuse/make.py", "tests/beside/libfuse.c", "tests/beside/nizwarf.c", "tests/beside/requests.py"]
+             "bindings/libfuse/make.py", "tests/beside/libfuse.c", "tests/beside/nizwarf.c", "tests/beside/requests.py",
+             "tools/measure/floor_vhost.c"]
 
 # Interfaces of others, over which an opcode that they lack does not go.
 OTHERS = ["bindings/libfuse/*", "bindings/rust/src/fuser/*"]
