@@ -3,6 +3,7 @@
 #include <errno.h>
 #include <fcntl.h>
 #include <limits.h>
+#include <stdatomic.h>
 #include <stdbool.h>
 #include <stdio.h>
 #include <string.h>
@@ -12,7 +13,8 @@
 #include "share_pid.h"
 
 static char path[PATH_MAX];
-static int file = -1;
+/* (at an end that is late two threads may remove it) */
+static atomic_int file = -1;
 
 static int failed(void)
 {
@@ -88,14 +90,18 @@ const char *pid_file_path(void)
 
 void pid_file_leave(void)
 {
-	if (file >= 0)
-		close(file);
-	file = -1;
+	const int left = atomic_exchange(&file, -1);
+
+	if (left >= 0)
+		close(left);
 }
 
 void pid_file_remove(void)
 {
-	if (file >= 0)
-		unlink(path);
-	pid_file_leave();
+	const int left = atomic_exchange(&file, -1);
+
+	if (left < 0)
+		return;
+	unlink(path);
+	close(left);
 }
