@@ -180,7 +180,7 @@ misnamed() {
 unexplained() {
     local word page
     page=$(sed 's/\\-/-/g' "$(page_of "$2")")
-    for word in $("$1/$2" --help | sed -nE 's/^  ([^ ].*)$/\1/p' | sed 's/  .*//' | grep -oE '[a-z][a-z_-]+'); do
+    for word in $("$1/$2" --help | sed -nE 's/^  ([^ ].*)$/\1/p' | sed 's/  .*//' | grep -oE '[a-z][a-z0-9_-]+'); do
         grep -qw -- "$word" <<< "$page" || echo "$2: $word"
     done
 }
