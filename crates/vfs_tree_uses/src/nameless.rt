@@ -55,13 +55,12 @@ fn first_name(tree: &mut TreeFs) -> Result<Entry, Fault>
     tree.link(root(), 2, 1, CStr::before_nul(b"f\0", 1))
 }
 
-/// A file whose only name was removed gets no other, though it got that one as a file without a name.
+/// A file whose only name was removed gets no other.
 fn named_once(tree: &mut TreeFs) -> Option<bool>
-    requires { tree.old ≡ nameless_tree wide true }
+    requires { tree.old ≡ tree_of wide empty_file }
     ensures { IfSome result (λ refused. refused ≡ true) }
 {
     let name = CStr::before_nul(b"f\0", 1);
-    tree.link(root(), 2, 1, name).ok()?;
     tree.unlink(root(), 1, name).ok()?;
     Some(tree.link(root(), 2, 1, name).is_err())
 }
