@@ -10,26 +10,21 @@ opcodes and notices are in it alone, and how much there was to hold.
 --print writes out the program instead.
 Status 0: all is as the header has it; 1: not so; 2: there is no compiler, or no header.
 """
-import glob
 import os
 import re
 import subprocess
 import sys
 
 os.chdir(os.path.join(os.path.dirname(os.path.abspath(__file__)), "../.."))
+sys.path.append("tools/lib")
+sys.dont_write_bytecode = True
+from records import TABLES, WIRE, comment_of, laid_out, read  # noqa: E402
+
 words = sys.argv[1:]
 FOLDER = ["-I", words[1]] if words[:1] == ["--headers"] and words[1:] else []
 if words[len(FOLDER):] not in ([], ["--print"]):
     print(__doc__.strip())
     sys.exit(0 if words == ["--help"] else 2)
-
-
-def read(pattern):
-    text = ""
-    for path in sorted(glob.glob(pattern)):
-        with open(path, encoding="utf-8") as file:
-            text += file.read() + "\n"
-    return text
 
 
 def compiled(words, text):
@@ -40,7 +35,6 @@ def compiled(words, text):
         sys.exit(2)
 
 
-WIRE, SPECS = read("crates/vfs_wire*/src/*.rt"), read("crates/vfs_wire*/specs/*.antt")
 FLAGS, NUMBERS = read("crates/vfs_flags/src/*.rt"), read("crates/vfs_flags/specs/Numbers.antt")
 HEADER = compiled(["-E", "-dD"], "#include <linux/fuse.h>\n")
 if HEADER.returncode:
@@ -61,32 +55,6 @@ def hold(fact, what):
 
 # What a later header has in place of what 7.38 leaves unused.
 LATER = {"unused[0]": "max_stack_depth", "unused[1]": "request_timeout"}
-
-TABLES = {name: (record, widths, fields) for name, record, widths, fields in re.findall(
-    r"^abbrev pub (\w+) : Table (\w+)\n\1 =\s+table \(([^λ]*)\)\s+\(λ r\. (.*?)\)\s+made_\1$", SPECS, re.M | re.S)}
-
-
-def items(text):
-    return [it.strip(" ()\n") for it in re.split(r"∷|\+\+", text) if it.strip(" ()\n[]")]
-
-
-def laid_out(name):
-    """The fields of a table with the bytes that each has, in order: those of a part with the part's name."""
-    _, widths, fields = TABLES[name]
-    for width, field in zip(items(widths), items(fields), strict=True):
-        part = re.fullmatch(r"(\w+)\.fields r\.(\w+)", field)
-        if part:
-            assert width == f"{part[1]}.widths", (name, width, field)
-            for inner, bytes_of in laid_out(part[1]):
-                yield f"{part[2]}.{inner}", bytes_of
-        else:
-            cell = re.fullmatch(r"(?:cast_unsigned w\d+ )?(?:slice_index )?r\.(\w+)(?: (\d+))?", field)
-            yield cell[1].rstrip("_") + (f"[{cell[2]}]" if cell[2] else ""), int(width)
-
-
-def comment_of(record):
-    found = re.search(rf"((?:^///.*\n)+)#\[derive.*\]\npub struct {record} \{{", WIRE, re.M)
-    return re.sub(r"\s*\n/// ?", " ", found[1]) if found else ""
 
 
 def first(field):

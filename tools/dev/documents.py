@@ -259,10 +259,21 @@ for path in (line.split(":")[0] for line in reached):
         faults.append(f"docs/PROMISE.md: the reading order lacks {path}")
 COUNTS = re.compile(r"(\d+) definitions,? (?:of )?([\d,]+) lines")
 DOOR = ["vfs_server/Session.IsSession", "vfs_door/Asking.AsksOrNot", "vfs_door/Answering.AnswersOrNot"]
-door = COUNTS.search(subprocess.run(["tools/measure/statement.sh", *DOOR], capture_output=True, text=True, check=True).stdout)
+*further, door = subprocess.run(["tools/measure/statement.sh", "--files", *DOOR], capture_output=True, text=True,
+                                check=True).stdout.splitlines()[:-1]
+door = COUNTS.search(door)
 more = [str(int(it) - int(server)) for it, server in zip(door.groups(), COUNTS.search(counted).groups())]
 if COUNTS.findall(order)[1:] != [tuple(more)]:
     faults.append(f"docs/PROMISE.md: of the door there are {' definitions of '.join(more)} lines more")
+# The signs of the definitions' language, and those that some file of the reading order has and the key does not say.
+SIGNS = r"[^\w\s(){}\[\],;.:λ=\"]+|λ|==|\b(?:abbrev|unfoldable|opaque|record|data|module|where|elim|let|suc|zero|pos|tt)\b"
+key = "".join(CODE.findall(read("docs/PROMISE.md").split("## Key")[1].split("\n## ")[0]))
+unsaid = {}
+for path in sorted({f"crates/{it.split(':')[0]}" for it in reached + further} | {f"crates/{it}" for it in CODE.findall(order)}):
+    for sign in re.findall(SIGNS, re.sub(r"(?m)--.*|^(pub )?use .*", "", sources.get(path, "") if path.endswith(".antt") else "")):
+        if sign not in key:
+            unsaid.setdefault(sign, path)
+faults += [f"docs/PROMISE.md: the key lacks {sign}, which {path} has" for sign, path in unsaid.items()]
 COUNT = r"(\d+) definitions of ([\d,]+) lines(?: in (\d+) files, and (\d+) types)?"
 for page in ("README.md", "docs/PROMISE.md"):
     said = [it.replace(",", "") for it in re.search(COUNT, read(page)).groups() if it]
@@ -308,8 +319,8 @@ for path in filter(os.path.exists, VERSIONS):
     version = version or said
     if said != version:
         faults.append(f"{path}: the version is {said or 'not there'}, and that of CHANGELOG.md {version}")
-faults += subprocess.run(["tools/dev/pictures.sh", "--check"], stdout=subprocess.PIPE,
-                         stderr=subprocess.STDOUT, text=True).stdout.splitlines()
+for maker in ("tools/dev/pictures.sh", "tools/dev/begin.py"):
+    faults += subprocess.run([maker, "--check"], stdout=subprocess.PIPE, stderr=subprocess.STDOUT, text=True).stdout.splitlines()
 
 print("\n".join([*faults, f"{len(DOCUMENTS) + len(LINKED)} documents, {len(faults)} faults"]))
 sys.exit(1 if faults else 0)

@@ -17,7 +17,8 @@
 #   commands            a path that begins an indented line is a file that can be run
 #   crates below one    `five crates below` it, or below a crate that is named, are as many as crates.txt has
 #   the reading order   of PROMISE.md: no file of the grammar, items 3 to 8, names a word of an earlier item; its
-#                       counts are those of tools/measure/statement.sh, of which each file is there
+#                       counts are those of tools/measure/statement.sh, of which each file is there; the key
+#                       has each sign that one of its files has
 #   the gate's time     stands in TESTING.md alone
 #   counts              of opcodes, calls of a file system, records, stored requests and hostile forms are those
 #                       of the sources; others that several pages say are the same on each
@@ -29,6 +30,7 @@
 #   the manual          names no field that the headers lack
 #   the version         is one in CHANGELOG.md, include/nizwarf.h and, if it is there, bindings/rust/Cargo.toml
 #   pictures            are those that tools/dev/pictures.sh draws
+#   what to begin with  docs/BEGIN.md and docs/generated/protocol.md are as tools/dev/begin.py makes them
 set -eu
 . "$(dirname "$0")/../lib/usage.sh"
 take_none "$@"

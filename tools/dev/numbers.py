@@ -88,7 +88,7 @@ BEYOND = {"STATX": 52, "COPY_FILE_RANGE_64": 53}
 PAGE = "docs/PROTOCOL.md"
 rows = re.findall(r"^\| ([\d, ]+) ([A-Z][A-Z_0-9, ]+) \|", read(PAGE), re.M)
 hold(PAGE, {name: int(n) for ns, names in rows for n, name in zip(ns.split(", "), names.split(", "))}, NAMES,
-     {name: n for name, n in {**NUMBER, **BEYOND}.items() if name not in ("SETUPMAPPING", "REMOVEMAPPING")}, "opcode")
+     {**NUMBER, **BEYOND}, "opcode", False)
 
 # ---- calls, kinds of answers, bits of `has`, codes
 

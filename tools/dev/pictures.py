@@ -229,7 +229,7 @@ def crates():
 
 def step_of(row):
     """A step's number, its word, what it is, its first function, and its crates."""
-    number, words, functions, _ = row
+    number, words, functions = row
     found = re.match(r"\*\*([^*]+)\*\*: (.+?)(\. |$)", words)
     if not found:
         fault(f"{ARCHITECTURE}: step {number} of a LOOKUP begins with no **word**: in bold")
