@@ -1,8 +1,9 @@
 #!/usr/bin/env python3
-"""Holds the records, opcodes, notices, flags and constants of crates against the kernel's <linux/fuse.h>.
+"""Holds the records, opcodes, notices, flags, constants and error numbers of crates against the kernel's headers.
 
 Usage: tests/c/kernel.py [--headers FOLDER] [--print]
-The header is that of FOLDER, as another kernel's package has it in usr/include, or else the machine's.
+The headers, <linux/fuse.h> and <errno.h>, are those of FOLDER, as another kernel's package has them in usr/include, or
+else the machine's.
 It makes a C program of static assertions, and compiles it: of each record the place and the size of each field of its
 table in specs, and its size, by the struct that its comment names; of each number its value, by the name that its
 comment names, or by its own. The comment of a record says its size too. What this header has not yet is told, which
@@ -36,14 +37,15 @@ def compiled(words, text):
 
 
 FLAGS, NUMBERS = read("crates/vfs_flags/src/*.rt"), read("crates/vfs_flags/specs/Numbers.antt")
-HEADER = compiled(["-E", "-dD"], "#include <linux/fuse.h>\n")
+INCLUDED = "#include <errno.h>\n#include <linux/fuse.h>\n"
+HEADER = compiled(["-E", "-dD"], INCLUDED)
 if HEADER.returncode:
     print("Missing: <linux/fuse.h>: apt-get install linux-libc-dev.", file=sys.stderr)
     sys.exit(2)
 STRUCTS = {name: re.findall(r"(\w+)(?:\[\w*\])?;", body)
            for name, body in re.findall(r"struct (fuse_\w+) \{(.*?)\n\}", HEADER.stdout, re.S)}
 NAMES = {it for them in re.findall(r"^#define (\w+) |^\s*(FUSE_\w+) = ", HEADER.stdout, re.M) for it in them if it}
-lines, absent, held = ["#include <stddef.h>", "#include <linux/fuse.h>"], [], {"records": 0, "fields": 0, "numbers": 0}
+lines, absent, held = ["#include <stddef.h>", INCLUDED], [], {"records": 0, "fields": 0, "numbers": 0}
 faults = []
 
 
@@ -146,6 +148,11 @@ for comment, flag in re.findall(r"((?:^    ///.*\n)+)    pub const \w+: (?:\w+) 
 # Options and flags that virtiofsd lacks; in the file they have the kernel's names without FUSE_, or with FOPEN_.
 for name, flag in re.findall(r"^ *pub const (\w+): u\d+ = (1 << \d+);", read("crates/vfs_notices/src/*.rt"), re.M):
     hold_number([f"FUSE_{name}", name], flag)
+# Error numbers of definitions, and options of theirs that are one bit.
+for name, number in re.findall(r"^abbrev pub (e\w+) : ℕ\n\1 = (\d+)$", NUMBERS, re.M):
+    hold_number([name.upper()], number)
+for name, bit in re.findall(r"^abbrev pub (\w+) : ℕ\n\1 = 2 \^ (\d+)$", read("crates/vfs_flags/specs/Flags.antt"), re.M):
+    hold_number([f"FUSE_{name.upper()}"], f"1 << {bit}")
 # (the minor version is the header's own)
 for name, value in re.findall(r"^pub const (?!\w*MINOR_VERSION)(\w+): u\d+ = ([\d_ <]+);", FLAGS, re.M):
     hold_number([f"FUSE_{name}", name], value, False)

@@ -102,10 +102,15 @@ def is_decoder(it):
 
 
 def is_held(specs, it):
-    """Whether a definition is the table of a record, or that of opcodes, which tests/c/kernel.py holds against fuse.h."""
+    """Whether tests/c/kernel.py holds a definition against the kernel's headers: the table of a record, that of opcodes,
+    an error number, or an option that the header of 7.38 has."""
+    text = specs.of[it[0]][it[1]].text
     if it[0].startswith("vfs_wire"):
-        return bool(re.match(r"abbrev pub \w+ : Table \w+\n", specs.of[it[0]][it[1]].text))
-    return it[0] == "vfs_flags.specs.Numbers" and it[1] in ("opcode_of", "number_of")
+        return bool(re.match(r"abbrev pub \w+ : Table \w+\n", text))
+    if it[0] == "vfs_flags.specs.Flags":
+        return bool(re.search(r"^\w+ = 2 \^ \d+$", text, re.M)) and it[1] != "create_supp_group"
+    return it[0] == "vfs_flags.specs.Numbers" and (it[1] in ("opcode_of", "number_of")
+                                                   or bool(re.match(r"abbrev pub e\w+ : ℕ\ne\w+ = \d+$", text.strip())))
 
 
 def main():
@@ -140,8 +145,8 @@ def main():
           f" {len(by) - len(all_reached)} types of the code")
     length = lambda those: sum(len(at(it).lines) for it in those)
     if held:
-        print(f"not counted: {len(held)} tables of {length(held)} lines, held against fuse.h, and their {len(followed)}"
-              f" decoders of {length(followed)}, which a law gives")
+        print(f"not counted: {len(held)} tables and numbers of {length(held)} lines, held against the kernel's headers, and"
+              f" {len(followed)} decoders of {length(followed)}, which a law gives")
 
 
 main()

@@ -10,9 +10,9 @@
 #   --beside   those of the same files that are not reached
 #
 # Lines are those of definitions, without comments and empty lines. Types of the code, as records and enums of
-# the protocol, are counted apart. So are the tables of records, since the gate compiles them against the kernel's
-# fuse.h (tests/c/kernel.py), and their decoders, made_..: how a record is made of its fields follows of how it is
-# split into them, by the law decoding_is_the_inverse of vfs_wire.
+# the protocol, are counted apart. So are the tables of records, opcodes, error numbers and single options, since the
+# gate compiles them against the kernel's headers (tests/c/kernel.py), and the decoders of records, made_..: how a
+# record is made of its fields follows of how it is split into them, by the law decoding_is_the_inverse of vfs_wire.
 set -eu
 . "$(dirname "$0")/../lib/usage.sh"
 need python3 "Install it: apt-get install python3."
