@@ -323,7 +323,7 @@ def answer_of(row, kinds, kind_of):
         body = " or ".join(kinds.get(kind, []))
         return f"`{kind}`" + (f": {body}" if body else "")
     plus = "listing_of true" in row
-    return {"Versions": f"`{kind_of['Init']}`: {kinds[kind_of['Init']][0]}", "Silent": "",
+    return {"Versions": f"`{kind_of['Init']}`: {kinds[kind_of['Init']][0]}", "Silent": "-",
             "NotServed": "ENOSYS"}.get(row, f"`Data`: `{struct_of('direntplus' if plus else 'dirent')}`, name, ..")
 
 
@@ -341,7 +341,7 @@ def protocol():
     expect(len(lines) == len(numbers), "form_of has not a row for each number")
     return f"""# The table of the protocol
 
-Of each opcode: number, record in `fuse.h` with the bytes of its fields, once; row of `form_of` (`crates/{ASK}`), which `ask_form` reads; by `kind_of` (`crates/{CALLS}`) and `reply_of` (`crates/{REPLY}`) what stands behind the header of its reply, if the call succeeds. Nothing behind it: `Told`. No reply: `Quiet`, `Untold`. Never success: `Faults`. `tools/dev/begin.py` makes this page; [PROTOCOL.md](../PROTOCOL.md) has the rules in words.
+Number, record in `fuse.h` with the bytes of its fields, once; row of `form_of` (`crates/{ASK}`); by `kind_of` (`crates/{CALLS}`) and `reply_of` (`crates/{REPLY}`) what follows the header in a reply: nothing if `Told`; no reply if `Quiet` or `Untold`. Made by `tools/dev/begin.py`; [rules](../PROTOCOL.md).
 
 | `fuse.h` | `form_of` | Answer |
 |---|---|---|

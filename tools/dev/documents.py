@@ -291,7 +291,7 @@ trusted = read("README.md").partition("**Trusted**")[2]
 kit_crates = {name for line in re.findall(r"^\w+.*: (.*)", read("crates.txt"), re.M) for name in line.split()}
 for name in sorted(kit_crates - CRATE_NAMES - {"core", "std_alloc"} - set(CODE.findall(trusted))):
     faults.append(f"README.md: the crate {name} of the kit is not named as trusted")
-for pages, most in ((["README.md"], 750), (COUNTED, 15000)):
+for pages, most in ((["README.md"], 750), (COUNTED, 15000), (sorted(glob.glob("docs/generated/*.md")), 8000)):
     found = sum(len(read(page).split()) for page in pages)
     if found > most:
         faults.append(f"{pages[0]}{' and the others' * (len(pages) > 1)}: {found} words, and {most} are enough")

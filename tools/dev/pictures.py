@@ -1,9 +1,12 @@
 """Draws docs/pictures, for pictures.sh, which says what: with --check it only compares."""
-import html, math, os, re, sys, textwrap
+import csv, html, math, os, re, sys, textwrap
 
 ARCHITECTURE = "docs/ARCHITECTURE.md"
 END_TO_END = "docs/generated/end-to-end.md"
-RATIOS = "docs/generated/ratios.md"
+# The ratios of each class under each cutting, and the names of both.
+RATIOS, CLASSES = "docs/speed/ratios.tsv", "docs/speed/classes.tsv"
+CUTTINGS = {"uncut": "one piece", "head+body": "header apart", "4096": "pieces of 4096",
+            "64": "pieces of 64", "1": "single bytes"}
 GROWTH = "docs/generated/growth.md"
 CODE = re.compile(r"`([^`]+)`")
 # Tints that black text is read on.
@@ -294,8 +297,20 @@ def key(picture, x, y, colours):
         x += 38 + wide(words)
 
 
+def ratio_rows():
+    """Of each class its name, and of each cutting the least and the greatest ratio."""
+    def span(row):
+        least, most = f"{float(row['least']):.2f}", f"{float(row['greatest']):.2f}"
+        return least if least == most else f"{least} to {most}"
+
+    found = {(row["class"], row["cutting"]): span(row) for row in csv.DictReader(read(RATIOS).splitlines(), delimiter="\t")}
+    for row in csv.DictReader(read(CLASSES).splitlines(), delimiter="\t"):
+        over = "" if "`" in row["name"] else f", over {'MemFs' if row['class'].startswith('mem/') else 'null'}"
+        yield [row["name"] + over, *(found.get((row["class"], cutting), "") for cutting in CUTTINGS)]
+
+
 def ratios():
-    rows = table(RATIOS, "| Class | one piece | header apart")
+    rows = list(ratio_rows())
     colours = {"one piece": "#2f6fc4", "header apart": "#7a52b3", "pieces of 4096": "#b3722a",
                "pieces of 64": "#2a8a7f", "single bytes": "#b03a4b"}
     left, axis, scale, top, thin = 20, 236, 440, 66, 12

@@ -2,8 +2,8 @@
 # Times nizwarf-share, or the tree in memory, beside libfuse's passthrough_ll and bindfs: what programs do with
 # files over a mount of each, in turns, by one job and by four. It prints the page docs/generated/share.md, or
 # docs/generated/tree.md: a row has the medians of ratios, the time here by that of another, and the same of the
-# servers' processor time; below 1 it is quicker here. Behind them stand the system calls of each, if strace is
-# installed. How far it is stands on standard error.
+# servers' processor time; below 1 it is quicker here. The system calls of each stand in a table of their
+# own, docs/speed/share-calls.tsv or docs/speed/tree-calls.tsv, if strace is installed. How far it is stands on standard error.
 #
 # Usage: tools/measure/share-speed.sh [--tree [-o OPTIONS]] [--page] [ROUNDS [CLASS..]]
 # Without a word 9 rounds of all classes, which take some ten minutes. With --page it writes that page instead of
@@ -86,8 +86,10 @@ measure() {
 }
 if [ -z "$page" ]; then
     measure "${@:2}"
+    cat "$work/calls.tsv" 2> /dev/null || true
 else
     measure "${@:2}" > "$work/page.md"
     cp "$work/page.md" "$here/docs/generated/$what.md"
+    [ ! -e "$work/calls.tsv" ] || cp "$work/calls.tsv" "$here/docs/speed/$what-calls.tsv"
 fi
 echo "load $(cut -d ' ' -f 1-3 /proc/loadavg) at the end" >&2

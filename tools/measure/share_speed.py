@@ -45,8 +45,8 @@ MS_REMOUNT = 32
 SHARE_HEAD = """# A share beside libfuse's passthrough and bindfs
 
 What a program waits for files over a mount of `nizwarf-share`: its time by the clock, by that over a mount of the
-other; in brackets the same of the servers' processor time. Below 1 the share is quicker. The last two columns are
-those of the other that is the quicker one. Medians of {rounds} rounds in turns: `tools/measure/share-speed.sh {rounds}`.
+other; in brackets the same of the servers' processor time. Below 1 the share is quicker, and the greater of two
+is beside the quicker other. Medians of {rounds} rounds in turns: `tools/measure/share-speed.sh {rounds}`.
 {facts}
 
 Each has its defaults: names and attributes are remembered for a second, and no name that is missing. The share has its
@@ -55,8 +55,8 @@ TREE_HEAD = """# The tree beside tmpfs, bindfs and libfuse's passthrough
 
 What a program waits for files of the tree in memory, mounted by `tools/mount.sh{options}`: its time by the clock, by that
 over a mount of libfuse's passthrough_ll or bindfs on a tmpfs, with the same of the servers' processor time in brackets,
-and by that over a tmpfs itself. Below 1 the tree is quicker. The last two columns are those of passthrough_ll or bindfs,
-the quicker one. Medians of {rounds} rounds in turns, of 100,000 files three at most:
+and by that over a tmpfs itself. Below 1 the tree is quicker, and the greater of two is beside the quicker other.
+Medians of {rounds} rounds in turns, of 100,000 files three at most:
 `tools/measure/share-speed.sh --tree{options} {rounds}`.
 {facts}
 
@@ -73,14 +73,9 @@ With one job, and read and write, it is chance in each round whether client and 
 which a small request takes two or three times as long; so of few rounds the medians of small requests say little.
 """
 CALLS = """
-## System calls
-
-Of the server, for each file, name, listing, MiB or block, by `strace -c`, under which a class takes longer than a second, so
-that names may be looked up again. A request takes a read and a reply a write, or both one io_uring_enter. Those of less than one in twenty are left out,
-and what waits: `poll` and `futex`.
-
-| Class | {names} |
-|---|{line}"""
+[System calls](../speed/{table}) of the server, for each file, name, listing, MiB or block, are by `strace -c`, under which a
+class takes long enough that names may be looked up again. Those of less than one in twenty are left out, and what waits:
+`poll` and `futex`."""
 RING_HEAD = """
 ## By io_uring
 
@@ -216,7 +211,7 @@ def ratios(ours, theirs):
 
 def rows_of(servers, own, what):
     """For each of our own servers the ratios of a class: of each number of jobs by the clock, and of the processor."""
-    names, cells, worst = list(servers), {it: [] for it in own}, {it: [] for it in own}
+    names, cells = list(servers), {it: [] for it in own}
     for jobs in JOBS:
         print(f"{time.strftime('%H:%M:%S')} {what}, {jobs} job{'s' * (jobs > 1)}", file=sys.stderr)
         times = {name: [] for name in names}
@@ -234,9 +229,7 @@ def rows_of(servers, own, what):
                 if name not in own:
                     beside[other] = max(beside.get(other, (0, 0)), ratios(times[it], times[name]) or (0, 0))
             cells[it] += [shown(beside[other], isinstance(servers[other], Tmpfs)) for other in beside]
-            if "bindfs" in beside:
-                worst[it].append(shown(max(beside["passthrough_ll"], beside["bindfs"])))
-    return ["| " + " | ".join([SAID[what], *cells[it], *worst[it]]) + " |" for it in own]
+    return ["| " + " | ".join([SAID[what], *cells[it]]) + " |" for it in own]
 
 
 def appends(server):
@@ -295,7 +288,7 @@ def main():
     print(BOTH_HEAD.format(most=most))
     columns = list(dict.fromkeys(name.split(",")[0] for name in others))
     table = "| Class | " + " | ".join(f"{it}, {jobs} job{'s' * (jobs > 1)}" for jobs in JOBS for it in columns) + \
-        " | quicker, 1 job | quicker, 4 jobs |\n|---" + "|---" * (2 * len(columns) + 2) + "|"
+        " |\n|---" + "|---" * (2 * len(columns)) + "|"
     print(table)
     later = []
     for what in classes:
@@ -311,10 +304,12 @@ def main():
     counted = [what for what in classes if what in TIMES]
     if counted and shutil.which("strace"):
         counting = [*own, "passthrough_ll", "bindfs"]
-        print(CALLS.format(names=" | ".join(counting), line="---|" * len(counting)))
-        for what in counted:
-            cells = [calls_of(servers[name], what) for name in counting]
-            print(f"| {SAID[what]}, a {TIMES[what][1]} | " + " | ".join(cells) + " |", flush=True)
+        print(CALLS.format(table=f"{kind}-calls.tsv"))
+        with open(f"{work}/calls.tsv", "w", encoding="utf-8") as file:
+            print("class", *counting, sep="\t", file=file)
+            for what in counted:
+                cells = [calls_of(servers[name], what) for name in counting]
+                print(f"{SAID[what]}, a {TIMES[what][1]}", *cells, sep="\t", file=file, flush=True)
 
 
 if __name__ == "__main__":
