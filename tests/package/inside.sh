@@ -30,6 +30,7 @@ await_end() {
         [ -n "$(pgrep -f "^[^ ]*$1")" ] || return 0
         sleep 0.05
     done
+    pgrep -af "^[^ ]*$1" >&2
     return 1
 }
 # Whether a command fails with a status: fails STATUS COMMAND..
@@ -106,7 +107,8 @@ echo "systemd: a line of fstab(5) is mounted and unmounted."
 folder='/srv/of "us" $HOME %n'
 mkdir -p "$folder"
 unit=nizwarf-share@$(systemd-escape --path "$folder")
-systemd-analyze verify --recursive-errors=no "$unit.socket" "$unit.service"
+man=$(! command -v man > /dev/null || echo yes)
+systemd-analyze verify --man="${man:-no}" --recursive-errors=no "$unit.socket" "$unit.service"
 systemctl start "$unit.socket"
 socket="/run/nizwarf-share/${unit#*@}.sock"
 [ "$(stat -c '%a %U' "$socket")" = "600 root" ]

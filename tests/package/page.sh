@@ -90,6 +90,9 @@ XML
     return 1
 }
 
+# (with the socket the server goes)
+systemctl disable --now nizwarf-share@srv-data.socket 2> said
+[ "$(systemctl is-active nizwarf-share@srv-data.service || true)" = inactive ]
 systemctl start libvirtd.service > said 2>&1
 block libvirt 1 > memory
 block libvirt 2 > share

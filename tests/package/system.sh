@@ -122,6 +122,8 @@ enter() {
     cd "$root"
     pivot_root . .
     umount -l .
+    # (as systemd has it where it is no container's: what is unmounted goes from the namespaces of services too)
+    mount --make-rshared /
     exec env -i container=nizwarf PATH=/usr/sbin:/usr/bin:/sbin:/bin /lib/systemd/systemd --system \
         --unit=nizwarf-check.service --log-target=console --log-level=warning --show-status=no
 }
