@@ -113,10 +113,10 @@ systemctl start "$unit.socket"
 socket="/run/nizwarf-share/${unit#*@}.sock"
 [ "$(stat -c '%a %U' "$socket")" = "600 root" ]
 [ "$(systemctl is-active "$unit.service" || true)" = inactive ]
-"$here/tests/package/asked.py" "$work/ask" "$socket" "$folder"
+python3 -B "$here/tests/package/asked.py" "$work/ask" "$socket" "$folder"
 [ "$(systemctl is-active "$unit.service")" = active ]
 rm "$folder/file"
-"$here/tests/package/asked.py" "$work/ask" "$socket" "$folder"
+python3 -B "$here/tests/package/asked.py" "$work/ask" "$socket" "$folder"
 systemctl stop "$unit.socket" "$unit.service"
 is_gone "$socket"
 await_end nizwarf-share

@@ -1,8 +1,8 @@
 """Load and faults for nizwarf-share, for load.sh.
 
-Usage: load.py SHARE REFUSING ASK WORK MINUTES
+Usage: load.py SHARE REFUSING ASK WORK MINUTES [DAEMON]
 SHARE is the program, REFUSING the same one linked with refuse_some.c, ASK tests/beside/ask.c, WORK an empty
-folder. It wants root and stress-ng.
+folder, DAEMON virtiofsd over the layer here, whose machines migrate. It wants root and stress-ng.
 
 One server is mounted and one serves machines from beginning to end; others are started for a part of it. Parts
 follow each other until the minutes are over; each ends with what is held there: what was written and synced is
@@ -22,13 +22,12 @@ import time
 
 sys.path.insert(0, os.path.dirname(os.path.abspath(__file__)) + "/../beside")
 import requests
+import rounds
+from loaded import MOST_MEMORY, PATIENCE, Server, count, counts, drop_caches, empty, faults, hold_descriptors, hold_end
+from loaded import wait_for, wrong
 from requests import line, request, transfer
 
 MIB = 1 << 20
-# How many seconds what ends may take to do so: on a machine with other work a process may not run for minutes.
-PATIENCE = 600
-# What a server may keep, in KiB.
-MOST_MEMORY = 128 * 1024
 STRESSORS = ("access", "chdir", "chmod", "chown", "dentry", "dir", "dirdeep", "dirmany", "fallocate",
              "fcntl", "filename", "flock", "fpunch", "fstat", "getdent", "hdd", "iomix", "link", "lockf", "mknod",
              "open", "rename", "symlink", "sync-file", "touch", "utime", "xattr")
@@ -38,108 +37,6 @@ FEW_OPEN = ("--chdir-dirs", "64", "--open-max", "32")
 FULL = {errno.ENOSPC}
 SCARCE = {errno.EMFILE, errno.ENFILE}
 REFUSED = {errno.ENOMEM, errno.EIO}
-
-faults = []
-counts = {}
-
-
-def wrong(what):
-    faults.append(what)
-    print(f"WRONG: {what}", file=sys.stderr, flush=True)
-
-
-def count(what, times=1):
-    counts[what] = counts.get(what, 0) + times
-
-
-def wait_for(fact, seconds=PATIENCE):
-    """Whether a fact came to be."""
-    until = time.monotonic() + seconds
-    while not fact():
-        if time.monotonic() > until:
-            return False
-        time.sleep(0.05)
-    return True
-
-
-class Server:
-    """A server, which is mounted, or listens on a socket."""
-
-    def __init__(self, program, folder, *words, mount=None, socket=None, environment=None):
-        self.mount, self.folder = mount, folder
-        self.log = tempfile.TemporaryFile("w+", dir=work)
-        place = [folder, mount] if mount else [f"--socket-path={socket}", folder]
-        self.process = subprocess.Popen([program, "--log-level=error", *words, *place], stderr=self.log,
-                                        env=dict(os.environ, **(environment or {})))
-        self.is_up = wait_for(lambda: self.process.poll() is not None or
-                              (os.path.ismount(mount) if mount else os.path.exists(socket)))
-        self.is_up = self.is_up and self.process.poll() is None
-        if self.is_up and mount:
-            os.listdir(mount)
-
-    def pid(self):
-        """That of what serves: it may be the child of what stands by."""
-        with open(f"/proc/{self.process.pid}/task/{self.process.pid}/children") as children:
-            return int((children.read().split() or [self.process.pid])[0])
-
-    def descriptors(self):
-        return len(os.listdir(f"/proc/{self.pid()}/fd"))
-
-    def memory(self):
-        """What is resident, in KiB, and the most that was."""
-        with open(f"/proc/{self.pid()}/status") as status:
-            lines = dict(it.split(":", 1) for it in status)
-        return int(lines["VmRSS"].split()[0]), int(lines["VmHWM"].split()[0])
-
-    def said(self):
-        self.log.seek(0)
-        return self.log.read()
-
-    def end(self):
-        """Its status, once it is unmounted, or a signal came."""
-        if self.process.poll() is None:
-            if self.mount:
-                wait_for(lambda: not subprocess.call(["umount", self.mount], stderr=subprocess.DEVNULL))
-                if os.path.ismount(self.mount):
-                    users = subprocess.run(["fuser", "-vm", self.mount], capture_output=True, text=True, check=False)
-                    print(users.stdout, users.stderr, file=sys.stderr)
-            else:
-                self.process.terminate()
-        try:
-            return self.process.wait(PATIENCE)
-        except subprocess.TimeoutExpired:
-            self.process.kill()
-            return "no end"
-
-
-def drop_caches():
-    """Has the kernel give back the names that it remembers, and nobody uses."""
-    with open("/proc/sys/vm/drop_caches", "w") as drop:
-        drop.write("2")
-
-
-def hold_end(server, what):
-    status = server.end()
-    if status != 0:
-        wrong(f"{what}: the server ended with {status}: {server.said()}")
-
-
-def hold_descriptors(server, before, what):
-    """The kernel gives back what it doesn't remember, if it is asked to; with it goes what the server held."""
-    def are_back():
-        drop_caches()
-        return server.descriptors() <= before
-    if not wait_for(are_back):
-        wrong(f"{what}: {server.descriptors()} descriptors, and {before} before it")
-    resident, most = server.memory()
-    counts["most memory of a server, KiB"] = max(counts.get("most memory of a server, KiB", 0), most)
-    if resident > MOST_MEMORY:
-        wrong(f"{what}: {resident} KiB resident")
-
-
-def empty(folder):
-    subprocess.run(["find", folder, "-mindepth", "1", "-delete"], stderr=subprocess.DEVNULL, check=False)
-    subprocess.run(f"rm -rf {folder}/* {folder}/.[!.]*", shell=True, check=False)
 
 
 class Keeper:
@@ -773,21 +670,22 @@ def main(minutes):
     first = {it: it.memory()[0] for it in (mounted, served)}
     parts = (lambda: stress_and_keep(mounted, chance, "the mount"), lambda: machines(served, chance, work + "/socket"),
              lambda: with_words(chance), lambda: full_disk(chance), lambda: few_descriptors(chance),
-             lambda: few_allocations(chance))
-    rounds = 0
+             lambda: few_allocations(chance), *(lambda act=act: act(share, work, chance) for act in rounds.PARTS),
+             *(lambda it=it: rounds.migrate(ask, it, work, chance) for it in sys.argv[6:]))
+    turns = 0
     while time.monotonic() < until and len(faults) < 20:
         for part in parts:
             part()
-        rounds += 1
-        print(f"Round {rounds}: the mounted server has {mounted.descriptors()} descriptors and {mounted.memory()[0]} "
+        turns += 1
+        print(f"Round {turns}: the mounted server has {mounted.descriptors()} descriptors and {mounted.memory()[0]} "
               f"KiB, that of machines {served.descriptors()} and {served.memory()[0]} KiB.", flush=True)
     for server in (mounted, served):
-        print(f"A server of {rounds} rounds: {first[server]} KiB at first, {server.memory()[0]} at its end.")
+        print(f"A server of {turns} rounds: {first[server]} KiB at first, {server.memory()[0]} at its end.")
         hold_end(server, "the end")
     subprocess.run(["umount", work + "/folder"], check=True)
     for what in sorted(counts):
         print(f"{counts[what]:>10} {what}")
-    print(f"{rounds} rounds, {len(faults)} wrong.")
+    print(f"{turns} rounds, {len(faults)} wrong.")
     return 1 if faults else 0
 
 
