@@ -12,5 +12,6 @@ exec < /dev/console > /dev/console 2>&1
 for module in $modules; do
     [ ! -e "/modules/$module.ko" ] || insmod "/modules/$module.ko"
 done
-sh -e /commands && echo "The guest reads $(cat /mnt/hello)." && echo text > /mnt/of-guest && umount /mnt
+sh -e /commands && echo "The guest reads $(cat /mnt/hello)." && echo text > /mnt/of-guest &&
+    echo "It wrote $(cat /mnt/of-guest)." && umount /mnt
 poweroff -f

@@ -4,10 +4,12 @@
 #
 #   - mounts folders by lines of fstab(5) and by `mount -t`, changes them by `mount -o remount`, and unmounts them;
 #   - has systemd mount one by its line, and serve another by a socket, to which asked.py connects as a machine does;
-#   - holds the units against `systemd-analyze verify`, and the service against 3.5 of `systemd-analyze security`.
+#   - holds the units against `systemd-analyze verify`, and the service against 3.5 of `systemd-analyze security`;
+#
+# and tests/package/pages.sh does what the manual pages show as examples.
 #
 # Usage: tests/package/system.sh [--clean]
-# It takes half a minute, and nothing of it is left. With --clean it is no copy, but a new Debian 12 with libvirt and
+# It takes half a minute once the packages' parts are built, and nothing of it is left. With --clean it is no copy, but a new Debian 12 with libvirt and
 # QEMU, which debootstrap makes in out/debian/machine and which stays there: 500 MB, and five minutes once. Then
 # tests/package/page.sh also does what docs/SHARE.md says, word for word, with guests of QEMU and of libvirt, in a minute.
 #
@@ -71,6 +73,8 @@ put_page_files() {
     awk -v section="The guest" -v wanted=1 -f "$here/tests/package/page.awk" "$here/docs/SHARE.md" > "$work/guest/commands"
     [ -s "$work/guest/commands" ]
     pack_guest "$work/guest" "$at/files"
+    awk -v commands=yes -f "$here/packaging/examples.awk" "$here/packaging/man/nizwarf-vhost.1" | grep '^mount ' > "$work/guest/commands"
+    pack_guest "$work/guest" "$at/files-of-vhost"
     cp "$kernel"/boot/vmlinuz-* "$at/kernel"
 }
 
@@ -80,18 +84,19 @@ if [ -n "$clean" ]; then
     [ "$(cat "$debian.made" 2> /dev/null)" = "${debian_has[*]}" ] || quietly "$work/said" make_debian
 fi
 part "the packages are made and installed"
-"$here/tools/package.sh" --unproved --no-demo --out "$work/packages" > "$work/said" 2>&1 || { cat "$work/said" >&2 && exit 1; }
+"$here/tools/package.sh" --unproved --out "$work/packages" > "$work/said" 2>&1 || { cat "$work/said" >&2 && exit 1; }
 mount -t overlay none -o "lowerdir=$lower,upperdir=$work/files/upper,workdir=$work/files/work" "$root"
 mkdir -p "$root/root/check" "$root$here"
 mount --bind "$here" "$root$here"
 cp "$work/packages"/{libnizwarf0,nizwarf}_*.deb "$root/root/check/"
 cc -O2 -I "$here/include" -o "$root/root/check/ask" "$here/tests/beside/ask.c"
-checks="$here/tests/package/inside.sh /root/check"
+checks="$here/tests/package/inside.sh /root/check && $here/tests/package/pages.sh"
 if [ -n "$clean" ]; then
     put_page_files
     # (the page installs the packages itself)
-    checks="$here/tests/package/page.sh /srv/check && $checks"
+    checks="$here/tests/package/page.sh /srv/check && $checks /srv/check"
 else
+    checks="$checks /root/check"
     chroot "$root" sh -c 'dpkg -i /root/check/*.deb' > "$work/said" 2>&1 || { cat "$work/said" >&2 && exit 1; }
 fi
 cat > "$root/etc/systemd/system/nizwarf-check.service" << UNIT
