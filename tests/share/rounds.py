@@ -109,7 +109,7 @@ def add_at_once(places, how, chance):
         number = int(file.read())
     told = sum(map(len, said))
     if not told <= number <= told + len(killed) or not told or any(b"!" in it for it in said):
-        wrong(f"{how}: {number} for {said}")
+        wrong(f"{how}: {number} of {told}, and {b''.join(said).count(b'!')} changed under the lock")
     if any(it.returncode for it in adding if it not in killed):
         wrong(f"{how}: who adds ended with {[it.returncode for it in adding]}")
     count(f"additions under {how}, by two mounts and the folder", told)
@@ -176,23 +176,25 @@ def watched(share, work, chance):
     names = [f"name{i}" for i in range(30)]
 
     def others(chance):
-        while time.monotonic() < until:
+        # (the last changes are theirs)
+        while time.monotonic() < until + 1:
             change(folder, names, chance)
             count("changes by others")
             time.sleep(0.002)
 
     changing = threading.Thread(target=others, args=(type(chance)(chance.random()),))
     changing.start()
-    while time.monotonic() < until:
-        if chance.random() < 0.2:
+    while changing.is_alive():
+        if chance.random() < 0.2 and time.monotonic() < until:
             change(mount, names, chance)
         seen(f"{mount}/{chance.choice(names)}")
         if chance.random() < 0.1:
             os.listdir(mount)
     changing.join()
-    for path in ["", *("/" + it for it in names)]:
+    # (a listing may tell of each name anew)
+    for path in [*("/" + it for it in names), ""]:
         if not wait_for(lambda path=path: seen(mount + path) == seen(folder + path), 60):
-            wrong(f"--watch: '{path}' is {seen(mount + path)} and not {seen(folder + path)}")
+            wrong(f"--watch: '{path}' is not what it is in the folder")
     empty(mount)
     hold_descriptors(server, before, "--watch")
     hold_end(server, "--watch")
