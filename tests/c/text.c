@@ -162,6 +162,47 @@ static void hold_examples(void)
 	CHECK(nizwarf_check(NULL, request, 43, 0, NULL, NULL) == NIZWARF_NULL);
 }
 
+/* A request's line under these options has these words. */
+static int has_words(const unsigned char *request, size_t len, uint64_t options, const char *words)
+{
+	char text[400];
+
+	CHECK(nizwarf_print_request(request, len, options, text, sizeof(text)) < sizeof(text));
+	return strstr(text, words) != NULL;
+}
+
+/* What is printed goes by each option that changes what a request's bytes mean: SETXATTR_EXT (bit 29) its record,
+ * SECURITY_CTX (bit 32) and CREATE_SUPP_GROUP (bit 34) what stands behind a name. */
+static void hold_options(void)
+{
+	static const uint32_t group[] = { 16, 32, 1, 4242 }, context[] = { 32, 1, 5, 0 };
+	static const uint32_t set[] = { 5, 0, 1, 0 };
+	const uint64_t ext = UINT64_C(1) << 29, contexts = UINT64_C(1) << 32, groups = UINT64_C(1) << 34;
+	struct fuse_in_header header = { .len = 98, .opcode = FUSE_MKDIR, .unique = 3, .nodeid = 1 };
+	unsigned char request[98] = { 0 };
+
+	memcpy(request, &header, sizeof(header));
+	memcpy(request + 48, "a", 2);
+	memcpy(request + 50, group, sizeof(group));
+	memcpy(request + 66, context, sizeof(context));
+	memcpy(request + 82, "security.x", 11);
+	memcpy(request + 93, "value", 5);
+	CHECK(has_words(request, 98, contexts | groups, "security.x"));
+	CHECK(has_words(request, 98, contexts | groups, "4242"));
+	CHECK(has_words(request, 98, ~contexts, "refused=DecodeMessage"));
+	CHECK(has_words(request, 98, ~groups, "refused=DecodeMessage"));
+	CHECK(!has_words(request, 98, ~(contexts | groups), "security.x"));
+	CHECK(!has_words(request, 98, ~(contexts | groups), "refused"));
+	header.len = 68;
+	header.opcode = FUSE_SETXATTR;
+	memcpy(request, &header, sizeof(header));
+	memcpy(request + 40, set, sizeof(set));
+	memcpy(request + 56, "user.a", 7);
+	memcpy(request + 63, "value", 5);
+	CHECK(has_words(request, 68, ext, "name=\"user.a\""));
+	CHECK(has_words(request, 68, ~ext, "refused=InvalidXattrSize"));
+}
+
 int main(int count, char **words)
 {
 	static unsigned char request[MOST];
@@ -173,6 +214,7 @@ int main(int count, char **words)
 	if (!file)
 		return fputs("Usage: text LINES\n", stderr), 2;
 	hold_examples();
+	hold_options();
 	while (fgets(line, sizeof(line), file)) {
 		len = read_request(line, request);
 		if (!len || requests++ % 16)
