@@ -3,7 +3,8 @@
 # checks the replies. Then tests/c/tree.c holds the library against what the header says, also where each
 # allocation is refused in turn. tests/c/hello.c asks a few requests of examples/c/hello.c, a file system over the
 # library vfs_door; door.c, door-cases.c, door-threads.c, init.c, notices.c, offered.c, ops.c, ops-threads.c and text.c
-# hold that library against what the headers say; as root mounted.c mounts a table of wrong answers. All that runs under
+# hold that library against what the headers say, and largest.c asks both for as much memory as they are ever asked for;
+# as root mounted.c mounts a table of wrong answers. All that runs under
 # the sanitizers of the compiler too, if it has them. The structs are laid out as in version 0.2, and a program of that
 # version runs with what is built and what is packed: tests/c/version-0.2. All names that the libraries define begin with
 # `nizwarf_`.
@@ -100,6 +101,8 @@ run_all() {
     "$folder/program"
     compile tests/c/text.c "$@" "${counted[@]}"
     "$folder/program" "$folder/recorded"
+    compile tests/c/largest.c "$@" "${counted[@]}"
+    "$folder/program"
     for name in notices init offered; do
         compile tests/c/$name.c "$@"
         "$folder/program"
