@@ -1,6 +1,6 @@
 //! Callers, with what follows for them from the tables alone.
 
-ghost use Rattle.std.specs.Prelude.{◌≡◌, ◌≤◌, [], ◌∷◌, codes, Ok, Err, Some, None, MatchResult, option_map};
+ghost use Rattle.std.specs.Prelude.{◌≡◌, ◌≤◌, [], ◌∷◌, codes, replicate, Ok, Err, Some, None, MatchResult, option_map};
 ghost use Rattle.std.specs.Duration.{as_nanos};
 ghost use Rattle.vfs_files.specs.Values.{item_of};
 
@@ -10,9 +10,9 @@ use vfs_files::{
     CStr, Context, DirEntry, DirectoryIterator, Entry, Extensions, FileSystem, ZeroCopyReader,
     ZeroCopyWriter,
 };
-use vfs_flags::Fault;
+use vfs_flags::{Fault, OpenOptions, SetattrValid, SetxattrFlags};
 use vfs_small::{ReadOnly, name_in, name_position};
-use vfs_wire::Attr;
+use vfs_wire::{Attr, SetattrIn};
 
 /// A LOOKUP: `hello.txt` of the root is node 2.
 fn node_of_hello(ctx: Context) -> u64
@@ -110,6 +110,55 @@ fn nothing_is_changed<R: ZeroCopyReader>(
     let unlink = fs.unlink(*ctx, 1, name);
     let write = fs.write(*ctx, 2, 0, r, 3, 0, None, false, false, 0);
     (unlink, write)
+}
+
+/// A SYMLINK, a MKNOD and a LINK, whatever their names: EROFS.
+fn no_name_is_made(ctx: &Context, name: CStr<'_>) -> [Result<Entry, Fault>; 3]
+    ensures { result ≡ replicate 3 (Err (Some 30)) }
+{
+    let mut fs = ReadOnly { tree: Docs };
+    [
+        fs.symlink(*ctx, name, 1, name, Extensions::none()),
+        fs.mknod(*ctx, 1, name, 0o10_0644, 0, 0, Extensions::none()),
+        fs.link(*ctx, 2, 1, name),
+    ]
+}
+
+/// A CREATE, with a name and without one: EROFS.
+fn no_file_is_made(
+    ctx: Context,
+    name: CStr<'_>,
+) -> (Result<(Entry, Option<u64>, OpenOptions), Fault>, Fault)
+    ensures create { result.0 ≡ Err (Some 30) }
+    ensures nameless { result.1 ≡ Some 30 }
+{
+    let mut fs = ReadOnly { tree: Docs };
+    let create = fs.create(ctx, 1, name, 0o644, false, 0, 0, Extensions::none());
+    (create, fs.tmpfile())
+}
+
+/// An RMDIR, a RENAME, a SETXATTR, a REMOVEXATTR and a FALLOCATE: EROFS.
+fn nothing_is_renamed_or_set(ctx: &Context, name: CStr<'_>) -> [Result<(), Fault>; 5]
+    ensures { result ≡ replicate 5 (Err (Some 30)) }
+{
+    let mut fs = ReadOnly { tree: Docs };
+    [
+        fs.rmdir(*ctx, 1, name),
+        fs.rename(*ctx, 1, name, 3, name, 0),
+        fs.setxattr(*ctx, 2, name, &[], 0, SetxattrFlags::SETXATTR_ACL_KILL_SGID),
+        fs.removexattr(*ctx, 2, name),
+        fs.fallocate(*ctx, 2, 0, 0, 0, 1),
+    ]
+}
+
+/// A SETATTR and a COPY_FILE_RANGE: EROFS.
+fn nothing_is_copied(ctx: &Context) -> (Result<(Attr, Duration), Fault>, Result<u32, Fault>)
+    ensures set { result.0 ≡ Err (Some 30) }
+    ensures copied { result.1 ≡ Err (Some 30) }
+{
+    let mut fs = ReadOnly { tree: Docs };
+    let set = fs.setattr(*ctx, 2, SetattrIn::default(), None, SetattrValid::MODE);
+    (set, fs.copyfilerange(*ctx, 2, 0, 0, 4, 0, 0, 1, 0))
 }
 
 /// An ACCESS: to read (4) is granted, to write (2) is EROFS.
