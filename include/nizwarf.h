@@ -45,14 +45,14 @@
  * its ask had, in any pieces.
  *
  * Threads. The two have no state besides their arguments. A slot is lent to one call at a time, and
- * holds nothing from one call to the next. So one slot a thread will do, with any number of
+ * holds nothing but memory from one call to the next. So one slot a thread will do, with any number of
  * requests in flight, and with requests that are answered on another thread. A session is only
  * read; you write its options. No request is in flight beside an INIT or a DESTROY of a kernel, but
  * one of a guest may be: hand in copies then, of options that are atomic. No function is called from a
  * signal handler, or from the child of a fork of a process with threads.
  *
  * The heap is malloc, realloc and free of the C library that is linked. A slot keeps as many bytes as the
- * longest room in which a reply was put together: to ask takes 80 at most, and to answer a READ 16.
+ * longest room that a call was asked or answered with, of a READ 16, and 80 at most for requests without a call.
  *
  * How structs grow. A function of the library takes its structs in one layout, for good. If one must grow, the
  * library gets a function with a new name for the new layout, which the inline functions call from then on, and
@@ -146,8 +146,8 @@ enum {
 	NIZWARF_INVALID_XATTR_SIZE = 8,
 	/* The security context that was agreed on is missing. */
 	NIZWARF_MISSING_EXTENSION = 9,
-	/* There is no memory. No call of the file system was made, if it isn't nizwarf_reply or
-	 * nizwarf_serve_ops that answers so. What refuses a request so goes on with the next. */
+	/* There is no memory. No call of the file system was made, if it isn't nizwarf_reply that answers so, which
+	 * it does by another slot than the call was asked with. What refuses a request so goes on with the next. */
 	NIZWARF_OUT_OF_MEMORY = 10,
 	/* There is no server, or a slot had no memory. */
 	NIZWARF_NO_SERVER = 11,
@@ -207,8 +207,9 @@ enum {
 	NIZWARF_OFFER_INIT = 1 << 8,
 };
 
-/* Reads a request. NIZWARF_ASKED: it asks for `call`, and `told` says nothing. NIZWARF_OK: it is
- * finished, and told->len bytes of the rooms are its reply. Others: it is refused, and has none. */
+/* Reads a request. NIZWARF_ASKED: it asks for `call`, and `told` says nothing; the slot has memory for any answer to
+ * it, and keeps that up to its end. NIZWARF_OK: it is finished, and told->len bytes of the rooms are its reply. Others:
+ * it is refused, and has none. */
 static inline int32_t nizwarf_ask(nizwarf_slot *slot, const nizwarf_session *session,
 				  const nizwarf_segment *request, size_t segments, const nizwarf_room *room,
 				  size_t rooms, nizwarf_call *call, nizwarf_told *told);
@@ -694,9 +695,9 @@ static inline size_t nizwarf_record_size(size_t name_size, int plus)
 /* ---- To reply ---------------------------------------------------------------------------------- */
 
 /* Answers a call. NIZWARF_OK: told->len bytes of the rooms are the reply. NIZWARF_ENCODE_MESSAGE:
- * it does not fit, and there is none. NIZWARF_OUT_OF_MEMORY: there is none. You may answer once more,
- * with the same arguments, and give nothing back before; or leave it, and give back what is told.
- * Others are faults of yours, and `told` says nothing. */
+ * it does not fit, and there is none. NIZWARF_OUT_OF_MEMORY, by another slot than the call was asked with: there is
+ * none. You may answer once more, with the same arguments, and give nothing back before; or leave it, and give back
+ * what is told. Others are faults of yours, and `told` says nothing. */
 static inline int32_t nizwarf_reply(nizwarf_slot *slot, const nizwarf_session *session,
 				    const nizwarf_call *call, const nizwarf_answer *answer,
 				    const nizwarf_room *room, size_t rooms, nizwarf_told *told);

@@ -941,7 +941,8 @@ static inline int32_t nizwarf_answer_ops(const nizwarf_ops *ops, const nizwarf_r
 /* Answers a call that is answered later, of which `call` is a copy: `answer` as nizwarf_reply takes it, with
  * `error` as a function of the table would have answered. The room is memory of as many bytes as
  * `call->room`. What the client does not get is given back and released. The slot is lent to nobody
- * else meanwhile. As nizwarf_serve_ops, it tells a code and how long the reply is. */
+ * else meanwhile. As nizwarf_serve_ops, it tells a code and how long the reply is; NIZWARF_OUT_OF_MEMORY comes by
+ * another slot than served the request. */
 static inline int32_t nizwarf_finish_ops(const nizwarf_ops *ops, void *user, nizwarf_slot *slot,
 					 const nizwarf_session *session, const nizwarf_call *call,
 					 const nizwarf_answer *answer, void *room, size_t *reply_len)
@@ -961,7 +962,7 @@ static inline int32_t nizwarf_finish_ops(const nizwarf_ops *ops, void *user, niz
  * nizwarf_message: NIZWARF_OK, and the first `*reply_len` bytes of the room are the reply; any
  * other code, and there is none, though the kernel behind /dev/fuse waits for one: write it EIO, as
  * fuse_device.c does; but NIZWARF_ASKED, which says that the call is answered later.
- * NIZWARF_OUT_OF_MEMORY may come after the call was made, too.
+ * After NIZWARF_OUT_OF_MEMORY no call was made.
  * `session->options` change with INIT and DESTROY. What the client does not get is given back by
  * `forget`, and what was opened for it is released first. `items` are room for the items of a
  * directory: of those that don't fit there the client asks again, and where `most` is 0 it gets EIO.

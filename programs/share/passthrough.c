@@ -98,12 +98,8 @@ static int32_t answer_call(struct call *call, const nizwarf_session *session, co
 	/* (who waits for the lock answers it) */
 	if (answer->error == LOCK_WAITS && asked->call == NIZWARF_SETLKW)
 		return NIZWARF_ASKED;
+	/* (the slot that it was asked with has memory for the reply) */
 	code = nizwarf_reply(&call->worker->slot, session, asked, answer, room, rooms, told);
-	/* (it was made, and stays so: the reply waits for memory) */
-	for (int tries = 1; code == NIZWARF_OUT_OF_MEMORY && tries < TRIES; tries++) {
-		let_pass();
-		code = nizwarf_reply(&call->worker->slot, session, asked, answer, room, rooms, told);
-	}
 	if (asked->call == NIZWARF_INIT || asked->call == NIZWARF_DESTROY)
 		atomic_store(&all->agreed, told->options);
 	if (told->give_back)

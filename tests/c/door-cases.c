@@ -579,14 +579,18 @@ static void codes(void)
 	CHECK(nizwarf_end_slot(&slot) == NIZWARF_NO_SERVER);
 }
 
-/* Asks and answers, also where an allocation of either is refused: then it is done again. */
+/* Asks and answers, also where an allocation is refused: then it is asked again. Its slot has memory for the answer;
+ * another slot may lack it, and then it is answered again. */
 static void survive(size_t cut, size_t space, const nizwarf_answer *answer, size_t len)
 {
 	const nizwarf_segment pieces[] = { { request, cut }, { request + cut, request_len - cut } };
 	const nizwarf_room room = { ours, space };
+	const nizwarf_slot none = NIZWARF_NONE;
+	nizwarf_slot asked_with;
 	nizwarf_call call;
 	nizwarf_told told;
 	int32_t code;
+	long before;
 
 	memset(ours, FILL, space);
 	code = nizwarf_ask(&slot, &session, pieces, 2, &room, 1, &call, &told);
@@ -595,6 +599,14 @@ static void survive(size_t cut, size_t space, const nizwarf_answer *answer, size
 		code = nizwarf_ask(&slot, &session, pieces, 2, &room, 1, &call, &told);
 	}
 	CHECK(code == NIZWARF_ASKED);
+	before = asked;
+	code = reply(&call, answer, 5, &told);
+	CHECK(asked == before);
+	CHECK(code == NIZWARF_OK && told.len == len && !told.give_back);
+	CHECK(told.taken == answer->items_len && ours[len] == FILL);
+	asked_with = slot;
+	slot = none;
+	memset(ours, FILL, space);
 	code = reply(&call, answer, 5, &told);
 	if (code == NIZWARF_OUT_OF_MEMORY) {
 		CHECK(refused && !told.len && !told.put && !told.taken && ours[0] == FILL);
@@ -604,6 +616,41 @@ static void survive(size_t cut, size_t space, const nizwarf_answer *answer, size
 	}
 	CHECK(code == NIZWARF_OK && told.len == len && !told.give_back);
 	CHECK(told.taken == answer->items_len && ours[len] == FILL);
+	CHECK(nizwarf_end_slot(&slot) == NIZWARF_OK);
+	slot = asked_with;
+}
+
+/* Requests with rooms of any length are asked with one slot, and answered in the other order: no answer wants memory. */
+static void answers_in_flight(void)
+{
+	static const size_t spaces[] = { 200, 4096, 16, 70000, 300 };
+	enum { COUNT = sizeof(spaces) / sizeof(*spaces) };
+	const nizwarf_answer missing = { .error = ENOENT };
+	nizwarf_call calls[COUNT];
+	nizwarf_told told;
+	long before;
+	int i;
+
+	for (i = 0; i < COUNT; i++) {
+		const nizwarf_room room = { ours, spaces[i] };
+		nizwarf_segment whole = { request, 0 };
+		int32_t code;
+
+		/* (a LOOKUP is told at once, and a READLINK by a reader) */
+		begin(i % 2 ? NIZWARF_READLINK : NIZWARF_LOOKUP, 1);
+		add("abc", i % 2 ? 0 : 4);
+		whole.len = request_len;
+		code = nizwarf_ask(&slot, &session, &whole, 1, &room, 1, &calls[i], &told);
+		if (code == NIZWARF_OUT_OF_MEMORY) {
+			CHECK(refused && !calls[i].call);
+			code = nizwarf_ask(&slot, &session, &whole, 1, &room, 1, &calls[i], &told);
+		}
+		CHECK(code == NIZWARF_ASKED);
+	}
+	before = asked;
+	for (i = COUNT; i--;)
+		CHECK(reply(&calls[i], &missing, 5, &told) == NIZWARF_OK && told.len == 16);
+	CHECK(asked == before);
 }
 
 /* Requests that want memory, with rooms that grow, by a slot of their own. */
@@ -633,6 +680,7 @@ static void requests_that_want_memory(void)
 	survive(5, 4096, &words, 3016);
 	begin_with(READDIRPLUS, 1, &read, sizeof(read));
 	survive(50, 8192, &directory, 16 + 2 * 160);
+	answers_in_flight();
 	CHECK(nizwarf_end_slot(&slot) == NIZWARF_OK);
 }
 

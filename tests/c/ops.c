@@ -672,9 +672,8 @@ static void wrong_answers(void)
 #undef EXPECT_FAULT
 }
 
-/* Where an allocation is refused, before the call or behind it, the client is left with nothing. */
-static void expect_undone(uint32_t opcode, const void *record, size_t record_len, const char *name,
-			  const char *words)
+/* Where an allocation is refused, no call is made. */
+static void expect_unmade(uint32_t opcode, const void *record, size_t record_len, const char *name)
 {
 	const long kept = live;
 	int32_t code = NIZWARF_OUT_OF_MEMORY;
@@ -690,7 +689,7 @@ static void expect_undone(uint32_t opcode, const void *record, size_t record_len
 		code = nizwarf_serve_ops(&ops, said, &fresh, &session, request, request_len, ours, space,
 					 NULL, 0, &len);
 		CHECK(code == NIZWARF_OK || (code == NIZWARF_OUT_OF_MEMORY && !len));
-		CHECK(code == NIZWARF_OK || !said[0] || !strcmp(said, words));
+		CHECK((code == NIZWARF_OK) == (said[0] != 0));
 		CHECK((opcode != NIZWARF_DESTROY || !said[0]) == (session.options == FUSE_BIG_WRITES));
 		nizwarf_end_slot(&fresh);
 		CHECK(live == kept);
@@ -704,10 +703,10 @@ static void no_memory(void)
 {
 	const struct fuse_create_in created = { .flags = O_RDWR, .mode = 0644 };
 
-	expect_undone(NIZWARF_LOOKUP, "", 0, "a", "lookup 2 a forget 5 1");
-	expect_undone(NIZWARF_OPENDIR, &created, 8, "", "opendir 2releasedir 2 12");
-	expect_undone(NIZWARF_CREATE, &created, 16, "a", "create 2 a 644 2release 5 14 2 forget 5 1");
-	expect_undone(NIZWARF_DESTROY, "", 0, "", "destroy 1");
+	expect_unmade(NIZWARF_LOOKUP, "", 0, "a");
+	expect_unmade(NIZWARF_OPENDIR, &created, 8, "");
+	expect_unmade(NIZWARF_CREATE, &created, 16, "a");
+	expect_unmade(NIZWARF_DESTROY, "", 0, "");
 }
 
 /* A room that overlaps the request is refused, and nothing is called. */

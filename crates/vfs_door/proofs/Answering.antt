@@ -17,10 +17,12 @@ use Rattle.vfs_answer.specs.Answering.{Answers, AnswersCall, can_answer, echo_to
 use Rattle.vfs_answer.specs.Told.{AnswersEachCall, AnswersEachListing}
 use Rattle.vfs_answer.specs.declared.answered.Answered.{Answered}
 use Rattle.vfs_rooms.specs.Codes.{number_of, length_of}
-use Rattle.vfs_door.specs.Answering.{AnswersOrNot, put_of}
+use Rattle.vfs_door.specs.Answering.{AnswersOrNot}
+use Rattle.vfs_door.specs.Kept.{HasRoomFor, put_of}
 use Rattle.vfs_door.specs.Shown.{shown_of}
 use Rattle.vfs_door.specs.declared.data.ToldData.{ToldData}
-use Rattle.vfs_door.proofs.Leaving.{Keeps, replied_keeps, are_first, shorter}
+use Rattle.vfs_door.specs.declared.memory.Part.{Part}
+use Rattle.vfs_door.proofs.Leaving.{Keeps, replied_keeps, same_keeps, keeps_room, are_first, shorter}
 
 -- a writer has no more room than was told
 within : (kind : Kind) (call : CallData) (space : ℕ) → can_answer (Some kind) call space ≡ true
@@ -160,3 +162,33 @@ module _ (limits : Limits) (call : CallData) (a : AnswerData) (text : List ℕ) 
   told_wants_none came clauses some_is =
       let is : Clauses (Some came) = subst Clauses some_is clauses in
       answered_wants_none limits call a text items before after came (kind_told call.answer call.size) is.0
+
+module _ (limits : Limits) (call : CallData) (a : AnswerData) (text : List ℕ) (items : List ItemData) (n : ℕ)
+    (old : Part) (after : Written) (result : Option Answered) where
+  -- the part when its writer was lent to an answer
+  abbrev lent : Part
+  lent = record old { writer = after }
+
+  none_same : (kind : Option Kind) → Answers limits kind call a text items old.writer None after → after ≡ old.writer
+  none_same None h = h.1
+  none_same (Some Iterators) h = h.1
+  none_same (Some kind) h = h.1
+
+  -- where none was put, it has as much room as before
+  pub none_keeps : Answers limits (kind_told call.answer call.size) call a text items old.writer result after
+      → result ≡ None → HasRoomFor n old → HasRoomFor n lent
+  none_keeps answers none has =
+      let is = subst (λ (r : Option Answered). Answers limits (kind_told call.answer call.size) call a text items old.writer r after)
+      none answers in
+      keeps_room n old lent
+      (same_keeps old.writer after (none_same (kind_told call.answer call.size) is)) has
+
+  -- and where one was
+  pub told_keeps : (came : Answered)
+      → Answers limits (kind_told call.answer call.size) call a text items old.writer result after
+      → result ≡ Some came → HasRoomFor n old → HasRoomFor n lent
+  told_keeps came answers some has =
+      let is = subst (λ (r : Option Answered). Answers limits (kind_told call.answer call.size) call a text items old.writer r after)
+      some answers in
+      keeps_room n old lent
+      (answered_keeps limits call a text items old.writer after came (kind_told call.answer call.size) is) has

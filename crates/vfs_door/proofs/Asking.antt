@@ -1,5 +1,5 @@
 -- What C is told of a request that was asked.
-use Rattle.std.proofs.Common.{◌≡◌, ◌≢◌, ◌≤◌, ◌+◌, ◌-◌, ◌++◌, ◌∙◌, ℕ, ℤ, List, [], length, replicate, Result, Ok, Err, IfOk, refl, ap, sym, subst, inl, inr, arith, length-append, append_assoc}
+use Rattle.std.proofs.Common.{◌≡◌, ◌≢◌, ◌≤◌, ◌⊎◌, ◌+◌, ◌-◌, ◌++◌, ◌∙◌, ℕ, ℤ, List, [], length, replicate, Option, Result, Ok, Err, IfOk, refl, ap, sym, subst, inl, inr, arith, length-append, append_assoc}
 use Rattle.std.proofs.lemmas.List.{length-replicate, take-append-le}
 use Rattle.std.specs.Prelude.{⊤}
 use Rattle.vfs_segments.specs.Lengths.{lengths_from}
@@ -13,6 +13,7 @@ use Rattle.vfs_grammar.specs.declared.error.Error.{Error}
 use Rattle.vfs_grammar.specs.declared.error.Error.TheVariants.{OutOfMemory}
 use Rattle.vfs_grammar.specs.declared.error.Error.TheVariants as error
 use Rattle.vfs_grammar.specs.declared.limits.Limits.{Limits}
+use Rattle.vfs_calls.specs.Shapes.{shape_of}
 use Rattle.vfs_calls.specs.declared.call.CallData.{CallData}
 use Rattle.vfs_messages.specs.Rooms.{with_behind}
 use Rattle.vfs_messages.proofs.Rooms.{whole_behind}
@@ -22,9 +23,28 @@ use Rattle.vfs_ask.specs.declared.asked.Asked.{Asked}
 use Rattle.vfs_ask.specs.declared.asked.Asked.TheVariants as asked
 use Rattle.vfs_rooms.specs.Codes.{is_asked, length_of, no_memory, number_of}
 use Rattle.vfs_door.specs.Asking.{AsksOrNot, unread_in}
+use Rattle.vfs_door.specs.Kept.{HasFor, HasRoomFor, HoldsAnswer, HoldsFor, TellsOrNot, put_of}
 use Rattle.vfs_door.specs.declared.data.ToldData.{ToldData}
+use Rattle.vfs_door.specs.declared.memory.Memory.{Memory}
+use Rattle.vfs_door.specs.declared.memory.Part.{Part}
 use Rattle.vfs_door.specs.Shown.{AreFirst, shown_of}
-use Rattle.vfs_door.proofs.Leaving.{Keeps, replied_keeps, are_first, none_shown, shorter}
+use Rattle.vfs_door.proofs.Leaving.{Keeps, replied_keeps, are_first, shorter}
+
+-- memory for what a request may come to that asks this is memory for any answer to its call
+answer_has : (request : List ℕ) (options interrupts room : ℕ) (asks : Ask) (before after : Written) (told : CallData)
+    (p : Part) → Tells ⊤ request options interrupts room asks before asked.Call after told
+    → HasFor room asks p → HasRoomFor (put_of told told.room) p
+answer_has q o n room (Ends reply) before after told p t has = absurd t
+answer_has q o n room (Asks echo call) before after told p t has =
+    let same : put_of told told.room ≡ put_of (shape_of call) room =
+    ap (λ (c : CallData). put_of c c.room) t.1.numbers in
+    subst (λ (k : ℕ). HasRoomFor k p) (sym same) has
+answer_has q o n room (Lists echo l) before after told p t has =
+    let same : put_of told told.room ≡ room = ap (λ (c : CallData). put_of c c.room) t.1 in
+    subst (λ (k : ℕ). HasRoomFor k p) (sym same) has
+answer_has q o n room (WithMemory rest) before after told p (inl t) has =
+    answer_has q o n room rest before after told p t has
+answer_has q o n room (WithMemory rest) before after told p (inr t) has = absurd t.1
 
 -- a writer through which a request was finished keeps what it had passed
 finished_keeps : (request : List ℕ) (options interrupts room : ℕ) (asks : Ask) (before after : Written)
@@ -82,7 +102,7 @@ first_of_room count space start before after behind bytes long within keeps firs
       first = first.first ∙ sym (take-append-le count first.room behind (omega (arith, n, long, within)));
     }
 
-module _ (limits : Limits) (options : ℕ) (request : List ℕ) (room : ℕ) (call call_after : CallData)
+module _ (limits : Limits) (options : ℕ) (request : List ℕ) (room : ℕ) (call_after : CallData)
     (told : ToldData) (before after : Written) (result : Asked)
     (is : (behind : List ℕ) → length before.left + length behind ≡ room
     → IsAsked limits options request (with_behind before behind) result (with_behind after behind) call_after)
@@ -103,24 +123,32 @@ module _ (limits : Limits) (options : ℕ) (request : List ℕ) (room : ℕ) (ca
   asked_as r e = subst (λ (r : Asked). IsAsked limits options request (with_behind before zeros) r (with_behind after zeros) call_after) e (is zeros all)
 
   -- a call is told
-  pub told_call : (lengths bytes : List ℕ) (start shown : ℕ) → result ≡ asked.Call → shown ≡ 0
-      → AsksOrNot limits options request room is_asked call call_after told told (shown_of lengths bytes start shown)
-  told_call lengths bytes start shown call_is none =
+  pub told_call : result ≡ asked.Call → AsksOrNot limits options request room is_asked call_after told told []
+  told_call call_is =
       inl (record {
         before = with_behind before zeros;
         space = space;
         result = asked.Call;
         after = with_behind after zeros;
         asked = asked_as asked.Call call_is;
-        passed_on = (refl, refl, ap (λ (n : ℕ). shown_of lengths bytes start n) none ∙ none_shown lengths bytes start);
+        passed_on = (refl, refl, refl);
       })
+
+  -- memory for what the request may come to is memory for any answer to the call that is told
+  pub told_has : (p : Part) → result ≡ asked.Call → HasFor room (ask limits options room request) p
+      → HasRoomFor (put_of call_after call_after.room) p
+  told_has p call_is has =
+      answer_has request options (interrupted_by limits request) (length (before.left ++ zeros))
+      (ask limits options (length (before.left ++ zeros)) request) (with_behind before zeros) (with_behind after zeros)
+      call_after p (asked_as asked.Call call_is)
+      (subst (λ (n : ℕ). HasFor n (ask limits options n request) p) (sym space) has)
 
   -- a request is finished
   pub told_finished : (code : ℤ) (start len : ℕ) (outcome : Result ℕ Error) (interrupts : ℕ)
       → result ≡ asked.Finished outcome interrupts
       → start ≡ length before.passed → length before.lengths ≡ 1
       → code ≡ number_of outcome → len ≡ length_of outcome
-      → AsksOrNot limits options request room code call call_after told (told_by told len interrupts)
+      → AsksOrNot limits options request room code call_after told (told_by told len interrupts)
       (shown_of after.lengths (whole after) start len)
   told_finished code start len outcome interrupts finished at one number length_is =
       let n = length_of outcome in
@@ -144,15 +172,64 @@ module _ (limits : Limits) (options : ℕ) (request : List ℕ) (room : ℕ) (ca
         );
       })
 
+-- a call is told, or none for want of memory
+pub told_or_not : (limits : Limits) (options : ℕ) (request : List ℕ) (room : ℕ) (code other : ℤ)
+    (call call_after : CallData) (told : ToldData) (shown : List ℕ) (kept : Type 0) → other ≡ code
+    → AsksOrNot limits options request room is_asked call told told [] → shown ≡ []
+    → TellsOrNot code call call_after kept
+    → AsksOrNot limits options request room other call_after told told shown
+told_or_not limits options request room code other call call_after told shown kept same asks none (inl t) =
+    rw (same, t.0, t.1, none) asks
+told_or_not limits options request room code other call call_after told shown kept same asks none (inr n) =
+    inr (record { why = inl (same ∙ n.0); no_call = n.1; same_told = refl; nothing = none })
+
+pub code_of_tells : (code : ℤ) (call call_after : CallData) (kept : Type 0) → TellsOrNot code call call_after kept
+    → (code ≡ is_asked) ⊎ (code ≡ no_memory)
+code_of_tells code call call_after kept (inl t) = inl t.0
+code_of_tells code call call_after kept (inr n) = inr n.0
+
+pub call_of_tells : (code : ℤ) (call call_after : CallData) (kept : Type 0) → TellsOrNot code call call_after kept
+    → code ≡ is_asked → call_after ≡ call
+call_of_tells code call call_after kept (inl t) asks = t.1
+call_of_tells code call call_after kept (inr n) asks = absurd (let e = n.0 in cc)
+
+-- where it is told, its answer's memory is kept
+pub kept_for : (code : ℤ) (call call_after : CallData) (p : Part)
+    → TellsOrNot code call call_after (HasRoomFor (put_of call call.room) p) → code ≡ is_asked
+    → HasRoomFor (put_of call_after call_after.room) p
+kept_for code call call_after p (inl t) asks =
+    subst (λ (c : CallData). HasRoomFor (put_of c c.room) p) (sym t.1) t.2
+kept_for code call call_after p (inr n) asks = absurd (let e = n.0 in cc)
+
+-- the same of a slot
+pub held_for : (code : ℤ) (call call_after : CallData) (slot : Option Memory)
+    → TellsOrNot code call call_after (HoldsAnswer call slot) → code ≡ is_asked → HoldsAnswer call_after slot
+held_for code call call_after slot (inl t) asks = subst (λ (c : CallData). HoldsAnswer c slot) (sym t.1) t.2
+held_for code call call_after slot (inr n) asks = absurd (let e = n.0 in cc)
+
+-- no outcome has the number of a call
+pub no_call : (outcome : Result ℕ Error) → number_of outcome ≡ is_asked → ⊥
+no_call (Ok len) is = cc
+no_call (Err error.DecodeMessage) is = cc
+no_call (Err error.EncodeMessage) is = cc
+no_call (Err error.FlushMessage) is = cc
+no_call (Err error.MissingParameter) is = cc
+no_call (Err error.InvalidCString) is = cc
+no_call (Err error.InvalidCString2) is = cc
+no_call (Err error.InvalidHeaderLength) is = cc
+no_call (Err (error.InvalidXattrSize sizes)) is = cc
+no_call (Err error.MissingExtension) is = cc
+no_call (Err error.OutOfMemory) is = cc
+
 -- a writer with so much room
 abbrev blank : ℕ → Written
 blank room = record { passed = []; left = replicate room 0; held_at = 0; held = 0; lengths = [] }
 
 -- a call is told at once, whatever a writer has
-pub told_at_once : (limits : Limits) (options : ℕ) (request : List ℕ) (room : ℕ) (call call_after : CallData) (told : ToldData)
+pub told_at_once : (limits : Limits) (options : ℕ) (request : List ℕ) (room : ℕ) (call_after : CallData) (told : ToldData)
     → ((w after : Written) → length w.left ≡ room → IsAsked limits options request w asked.Call after call_after)
-    → AsksOrNot limits options request room is_asked call call_after told told []
-told_at_once limits options request room call call_after told is =
+    → AsksOrNot limits options request room is_asked call_after told told []
+told_at_once limits options request room call_after told is =
     let space = length-replicate room 0 in
     inl (record {
       before = blank room;
@@ -162,3 +239,19 @@ told_at_once limits options request room call call_after told is =
       asked = is (blank room) (blank room) space;
       passed_on = (refl, refl, refl);
     })
+
+-- a slot that has memory for what comes of the request has it for any answer to that call
+pub holds_at_once : (limits : Limits) (options : ℕ) (request : List ℕ) (room : ℕ) (call_after : CallData)
+    (slot : Option Memory)
+    → ((w after : Written) → length w.left ≡ room → IsAsked limits options request w asked.Call after call_after)
+    → HoldsFor room (ask limits options room request) slot → HoldsAnswer call_after slot
+holds_at_once limits options request room call_after slot is holds =
+    let space = length-replicate room 0 in
+    record {
+      memory = holds.memory;
+      is = holds.is;
+      has = answer_has request options (interrupted_by limits request) (length (blank room).left)
+          (ask limits options (length (blank room).left) request) (blank room) (blank room) call_after
+          holds.memory.answers (is (blank room) (blank room) space)
+          (subst (λ (n : ℕ). HasFor n (ask limits options n request) holds.memory.answers) (sym space) holds.answer);
+    }

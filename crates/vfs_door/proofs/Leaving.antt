@@ -1,19 +1,22 @@
 -- What a writer leaves of its room, and what of that is there to be copied out.
-use Rattle.std.proofs.Common.{◌≡◌, ◌≤◌, ◌+◌, ◌++◌, ◌∙◌, ℕ, List, [], ◌∷◌, length, take, drop, Result, refl, ap, sym, arith, length-append, append_assoc}
+use Rattle.std.proofs.Common.{◌≡◌, ◌≤◌, ◌+◌, ◌++◌, ◌∙◌, ℕ, List, [], ◌∷◌, length, take, drop, if◌then◌else◌, Option, Some, Result, refl, ap, sym, subst, arith, length-append, append_assoc}
 use Rattle.std.proofs.lemmas.List.{drop_at, length-take-le, take_at}
 use Rattle.std.proofs.Math.Seq.{take-append-add}
 use Rattle.vfs_segments.specs.Written.{Written, whole, Leaves}
 use Rattle.vfs_messages.specs.Rooms.{Replies, with_behind}
 use Rattle.vfs_grammar.specs.Reply.{Reply, Refusal, NoReply, Bytes, OpenBehind}
 use Rattle.vfs_grammar.specs.declared.error.Error.{Error}
-use Rattle.vfs_door.specs.Shown.{AreFirst, shown_of}
+use Rattle.vfs_door.specs.Kept.{HasRoomFor, Holds}
+use Rattle.vfs_door.specs.Shown.{AreFirst, bytes_in, bytes_shown, shown_of}
+use Rattle.vfs_door.specs.declared.memory.Memory.{Memory}
+use Rattle.vfs_door.specs.declared.memory.Part.{Part}
 
 -- a writer keeps what it had passed
 pub record Keeps (old new : Written) : Type 0 where
   pub room_after : List ℕ
   pub leaves : Leaves old room_after new
 
-same_keeps : (old new : Written) → new ≡ old → Keeps old new
+pub same_keeps : (old new : Written) → new ≡ old → Keeps old new
 same_keeps old new e = rw e (record {
   room_after = old.left;
   leaves = record { kept = refl; same_length = refl; same_segments = refl };
@@ -79,3 +82,28 @@ pub none_shown : (lengths bytes : List ℕ) (start : ℕ) → shown_of lengths b
 none_shown [] bytes start = refl
 none_shown (n ∷ []) bytes start = refl
 none_shown (n ∷ m ∷ lengths) bytes start = refl
+
+pub nothing_shown : (m : Memory) → m.shown ≡ 0 → bytes_shown m ≡ []
+nothing_shown m none =
+    let p : Part = if m.was_asked then m.asked else m.answers in
+    ap (bytes_in p) none ∙ none_shown p.writer.lengths (whole p.writer) p.start
+
+-- a part whose writer keeps what it had passed has as much room as before
+pub keeps_room : (n : ℕ) (old new : Part) → Keeps old.writer new.writer → HasRoomFor n old → HasRoomFor n new
+keeps_room n old new keeps has =
+    let k = keeps.leaves in
+    let long : length (whole new.writer) ≡ length (whole old.writer) =
+    ap length k.kept ∙ length-append old.writer.passed keeps.room_after
+    ∙ ap (λ (m : ℕ). length old.writer.passed + m) k.same_length
+    ∙ sym (length-append old.writer.passed old.writer.left) in
+    (ap length k.same_segments ∙ has.0, omega (arith, long, has.1))
+
+-- what a slot holds stays where its memory is taken out, keeps its room and is put back
+pub held_on : (n : ℕ) (old new : Option Memory) (taken now : Memory) → ((m : Memory) → old ≡ Some m → taken ≡ m)
+    → new ≡ Some now → (HasRoomFor n taken.answers → HasRoomFor n now.answers) → Holds n old → Holds n new
+held_on n old new taken now same put keeps h =
+    record {
+      memory = now;
+      is = put;
+      has = keeps (subst (λ (m : Memory). HasRoomFor n m.answers) (sym (same h.memory h.is)) h.has);
+    }

@@ -30,8 +30,9 @@ use Rattle.vfs_answer.specs.Told.{TellsEcho, TellsCall, CallIsAnswered}
 use Rattle.vfs_answer.specs.declared.answered.Answered.{Answered}
 use Rattle.vfs_answer.proofs.Using.{in_room}
 use Rattle.vfs_rooms.specs.Codes.{ok, no_memory, is_asked, number_of, length_of}
-use Rattle.vfs_door.specs.Answering.{AnswersIn, AnswersOrNot, IsPassedOn, put_of}
+use Rattle.vfs_door.specs.Answering.{AnswersIn, AnswersOrNot, IsPassedOn}
 use Rattle.vfs_door.specs.Asking.{AsksOrNot, IsPassedOn as IsAskedOn}
+use Rattle.vfs_door.specs.Kept.{put_of}
 use Rattle.vfs_door.specs.Shown.{AreFirst}
 use Rattle.vfs_door.specs.Uses.{IsLookupOfA, no_such_name}
 use Rattle.vfs_door.specs.declared.data.ToldData.{ToldData}
@@ -91,11 +92,11 @@ by_asked i space before after (asked.Finished outcome n) call code told told_aft
     inr (on.0 ∙ ap number_of t.1.0.0)
 by_asked i space before after asked.Call call code told told_after shown room is (inr t) on = absurd t.1
 
-pub looked_up : (request : List ℕ) (code : ℤ) (call call_after : CallData) (told told_after : ToldData)
+pub looked_up : (request : List ℕ) (code : ℤ) (call_after : CallData) (told told_after : ToldData)
     (shown : List ℕ) → request ≡ lookup_of_a
-    → AsksOrNot limits 0 request 4096 code call call_after told told_after shown
+    → AsksOrNot limits 0 request 4096 code call_after told told_after shown
     → IsLookedUp code call_after told told_after shown
-looked_up request code call call_after told told_after shown is (inl s) =
+looked_up request code call_after told told_after shown is (inl s) =
     let of_a : IsAsked limits 0 lookup_of_a s.before s.result s.after call_after =
     subst (λ (q : List ℕ). IsAsked limits 0 q s.before s.result s.after call_after) is s.asked in
     let by = interrupted_by limits lookup_of_a in
@@ -104,7 +105,7 @@ looked_up request code call call_after told told_after shown is (inl s) =
     (asks (length s.before.left)) of_a in
     by_asked by 4096 s.before s.after s.result call_after code told told_after shown refl s.space tells
     s.passed_on
-looked_up request code call call_after told told_after shown is (inr s) = refused s.why
+looked_up request code call_after told told_after shown is (inr s) = refused s.why
   where
     refused : (code ≡ no_memory) ⊎ ((code ≡ pos 13) × (2 ^ 64 ≤ length request))
         → IsLookedUp code call_after told told_after shown

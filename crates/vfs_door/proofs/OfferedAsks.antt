@@ -1,10 +1,11 @@
 -- What is told of a request by both tables, from what the further one says of it.
-use Rattle.std.proofs.Common.{◌≡◌, ◌≢◌, ◌≤◌, ◌^◌, ◌∙◌, ℕ, ℤ, Bool, true, false, List, [], ◌∷◌, length, drop, nat_lt, if◌then◌else◌, Ok, Err, refl, ap, sym, subst, arith}
+use Rattle.std.proofs.Common.{◌≡◌, ◌≢◌, ◌≤◌, ◌^◌, ◌∙◌, ℕ, ℤ, Bool, true, false, List, [], ◌∷◌, length, drop, nat_lt, if◌then◌else◌, Option, Ok, Err, refl, ap, sym, subst, inl, inr, arith}
 use Rattle.std.proofs.lemmas.Bool.Decides.{nat_tests}
 use Rattle.vfs_wire.specs.Fields.{value_of}
 use Rattle.vfs_wire.specs.Records.{in_header}
 use Rattle.vfs_segments.specs.Lengths.{lengths_from}
 use Rattle.vfs_segments.specs.Unread.{Unread}
+use Rattle.vfs_grammar.specs.Ask.{ask}
 use Rattle.vfs_grammar.specs.declared.error.Error.TheVariants.{DecodeMessage}
 use Rattle.vfs_grammar.specs.declared.limits.Limits.{Limits}
 use Rattle.vfs_calls.specs.Shapes.{nothing}
@@ -17,11 +18,13 @@ use Rattle.vfs_further.specs.Turns.{as_create}
 use Rattle.vfs_further.specs.Further.{What, Ordinary, Short, Row, Unnamed, Tells, told_under, what_behind, what_of}
 use Rattle.vfs_further.specs.declared.row.Further.{Further}
 use Rattle.vfs_further.specs.declared.row.Further.TheVariants as further
-use Rattle.vfs_rooms.specs.Codes.{is_asked, number_of}
+use Rattle.vfs_rooms.specs.Codes.{is_asked, no_memory, number_of}
 use Rattle.vfs_door.specs.Asking.{AsksOrNot, finished}
 use Rattle.vfs_door.specs.Checking.{Checks, IsWhole}
-use Rattle.vfs_door.specs.Further.{AsksOffered, ChecksOffered, MayWantOffered}
+use Rattle.vfs_door.specs.Further.{AsksOffered, ChecksOffered, HoldsOffered, MayWantOffered, named}
+use Rattle.vfs_door.specs.Kept.{HoldsAnswer, HoldsFor, TellsOrNot}
 use Rattle.vfs_door.specs.declared.data.ToldData.{ToldData}
+use Rattle.vfs_door.specs.declared.memory.Memory.{Memory}
 
 module _ (limits : Limits) (options : ℕ) (q : List ℕ) (room : ℕ) (old mid : CallData) (result : Further) where
   -- what was told of a request by the further table
@@ -30,10 +33,9 @@ module _ (limits : Limits) (options : ℕ) (q : List ℕ) (room : ℕ) (old mid 
 
   module _ (code : ℤ) (call_after : CallData) (told told_after : ToldData) (shown : List ℕ) where
     pub ordinary : (what : What) → result ≡ further.Ordinary → Told what
-        → AsksOrNot limits options q room code mid call_after told told_after shown
-        → AsksOffered limits options q room what code old call_after told told_after shown
-    ordinary Ordinary is t asks =
-        subst (λ (c : CallData). AsksOrNot limits options q room code c call_after told told_after shown) t.1 asks
+        → AsksOrNot limits options q room code call_after told told_after shown
+        → AsksOffered limits options q room what code call_after told told_after shown
+    ordinary Ordinary is t asks = asks
     ordinary Short is t asks = absurd (let e = sym t.0 ∙ is in cc)
     ordinary (Row row) is t asks = absurd (let e = sym t.0 ∙ is in cc)
     ordinary Unnamed is t asks = absurd (let e = sym t.0 ∙ is in cc)
@@ -41,27 +43,50 @@ module _ (limits : Limits) (options : ℕ) (q : List ℕ) (room : ℕ) (old mid 
     pub short : (what : What) → result ≡ further.Short → Told what
         → code ≡ number_of (Err DecodeMessage) → call_after ≡ nothing
         → told_after ≡ finished (Err DecodeMessage) 0 told → shown ≡ []
-        → AsksOffered limits options q room what code old call_after told told_after shown
+        → AsksOffered limits options q room what code call_after told told_after shown
     short Short is t code_is call_is told_is none = (code_is, call_is, told_is, none)
     short Ordinary is t code_is call_is told_is none = absurd (let e = sym t.0 ∙ is in cc)
     short (Row row) is t code_is call_is told_is none = absurd (let e = sym t.0 ∙ is in cc)
     short Unnamed is t code_is call_is told_is none = absurd (let e = sym t.0 ∙ is in cc)
 
     pub unnamed : (what : What) → result ≡ further.Unnamed → Told what
-        → AsksOffered limits options q room Unnamed code mid call_after told told_after shown
-        → AsksOffered limits options q room what code old call_after told told_after shown
-    unnamed Unnamed is t asks =
-        subst (λ (c : CallData). AsksOffered limits options q room Unnamed code c call_after told told_after shown) t.1 asks
+        → AsksOffered limits options q room Unnamed code call_after told told_after shown
+        → AsksOffered limits options q room what code call_after told told_after shown
+    unnamed Unnamed is t asks = asks
     unnamed Ordinary is t asks = absurd (let e = sym t.0 ∙ is in cc)
     unnamed Short is t asks = absurd (let e = sym t.0 ∙ is in cc)
     unnamed (Row row) is t asks = absurd (let e = sym t.0 ∙ is in cc)
 
-  pub row_told : (told : ToldData) (shown : List ℕ) (what : What) → result ≡ further.Row → Told what → shown ≡ []
-      → AsksOffered limits options q room what is_asked old mid told told shown
-  row_told told shown (Row row) is t none = (refl, t.1, refl, none)
-  row_told told shown Ordinary is t none = absurd (let e = sym t.0 ∙ is in cc)
-  row_told told shown Short is t none = absurd (let e = sym t.0 ∙ is in cc)
-  row_told told shown Unnamed is t none = absurd (let e = sym t.0 ∙ is in cc)
+  pub row_told : (told : ToldData) (shown : List ℕ) (code : ℤ) (call_after : CallData) (kept : Type 0) (what : What)
+      → result ≡ further.Row → Told what → shown ≡ [] → TellsOrNot code mid call_after kept
+      → AsksOffered limits options q room what code call_after told told shown
+  row_told told shown code call_after kept (Row row) is t none (inl h) = (inl (h.0, h.1 ∙ t.1, tt), refl, none)
+  row_told told shown code call_after kept (Row row) is t none (inr h) = (inr h, refl, none)
+  row_told told shown code call_after kept Ordinary is t none h = absurd (let e = sym t.0 ∙ is in cc)
+  row_told told shown code call_after kept Short is t none h = absurd (let e = sym t.0 ∙ is in cc)
+  row_told told shown code call_after kept Unnamed is t none h = absurd (let e = sym t.0 ∙ is in cc)
+
+  -- which memory a slot has
+  pub ordinary_holds : (slot : Option Memory) (what : What) → result ≡ further.Ordinary → Told what
+      → HoldsOffered limits options q room what slot → HoldsFor room (ask limits options room q) slot
+  ordinary_holds slot Ordinary is t has = has
+  ordinary_holds slot Short is t has = absurd (let e = sym t.0 ∙ is in cc)
+  ordinary_holds slot (Row row) is t has = absurd (let e = sym t.0 ∙ is in cc)
+  ordinary_holds slot Unnamed is t has = absurd (let e = sym t.0 ∙ is in cc)
+
+  pub row_holds : (slot : Option Memory) (what : What) → result ≡ further.Row → Told what
+      → HoldsOffered limits options q room what slot → HoldsAnswer mid slot
+  row_holds slot (Row row) is t has = subst (λ (c : CallData). HoldsAnswer c slot) (sym t.1) has
+  row_holds slot Ordinary is t has = absurd (let e = sym t.0 ∙ is in cc)
+  row_holds slot Short is t has = absurd (let e = sym t.0 ∙ is in cc)
+  row_holds slot Unnamed is t has = absurd (let e = sym t.0 ∙ is in cc)
+
+  pub unnamed_holds : (slot : Option Memory) (what : What) → result ≡ further.Unnamed → Told what
+      → HoldsOffered limits options q room what slot → HoldsOffered limits options q room Unnamed slot
+  unnamed_holds slot Unnamed is t has = has
+  unnamed_holds slot Ordinary is t has = absurd (let e = sym t.0 ∙ is in cc)
+  unnamed_holds slot Short is t has = absurd (let e = sym t.0 ∙ is in cc)
+  unnamed_holds slot (Row row) is t has = absurd (let e = sym t.0 ∙ is in cc)
 
   -- where memory may be wanted
   pub ordinary_wants : (u : Unread) (what : What) → result ≡ further.Ordinary → Told what
@@ -110,14 +135,21 @@ module _ (limits : Limits) (options : ℕ) (q : List ℕ) (room : ℕ) (old mid 
   checks_unnamed code call_after n Short is t checks = absurd (let e = sym t.0 ∙ is in cc)
   checks_unnamed code call_after n (Row row) is t checks = absurd (let e = sym t.0 ∙ is in cc)
 
+-- a TMPFILE whose request isn't asked
+pub none_unnamed : (limits : Limits) (options : ℕ) (q : List ℕ) (room : ℕ) (code : ℤ) (call : CallData) (told : ToldData)
+    (shown : List ℕ) → code ≡ no_memory → call ≡ nothing → shown ≡ []
+    → AsksOffered limits options q room Unnamed code call told told shown
+none_unnamed limits options q room code call told shown code_is call_is none =
+    (nothing, inr (record { why = inl code_is; no_call = refl; same_told = refl; nothing = none }), rw code_is call_is)
+
 -- ---- a code that is another's
 
-pub recode : (limits : Limits) (options : ℕ) (q : List ℕ) (room : ℕ) (what : What) (code other : ℤ) (call call_after : CallData)
+pub recode : (limits : Limits) (options : ℕ) (q : List ℕ) (room : ℕ) (what : What) (code other : ℤ) (call_after : CallData)
     (told told_after : ToldData) (shown : List ℕ) → other ≡ code
-    → AsksOffered limits options q room what code call call_after told told_after shown
-    → AsksOffered limits options q room what other call call_after told told_after shown
-recode limits options q room what code other call call_after told told_after shown is asks =
-    subst (λ (n : ℤ). AsksOffered limits options q room what n call call_after told told_after shown) (sym is) asks
+    → AsksOffered limits options q room what code call_after told told_after shown
+    → AsksOffered limits options q room what other call_after told told_after shown
+recode limits options q room what code other call_after told told_after shown is asks =
+    subst (λ (n : ℤ). AsksOffered limits options q room what n call_after told told_after shown) (sym is) asks
 
 pub recode_checks : (limits : Limits) (options : ℕ) (q : List ℕ) (room : ℕ) (what : What) (code other : ℤ)
     (call_after : CallData) (interrupts : ℕ) → other ≡ code

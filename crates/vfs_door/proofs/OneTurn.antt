@@ -1,13 +1,11 @@
 -- A request that was asked, and whose call was answered, by the library's functions, is one turn.
-use Rattle.std.proofs.Common.{◌≡◌, ◌≤◌, ◌^◌, ◌⊎◌, ◌+◌, ◌∙◌, ◌==◌, if◌then◌else◌, ℕ, ℤ, List, length, min, Bool, true, false, Option, Some, None, Result, Ok, Err, refl, ap, sym, subst, inl, inr, arith, length-append}
+use Rattle.std.proofs.Common.{◌≡◌, ◌≢◌, ◌≤◌, ◌^◌, ◌⊎◌, ◌+◌, ◌∙◌, ◌==◌, if◌then◌else◌, ℕ, ℤ, List, length, min, Bool, true, false, Option, Some, None, refl, ap, sym, subst, inl, inr, arith, length-append}
 use Rattle.std.proofs.lemmas.Bool.Decides.{nat_tests}
 use Rattle.std.specs.Prelude.{⊤}
 use Rattle.vfs_segments.specs.Written.{Written}
 use Rattle.vfs_messages.specs.Rooms.{with_behind}
 use Rattle.vfs_grammar.specs.Ask.{ask}
 use Rattle.vfs_grammar.specs.Forms.{Ask, Ends, Asks as asks_call, Lists, WithMemory}
-use Rattle.vfs_grammar.specs.declared.error.Error.{Error}
-use Rattle.vfs_grammar.specs.declared.error.Error.TheVariants as error
 use Rattle.vfs_grammar.specs.declared.limits.Limits.{Limits}
 use Rattle.vfs_calls.specs.declared.call.CallData.{CallData}
 use Rattle.vfs_calls.specs.declared.data.AnswerData.{AnswerData}
@@ -19,25 +17,13 @@ use Rattle.vfs_answer.specs.Told.{AnswersEachCall, AnswersEachListing}
 use Rattle.vfs_answer.specs.declared.answered.Answered.{Answered}
 use Rattle.vfs_messages.proofs.Rooms.{with_none_behind}
 use Rattle.vfs_in_flight.specs.OneTurn.{AreOneTurn}
-use Rattle.vfs_rooms.specs.Codes.{ok, no_memory, too_long, is_asked, number_of}
-use Rattle.vfs_door.specs.Answering.{AnswersOrNot, put_of, IsPassedOn as IsAnswerTold}
+use Rattle.vfs_rooms.specs.Codes.{no_memory, not_asked, too_long, is_asked}
+use Rattle.vfs_door.specs.Answering.{AnswersOrNot, IsPassedOn as IsAnswerTold}
 use Rattle.vfs_door.specs.Asking.{AsksOrNot, IsPassedOn}
+use Rattle.vfs_door.specs.Kept.{put_of}
 use Rattle.vfs_door.specs.Uses.{IsOneTurn}
 use Rattle.vfs_door.specs.declared.data.ToldData.{ToldData}
-
--- no outcome has the number of a call
-no_call : (outcome : Result ℕ Error) → number_of outcome ≡ is_asked → ⊥
-no_call (Ok len) is = cc
-no_call (Err error.DecodeMessage) is = cc
-no_call (Err error.EncodeMessage) is = cc
-no_call (Err error.FlushMessage) is = cc
-no_call (Err error.MissingParameter) is = cc
-no_call (Err error.InvalidCString) is = cc
-no_call (Err error.InvalidCString2) is = cc
-no_call (Err error.InvalidHeaderLength) is = cc
-no_call (Err (error.InvalidXattrSize sizes)) is = cc
-no_call (Err error.MissingExtension) is = cc
-no_call (Err error.OutOfMemory) is = cc
+use Rattle.vfs_door.proofs.Asking.{no_call}
 
 call_told : (result : Asked) (before after : Written) (code : ℤ) (told told_after : ToldData)
     (shown : List ℕ) → IsPassedOn result before after code told told_after shown → code ≡ is_asked
@@ -45,6 +31,21 @@ call_told : (result : Asked) (before after : Written) (code : ℤ) (told told_af
 call_told asked.Call before after code told told_after shown on is = refl
 call_told (asked.Finished outcome n) before after code told told_after shown on is =
     absurd (no_call outcome (sym on.0 ∙ is))
+
+-- nothing else is told then
+same_told : (result : Asked) (before after : Written) (code : ℤ) (told told_after : ToldData)
+    (shown : List ℕ) → IsPassedOn result before after code told told_after shown → code ≡ is_asked
+    → told_after ≡ told
+same_told asked.Call before after code told told_after shown on is = on.1
+same_told (asked.Finished outcome n) before after code told told_after shown on is =
+    absurd (no_call outcome (sym on.0 ∙ is))
+
+pub told_as_before : (limits : Limits) (options : ℕ) (request : List ℕ) (room : ℕ) (call : CallData) (code : ℤ)
+    (told told_after : ToldData) (shown : List ℕ)
+    → AsksOrNot limits options request room code call told told_after shown → code ≡ is_asked → told_after ≡ told
+told_as_before limits options request room call code told told_after shown (inl s) is =
+    same_told s.result s.before s.after code told told_after shown s.passed_on is
+told_as_before limits options request room call code told told_after shown (inr s) is = s.same_told
 
 -- a call is told with all the room that there was
 room_told : (request : List ℕ) (options interrupts room : ℕ) (a : Ask) (before after : Written)
@@ -75,13 +76,15 @@ listing_behind limits call a items old new came behind false is space all h =
 
 module _ (law : AreOneTurn) (limits : Limits) (options : ℕ) (request : List ℕ) (room : ℕ)
     (call : CallData) (a : AnswerData) (text : List ℕ) (items : List ItemData) where
-  of_came : (asked_in asked_after old new : Written) (came : Answered)
+  of_came : (asked_in asked_after old new : Written) (came : Answered) (code : ℤ) (told told_after : ToldData)
+      (shown : List ℕ)
       → IsAsked limits options request asked_in asked.Call asked_after call
       → length asked_in.left ≡ room → length old.left ≡ put_of call call.room
       → AnswersEachCall limits call a text old (Some came) new
       → AnswersEachListing limits call a items old (Some came) new
-      → IsOneTurn limits options request room a text items
-  of_came asked_in asked_after old new came is space put calls listings =
+      → IsAnswerTold (Some came) call old new code told told_after shown
+      → IsOneTurn limits options request room call a text items code told told_after shown
+  of_came asked_in asked_after old new came code t t1 shown is space put calls listings on =
       let told = room_told request options (interrupted_by limits request) (length asked_in.left)
       (ask limits options (length asked_in.left) request) asked_in asked_after call is in
       record {
@@ -96,6 +99,7 @@ module _ (law : AreOneTurn) (limits : Limits) (options : ℕ) (request : List �
               listing = listing_behind limits call a items old new came behind (call.answer == 3) refl put
                   (all ∙ sym space ∙ sym told) listings;
             });
+        passed_on = on;
       }
 
   by_result : (asked_in asked_after old new : Written) (result : Option Answered) (code : ℤ)
@@ -104,26 +108,25 @@ module _ (law : AreOneTurn) (limits : Limits) (options : ℕ) (request : List �
       → length asked_in.left ≡ room → length old.left ≡ put_of call call.room
       → AnswersEachCall limits call a text old result new
       → AnswersEachListing limits call a items old result new
-      → IsAnswerTold result call old new code told told_after shown → code ≡ ok
-      → IsOneTurn limits options request room a text items
-  by_result asked_in asked_after old new None code told told_after shown is space put calls listings on fine =
-      absurd (let e = on.0 in cc (e, fine))
-  by_result asked_in asked_after old new (Some came) code told told_after shown is space put calls listings on fine =
-      of_came asked_in asked_after old new came is space put calls listings
+      → IsAnswerTold result call old new code told told_after shown → code ≢ not_asked
+      → IsOneTurn limits options request room call a text items code told told_after shown
+  by_result asked_in asked_after old new None code told told_after shown is space put calls listings on came =
+      absurd (came on.0)
+  by_result asked_in asked_after old new (Some came) code told told_after shown is space put calls listings on not =
+      of_came asked_in asked_after old new came code told told_after shown is space put calls listings on
 
-  -- both by the library's functions
-  pub one_turn : (first second : ℤ) (call_before : CallData) (t t1 u u1 : ToldData) (k l : List ℕ)
-      → AsksOrNot limits options request room first call_before call t t1 k → first ≡ is_asked
-      → AnswersOrNot limits call a text items second u u1 l → second ≡ ok
-      → IsOneTurn limits options request room a text items
-  one_turn first second call_before t t1 u u1 k l (inl s) asks (inl r) fine =
+  -- both by the library's functions, with a slot that has memory
+  pub one_turn : (first second : ℤ) (t t1 u u1 : ToldData) (k l : List ℕ)
+      → AsksOrNot limits options request room first call t t1 k → first ≡ is_asked
+      → AnswersOrNot limits call a text items second u u1 l → second ≢ no_memory → second ≢ not_asked
+      → IsOneTurn limits options request room call a text items second u u1 l
+  one_turn first second t t1 u u1 k l (inl s) asks (inl r) has came =
       let told = call_told s.result s.before s.after first t t1 k s.passed_on asks in
       let is = subst (λ (x : Asked). IsAsked limits options request s.before x s.after call) told s.asked in
       by_result s.before s.after r.before r.after r.result second u u1 l is s.space r.space r.calls r.listings
-      r.passed_on fine
-  one_turn first second call_before t t1 u u1 k l (inl s) asks (inr r) fine =
-      absurd (cc (r.why, fine))
-  one_turn first second call_before t t1 u u1 k l (inr s) asks h fine = absurd (refused s.why)
+      r.passed_on came
+  one_turn first second t t1 u u1 k l (inl s) asks (inr r) has came = absurd (has r.why)
+  one_turn first second t t1 u u1 k l (inr s) asks h has came = absurd (refused s.why)
     where
       refused : (first ≡ no_memory) ⊎ ((first ≡ too_long) × (2 ^ 64 ≤ length request)) → ⊥
       refused (inl none) = cc (none, asks)

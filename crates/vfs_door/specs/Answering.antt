@@ -1,5 +1,5 @@
 -- What C is told of a call that was answered.
-use Rattle.std.specs.Prelude.{◌≡◌, ◌≤◌, ◌==◌, ◌||◌, ◌&&◌, if◌then◌else◌, ◌⊎◌, ℕ, ℤ, pos, List, [], length, min, Option, Some, None, IfSome}
+use Rattle.std.specs.Prelude.{◌≡◌, ◌≤◌, ◌==◌, ◌||◌, ◌&&◌, if◌then◌else◌, ◌⊎◌, ℕ, ℤ, pos, List, [], length, Option, Some, None, IfSome}
 use Rattle.std.specs.Ordering.{int_eq}
 use Rattle.vfs_segments.specs.Written.{Written}
 use Rattle.vfs_grammar.specs.declared.limits.Limits.{Limits}
@@ -12,13 +12,9 @@ use Rattle.vfs_answer.specs.Answering.{Answers}
 use Rattle.vfs_answer.specs.Told.{AnswersEachCall, AnswersEachListing}
 use Rattle.vfs_answer.specs.declared.answered.Answered.{Answered}
 use Rattle.vfs_rooms.specs.Codes.{no_memory, not_asked, number_of, length_of}
+use Rattle.vfs_door.specs.Kept.{put_of}
 use Rattle.vfs_door.specs.Shown.{AreFirst}
 use Rattle.vfs_door.specs.declared.data.ToldData.{ToldData}
-
--- Of so many bytes of a reply, or of its room, those that are put: all, but of a READ the header's 16 at
--- most. Behind them the data are the caller's.
-abbrev pub put_of : CallData → (len : ℕ) → ℕ
-put_of call len = if call.answer == kind.DATA then min len 16 else len
 
 -- the node of the entry that was answered to a call whose answers have one, and 0 where there is none
 abbrev pub entry_of : CallData → AnswerData → ℕ

@@ -6,6 +6,7 @@ use Rattle.vfs_segments.specs.Unread.{Unread}
 use Rattle.vfs_segments.specs.Written.{Written}
 use Rattle.vfs_grammar.specs.declared.error.Error.{Error}
 use Rattle.vfs_grammar.specs.declared.limits.Limits.{Limits}
+use Rattle.vfs_calls.specs.Shapes.{nothing}
 use Rattle.vfs_calls.specs.declared.call.CallData.{CallData}
 use Rattle.vfs_ask.specs.Asked.{IsAsked}
 use Rattle.vfs_ask.specs.declared.asked.Asked.{Asked}
@@ -44,22 +45,21 @@ pub record Asks (limits : Limits) (options : ℕ) (request : List ℕ) (room : �
   pub asked : IsAsked limits options request before result after call_after
   pub passed_on : IsPassedOn result before after code told told_after shown
 
--- The request was not asked, for want of memory or since the lengths of its pieces sum past the largest
--- count. Nothing is told, and nothing is there to be copied out.
-pub record IsNotAsked (request : List ℕ) (code : ℤ) (call call_after : CallData)
-    (told told_after : ToldData) (shown : List ℕ) : Type 0 where
+-- The request was not asked, for want of memory, perhaps for an answer to its call, or since the lengths of its
+-- pieces sum past the largest count. No call is told, and nothing is there to be copied out.
+pub record IsNotAsked (request : List ℕ) (code : ℤ) (call_after : CallData) (told told_after : ToldData)
+    (shown : List ℕ) : Type 0 where
   pub why : (code ≡ no_memory) ⊎ ((code ≡ too_long) × (2 ^ 64 ≤ length request))
-  pub same_call : call_after ≡ call
+  pub no_call : call_after ≡ nothing
   pub same_told : told_after ≡ told
   pub nothing : shown ≡ []
 
 -- a request with so many bytes of room was asked, or not
 abbrev pub AsksOrNot : (limits : Limits) → (options : ℕ) → (request : List ℕ) → (room : ℕ)
-    → (code : ℤ) → (call call_after : CallData) → (told told_after : ToldData) → (shown : List ℕ)
-    → Type 0
-AsksOrNot limits options request room code call call_after told told_after shown =
+    → (code : ℤ) → (call_after : CallData) → (told told_after : ToldData) → (shown : List ℕ) → Type 0
+AsksOrNot limits options request room code call_after told told_after shown =
     Asks limits options request room code call_after told told_after shown
-    ⊎ IsNotAsked request code call call_after told told_after shown
+    ⊎ IsNotAsked request code call_after told told_after shown
 
 -- a reader of all bytes of a request that lies in these segments
 abbrev pub unread_in : List (List ℕ) → Unread

@@ -1,8 +1,9 @@
 -- What C is told of a request that is asked by both tables.
-use Rattle.std.specs.Prelude.{◌≡◌, if◌then◌else◌, ℕ, ℤ, pos, List, [], Err}
+use Rattle.std.specs.Prelude.{◌≡◌, ⊤, if◌then◌else◌, ℕ, ℤ, pos, List, [], Option, Err}
 use Rattle.std.specs.Ordering.{int_eq}
 use Rattle.vfs_flags.specs.Numbers.{eio}
 use Rattle.vfs_segments.specs.Unread.{Unread}
+use Rattle.vfs_grammar.specs.Ask.{ask}
 use Rattle.vfs_grammar.specs.declared.error.Error.TheVariants.{DecodeMessage}
 use Rattle.vfs_grammar.specs.declared.limits.Limits.{Limits}
 use Rattle.vfs_calls.specs.Shapes.{nothing}
@@ -17,7 +18,9 @@ use Rattle.vfs_further.specs.Turns.{as_create}
 use Rattle.vfs_rooms.specs.Codes.{is_asked, number_of}
 use Rattle.vfs_door.specs.Asking.{AsksOrNot, finished}
 use Rattle.vfs_door.specs.Checking.{Checks}
+use Rattle.vfs_door.specs.Kept.{HoldsAnswer, HoldsFor, TellsOrNot}
 use Rattle.vfs_door.specs.declared.data.ToldData.{ToldData}
+use Rattle.vfs_door.specs.declared.memory.Memory.{Memory}
 
 -- the call of a CREATE that was told, under TMPFILE's number; where none was told, what is there stays
 abbrev pub named : (code : ℤ) → CallData → CallData
@@ -26,20 +29,27 @@ named code call = if int_eq code is_asked then named_tmpfile call else call
 -- What is told of a request that asks this: what is told by virtiofsd's table; or that it is refused; or the call of a
 -- row; or what is told of the CREATE, whose call is TMPFILE's.
 abbrev pub AsksOffered : Limits → (options : ℕ) → (request : List ℕ) → (room : ℕ) → What → (code : ℤ)
-    → (call call_after : CallData) → (told told_after : ToldData) → (shown : List ℕ) → Type 0
-AsksOffered limits options q room Ordinary code call call_after told told_after shown =
-    AsksOrNot limits options q room code call call_after told told_after shown
-AsksOffered limits options q room Short code call call_after told told_after shown =
+    → (call_after : CallData) → (told told_after : ToldData) → (shown : List ℕ) → Type 0
+AsksOffered limits options q room Ordinary code call_after told told_after shown =
+    AsksOrNot limits options q room code call_after told told_after shown
+AsksOffered limits options q room Short code call_after told told_after shown =
     (code ≡ number_of (Err DecodeMessage)) × (call_after ≡ nothing)
     × (told_after ≡ finished (Err DecodeMessage) 0 told) × (shown ≡ [])
-AsksOffered limits options q room (Row row) code call call_after told told_after shown =
-    (code ≡ is_asked) × (call_after ≡ told_under options room row) × (told_after ≡ told) × (shown ≡ [])
-AsksOffered limits options q room Unnamed code call call_after told told_after shown =
+AsksOffered limits options q room (Row row) code call_after told told_after shown =
+    TellsOrNot code (told_under options room row) call_after ⊤ × (told_after ≡ told) × (shown ≡ [])
+AsksOffered limits options q room Unnamed code call_after told told_after shown =
     (created : CallData)
-    × AsksOrNot limits options (as_create q) room code call created told told_after shown
+    × AsksOrNot limits options (as_create q) room code created told told_after shown
     × (call_after ≡ named code created)
 
--- memory may be wanted for a request that asks this: for none of a row
+-- a slot has memory for what comes of a request that asks this
+abbrev pub HoldsOffered : Limits → (options : ℕ) → (request : List ℕ) → (room : ℕ) → What → Option Memory → Type 0
+HoldsOffered limits options q room Ordinary slot = HoldsFor room (ask limits options room q) slot
+HoldsOffered limits options q room Short slot = ⊤
+HoldsOffered limits options q room (Row row) slot = HoldsAnswer (told_under options room row) slot
+HoldsOffered limits options q room Unnamed slot = HoldsFor room (ask limits options room (as_create q)) slot
+
+-- memory besides may be wanted for a request that asks this: for none of a row
 abbrev pub MayWantOffered : Limits → (options room : ℕ) → Unread → What → Type 0
 MayWantOffered limits options room u Ordinary = MayWant limits options room u
 MayWantOffered limits options room u Short = ⊥
@@ -61,9 +71,6 @@ ChecksOffered limits options q room Unnamed code call interrupts =
     × (call ≡ named code created)
 
 -- ---- of small callers
-
-abbrev pub usual_limits : Limits
-usual_limits = record { page_size = 4096; max_buffer = 1048576 }
 
 -- an answer with the error EIO
 abbrev pub with_eio : AnswerData → AnswerData

@@ -1,6 +1,7 @@
 -- What is there to be copied out.
-use Rattle.std.specs.Prelude.{◌≡◌, ◌≤◌, ◌++◌, ℕ, List, [], ◌∷◌, length, take, drop, Option, None, Some}
+use Rattle.std.specs.Prelude.{◌≡◌, ◌++◌, if◌then◌else◌, ℕ, List, [], ◌∷◌, take, drop, Option, None, Some}
 use Rattle.vfs_segments.specs.Written.{Written, whole}
+use Rattle.vfs_door.specs.declared.memory.Part.{Part}
 use Rattle.vfs_door.specs.declared.memory.Memory.{Memory}
 
 -- of memory with one segment, the first bytes of its last room
@@ -8,13 +9,13 @@ abbrev pub shown_of : (lengths : List ℕ) → (bytes : List ℕ) → (start sho
 shown_of (n ∷ []) bytes start shown = take shown (drop start bytes)
 shown_of lengths bytes start shown = []
 
+-- the first bytes of the last room of a part
+abbrev pub bytes_in : Part → (shown : ℕ) → List ℕ
+bytes_in p shown = shown_of p.writer.lengths (whole p.writer) p.start shown
+
 -- the bytes that are there to be copied out of this memory
 abbrev pub bytes_shown : Memory → List ℕ
-bytes_shown m = shown_of m.writer.lengths (whole m.writer) m.start m.shown
-
--- the memory has one segment, of at least so many bytes: such a room takes no memory
-abbrev pub HasRoomFor : (room : ℕ) → Memory → Type 0
-HasRoomFor room m = (length m.writer.lengths ≡ 1) × (room ≤ length (whole m.writer))
+bytes_shown m = bytes_in (if m.was_asked then m.asked else m.answers) m.shown
 
 -- those of a slot
 abbrev pub shown_in : Option Memory → List ℕ

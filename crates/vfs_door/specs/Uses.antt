@@ -1,5 +1,5 @@
 -- What small callers of the library say.
-use Rattle.std.specs.Prelude.{◌≡◌, ◌+◌, ℕ, List, [], ◌∷◌, length}
+use Rattle.std.specs.Prelude.{◌≡◌, ◌+◌, ℕ, ℤ, List, [], ◌∷◌, length, Some}
 use Rattle.vfs_segments.specs.Written.{Written}
 use Rattle.vfs_messages.specs.Rooms.{with_behind}
 use Rattle.vfs_grammar.specs.Samples.{lookup_of_a}
@@ -12,6 +12,11 @@ use Rattle.vfs_grammar.specs.declared.limits.Limits.{Limits}
 use Rattle.vfs_ask.specs.Asked.{IsNameIn}
 use Rattle.vfs_answer.specs.declared.answered.Answered.{Answered}
 use Rattle.vfs_in_flight.specs.OneTurn.{IsAnsweredTurn}
+use Rattle.vfs_door.specs.Answering.{IsPassedOn}
+use Rattle.vfs_door.specs.declared.data.ToldData.{ToldData}
+
+abbrev pub usual_limits : Limits
+usual_limits = record { page_size = 4096; max_buffer = 1048576 }
 
 -- the call that request 9 asks for, a LOOKUP of the name `a` in node 1, with 4096 bytes of room
 pub record IsLookupOfA (call : CallData) : Type 0 where
@@ -30,13 +35,15 @@ abbrev pub no_such_name : List ℕ
 no_such_name =
     0x10 ∷ 0 ∷ 0 ∷ 0 ∷ 0xfe ∷ 0xff ∷ 0xff ∷ 0xff ∷ 9 ∷ 0 ∷ 0 ∷ 0 ∷ 0 ∷ 0 ∷ 0 ∷ 0 ∷ []
 
--- A request with so much room was one turn of the grammar, with this answer, whatever stood in the room
--- behind the first bytes that were put.
-pub record IsOneTurn (limits : Limits) (options : ℕ) (request : List ℕ) (room : ℕ) (a : AnswerData)
-    (text : List ℕ) (items : List ItemData) : Type 0 where
+-- A request with so much room was one turn of the grammar, with this answer to the call that was told, whatever stood
+-- in the room behind the first bytes that were put; and what came of it was told so.
+pub record IsOneTurn (limits : Limits) (options : ℕ) (request : List ℕ) (room : ℕ) (call : CallData)
+    (a : AnswerData) (text : List ℕ) (items : List ItemData) (code : ℤ) (told told_after : ToldData)
+    (shown : List ℕ) : Type 0 where
   pub before : Written
   pub came : Answered
   pub after : Written
   pub turn : (behind : List ℕ) → length before.left + length behind ≡ room
       → IsAnsweredTurn limits options request a text items (with_behind before behind) came
       (with_behind after behind)
+  pub passed_on : IsPassedOn (Some came) call before after code told told_after shown

@@ -1,10 +1,11 @@
 //! Answering a call.
 
-ghost use Rattle.std.specs.Prelude.{◌≡◌, ◌≢◌};
+ghost use Rattle.std.specs.Prelude.{◌≡◌, ◌≢◌, ℕ};
 ghost use Rattle.vfs_grammar.specs.Limits.{AreLimits};
 ghost use Rattle.vfs_rooms.specs.Codes.{no_memory};
-ghost use Rattle.vfs_door.specs.Answering.{AnswersOrNot, entry_of, put_of};
-ghost use Rattle.vfs_door.specs.Shown.{HasRoomFor, bytes_shown};
+ghost use Rattle.vfs_door.specs.Answering.{AnswersOrNot, entry_of};
+ghost use Rattle.vfs_door.specs.Kept.{HasRoomFor, put_of};
+ghost use Rattle.vfs_door.specs.Shown.{bytes_shown};
 
 use crate::ask::number_and_length;
 use crate::data::ToldData;
@@ -16,10 +17,10 @@ use vfs_grammar::Limits;
 use vfs_rooms::codes::{NOT_ASKED, OUT_OF_MEMORY};
 
 /// The bytes of the header of a reply.
-const HEADER_SIZE: usize = 16;
+pub const HEADER_SIZE: usize = 16;
 
-// Of so many bytes those that are put: all, but of a READ the header's at most.
-fn put_of(call: &CallData, len: usize) -> usize
+/// Of so many bytes those that are put: all, but of a READ the header's at most.
+pub fn put_of(call: &CallData, len: usize) -> usize
     ensures { result ≡ put_of call.now len }
 {
     if call.answer == kind::DATA {
@@ -54,14 +55,22 @@ pub fn answer_call(
     requires { AreLimits limits }
     ensures answered { AnswersOrNot limits call.now answer.now text.now items.now
         result told.old told.new (bytes_shown memory.new) }
-    ensures memory { HasRoomFor (put_of call.now call.now.room) memory.old → result ≢ no_memory }
+    ensures memory { HasRoomFor (put_of call.now call.now.room) memory.old.answers → result ≢ no_memory }
+    ensures keeps { (n : ℕ) → HasRoomFor n memory.old.answers → HasRoomFor n memory.new.answers }
 {
     let room = put_of(call, call.room as usize);
-    if !memory.begin(alloc, room) {
+    if !memory.begin_answer(alloc, room) {
         told.give_back = entry_of(call, answer);
         return OUT_OF_MEMORY;
     }
-    match put_answer(limits, call, answer, text, items, &mut memory.writer) {
+    match put_answer(
+        limits,
+        call,
+        answer,
+        text,
+        items,
+        &mut memory.answers.writer,
+    ) {
         None => NOT_ASKED,
         Some(came) => {
             let (code, len) = number_and_length(&came.outcome);

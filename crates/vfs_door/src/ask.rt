@@ -1,23 +1,27 @@
 //! Asking a request for its call.
 
-ghost use Rattle.std.specs.Prelude.{◌≡◌, ◌≢◌, ◌≤◌, ◌++◌, ⊤, false, length, min, true, MatchOption};
+ghost use Rattle.std.specs.Prelude.{◌≡◌, ◌≢◌, ◌≤◌, ◌++◌, ℕ, ⊤, false, length, min, true, MatchOption};
 ghost use Rattle.vfs_flags.specs.Flags.{fs_options_bits};
 ghost use Rattle.vfs_segments.specs.Segments.{segments_of, flat_bytes};
 ghost use Rattle.vfs_segments.specs.Written.{Written};
+ghost use Rattle.vfs_grammar.specs.Ask.{ask as ask_of};
 ghost use Rattle.vfs_grammar.specs.Limits.{AreLimits};
+ghost use Rattle.vfs_calls.specs.Shapes.{nothing};
 ghost use Rattle.vfs_ask.specs.Asked.{IsAsked};
 ghost use Rattle.vfs_ask.specs.Memory.{MayWant};
 ghost use Rattle.vfs_ask.specs.declared.asked.Asked.TheVariants.{Call as IsCall};
-ghost use Rattle.vfs_rooms.specs.Codes.{length_of, no_memory, number_of};
+ghost use Rattle.vfs_rooms.specs.Codes.{is_asked, length_of, no_memory, number_of};
 ghost use Rattle.vfs_door.specs.Asking.{AsksOrNot, unread_in};
+ghost use Rattle.vfs_door.specs.Kept.{HasFor, HasRoomFor, TellsOrNot, put_of};
 ghost use Rattle.vfs_door.specs.Session.{limits_of, options_of};
-ghost use Rattle.vfs_door.specs.Shown.{HasRoomFor, bytes_shown};
+ghost use Rattle.vfs_door.specs.Shown.{bytes_shown};
 
+use crate::answer::{HEADER_SIZE, put_of};
 use crate::data::{SessionData, ToldData};
-use crate::memory::Memory;
+use crate::memory::{Memory, Part};
 use std::alloc::Global;
 use vfs_ask::{Asked, LONGEST_REPLY, ask, ask_at_once};
-use vfs_calls::{CallData, number};
+use vfs_calls::{CallData, kind, number};
 use vfs_flags::FsOptions;
 use vfs_grammar::{Limits, Result};
 use vfs_rooms::codes::{ASKED, OK, OUT_OF_MEMORY, TOO_LONG, told as code_of};
@@ -39,6 +43,56 @@ pub fn number_and_length(outcome: &Result<usize>) -> (i32, usize)
     }
 }
 
+/// The code of a request that isn't asked. No call is told.
+#[cold]
+#[inline(never)]
+pub fn not_asked(code: i32, call: &mut CallData) -> i32
+    ensures code { result ≡ code }
+    ensures none { call.new ≡ nothing }
+{
+    *call = CallData::NONE;
+    code
+}
+
+// Whether this is memory for any answer to a call. Where it isn't found to be so at once, it may be.
+#[inline(always)]
+fn has_for(part: &Part, call: &CallData) -> bool
+    ensures { result ≡ true → HasRoomFor (put_of call.now call.now.room) part.now }
+{
+    part.has(call.room as usize) || (call.answer == kind::DATA && part.has(HEADER_SIZE))
+}
+
+// Takes memory for any answer to a call, and tells it; else none is told.
+#[inline(never)]
+fn take_and_tell(alloc: Global, memory: &mut Memory, call: &mut CallData) -> i32
+    ensures told { TellsOrNot result call.old call.new
+        (HasRoomFor (put_of call.old call.old.room) memory.new.answers) }
+    ensures has { HasRoomFor (put_of call.old call.old.room) memory.old.answers → result ≡ is_asked }
+    ensures keeps { (n : ℕ) → HasRoomFor n memory.old.answers → HasRoomFor n memory.new.answers }
+    ensures same_shown { memory.new.shown ≡ memory.old.shown }
+{
+    let room = put_of(call, call.room as usize);
+    if memory.answers.keep(alloc, room) {
+        return ASKED;
+    }
+    not_asked(OUT_OF_MEMORY, call)
+}
+
+/// Tells a call, if there is memory for any answer to it, which is kept. Else none is told.
+#[inline(always)]
+pub fn tell_call(alloc: Global, memory: &mut Memory, call: &mut CallData) -> i32
+    ensures told { TellsOrNot result call.old call.new
+        (HasRoomFor (put_of call.old call.old.room) memory.new.answers) }
+    ensures has { HasRoomFor (put_of call.old call.old.room) memory.old.answers → result ≡ is_asked }
+    ensures keeps { (n : ℕ) → HasRoomFor n memory.old.answers → HasRoomFor n memory.new.answers }
+    ensures same_shown { memory.new.shown ≡ memory.old.shown }
+{
+    if has_for(&memory.answers, call) {
+        return ASKED;
+    }
+    take_and_tell(alloc, memory, call)
+}
+
 /// Asks the request in these segments, with `room` bytes of room: the code of what came of it.
 pub fn ask_segments(
     alloc: Global,
@@ -53,16 +107,20 @@ pub fn ask_segments(
     requires { AreLimits limits }
     ensures asked { AsksOrNot limits (fs_options_bits options)
         (flat_bytes (segments_of request.now)) room
-        result call.old call.new told.old told.new (bytes_shown memory.new) }
-    ensures memory { HasRoomFor (min room 80) memory.old → length request.now ≤ 4 →
+        result call.new told.old told.new (bytes_shown memory.new) }
+    ensures memory { HasRoomFor (min room 80) memory.old.asked →
+        HasFor room (ask_of limits (fs_options_bits options) room (flat_bytes (segments_of request.now)))
+        memory.old.answers → length request.now ≤ 4 →
         ¬ (MayWant limits (fs_options_bits options) room (unread_in (segments_of request.now))) →
         result ≢ no_memory }
+    ensures kept { result ≡ is_asked → HasRoomFor (put_of call.new call.new.room) memory.new.answers }
+    ensures keeps { (n : ℕ) → HasRoomFor n memory.old.answers → HasRoomFor n memory.new.answers }
 {
     memory.shown = 0;
     match Reader::new(alloc, request) {
         Ok(reader) => ask_reader(alloc, memory, limits, options, reader, room, call, told),
-        Err(vfs_segments::Error::DescriptorChainOverflow) => TOO_LONG,
-        Err(_) => OUT_OF_MEMORY,
+        Err(vfs_segments::Error::DescriptorChainOverflow) => not_asked(TOO_LONG, call),
+        Err(_) => not_asked(OUT_OF_MEMORY, call),
     }
 }
 
@@ -132,12 +190,15 @@ fn ask_reader(
 ) -> i32
     requires { AreLimits limits }
     ensures asked { AsksOrNot limits (fs_options_bits options) reader.entry.left room
-        result call.old call.new told.old told.new (bytes_shown memory.new) }
-    ensures memory { HasRoomFor (min room 80) memory.old →
+        result call.new told.old told.new (bytes_shown memory.new) }
+    ensures memory { HasRoomFor (min room 80) memory.old.asked →
+        HasFor room (ask_of limits (fs_options_bits options) room reader.entry.left) memory.old.answers →
         ¬ (MayWant limits (fs_options_bits options) room reader.entry) → result ≢ no_memory }
+    ensures kept { result ≡ is_asked → HasRoomFor (put_of call.new call.new.room) memory.new.answers }
+    ensures keeps { (n : ℕ) → HasRoomFor n memory.old.answers → HasRoomFor n memory.new.answers }
 {
-    if !memory.begin(alloc, room.min(LONGEST_REPLY)) {
-        return OUT_OF_MEMORY;
+    if !memory.begin_ask(alloc, room.min(LONGEST_REPLY)) {
+        return not_asked(OUT_OF_MEMORY, call);
     }
     let asked = ask(
         alloc,
@@ -145,11 +206,11 @@ fn ask_reader(
         options,
         reader,
         room,
-        &mut memory.writer,
+        &mut memory.asked.writer,
         call,
     );
     match asked {
-        Asked::Call => ASKED,
+        Asked::Call => tell_call(alloc, memory, call),
         Asked::Finished {
             outcome,
             interrupts,

@@ -1,11 +1,11 @@
 //! The door of a file system that offers rows of the further table: calls that virtiofsd has not.
 
-ghost use Rattle.std.specs.Prelude.{◌≡◌, ◌≢◌, ◌≤◌, [], length, min, Err};
-ghost use Rattle.std.specs.declared.option.Option.TheVariants.{Some};
+ghost use Rattle.std.specs.Prelude.{◌≡◌, ◌≢◌, ◌≤◌, ℕ, [], length, min, Err};
 ghost use Rattle.vfs_flags.specs.Flags.{fs_options_bits};
 ghost use Rattle.vfs_segments.specs.Segments.{segments_of, flat_bytes};
 ghost use Rattle.vfs_calls.specs.declared.call.number.TheConstants.{CREATE};
 ghost use Rattle.vfs_calls.specs.Shapes.{nothing};
+ghost use Rattle.vfs_grammar.specs.Ask.{ask as ask_of};
 ghost use Rattle.vfs_grammar.specs.Limits.{AreLimits};
 ghost use Rattle.vfs_grammar.specs.declared.error.Error.TheVariants.{DecodeMessage};
 ghost use Rattle.vfs_ask.specs.Memory.{MayWant};
@@ -13,20 +13,20 @@ ghost use Rattle.vfs_ask.specs.WithOpcode.{unread_with_opcode};
 ghost use Rattle.vfs_further.specs.Fitting.{answer_offered};
 ghost use Rattle.vfs_further.specs.Further.{Unnamed, what_of};
 ghost use Rattle.vfs_further.specs.Turns.{as_create};
-ghost use Rattle.vfs_rooms.specs.Codes.{no_memory, number_of, wrong_size};
-ghost use Rattle.vfs_door.specs.Answering.{AnswersOrNot, put_of};
+ghost use Rattle.vfs_rooms.specs.Codes.{is_asked, no_memory, number_of, wrong_size};
+ghost use Rattle.vfs_door.specs.Answering.{AnswersOrNot};
 ghost use Rattle.vfs_door.specs.Asking.{AsksOrNot, finished, unread_in};
-ghost use Rattle.vfs_door.specs.Further.{AsksOffered, ChecksOffered, MayWantOffered, named};
+ghost use Rattle.vfs_door.specs.Further.{AsksOffered, ChecksOffered, HoldsOffered, MayWantOffered, named};
+ghost use Rattle.vfs_door.specs.Kept.{HasFor, HasRoomFor, Holds, HoldsAnswer, put_of};
 ghost use Rattle.vfs_door.specs.Session.{limits_of, options_of};
-ghost use Rattle.vfs_door.specs.Shown.{HasRoomFor, bytes_shown, shown_in};
-ghost use Rattle.vfs_door.specs.declared.memory.Memory.{Memory};
+ghost use Rattle.vfs_door.specs.Shown.{bytes_shown, shown_in};
 
-use crate::ask::number_and_length;
+use crate::ask::{not_asked, number_and_length, tell_call};
 use crate::check::{code_and_number, nizwarf_check_at, reader_of};
 use crate::data::{SessionData, ToldData};
 use crate::handle::Handle;
 use crate::memory::Memory;
-use crate::{memory_of, nizwarf_answer_at, nizwarf_ask_at, show_nothing};
+use crate::{memory_of, nizwarf_answer_at, nizwarf_ask_at, show_nothing, tell_in_slot};
 use std::alloc::Global;
 use vfs_ask::{Asked, LONGEST_REPLY, ask_as, check_as};
 use vfs_calls::{AnswerData, CallData, ItemData, number};
@@ -48,8 +48,8 @@ fn name(code: i32, call: &mut CallData)
 /// Asks the request in these segments for its call, as [`nizwarf_ask_at`], where the file system offers these
 /// rows. What `offers` has no row of is asked as ever.
 ///
-/// Of a row that is offered it answers 15, and the call is told in `call`, or 1 where the request is cut: no
-/// memory is taken. A TMPFILE is asked as a CREATE, and its call is told as TMPFILE.
+/// Of a row that is offered it answers 15, and the call is told in `call`, or 1 where the request is cut, or 10 where
+/// there is no memory for an answer to the call. A TMPFILE is asked as a CREATE, and its call is told as TMPFILE.
 #[unsafe(no_mangle)]
 pub extern "C" fn nizwarf_ask_offered_at(
     alloc: Global,
@@ -68,15 +68,19 @@ pub extern "C" fn nizwarf_ask_offered_at(
         AsksOffered (limits_of session.now) (options_of session.now)
         (flat_bytes (segments_of request.now)) room
         (what_of offers (limits_of session.now) (flat_bytes (segments_of request.now)))
-        result call.old call.new told.old told.new (shown_in handle.new.value) }
+        result call.new told.old told.new (shown_in handle.new.value) }
 
     // A slot that has memory wants no more, but as `nizwarf_ask_at` does.
-    ensures memory { (m : Memory) → handle.old.value ≡ Some m → HasRoomFor (min room 80) m →
-        length request.now ≤ 4 →
+    ensures memory { HoldsOffered (limits_of session.now) (options_of session.now)
+        (flat_bytes (segments_of request.now)) room
+        (what_of offers (limits_of session.now) (flat_bytes (segments_of request.now)))
+        handle.old.value → length request.now ≤ 4 →
         ¬ (MayWantOffered (limits_of session.now) (options_of session.now) room
         (unread_in (segments_of request.now))
         (what_of offers (limits_of session.now) (flat_bytes (segments_of request.now)))) →
         result ≢ no_memory }
+    ensures kept { result ≡ is_asked → HoldsAnswer call.new handle.new.value }
+    ensures keeps { (n : ℕ) → Holds n handle.old.value → Holds n handle.new.value }
 {
     let Some(limits) = session.limits() else {
         return WRONG_SIZE;
@@ -85,10 +89,7 @@ pub extern "C" fn nizwarf_ask_offered_at(
     match what(offers, limits, options, request, room, call) {
         Further::Ordinary => nizwarf_ask_at(alloc, handle, session, request, room, call, told),
         Further::Short => refuse(alloc, handle, call, told),
-        Further::Row => {
-            show_nothing(alloc, handle);
-            ASKED
-        }
+        Further::Row => tell_in_slot(alloc, handle, call),
         Further::Unnamed => ask_unnamed(alloc, handle, limits, options, request, room, call, told),
     }
 }
@@ -99,6 +100,7 @@ fn refuse(alloc: Global, handle: &mut Handle, call: &mut CallData, told: &mut To
     ensures call { call.new ≡ nothing }
     ensures told { told.new ≡ finished (Err DecodeMessage) 0 told.old }
     ensures shown { shown_in handle.new.value ≡ [] }
+    ensures keeps { (n : ℕ) → Holds n handle.old.value → Holds n handle.new.value }
 {
     show_nothing(alloc, handle);
     *call = CallData::NONE;
@@ -122,14 +124,16 @@ fn ask_unnamed(
 ) -> i32
     requires { AreLimits limits }
     ensures asked { AsksOffered limits (fs_options_bits options) (flat_bytes (segments_of request.now)) room
-        Unnamed result call.old call.new told.old told.new (shown_in handle.new.value) }
-    ensures memory { (m : Memory) → handle.old.value ≡ Some m → HasRoomFor (min room 80) m →
-        length request.now ≤ 4 →
+        Unnamed result call.new told.old told.new (shown_in handle.new.value) }
+    ensures memory { HoldsOffered limits (fs_options_bits options) (flat_bytes (segments_of request.now)) room
+        Unnamed handle.old.value → length request.now ≤ 4 →
         ¬ (MayWantOffered limits (fs_options_bits options) room (unread_in (segments_of request.now))
         Unnamed) → result ≢ no_memory }
+    ensures kept { result ≡ is_asked → HoldsAnswer call.new handle.new.value }
+    ensures keeps { (n : ℕ) → Holds n handle.old.value → Holds n handle.new.value }
 {
     let Some(mut memory) = memory_of(alloc, handle) else {
-        return OUT_OF_MEMORY;
+        return not_asked(OUT_OF_MEMORY, call);
     };
     let code = ask_segments_as(
         alloc,
@@ -160,17 +164,22 @@ fn ask_segments_as(
     requires { AreLimits limits }
     ensures asked { AsksOrNot limits (fs_options_bits options)
         (as_create (flat_bytes (segments_of request.now))) room
-        result call.old call.new told.old told.new (bytes_shown memory.new) }
-    ensures memory { HasRoomFor (min room 80) memory.old → length request.now ≤ 4 →
+        result call.new told.old told.new (bytes_shown memory.new) }
+    ensures memory { HasRoomFor (min room 80) memory.old.asked →
+        HasFor room (ask_of limits (fs_options_bits options) room
+        (as_create (flat_bytes (segments_of request.now)))) memory.old.answers →
+        length request.now ≤ 4 →
         ¬ (MayWant limits (fs_options_bits options) room
         (unread_with_opcode CREATE (unread_in (segments_of request.now)))) →
         result ≢ no_memory }
+    ensures kept { result ≡ is_asked → HasRoomFor (put_of call.new call.new.room) memory.new.answers }
+    ensures keeps { (n : ℕ) → HasRoomFor n memory.old.answers → HasRoomFor n memory.new.answers }
 {
     memory.shown = 0;
     match Reader::new(alloc, request) {
         Ok(reader) => ask_reader_as(alloc, memory, limits, options, reader, room, call, told),
-        Err(vfs_segments::Error::DescriptorChainOverflow) => TOO_LONG,
-        Err(_) => OUT_OF_MEMORY,
+        Err(vfs_segments::Error::DescriptorChainOverflow) => not_asked(TOO_LONG, call),
+        Err(_) => not_asked(OUT_OF_MEMORY, call),
     }
 }
 
@@ -187,13 +196,17 @@ fn ask_reader_as(
 ) -> i32
     requires { AreLimits limits }
     ensures asked { AsksOrNot limits (fs_options_bits options) (as_create reader.entry.left) room
-        result call.old call.new told.old told.new (bytes_shown memory.new) }
-    ensures memory { HasRoomFor (min room 80) memory.old →
+        result call.new told.old told.new (bytes_shown memory.new) }
+    ensures memory { HasRoomFor (min room 80) memory.old.asked →
+        HasFor room (ask_of limits (fs_options_bits options) room (as_create reader.entry.left))
+        memory.old.answers →
         ¬ (MayWant limits (fs_options_bits options) room (unread_with_opcode CREATE reader.entry)) →
         result ≢ no_memory }
+    ensures kept { result ≡ is_asked → HasRoomFor (put_of call.new call.new.room) memory.new.answers }
+    ensures keeps { (n : ℕ) → HasRoomFor n memory.old.answers → HasRoomFor n memory.new.answers }
 {
-    if !memory.begin(alloc, room.min(LONGEST_REPLY)) {
-        return OUT_OF_MEMORY;
+    if !memory.begin_ask(alloc, room.min(LONGEST_REPLY)) {
+        return not_asked(OUT_OF_MEMORY, call);
     }
     let asked = ask_as(
         number::CREATE,
@@ -202,11 +215,11 @@ fn ask_reader_as(
         options,
         reader,
         room,
-        &mut memory.writer,
+        &mut memory.asked.writer,
         call,
     );
     match asked {
-        Asked::Call => ASKED,
+        Asked::Call => tell_call(alloc, memory, call),
         Asked::Finished {
             outcome,
             interrupts,
@@ -241,9 +254,9 @@ pub extern "C" fn nizwarf_answer_offered_at(
         AnswersOrNot (limits_of session.now) call.now (answer_offered call.now answer.now text.now)
         text.now items.now result told.old told.new (shown_in handle.new.value) }
 
-    // A slot that has as much memory as is put wants no more.
-    ensures memory { (m : Memory) → handle.old.value ≡ Some m →
-        HasRoomFor (put_of call.now call.now.room) m → result ≢ no_memory }
+    // A slot with which the call was asked has memory for its answer, and has it for others still.
+    ensures memory { HoldsAnswer call.now handle.old.value → result ≢ no_memory }
+    ensures keeps { (n : ℕ) → Holds n handle.old.value → Holds n handle.new.value }
 {
     if is_unfit(call, answer, text) {
         let unfit = AnswerData {

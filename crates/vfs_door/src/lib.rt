@@ -6,8 +6,9 @@
 //! NULL. A slice is a pointer and then a length to C, also as an element of a list and as the name
 //! of an item; `alloc` is nothing.
 //!
-//! A slot has memory, and nothing else: each call is told all it goes by. C may break the
-//! conditions that the header states, and then nothing is promised.
+//! A slot has memory, and nothing else: each call is told all it goes by. What its answer needs is
+//! taken where it is told. C may break the conditions that the header states, and then nothing is
+//! promised.
 #![tactic(auto)]
 
 mod answer;
@@ -25,28 +26,38 @@ mod uses_further;
 mod uses_notices;
 mod uses_text;
 
-ghost use Rattle.std.specs.Prelude.{◌≡◌, ◌≢◌, ◌≤◌, ◌++◌, [], length, take, drop, min, MatchOption};
+ghost use Rattle.std.specs.Prelude.{◌≡◌, ◌≢◌, ◌≤◌, ◌++◌, ℕ, [], length, take, drop, min, MatchOption};
 ghost use Rattle.std.specs.declared.option.Option.TheVariants.{None, Some};
 ghost use Rattle.vfs_segments.specs.Segments.{segments_of, flat_bytes};
+ghost use Rattle.vfs_grammar.specs.Ask.{ask as ask_of};
 ghost use Rattle.vfs_grammar.specs.Limits.{AreLimits};
 ghost use Rattle.vfs_ask.specs.Memory.{MayWant};
-ghost use Rattle.vfs_rooms.specs.Codes.{no_memory, no_server, ok, wrong_size};
-ghost use Rattle.vfs_door.specs.Answering.{AnswersOrNot, put_of};
+ghost use Rattle.vfs_rooms.specs.Codes.{is_asked, no_memory, no_server, ok, wrong_size};
+ghost use Rattle.vfs_door.specs.Answering.{AnswersOrNot};
 ghost use Rattle.vfs_door.specs.Asking.{AsksOrNot, unread_in};
+ghost use Rattle.vfs_door.specs.Kept.{Holds, HoldsAnswer, HoldsFor, TellsOrNot};
 ghost use Rattle.vfs_door.specs.Session.{limits_of, options_of};
-ghost use Rattle.vfs_door.specs.Shown.{HasRoomFor, shown_in};
+ghost use Rattle.vfs_door.specs.Shown.{shown_in};
 ghost use Rattle.vfs_door.specs.declared.memory.Memory.{Memory};
 
 use crate::answer::{answer_call, entry_of};
-use crate::ask::{ask_in_two, ask_segments, is_asked_most};
+use crate::ask::{ask_in_two, ask_segments, is_asked_most, not_asked, tell_call};
 use crate::data::{SessionData, ToldData};
 use crate::handle::Handle;
 use crate::memory::Memory;
 use std::alloc::Global;
 use vfs_calls::{AnswerData, CallData, ItemData};
-use vfs_rooms::codes::{ASKED, NO_SERVER, OK, OUT_OF_MEMORY, WRONG_SIZE};
+use vfs_rooms::codes::{NO_SERVER, OK, OUT_OF_MEMORY, WRONG_SIZE};
+
+// New memory. `None` where there is none. It stands apart, since a slot has its memory from its first call on.
+#[cold]
+#[inline(never)]
+fn new_memory(alloc: Global) -> Option<Box<Memory>> {
+    Box::new(alloc, Memory::new(alloc)).ok()
+}
 
 // The memory behind a handle, or new. `None` where there is no memory.
+#[inline(always)]
 pub(crate) fn memory_of(alloc: Global, handle: &mut Handle) -> Option<Box<Memory>>
     ensures taken { handle.new.value ≡ None }
     ensures kept { (m : Memory) → handle.old.value ≡ Some m →
@@ -54,19 +65,39 @@ pub(crate) fn memory_of(alloc: Global, handle: &mut Handle) -> Option<Box<Memory
 {
     match handle.take(alloc) {
         Some(memory) => Some(memory),
-        None => Box::new(alloc, Memory::new(alloc)).ok(),
+        None => new_memory(alloc),
     }
 }
 
 // Leaves nothing there to be copied out.
 #[tactic(auto, using(crate::proofs::Leaving::none_shown))]
 pub(crate) fn show_nothing(alloc: Global, handle: &mut Handle)
-    ensures { shown_in handle.new.value ≡ [] }
+    ensures nothing { shown_in handle.new.value ≡ [] }
+    ensures keeps { (n : ℕ) → Holds n handle.old.value → Holds n handle.new.value }
 {
     if let Some(mut memory) = handle.take(alloc) {
         memory.shown = 0;
         handle.put(memory);
     }
+}
+
+// Tells a call, if the slot has memory for any answer to it, which it keeps; else none is told. Nothing is left there
+// to be copied out.
+#[tactic(auto, using(crate::proofs::Leaving::none_shown))]
+#[inline(always)]
+pub(crate) fn tell_in_slot(alloc: Global, handle: &mut Handle, call: &mut CallData) -> i32
+    ensures told { TellsOrNot result call.old call.new (HoldsAnswer call.old handle.new.value) }
+    ensures has { HoldsAnswer call.old handle.old.value → result ≡ is_asked }
+    ensures keeps { (n : ℕ) → Holds n handle.old.value → Holds n handle.new.value }
+    ensures nothing { shown_in handle.new.value ≡ [] }
+{
+    let Some(mut memory) = memory_of(alloc, handle) else {
+        return not_asked(OUT_OF_MEMORY, call);
+    };
+    memory.shown = 0;
+    let code = tell_call(alloc, &mut memory, call);
+    handle.put(memory);
+    code
 }
 
 /// Asks the request in these segments for its call, of which any may be empty. `room` is how many
@@ -76,8 +107,9 @@ pub(crate) fn show_nothing(alloc: Global, handle: &mut Handle)
 /// none: the outcome's number, 0 where there is a reply or none is needed, else the error's, 1 to
 /// 10. `told` has the length of the reply, and what an INTERRUPT means; the reply is there to be
 /// copied out up to the next call with this handle. 10 is also answered where there was no memory
-/// to begin with, 13 where the lengths sum past `usize::MAX`, and 12 where there is no server for
-/// the sizes of the session: then nothing is told.
+/// to begin with, or none for any answer to the call, and 13 where the lengths sum past
+/// `usize::MAX`: then `call` is none. 12 where there is no server for the sizes of the session: then
+/// nothing is told.
 #[inline(always)]
 #[unsafe(no_mangle)]
 pub extern "C" fn nizwarf_ask_at(
@@ -95,14 +127,19 @@ pub extern "C" fn nizwarf_ask_at(
     ensures asked { AreLimits (limits_of session.now) →
         AsksOrNot (limits_of session.now) (options_of session.now)
         (flat_bytes (segments_of request.now)) room
-        result call.old call.new told.old told.new (shown_in handle.new.value) }
+        result call.new told.old told.new (shown_in handle.new.value) }
 
     // A slot that has memory wants no more for a request in up to four segments, unless its tail is
     // cut, it may have a context, or it has pairs.
-    ensures memory { (m : Memory) → handle.old.value ≡ Some m → HasRoomFor (min room 80) m →
+    ensures memory { HoldsFor room (ask_of (limits_of session.now) (options_of session.now) room
+        (flat_bytes (segments_of request.now))) handle.old.value →
         length request.now ≤ 4 →
         ¬ (MayWant (limits_of session.now) (options_of session.now) room
         (unread_in (segments_of request.now))) → result ≢ no_memory }
+
+    // Where a call is told the slot has memory for any answer to it, and so it stays up to the end of the slot.
+    ensures kept { result ≡ is_asked → HoldsAnswer call.new handle.new.value }
+    ensures keeps { (n : ℕ) → Holds n handle.old.value → Holds n handle.new.value }
 {
     if is_asked_most(request) {
         ask_at_once(alloc, handle, session, request, room, call, told)
@@ -128,15 +165,17 @@ fn ask_at_once(
     ensures asked { AreLimits (limits_of session.now) →
         AsksOrNot (limits_of session.now) (options_of session.now)
         (flat_bytes (segments_of request.now)) room
-        result call.old call.new told.old told.new (shown_in handle.new.value) }
-    ensures memory { (m : Memory) → handle.old.value ≡ Some m → HasRoomFor (min room 80) m →
+        result call.new told.old told.new (shown_in handle.new.value) }
+    ensures memory { HoldsFor room (ask_of (limits_of session.now) (options_of session.now) room
+        (flat_bytes (segments_of request.now))) handle.old.value →
         length request.now ≤ 4 →
         ¬ (MayWant (limits_of session.now) (options_of session.now) room
         (unread_in (segments_of request.now))) → result ≢ no_memory }
+    ensures kept { result ≡ is_asked → HoldsAnswer call.new handle.new.value }
+    ensures keeps { (n : ℕ) → Holds n handle.old.value → Holds n handle.new.value }
 {
     if ask_in_two(session, request, room, call) {
-        show_nothing(alloc, handle);
-        return ASKED;
+        return tell_in_slot(alloc, handle, call);
     }
     ask_by_reader(alloc, handle, session, request, room, call, told)
 }
@@ -158,17 +197,20 @@ fn ask_by_reader(
     ensures asked { AreLimits (limits_of session.now) →
         AsksOrNot (limits_of session.now) (options_of session.now)
         (flat_bytes (segments_of request.now)) room
-        result call.old call.new told.old told.new (shown_in handle.new.value) }
-    ensures memory { (m : Memory) → handle.old.value ≡ Some m → HasRoomFor (min room 80) m →
+        result call.new told.old told.new (shown_in handle.new.value) }
+    ensures memory { HoldsFor room (ask_of (limits_of session.now) (options_of session.now) room
+        (flat_bytes (segments_of request.now))) handle.old.value →
         length request.now ≤ 4 →
         ¬ (MayWant (limits_of session.now) (options_of session.now) room
         (unread_in (segments_of request.now))) → result ≢ no_memory }
+    ensures kept { result ≡ is_asked → HoldsAnswer call.new handle.new.value }
+    ensures keeps { (n : ℕ) → Holds n handle.old.value → Holds n handle.new.value }
 {
     let Some(limits) = session.limits() else {
         return WRONG_SIZE;
     };
     let Some(mut memory) = memory_of(alloc, handle) else {
-        return OUT_OF_MEMORY;
+        return not_asked(OUT_OF_MEMORY, call);
     };
     let options = session.options();
     let code = ask_segments(
@@ -193,8 +235,8 @@ fn ask_by_reader(
 /// data stand in the room already; the options from then on; the node of an entry that the client
 /// doesn't get to see, of which a lookup is to be given back; and how many items are in the reply.
 /// 16 is answered where the call is none that was asked, and 12 where there is no server for the
-/// sizes of the session: then nothing is told. 10 where there is no memory: then an entry is to be
-/// given back.
+/// sizes of the session: then nothing is told. 10 where this is another slot than the call was asked
+/// with, and there is no memory: then an entry is to be given back.
 #[unsafe(no_mangle)]
 pub extern "C" fn nizwarf_answer_at(
     alloc: Global,
@@ -212,9 +254,9 @@ pub extern "C" fn nizwarf_answer_at(
         AnswersOrNot (limits_of session.now) call.now answer.now text.now items.now
         result told.old told.new (shown_in handle.new.value) }
 
-    // A slot that has as much memory as is put wants no more.
-    ensures memory { (m : Memory) → handle.old.value ≡ Some m →
-        HasRoomFor (put_of call.now call.now.room) m → result ≢ no_memory }
+    // A slot with which the call was asked has memory for its answer, and has it for others still.
+    ensures memory { HoldsAnswer call.now handle.old.value → result ≢ no_memory }
+    ensures keeps { (n : ℕ) → Holds n handle.old.value → Holds n handle.new.value }
 {
     let Some(limits) = session.limits() else {
         return WRONG_SIZE;

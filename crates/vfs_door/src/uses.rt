@@ -1,15 +1,16 @@
 //! A program that calls the library in a row, as one does that has a file system.
 
-ghost use Rattle.std.specs.Prelude.{◌≡◌, ◌≢◌, ◌≤◌, ◌⊎◌, [], ◌∷◌, length};
-ghost use Rattle.std.specs.declared.option.Option.TheVariants.{None, Some};
+ghost use Rattle.std.specs.Prelude.{◌≡◌, ◌≢◌, ◌≤◌, ◌⊎◌, ℤ, [], ◌∷◌, length};
+ghost use Rattle.std.specs.declared.option.Option.TheVariants.{None};
 ghost use Rattle.vfs_grammar.specs.Samples.{lookup_of_a};
 ghost use Rattle.vfs_segments.specs.Segments.{segments_of, flat_bytes};
 ghost use Rattle.vfs_rooms.specs.Codes.{ok, no_memory, not_asked, is_asked};
 ghost use Rattle.vfs_grammar.specs.Limits.{AreLimits};
+ghost use Rattle.vfs_grammar.specs.Ask.{ask};
+ghost use Rattle.vfs_door.specs.Kept.{HoldsAnswer, HoldsFor};
 ghost use Rattle.vfs_door.specs.Session.{limits_of, options_of};
-ghost use Rattle.vfs_door.specs.Shown.{HasRoomFor, shown_in};
-ghost use Rattle.vfs_door.specs.declared.memory.Memory.{Memory};
-ghost use Rattle.vfs_door.specs.Uses.{IsLookupOfA, IsOneTurn, no_such_name};
+ghost use Rattle.vfs_door.specs.Shown.{shown_in};
+ghost use Rattle.vfs_door.specs.Uses.{IsLookupOfA, IsOneTurn, no_such_name, usual_limits};
 
 use crate::data::{SessionData, ToldData};
 use crate::handle::Handle;
@@ -26,8 +27,8 @@ const SESSION: SessionData = SessionData {
     max_buffer: 1_048_576,
 };
 
-/// Asks a LOOKUP of the name `a` for its call: it is told, and nothing is there to be copied out;
-/// unless there is no memory.
+/// Asks a LOOKUP of the name `a` for its call: it is told, and nothing is there to be copied out, and
+/// the slot has memory for its answer; unless there is no memory.
 fn ask_lookup(
     alloc: Global,
     handle: &mut Handle,
@@ -40,18 +41,19 @@ fn ask_lookup(
     ensures call { result ≡ is_asked → IsLookupOfA call.new }
     ensures untold { result ≡ is_asked → told.new ≡ told.old }
     ensures nothing { result ≡ is_asked → shown_in handle.new.value ≡ [] }
+    ensures kept { result ≡ is_asked → HoldsAnswer call.new handle.new.value }
 {
     nizwarf_ask_at(alloc, handle, &SESSION, lookup, 4096, call, told)
 }
 
 /// Answers that LOOKUP by ENOENT, which is 2: these are the bytes of the reply. A slot that has memory
-/// for all its room wants no more.
+/// for its answer wants no more.
 fn refuse_lookup(alloc: Global, handle: &mut Handle, call: &CallData, told: &mut ToldData) -> i32
     requires { IsLookupOfA call.now }
     ensures bytes { result ≡ ok → shown_in handle.new.value ≡ no_such_name }
     ensures length { result ≡ ok → (told.new.len ≡ 16) × (told.new.put ≡ 16) }
     ensures none_back { result ≡ ok → told.new.give_back ≡ 0 }
-    ensures memory { (m : Memory) → handle.old.value ≡ Some m → HasRoomFor 4096 m → result ≢ no_memory }
+    ensures memory { HoldsAnswer call.now handle.old.value → result ≢ no_memory }
 {
     let no_entry = AnswerData {
         error: 2,
@@ -60,7 +62,8 @@ fn refuse_lookup(alloc: Global, handle: &mut Handle, call: &CallData, told: &mut
     nizwarf_answer_at(alloc, handle, &SESSION, call, &no_entry, &[], &[], told)
 }
 
-/// Answers that LOOKUP by an entry. Where there is no memory for the reply, it is to be given back.
+/// Answers that LOOKUP by an entry, perhaps with another slot. Where there is no memory for the reply, it is to be
+/// given back.
 fn find(alloc: Global, handle: &mut Handle, call: &CallData, node: u64, told: &mut ToldData) -> i32
     requires { IsLookupOfA call.now }
     ensures { result ≡ no_memory → told.new.give_back ≡ node }
@@ -136,33 +139,62 @@ fn read_some(
     nizwarf_answer_at(alloc, handle, &SESSION, call, &some, &[], &[], told)
 }
 
-/// Asks any request for its call, and answers that by these data, whatever they are. If both are
-/// done, that was one turn of the grammar.
+/// Asks any request for its call, and answers that with the same slot by these data, whatever they are. The answer lacks
+/// no memory; so where it is to that call, both were one turn of the grammar.
 fn ask_and_answer(
     alloc: Global,
     handle: &mut Handle,
     session: &SessionData,
     request: &[&[u8]],
     room: usize,
+    call: &mut CallData,
     answer: &AnswerData,
     text: &[u8],
     items: &[ItemData<'_>],
+    told: &mut ToldData,
 ) -> i32
     requires { AreLimits (limits_of session.now) }
-    ensures { result ≡ ok →
+    ensures memory { result ≢ no_memory }
+    ensures turn { (code : ℤ) → result ≡ code → result ≢ not_asked →
         IsOneTurn (limits_of session.now) (options_of session.now)
-        (flat_bytes (segments_of request.now)) room answer.now text.now items.now }
+        (flat_bytes (segments_of request.now)) room call.new answer.now text.now items.now
+        code told.old told.new (shown_in handle.new.value) }
 {
     asked_and_answered_is_one_turn();
-    let mut call = CallData::NONE;
-    let mut told = ToldData::NOTHING;
-    let asked = nizwarf_ask_at(alloc, handle, session, request, room, &mut call, &mut told);
+    let asked = nizwarf_ask_at(alloc, handle, session, request, room, call, told);
     if asked != ASKED {
         return NOT_ASKED;
     }
-    nizwarf_answer_at(
-        alloc, handle, session, &call, answer, text, items, &mut told,
-    )
+    nizwarf_answer_at(alloc, handle, session, call, answer, text, items, told)
+}
+
+/// Asks two requests for their calls with one slot, and answers them in the other order: no answer lacks memory.
+fn answer_in_other_order(
+    alloc: Global,
+    handle: &mut Handle,
+    session: &SessionData,
+    first: &[&[u8]],
+    second: &[&[u8]],
+    room: usize,
+    answer: &AnswerData,
+    told: &mut ToldData,
+) -> (i32, i32)
+    requires { AreLimits (limits_of session.now) }
+    ensures first { result.0 ≢ no_memory }
+    ensures second { result.1 ≢ no_memory }
+{
+    let (mut one, mut other) = (CallData::NONE, CallData::NONE);
+    let asked = nizwarf_ask_at(alloc, handle, session, first, room, &mut one, told);
+    if asked != ASKED {
+        return (NOT_ASKED, NOT_ASKED);
+    }
+    let asked = nizwarf_ask_at(alloc, handle, session, second, room, &mut other, told);
+    if asked != ASKED {
+        return (NOT_ASKED, NOT_ASKED);
+    }
+    let second = nizwarf_answer_at(alloc, handle, session, &other, answer, &[], &[], told);
+    let first = nizwarf_answer_at(alloc, handle, session, &one, answer, &[], &[], told);
+    (first, second)
 }
 
 /// Asks a LOOKUP of the name `a`, which lies in one segment, with a slot that has memory: its call
@@ -174,7 +206,7 @@ fn ask_lookup_in_a_slot(
     call: &mut CallData,
     told: &mut ToldData,
 ) -> i32
-    requires slot { (m : Memory) × (handle.old.value ≡ Some m) × HasRoomFor 80 m }
+    requires slot { HoldsFor 4096 (ask usual_limits 0 4096 lookup_of_a) handle.old.value }
     requires one { length lookup.now ≡ 1 }
     requires bytes { segments_of lookup.now ≡ lookup_of_a ∷ [] }
     ensures code { result ≡ is_asked }

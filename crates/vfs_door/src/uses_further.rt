@@ -1,12 +1,14 @@
 //! Small callers of the door of a file system that offers rows.
 
-ghost use Rattle.std.specs.Prelude.{◌≡◌, ℤ, [], length, pos};
+ghost use Rattle.std.specs.Prelude.{◌≡◌, ◌⊎◌, ℤ, [], length, pos};
 ghost use Rattle.vfs_segments.specs.Segments.{segments_of, flat_bytes};
 ghost use Rattle.vfs_further.specs.Uses.{getlk, getlk_asked};
-ghost use Rattle.vfs_rooms.specs.Codes.{is_asked};
+ghost use Rattle.vfs_rooms.specs.Codes.{is_asked, no_memory};
 ghost use Rattle.vfs_door.specs.Answering.{AnswersOrNot};
 ghost use Rattle.vfs_door.specs.Shown.{shown_in};
-ghost use Rattle.vfs_door.specs.Further.{usual_limits, with_eio};
+ghost use Rattle.vfs_door.specs.Further.{with_eio};
+ghost use Rattle.vfs_door.specs.Kept.{HoldsAnswer};
+ghost use Rattle.vfs_door.specs.Uses.{usual_limits};
 
 use crate::data::{SessionData, ToldData};
 use crate::further::{nizwarf_answer_offered_at, nizwarf_ask_offered_at, nizwarf_check_offered_at};
@@ -22,7 +24,8 @@ const SESSION: SessionData = SessionData {
     max_buffer: 1_048_576,
 };
 
-/// Asks a GETLK of real bytes, where locks are offered: its call is told, and nothing is there to be copied out.
+/// Asks a GETLK of real bytes, where locks are offered: its call is told, and the slot has memory for its answer; unless
+/// there is no memory. Nothing is there to be copied out.
 fn ask_getlk(
     alloc: Global,
     handle: &mut Handle,
@@ -31,9 +34,10 @@ fn ask_getlk(
     told: &mut ToldData,
 ) -> i32
     requires { flat_bytes (segments_of request.now) ≡ getlk }
-    ensures code { result ≡ is_asked }
-    ensures call { call.new ≡ getlk_asked 0 4096 }
+    ensures code { (result ≡ is_asked) ⊎ (result ≡ no_memory) }
+    ensures call { result ≡ is_asked → call.new ≡ getlk_asked 0 4096 }
     ensures nothing { shown_in handle.new.value ≡ [] }
+    ensures kept { result ≡ is_asked → HoldsAnswer (getlk_asked 0 4096) handle.new.value }
 {
     nizwarf_ask_offered_at(
         alloc,

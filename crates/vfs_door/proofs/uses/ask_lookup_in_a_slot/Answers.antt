@@ -11,11 +11,10 @@ pub returns-clause-code : goal.returns-clause-code
 unfolding number opcode_of
 returns-clause-code c =
     let bytes : flat_bytes (segments_of c.args.lookup.now) ≡ lookup_of_a = ap (λ (x : List (List ℕ)). flat_bytes x) c.requires.bytes in
-    let m = c.requires.slot in
     let few : length c.args.lookup.now ≤ 4 = omega (arith, c.requires.one) in
     let has : c.nizwarf_ask_at.result ≢ no_memory =
-    c.nizwarf_ask_at.ensures.memory m.0 m.1 m.2 few (rw c.requires.bytes (λ cut. let a = cut in cc)) in
-    let told = asked_for _ _ _ _ _ (looked_up _ _ _ _ _ _ _ bytes (c.nizwarf_ask_at.ensures.asked are_limits)) has in
+    c.nizwarf_ask_at.ensures.memory (rw bytes c.requires.slot) few (rw c.requires.bytes (λ cut. let a = cut in cc)) in
+    let told = asked_for _ _ _ _ _ (looked_up _ _ _ _ _ _ bytes (c.nizwarf_ask_at.ensures.asked are_limits)) has in
     let is = told.0 in
     search rules
 
@@ -23,8 +22,7 @@ pub returns-clause-call : goal.returns-clause-call
 unfolding number opcode_of
 returns-clause-call c =
     let bytes : flat_bytes (segments_of c.args.lookup.now) ≡ lookup_of_a = ap (λ (x : List (List ℕ)). flat_bytes x) c.requires.bytes in
-    let m = c.requires.slot in
     let few : length c.args.lookup.now ≤ 4 = omega (arith, c.requires.one) in
     let has : c.nizwarf_ask_at.result ≢ no_memory =
-    c.nizwarf_ask_at.ensures.memory m.0 m.1 m.2 few (rw c.requires.bytes (λ cut. let a = cut in cc)) in
-    (asked_for _ _ _ _ _ (looked_up _ _ _ _ _ _ _ bytes (c.nizwarf_ask_at.ensures.asked are_limits)) has).1
+    c.nizwarf_ask_at.ensures.memory (rw bytes c.requires.slot) few (rw c.requires.bytes (λ cut. let a = cut in cc)) in
+    (asked_for _ _ _ _ _ (looked_up _ _ _ _ _ _ bytes (c.nizwarf_ask_at.ensures.asked are_limits)) has).1

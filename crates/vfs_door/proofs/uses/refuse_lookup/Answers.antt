@@ -1,6 +1,5 @@
 use Rattle.std.proofs.Common.{◌≡◌, refl, rules}
 use Rattle.vfs_rooms.specs.Codes.{ok, no_memory}
-use Rattle.vfs_door.specs.Answering.{put_of}
 use Rattle.vfs_door.proofs.Lookup.{are_limits, refused}
 use Rattle.vfs_door.proofs.uses.refuse_lookup.Goals as goal
 
@@ -20,7 +19,6 @@ returns-clause-none_back c = λ is.
     (refused _ _ _ _ _ _ _ _ c.requires refl (c.nizwarf_answer_at.ensures.answered are_limits) fine).2
 
 pub returns-clause-memory : goal.returns-clause-memory
-returns-clause-memory c = λ m is has code.
-    let want : c.nizwarf_answer_at.result ≡ no_memory = search rules in
-    let all : put_of c.args.call.now c.args.call.now.room ≡ 4096 = rw (c.requires.kind, c.requires.room) refl in
-    c.nizwarf_answer_at.ensures.memory m is (rw all has) want
+returns-clause-memory c = λ has code.
+    let want : c.nizwarf_answer_at.result ≡ no_memory = search (rules, code) in
+    c.nizwarf_answer_at.ensures.memory has want

@@ -1,7 +1,8 @@
 use Rattle.std.proofs.Common.{◌≡◌, rules, subst}
 use Rattle.std.specs.Prelude.{ℤ, []}
 use Rattle.vfs_door.specs.Answering.{AnswersOrNot}
-use Rattle.vfs_door.specs.Further.{usual_limits, with_eio}
+use Rattle.vfs_door.specs.Further.{with_eio}
+use Rattle.vfs_door.specs.Uses.{usual_limits}
 use Rattle.vfs_door.specs.Shown.{shown_in}
 use Rattle.vfs_door.proofs.Lookup.{are_limits}
 use Rattle.vfs_door.proofs.uses_further.answer_long_lock.Goals as goal
