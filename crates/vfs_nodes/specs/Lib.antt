@@ -1,9 +1,11 @@
 pub mod Children
+pub mod Flags
 pub mod Held
 pub mod Index
 pub mod Listing
 pub mod Node
 pub mod Refusals
 pub mod Renames
+pub mod Statx
 pub mod Writing
 pub mod Xattrs

@@ -90,6 +90,7 @@ new_node now uid gid kind permissions parent text = record {
   atime = now;
   mtime = now;
   ctime = now;
+  btime = now;
   parent = parent;
   children = no_children;
   contents = no_contents;

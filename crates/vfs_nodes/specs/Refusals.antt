@@ -7,6 +7,10 @@ use Rattle.vfs_flags.specs.Numbers.{enoent, enotdir, eisdir, einval, enametoolon
 use Rattle.vfs_nodes.specs.Children.{is_directory, is_file}
 use Rattle.vfs_nodes.specs.declared.node.Node.{Node}
 
+-- there is no such command
+abbrev pub enotty : ℕ
+enotty = 25
+
 -- the error of the first line that holds
 abbrev pub first_of : List (Bool × ℕ) → Option ℕ
 first_of [] = None

@@ -6,12 +6,14 @@
 #![tactic(auto)]
 
 mod children;
+mod flags;
 mod held;
 mod kind;
 mod listing;
 mod node;
 mod refusals;
 mod renames;
+mod statx;
 mod text;
 mod xattrs;
 
@@ -25,5 +27,6 @@ pub use refusals::{
     no_place, too_big,
 };
 pub use renames::{is_same, is_served, leaves_whiteout, replaced};
+pub use statx::STATX_LEN;
 pub use text::Text;
 pub use xattrs::{MOST_BYTES, Xattrs};

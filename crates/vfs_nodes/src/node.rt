@@ -92,6 +92,8 @@ pub struct Node {
     pub mtime: Time,
     /// When its attributes were last changed.
     pub ctime: Time,
+    /// When it was made.
+    pub btime: Time,
     /// Of a directory: the directory that it lies in.
     pub parent: u64,
     /// Of a directory: its names.
@@ -135,6 +137,7 @@ impl Node {
             atime: now,
             mtime: now,
             ctime: now,
+            btime: now,
             parent,
             children: Children::new(alloc),
             contents: Contents::new(alloc),

@@ -43,6 +43,16 @@ pub fn no_device() -> Errno
     }
 }
 
+/// The error ENOTTY: there is no such command.
+pub(crate) fn no_command() -> Errno
+    ensures { result ≡ 25 }
+{
+    match Errno::new(25) {
+        Some(errno) => errno,
+        None => unreachable!(),
+    }
+}
+
 /// The directory of this number, in which this name may be looked for.
 pub fn directory<'a>(
     nodes: &'a BTreeMap<u64, Node>,

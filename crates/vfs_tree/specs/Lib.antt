@@ -1,10 +1,12 @@
 pub use Rattle.vfs_nodes.specs.Children
 pub use Rattle.vfs_nodes.specs.Listing
 pub use Rattle.vfs_nodes.specs.Node
+pub use Rattle.vfs_nodes.specs.Statx
 pub use Rattle.vfs_nodes.specs.Xattrs
 pub mod Holding
 pub mod Naming
 pub mod Outcome
 pub mod Rename
+pub mod Rows
 pub mod State
 pub mod Tree

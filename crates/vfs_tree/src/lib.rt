@@ -9,6 +9,8 @@ mod changes;
 mod fs;
 mod naming;
 mod rename;
+mod rows;
 
 pub use fs::{Capacity, TreeFs};
+pub use rows::MOST_TEXT;
 pub use vfs_nodes::Time;

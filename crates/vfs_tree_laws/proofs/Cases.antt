@@ -43,6 +43,7 @@ pub record Resizes (s : State) (was now : Node) : Type 0 where
   pub names : now.names ≡ was.names
   pub lookups : now.lookups ≡ was.lookups
   pub children : now.children ≡ was.children
+  pub birth : now.btime ≡ was.btime
   pub room : weight now ≤ weight was + room_of s
   pub file : IsShort s.limits.file was → IsShort s.limits.file now
 
@@ -157,6 +158,7 @@ resizes_itself s node = record {
   names = refl;
   lookups = refl;
   children = refl;
+  birth = refl;
   room = omega arith;
   file = λ h. h;
 }
@@ -196,6 +198,7 @@ set_attr_resizes s node attr is_open valid none = record {
   names = refl;
   lookups = refl;
   children = refl;
+  birth = refl;
   room = omega (arith, set_attr_weighs s.now node attr is_open valid);
   file = λ short is. by (bit_and valid 8 == 8) none (short is);
 }
@@ -228,6 +231,7 @@ opened_resizes s uid kill node flags = by (truncates node flags)
       names = refl;
       lookups = refl;
       children = refl;
+      birth = refl;
       room = omega (arith, resized_holds node.contents 0, stripped_bytes true true node);
       file = λ h is. omega (arith, length-resized node.contents 0);
     }
@@ -261,6 +265,7 @@ overwritten_resizes s delayed kill node off size bytes =
       names = refl;
       lookups = refl;
       children = refl;
+      birth = refl;
       room = weighs;
       file = λ short is.
           overwritten_short s.now delayed kill node off s.limits.file (b ∷ bs)
@@ -280,6 +285,7 @@ fallocated_resizes s node mode off len none = record {
   names = refl;
   lookups = refl;
   children = refl;
+  birth = refl;
   room = fallocated_fits s node s.now mode off len none;
   file = λ short is.
       by (mode == 3) (bit_and mode 16 == 16) (bit_and mode 1 == 1)
@@ -319,6 +325,7 @@ xattr_fits s node name value fits = record {
   names = refl;
   lookups = refl;
   children = refl;
+  birth = refl;
   room = omega (arith, fits);
   file = λ h. h;
 }
@@ -332,6 +339,7 @@ xattr_leaves s node name = record {
   names = refl;
   lookups = refl;
   children = refl;
+  birth = refl;
   room = omega (arith, without_xattr_bytes node.xattrs name);
   file = λ h. h;
 }

@@ -1,5 +1,6 @@
 mod Ascending
 mod Beginning
+mod Births
 mod Cases
 mod Changes
 mod Clients

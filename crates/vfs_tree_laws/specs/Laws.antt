@@ -1,11 +1,11 @@
 -- What holds of every state of a tree that can be reached, and what a call does to the lookups that are
 -- held.
-use Rattle.std.specs.Prelude.{◌≡◌, ◌≤◌, ◌<◌, ℕ, zero, suc, ◌+◌, ◌==◌, max, Bool, true, false, List, [], ◌∷◌, length, map, Option, Some, None, IfSome, sum_by, count_by, if◌then◌else◌}
+use Rattle.std.specs.Prelude.{◌≡◌, ◌≤◌, ◌<◌, ◌⊎◌, ℕ, zero, suc, ◌+◌, ◌==◌, max, Bool, true, false, List, [], ◌∷◌, length, map, Option, Some, None, IfSome, sum_by, count_by, if◌then◌else◌}
 use Rattle.std.specs.List.{All, IsDistinct}
 use Rattle.std.specs.Map.{values_of}
 use Rattle.std.specs.Str.{bytes_eq}
 use Rattle.vfs_files.specs.Values.{Item}
-use Rattle.vfs_files.specs.Calls.{Call, Init, Destroy, Answer, Plain, Iterator}
+use Rattle.vfs_files.specs.Calls.{Call, Init, Destroy, Answer, Handed, Plain, Iterator}
 use Rattle.vfs_grammar.specs.Books.{times, forgotten, answered_nodes, forgets_of}
 use Rattle.vfs_tree.specs.Children.{Link, is_directory, is_file}
 use Rattle.vfs_tree.specs.Listing.{items_behind}
@@ -205,3 +205,17 @@ CallsKeepTrees =
     (old new : State) (call : Call) (answer : Answer)
     → IsTree old → TreeAllows old call (Plain answer) new
     → IsTree new × (new.limits ≡ old.limits) × CountsLookups old call answer new
+
+-- ---- births
+
+-- a node that was there had the same birth; another is born now
+abbrev pub IsBorn : State → (number : ℕ) → Node → Type 0
+IsBorn old n node =
+    ((was : Node) × (node_at old n ≡ Some was) × (node.btime ≡ was.btime))
+    ⊎ ((node_at old n ≡ None) × (node.btime ≡ old.now))
+
+-- a call sets the time of birth of the nodes that it makes, and of no other
+abbrev pub CallsKeepBirths : Type 0
+CallsKeepBirths =
+    (old new : State) (call : Call) (handed : Handed (List Item))
+    → IsSound old → TreeAllows old call handed new → (n : ℕ) → IfSome (node_at new n) (IsBorn old n)

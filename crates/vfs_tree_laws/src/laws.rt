@@ -1,6 +1,6 @@
 //! Laws of the relation of a tree's calls.
 
-ghost use Rattle.vfs_tree_laws.specs.Laws.{CallsKeepTrees, NewOnesAreTrees, ReadingsMoveATime};
+ghost use Rattle.vfs_tree_laws.specs.Laws.{CallsKeepBirths, CallsKeepTrees, NewOnesAreTrees, ReadingsMoveATime};
 ghost use Rattle.vfs_tree_laws.specs.Runs.{RunsKeepTrees};
 
 /// A new tree is one: each name leads to a node that is there, as many as a node says lead to it, each
@@ -28,3 +28,9 @@ pub fn runs_keep_trees()
     calls_keep_trees();
     readings_move_a_time();
 }
+
+/// A node that a call makes is born at the time that the tree was told last. No call moves the time of birth of
+/// another.
+pub fn calls_keep_births()
+    ensures { CallsKeepBirths }
+{}

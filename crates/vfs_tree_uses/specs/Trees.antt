@@ -54,6 +54,7 @@ node_in_root kind permissions children contents names lookups = record {
   atime = second_7;
   mtime = second_7;
   ctime = second_7;
+  btime = second_7;
   parent = 1;
   children = children;
   contents = contents;
@@ -231,3 +232,7 @@ nameless_file is_linkable =
 abbrev pub nameless_tree : Capacity → (is_linkable : Bool) → State
 nameless_tree limits is_linkable =
     with_new (first_state 0 0 0o755 limits false second_7) (nameless_file is_linkable)
+
+-- a tree with a FIFO `f`
+abbrev pub fifo_tree : State
+fifo_tree = tree_of wide (record empty_file { kind = kind.Fifo })

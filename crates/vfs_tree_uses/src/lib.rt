@@ -7,6 +7,7 @@
 
 mod accesses;
 mod attributes;
+mod births;
 mod contents;
 mod first;
 mod full;
