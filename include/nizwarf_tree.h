@@ -22,8 +22,9 @@
  * are entries delivered and forgets sent to it. The files stay a tree within its limits. Of a client that
  * never gave back more lookups than it had, just those are held that it had since its last INIT and did not
  * give back; so once it gave back all, or sent DESTROY, no node is left but those that have a name. The
- * last two are of the tree: a library over another file system has promises of its own. A TMPFILE, which the
- * tree offers, is handed to the server as the CREATE of the same bytes.
+ * last two are of the tree: a library over another file system has promises of its own. Of what the tree
+ * offers, a TMPFILE is handed to the server as the CREATE of the same bytes; a STATX or an IOCTL, which changes
+ * nothing, is none of these requests.
  *
  * Who owns what. A nizwarf_server is a variable of yours that begins as NIZWARF_NONE. From then on only
  * the functions here read or write it, and it is not copied: what it points to is the library's, from

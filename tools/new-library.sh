@@ -62,13 +62,16 @@ new_library() {
     sed -i "/^$name\b/s/ vfs_tree_laws\b//" crates.txt
 }
 
-# Puts the tree in the place of the tree in memory, by the two files of lib/read_only_library.
+# Puts the tree in the place of the tree in memory, by the two files of lib/read_only_library, without the proof of its
+# answers to rows.
 over_tree() {
     local file
     for file in src/files.rt specs/Files.antt; do
         sed "s/\bNAME\b/$name/g; s/\bTREE\b/$tree/g; s/\bTYPE\b/$type/g; s/\bTABLES\b/$tables/g; s/\bMODULE\b/$module/g" \
             "tools/lib/read_only_library/${file##*/}.in" > "crates/$name/$file"
     done
+    rm -r "crates/$name"/proofs/{files,Texts.antt}
+    sed -i '/^mod Texts$/d' "crates/$name/proofs/Lib.antt"
     sed -i "/^$name\b/s/ vfs_tree\b/ vfs_small $tree/" crates.txt
 }
 
@@ -82,7 +85,7 @@ if [ -n "$tree" ]; then
     if command -v rt > /dev/null; then (cd "crates/$name" && rt fmt > /dev/null); fi
     echo "Mount it:"
 else
-    echo "Now change crates/$name/src/files.rt and crates/$name/specs/Files.antt, and in crates.txt, on the"
+    echo "Now change crates/$name/src/files.rt, what proves it in proofs/files, specs/Files.antt, and in crates.txt, on the"
     echo "line of $name, vfs_tree to the crate of your file system. Then mount it:"
 fi
 echo "    tools/mount.sh --library $name FOLDER"

@@ -4,25 +4,39 @@ use Rattle.std.proofs.lemmas.List.{append_cancel_left}
 use Rattle.vfs_server.specs.Step.{ServerState}
 use Rattle.vfs_history.specs.History.{GoesOn, GoesOnChanged, turn_of}
 use Rattle.vfs_c.specs.Files.{State, Allows, Gives}
-use Rattle.vfs_c.specs.History.{Answered, Told}
-use Rattle.vfs_c.specs.Served.{ServedInC, told_time}
+use Rattle.vfs_further.specs.Further.{What, Ordinary, Short, Row, Unnamed}
+use Rattle.vfs_further.specs.Turns.{as_create}
+use Rattle.vfs_c.specs.History.{Answered, AnsweredAs, Told, Turned}
+use Rattle.vfs_c.specs.Offered.{what_asked}
+use Rattle.vfs_c.specs.Served.{ServedAs, ServedInC, SteppedInC, told_time}
 
-pub answered : GoesOn Allows Gives → (old : ServerState State) (request : List ℕ) (total : ℕ)
-    (number : ℤ) (len : ℕ) (room : List ℕ) (shown : ℕ) (new : ServerState State)
-    → ServedInC old request total number len room shown new
-    → Answered old request total number len room shown new
-answered goes old request total number len room shown new (inr r) = inr r
-answered goes old request total number len room shown new (inl s) =
-    inl (record {
-      t = turn_of Allows Gives old request s.before s.outcome s.after new s.step;
-      asked = refl;
-      space = s.space;
-      numbered = s.numbered;
-      counted = s.counted;
-      left = append_cancel_left s.before.passed room s.step.room_after (sym s.left ∙ s.step.leaves.kept);
-      copied = s.copied;
-      extends = λ first moments h. goes first old new moments request s.before s.outcome s.after h s.step;
-    })
+module _ (goes : GoesOn Allows Gives) (old : ServerState State) (total : ℕ) (number : ℤ) (len : ℕ)
+    (room : List ℕ) (shown : ℕ) (new : ServerState State) where
+  -- a step is a turn
+  turned : (request : List ℕ) → SteppedInC old request total number len room shown new
+      → Turned old request total number len room shown new
+  turned request s = record {
+    t = turn_of Allows Gives old request s.before s.outcome s.after new s.step;
+    asked = refl;
+    space = s.space;
+    numbered = s.numbered;
+    counted = s.counted;
+    left = append_cancel_left s.before.passed room s.step.room_after (sym s.left ∙ s.step.leaves.kept);
+    copied = s.copied;
+    extends = λ first moments h. goes first old new moments request s.before s.outcome s.after h s.step;
+  }
+
+  answered_as : (w : What) (request : List ℕ) → ServedAs w old request total number len room shown new
+      → AnsweredAs w old request total number len room shown new
+  answered_as Ordinary request s = turned request s
+  answered_as Unnamed request s = turned (as_create request) s
+  answered_as Short request s = s
+  answered_as (Row told) request s = s
+
+  pub answered : (request : List ℕ) → ServedInC old request total number len room shown new
+      → Answered old request total number len room shown new
+  answered request (inl s) = inl (answered_as (what_asked old.limits request) request s)
+  answered request (inr r) = inr r
 
 pub is_told : GoesOnChanged Allows Gives → (old : ServerState State) (seconds nanoseconds : ℕ)
     → Told old seconds nanoseconds (told_time old seconds nanoseconds)

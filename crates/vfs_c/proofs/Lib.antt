@@ -1,9 +1,13 @@
 mod Crosses
-mod Steps
 mod Offering
+mod Asking
+mod Steps
+mod RowTurns
 mod Histories
 mod Calling
 mod TreeNothingFound
 mod TreeNothingTaken
 mod TreeMessageTaken
 mod TreeTmpfile
+mod TreeRows
+mod Texts

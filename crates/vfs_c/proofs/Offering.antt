@@ -1,5 +1,5 @@
--- What is handed to the server, and the segments of a CREATE.
-use Rattle.std.proofs.Common.{◌≡◌, ◌≤◌, ◌<◌, ◌+◌, ◌-◌, ◌++◌, ◌∙◌, ℕ, zero, suc, List, [], ◌∷◌, length, take, drop, get_or, refl, ap, sym, arith, append_assoc, append-nil, length-append}
+-- The segments of a CREATE.
+use Rattle.std.proofs.Common.{◌≡◌, ◌≤◌, ◌<◌, ◌+◌, ◌-◌, ◌++◌, ◌∙◌, ℕ, zero, suc, List, [], ◌∷◌, length, take, drop, get_or, refl, ap, sym, arith, append_assoc, append-nil, length-append, length-take, length-drop}
 use Rattle.std.proofs.lemmas.List.{map-append, take-append-le, take_more}
 use Rattle.std.proofs.lemmas.List.Folds.{concat-append}
 use Rattle.std.specs.Borrow.{Bor}
@@ -8,29 +8,7 @@ use Rattle.std.specs.Prelude.{min}
 use Rattle.vfs_segments.proofs.Flat.{concat-split}
 use Rattle.vfs_segments.specs.Segments.{flat_bytes, segments_of}
 use Rattle.vfs_wire.specs.Fields.{little}
-use Rattle.vfs_calls.specs.declared.call.CallData.{CallData}
-use Rattle.vfs_further.specs.Further.{What, Ordinary, Short, Row, Unnamed, Tells}
 use Rattle.vfs_further.specs.Turns.{as_create}
-use Rattle.vfs_further.specs.declared.row.Further.{Further}
-use Rattle.vfs_further.specs.declared.row.Further.TheVariants as further
-use Rattle.vfs_c.specs.Offered.{bytes_for}
-
--- ---- which are others
-
-module _ (added : CallData → CallData) (result : Further) (call after : CallData) (q : List ℕ) where
-  pub is_create : (w : What) → Tells w added result call after → result ≡ further.Unnamed
-      → bytes_for w q ≡ as_create q
-  is_create Ordinary t is = cc (t.0, is)
-  is_create Short t is = cc (t.0, is)
-  is_create (Row told) t is = cc (t.0, is)
-  is_create Unnamed t is = refl
-
-  pub is_itself : (w : What) → Tells w added result call after → (result ≡ further.Unnamed → ⊥)
-      → bytes_for w q ≡ q
-  is_itself Ordinary t other = refl
-  is_itself Short t other = refl
-  is_itself (Row told) t other = refl
-  is_itself Unnamed t other = absurd (other t.0)
 
 -- ---- the first bytes of two pieces, and those behind
 
@@ -133,3 +111,12 @@ created q none first second last is0 is1 is2 is3 =
     ∙ ap (λ (l : List ℕ). l ++ drop 8 q)
     (is2 ∙ ap (λ (l : List ℕ). l ++ (35 ∷ 0 ∷ 0 ∷ 0 ∷ [])) (is1 ∙ ap (λ (l : List ℕ). l ++ take 4 q) is0))
     ∙ append_assoc (take 4 q) (35 ∷ 0 ∷ 0 ∷ 0 ∷ []) (drop 8 q)
+
+-- it has no more bytes than a request that has more than eight
+pub created_len : (q : List ℕ) (most : ℕ) → 9 ≤ most → most ≤ length (as_create q) → most ≤ length q
+unfolding little
+created_len q most many long =
+    let parts : length (as_create q) ≡ length (take 4 q) + (4 + length (drop 8 q)) =
+    length-append (take 4 q) ((35 ∷ 0 ∷ 0 ∷ 0 ∷ []) ++ drop 8 q)
+    ∙ ap (λ (n : ℕ). length (take 4 q) + n) (length-append (35 ∷ 0 ∷ 0 ∷ 0 ∷ []) (drop 8 q)) in
+    omega (arith, long, many, parts, length-take 4 q, length-drop 8 q)

@@ -6,10 +6,12 @@ use Rattle.vfs_grammar.specs.declared.error.Error.{Error}
 use Rattle.vfs_grammar.specs.declared.error.Error.TheVariants.{DecodeMessage, EncodeMessage, FlushMessage, MissingParameter, InvalidCString, InvalidCString2, InvalidHeaderLength, InvalidXattrSize, MissingExtension, OutOfMemory}
 use Rattle.vfs_rooms.specs.Codes.{ok, no_memory, no_server, number_of, length_of, shown_of}
 use Rattle.vfs_c.specs.Files.{State}
-use Rattle.vfs_c.specs.History.{Turned, Answered}
+use Rattle.vfs_further.specs.Further.{What, Ordinary, Short, Row, Unnamed}
+use Rattle.vfs_c.specs.History.{Answered, AnsweredAs}
+use Rattle.vfs_c.specs.Offered.{what_asked}
 use Rattle.vfs_c.specs.TreeUses.{IsTaken}
 use Rattle.vfs_c.specs.declared.memory.Place.{Place}
-use Rattle.vfs_c.proofs.Calling.{turned}
+use Rattle.vfs_c.proofs.Calling.{answered_as}
 
 -- of an answered request the whole reply is there
 all_shown : (o : Result ℕ Error) (total : ℕ) → number_of o ≡ ok → shown_of o total ≡ length_of o
@@ -24,6 +26,18 @@ all_shown (Err InvalidHeaderLength) total is = absurd (cc is)
 all_shown (Err (InvalidXattrSize sizes)) total is = absurd (cc is)
 all_shown (Err MissingExtension) total is = absurd (cc is)
 all_shown (Err OutOfMemory) total is = absurd (cc is)
+
+shown_whole : (old : ServerState State) (request : List ℕ) (total : ℕ) (code : ℤ) (len : ℕ) (room : List ℕ)
+    (shown : ℕ) (new : ServerState State) (w : What)
+    → AnsweredAs w old request total code len room shown new → code ≡ ok → shown ≡ len
+shown_whole old request total code len room shown new Ordinary x is =
+    x.copied ∙ all_shown x.t.outcome total (sym x.numbered ∙ is) ∙ sym x.counted
+shown_whole old request total code len room shown new Unnamed x is =
+    x.copied ∙ all_shown x.t.outcome total (sym x.numbered ∙ is) ∙ sym x.counted
+shown_whole old request total code len room shown new Short x is =
+    x.copied ∙ all_shown x.t.turn.outcome total (sym x.numbered ∙ is) ∙ sym x.counted
+shown_whole old request total code len room shown new (Row told) x is =
+    x.copied ∙ all_shown x.t.turn.outcome total (sym x.numbered ∙ is) ∙ sym x.counted
 
 module _ {A B V : Type 0} (server : A → ServerState State) (room : A → V) (start shown : A → ℕ)
     (kept : B → V) (bytes : V → List ℕ) (at : V → Ptr) (request : List ℕ) (total len : ℕ) (place : Place)
@@ -42,12 +56,14 @@ module _ {A B V : Type 0} (server : A → ServerState State) (room : A → V) (s
         → IsTaken (server s) request total len (bytes (kept m)) (at (kept m)) place (server v)
     is_taken s t u v m code first x is taken at_place last =
         let left : List ℕ = drop (start u) (bytes (room u)) in
-        let turn = turned (server t) request total code len left (shown u) (server u) x is in
+        let w = what_asked (server t).limits request in
+        let found : AnsweredAs w (server t) request total code len left (shown u) (server u) =
+        answered_as (server t) request total code len left (shown u) (server u) x is in
         let whole : shown u ≡ len =
-        turn.copied ∙ all_shown turn.t.outcome total (sym turn.numbered ∙ is) ∙ sym turn.counted in
-        let answered : Turned (server t) request total ok len left len (server u) =
-        subst (λ (n : ℕ). Turned (server t) request total ok len left n (server u)) whole
-        (subst (λ (z : ℤ). Turned (server t) request total z len left (shown u) (server u)) is turn) in
+        shown_whole (server t) request total code len left (shown u) (server u) w found is in
+        let answered : AnsweredAs w (server t) request total ok len left len (server u) =
+        subst (λ (n : ℕ). AnsweredAs w (server t) request total ok len left n (server u)) whole
+        (subst (λ (z : ℤ). AnsweredAs w (server t) request total z len left (shown u) (server u)) is found) in
         rw (taken, at_place, last, sym first) (record {
           answered = answered;
           pointed = refl;

@@ -16,17 +16,17 @@ use Rattle.vfs_grammar.specs.Turn.{Turn, Follows}
 use Rattle.vfs_grammar.specs.declared.error.Error.{Error}
 use Rattle.vfs_grammar.specs.declared.limits.Limits.{Limits}
 use Rattle.vfs_server.specs.Step.{ServerState}
-use Rattle.vfs_history.specs.Calls.{forget_of_5}
 use Rattle.vfs_history.specs.History.{Handled, IsHistory, IsHandled}
+use Rattle.vfs_further.specs.Further.{What, Ordinary}
 use Rattle.vfs_rooms.specs.Codes.{ok, number_of, shown_of}
 use Rattle.vfs_c.specs.Files.{State, Allows, Gives, new_state, at_time}
-use Rattle.vfs_c.specs.History.{Turned, Answered, HandlesTwo}
-use Rattle.vfs_c.specs.Offered.{handed}
+use Rattle.vfs_c.specs.History.{Turned, Answered, AnsweredAs, HandlesTwo}
+use Rattle.vfs_c.specs.Offered.{what_asked}
 use Rattle.vfs_rooms.specs.Parts.{part_from}
 use Rattle.vfs_c.specs.Served.{new_server, told_time}
 use Rattle.vfs_c.specs.TreeUses.{no_such_name}
 use Rattle.vfs_c.specs.declared.settings.Settings.{Settings}
-use Rattle.vfs_c.proofs.Calling.{turned}
+use Rattle.vfs_c.proofs.Calling.{answered_as}
 
 abbrev limits : Limits
 limits = record { page_size = 4096; max_buffer = 1048576 }
@@ -41,14 +41,21 @@ asks : (space : ℕ) → ask limits 0 space lookup_of_a ≡ WithMemory (Asks ech
 unfolding number little opcode_of
 asks space = refl
 
--- these are handed on as they are
-pub lookup_handed : (q : List ℕ) → q ≡ lookup_of_a → handed q ≡ lookup_of_a
+-- no row
+no_row : what_asked limits lookup_of_a ≡ Ordinary
 unfolding number little
-lookup_handed q is = ap handed is
+no_row = refl
 
-pub forget_handed : (q : List ℕ) → q ≡ forget_of_5 → handed q ≡ forget_of_5
-unfolding number little
-forget_handed q is = ap handed is
+pub turn_of : (old new : ServerState State) (q : List ℕ) (code : ℤ) (len : ℕ) (room : List ℕ) (shown : ℕ)
+    → old.limits ≡ limits → q ≡ lookup_of_a → Answered old q 4096 code len room shown new → code ≡ ok
+    → Turned old lookup_of_a 4096 code len room shown new
+turn_of old new q code len room shown same is x fine =
+    let asks : what_asked old.limits q ≡ Ordinary =
+    ap (λ (l : Limits). what_asked l q) same ∙ ap (what_asked limits) is ∙ no_row in
+    let turn : Turned old q 4096 code len room shown new =
+    subst (λ (w : What). AnsweredAs w old q 4096 code len room shown new) asks
+    (answered_as old q 4096 code len room shown new x fine) in
+    subst (λ (r : List ℕ). Turned old r 4096 code len room shown new) is turn
 
 -- a new tree has no such name
 refused : (settings : Settings) (answer : Answer) (new : State)
@@ -133,11 +140,10 @@ module _ {A : Type 0} (server : A → ServerState State) (left : A → List ℕ)
   nothing_left settings q code len (Some s) None c made one x is asked = absurd one
   nothing_left settings q code len (Some s) (Some t) None made one x is asked = absurd x
   nothing_left settings q code len (Some s) (Some t) (Some u) made one x is asked =
-      let message : Answered (server t) lookup_of_a 4096 code len (left u) (shown u) (server u) =
-      subst (λ (q : List ℕ). Answered (server t) q 4096 code len (left u) (shown u) (server u)) asked x in
       let first = one ∙ ap (λ (z : ServerState State). told_time z 1 0) made.0 in
       looked_up settings (server t) (server u) code len (left u) (shown u) first
-      (turned (server t) lookup_of_a 4096 code len (left u) (shown u) (server u) message is) is
+      (turn_of (server t) (server u) q code len (left u) (shown u) (ap (λ (z : ServerState State). z.limits) first)
+      asked x is) is
 
   -- what is copied out of it
   pub nothing_found : (count : ℕ) (piece after : List ℕ) (c : Option A)

@@ -1,9 +1,13 @@
 -- The file system behind the server, as contracts see it. A library over another one has other
 -- values here, and another `src/files.rt`.
-use Rattle.std.specs.Prelude.{ℕ, ◌==◌, bit_and, List, Option}
+use Rattle.std.specs.Prelude.{ℕ, ◌==◌, bit_and, List, Option, Some, if◌then◌else◌}
+use Rattle.vfs_flags.specs.Numbers.{enosys}
 use Rattle.vfs_files.specs.Values.{Item}
-use Rattle.vfs_files.specs.Calls.{Call, Handed}
+use Rattle.vfs_files.specs.Calls.{Answer, Failed, Call, Handed}
 use Rattle.vfs_files.specs.Listing.{GivesFirst}
+use Rattle.vfs_calls.specs.declared.call.CallData.{CallData}
+use Rattle.vfs_calls.specs.declared.call.number.TheConstants as number
+use Rattle.vfs_tree.specs.Rows.{ioctl_answer, statx_answer}
 use Rattle.vfs_tree.specs.State as tree
 use Rattle.vfs_tree.specs.Tree.{TreeAllows, first_state}
 use Rattle.vfs_c.specs.declared.settings.Settings.{Settings}
@@ -31,6 +35,13 @@ Allows = TreeAllows
 -- what a directory that is read gives
 abbrev pub Gives : Iterator → Option Item → Iterator → Type 0
 Gives = GivesFirst
+
+-- what it answers to a call of a row, and changes nothing
+abbrev pub row_answer : State → CallData → Answer
+row_answer files call =
+    if call.call == number.IOCTL then ioctl_answer files call.node call.more call.size
+    else if call.call == number.STATX then statx_answer files call.node
+    else Failed (Some enosys)
 
 -- one that was told the time
 abbrev pub at_time : State → (seconds nanoseconds : ℕ) → State

@@ -1,22 +1,25 @@
--- What is handed to the server of a message: its bytes; but of a TMPFILE, where the file system offers it, those of
--- the CREATE that it is.
-use Rattle.std.specs.Prelude.{ℕ, List}
-use Rattle.vfs_flags.specs.declared.constants.TheConstants.{GREATEST_MAX_BUFFER}
+-- What a request asks of a server by the rows that its file system offers.
+use Rattle.std.specs.Prelude.{◌≡◌, ℕ, List, max, min}
+use Rattle.vfs_flags.specs.declared.constants.TheConstants.{GREATEST_MAX_BUFFER, LEAST_MAX_BUFFER}
 use Rattle.vfs_grammar.specs.declared.limits.Limits.{Limits}
-use Rattle.vfs_further.specs.Further.{What, Ordinary, Short, Row, Unnamed, what_of}
-use Rattle.vfs_further.specs.Turns.{as_create}
+use Rattle.vfs_calls.specs.declared.call.CallData.{CallData}
+use Rattle.vfs_further.specs.Further.{What, Row, told_under, what_of}
+use Rattle.vfs_server.specs.Step.{ServerState}
+use Rattle.vfs_c.specs.Files.{State}
 use Rattle.vfs_c.specs.declared.files.TheConstants.{OFFERS}
 
--- the greatest that a server may have: of what is longer than its own it refuses a CREATE as a TMPFILE
-abbrev pub greatest : Limits
-greatest = record { page_size = 4096; max_buffer = GREATEST_MAX_BUFFER }
+-- the limits that they are asked by: the server's largest payload, which is within those of all servers
+abbrev pub row_limits : Limits → Limits
+row_limits limits = record {
+  page_size = 4096;
+  max_buffer = max (min limits.max_buffer GREATEST_MAX_BUFFER) LEAST_MAX_BUFFER;
+}
 
--- the bytes for what a request asks by the further table
-abbrev pub bytes_for : What → (request : List ℕ) → List ℕ
-bytes_for Unnamed q = as_create q
-bytes_for Ordinary q = q
-bytes_for Short q = q
-bytes_for (Row told) q = q
+abbrev pub what_asked : Limits → (request : List ℕ) → What
+what_asked limits q = what_of OFFERS (row_limits limits) q
 
-abbrev pub handed : (request : List ℕ) → List ℕ
-handed q = bytes_for (what_of OFFERS greatest q) q
+-- a request asks this call of a row, with so many bytes of room
+pub record AsksRow (server : ServerState State) (total : ℕ) (request : List ℕ) (call : CallData) : Type 0 where
+  pub row : CallData
+  pub asks : what_asked server.limits request ≡ Row row
+  pub told : call ≡ told_under server.options total row

@@ -1,20 +1,27 @@
 //! The file system behind the server. A library over another one has another file in the place of
 //! this, and other values in `specs/Files.antt`.
 
-ghost use Rattle.std.specs.Prelude.{◌≡◌, IfSome};
-ghost use Rattle.vfs_c.specs.Files.{new_state, at_time};
+ghost use Rattle.std.specs.Prelude.{◌≡◌, ◌≤◌, true, length, replicate, take, IfErr, IfOk, IfSome};
+ghost use Rattle.vfs_files.specs.Calls.{Failed, Text};
+ghost use Rattle.vfs_further.specs.Fitting.{fits};
+ghost use Rattle.vfs_c.specs.Files.{new_state, at_time, row_answer};
 
 use crate::settings::{Settings, WRITEBACK};
 use std::alloc::Global;
-use vfs_flags::{GuestGid, GuestUid};
+use vfs_calls::{CallData, number};
+use vfs_flags::{Errno, GuestGid, GuestUid};
 use vfs_further::offers;
 use vfs_tree::{Capacity, Time, TreeFs};
 
 /// The file system.
 pub type Files = TreeFs;
 
-/// The rows that it offers beyond virtiofsd's table. Of these TMPFILE alone is handed to it: as a CREATE.
-pub const OFFERS: u32 = offers::TMPFILE;
+/// The rows that it offers beyond virtiofsd's table. A TMPFILE is handed to it as a CREATE; the others, each of
+/// which is answered a text, to [`answer_row`].
+pub const OFFERS: u32 = offers::IOCTL + offers::STATX + offers::TMPFILE;
+
+/// The most bytes of such a text.
+pub const MOST_TEXT: usize = vfs_tree::MOST_TEXT;
 
 /// A new one. `None` where there is no memory.
 pub fn new_files(alloc: Global, settings: &Settings) -> Option<Files>
@@ -46,4 +53,22 @@ pub fn tell_time(files: &mut Files, seconds: u64, nanoseconds: u32)
         seconds,
         nanoseconds,
     });
+}
+
+/// Answers a call of a row: how many bytes of `text`, all 0 before, are the text, which fits; or the error.
+pub fn answer_row(files: &Files, call: &CallData, text: &mut [u8]) -> Result<usize, Errno>
+    requires { text.old ≡ replicate MOST_TEXT 0 }
+    ensures text { IfOk result (λ len. row_answer files.entry.now call.now ≡ Text (take len text.new)) }
+    ensures fits { IfOk result (λ len. fits call.now (take len text.new) ≡ true) }
+    ensures within { IfOk result (λ len. len ≤ MOST_TEXT) }
+    ensures err { IfErr result (λ errno. row_answer files.entry.now call.now ≡ Failed (Some errno)) }
+{
+    match call.call {
+        number::IOCTL => files.ioctl(call.node, call.more, call.size),
+        number::STATX => {
+            files.statx(call.node, text)?;
+            Ok(MOST_TEXT)
+        }
+        _ => Err(Errno::ENOSYS),
+    }
 }

@@ -1,19 +1,23 @@
 //! A server and the room of its replies, as they live between calls.
 
-ghost use Rattle.std.specs.Prelude.{◌≡◌, ◌≤◌, ◌-◌, ◌++◌, length, take, drop, min, IfSome};
+ghost use Rattle.std.specs.Prelude.{◌≡◌, ◌≤◌, ◌⊎◌, ◌-◌, ◌++◌, length, take, drop, min, IfSome};
 ghost use Rattle.vfs_flags.specs.declared.constants.TheConstants.{LEAST_MAX_BUFFER, GREATEST_MAX_BUFFER};
 ghost use Rattle.vfs_segments.specs.Segments.{segments_of, contents, flat_bytes, lengths_of};
-ghost use Rattle.vfs_c.specs.Offered.{handed};
-ghost use Rattle.vfs_c.specs.Served.{new_server, told_time, ServedInC};
+ghost use Rattle.vfs_further.specs.Turns.{as_create};
+ghost use Rattle.vfs_c.specs.Served.{new_server, told_time, Refused, ServedInC, SteppedInC};
 ghost use Rattle.vfs_c.specs.Taken.{place_of};
+ghost use Rattle.vfs_rooms.specs.Codes.{number_of, length_of, shown_of};
 ghost use Rattle.vfs_rooms.specs.Parts.{part_from};
 
 use crate::files::{Files, new_files, tell_time};
 use crate::memory::{Memory, Place};
-use crate::offered::{as_create, is_tmpfile};
+use crate::offered::{as_create, asked};
 use crate::settings::Settings;
 use std::alloc::Global;
 use std::mem;
+use vfs_calls::CallData;
+use vfs_further::Further;
+use vfs_grammar::Result;
 use vfs_rooms::codes::{OK, OUT_OF_MEMORY, TOO_LONG, told};
 use vfs_rooms::{copy_part, lend, only_room};
 use vfs_segments::{Reader, Writer};
@@ -67,13 +71,27 @@ impl Instance {
     /// Answers the request in these segments, with `total` bytes of room: the outcome's number, and
     /// the length of the reply, 0 where there is none.
     pub fn answer(&mut self, alloc: Global, request: &[&[u8]], total: usize) -> (i32, usize)
-        ensures { ServedInC self.old.server (handed (flat_bytes (segments_of request.now))) total
+        ensures { ServedInC self.old.server (flat_bytes (segments_of request.now)) total
             result.0 result.1 (drop self.new.start self.new.room.items) self.new.shown
             self.new.server }
     {
-        if !is_tmpfile(request) {
-            return self.answer_bytes(alloc, request, total);
+        let mut call = CallData::NONE;
+        match asked(&self.server, request, total, &mut call) {
+            Further::Ordinary => self.answer_bytes(alloc, request, total),
+            Further::Unnamed => self.answer_tmpfile(alloc, request, total),
+            Further::Row => self.answer_row(alloc, &call, total),
+            Further::Short => self.refuse_short(alloc, total),
         }
+    }
+
+    // Answers a TMPFILE, as the CREATE of the same bytes.
+    fn answer_tmpfile(&mut self, alloc: Global, request: &[&[u8]], total: usize) -> (i32, usize)
+        ensures { SteppedInC self.old.server (as_create (flat_bytes (segments_of request.now))) total
+            result.0 result.1 (drop self.new.start self.new.room.items) self.new.shown
+            self.new.server
+            ⊎ Refused self.old.server (flat_bytes (segments_of request.now)) result.0 result.1
+            self.new.shown self.new.server }
+    {
         let Ok(list) = as_create(alloc, request) else {
             self.shown = 0;
             return (OUT_OF_MEMORY, 0);
@@ -81,11 +99,13 @@ impl Instance {
         self.answer_bytes(alloc, &list, total)
     }
 
-    // Answers the request of the bytes in these segments.
+    // Answers the request of the bytes in these segments, by virtiofsd's table.
     fn answer_bytes(&mut self, alloc: Global, request: &[&[u8]], total: usize) -> (i32, usize)
-        ensures { ServedInC self.old.server (flat_bytes (segments_of request.now)) total
+        ensures { SteppedInC self.old.server (flat_bytes (segments_of request.now)) total
             result.0 result.1 (drop self.new.start self.new.room.items) self.new.shown
-            self.new.server }
+            self.new.server
+            ⊎ Refused self.old.server (flat_bytes (segments_of request.now)) result.0 result.1
+            self.new.shown self.new.server }
     {
         self.shown = 0;
         match Reader::new(alloc, request) {
@@ -98,8 +118,10 @@ impl Instance {
     // Answers the request that this reader has left.
     fn answer_reader(&mut self, alloc: Global, reader: Reader<'_>, total: usize) -> (i32, usize)
         requires { self.old.shown ≡ 0 }
-        ensures { ServedInC self.old.server reader.entry.left total
+        ensures { SteppedInC self.old.server reader.entry.left total
             result.0 result.1 (drop self.new.start self.new.room.items) self.new.shown
+            self.new.server
+            ⊎ Refused self.old.server reader.entry.left result.0 result.1 self.new.shown
             self.new.server }
     {
         let Some(mut writer) = self.lend_room(alloc, total) else {
@@ -107,7 +129,19 @@ impl Instance {
         };
         let outcome = self.server.handle_message(alloc, reader, &mut writer);
         self.keep_room(alloc, writer.into_segments(), total);
-        match &outcome {
+        self.end(&outcome, total)
+    }
+
+    /// Notes how a request ended, for which there were `total` bytes of room: the outcome's number, and
+    /// the length of the reply.
+    pub(crate) fn end(&mut self, outcome: &Result<usize>, total: usize) -> (i32, usize)
+        ensures number { result.0 ≡ number_of outcome.now }
+        ensures len { result.1 ≡ length_of outcome.now }
+        ensures shown { self.new.shown ≡ shown_of outcome.now total }
+        ensures server { self.new.server ≡ self.old.server }
+        ensures room { drop self.new.start self.new.room.items ≡ drop self.old.start self.old.room.items }
+    {
+        match outcome {
             Ok(len) => {
                 self.shown = *len;
                 (OK, *len)
@@ -120,9 +154,9 @@ impl Instance {
         }
     }
 
-    // A writer with `total` bytes left, the last ones of the kept memory. `None` where there is no
-    // memory.
-    fn lend_room(&mut self, alloc: Global, total: usize) -> Option<Writer>
+    /// A writer with `total` bytes left, the last ones of the kept memory. `None` where there is no
+    /// memory.
+    pub(crate) fn lend_room(&mut self, alloc: Global, total: usize) -> Option<Writer>
         ensures server { self.new.server ≡ self.old.server }
         ensures shown { self.new.shown ≡ self.old.shown }
         ensures left { IfSome result (λ w. length w.left ≡ total) }
@@ -133,9 +167,9 @@ impl Instance {
         lend(alloc, list, room, total)
     }
 
-    // Takes the memory back, and keeps the list that it stood in. The last room is its last `total`
-    // bytes.
-    fn keep_room(&mut self, alloc: Global, mut rooms: Vec<Vec<u8>>, total: usize)
+    /// Takes the memory back, and keeps the list that it stood in. The last room is its last `total`
+    /// bytes.
+    pub(crate) fn keep_room(&mut self, alloc: Global, mut rooms: Vec<Vec<u8>>, total: usize)
         requires { length (lengths_of (contents rooms.items)) ≡ 1 }
         ensures server { self.new.server ≡ self.old.server }
         ensures shown { self.new.shown ≡ self.old.shown }

@@ -15,6 +15,7 @@ mod handle;
 mod instance;
 mod memory;
 mod offered;
+mod rows;
 mod settings;
 mod taken;
 mod tree;
@@ -26,7 +27,6 @@ ghost use Rattle.vfs_flags.specs.declared.constants.TheConstants.{LEAST_MAX_BUFF
 ghost use Rattle.vfs_segments.specs.Segments.{segments_of, flat_bytes};
 ghost use Rattle.vfs_rooms.specs.Codes.{ok, no_memory, no_server, wrong_size};
 ghost use Rattle.vfs_c.specs.History.{Answered, Told};
-ghost use Rattle.vfs_c.specs.Offered.{handed};
 ghost use Rattle.vfs_c.specs.Served.{new_server, told_time, ServedInC};
 ghost use Rattle.vfs_c.specs.Taken.{place_of};
 ghost use Rattle.vfs_rooms.specs.Parts.{part_from};
@@ -111,7 +111,8 @@ pub extern "C" fn nizwarf_tell_time_at(
 /// on. 10 is also answered where there was no memory to begin with, 13 where the lengths sum past
 /// `usize::MAX`, and 11 where the handle has no server.
 ///
-/// A TMPFILE, where the file system offers it, is handed to the server as the CREATE of the same bytes.
+/// A request of a row that the file system offers is answered by it, and changes nothing; but a TMPFILE is handed to
+/// the server as the CREATE of the same bytes.
 ///
 /// A request that was handed to the server is the next turn of its history, whatever came before. So over
 /// all calls the books balance: entries answered and forgets accepted are entries delivered and forgets
@@ -127,10 +128,10 @@ pub extern "C" fn nizwarf_message_at(
     ensures none { handle.old.value ≡ None →
         (result ≡ no_server) × (len.new ≡ 0) × (handle.new.value ≡ None) }
     ensures served { IfSome handle.old.value (λ s. MatchOption handle.new.value ⊥ (λ t.
-        ServedInC s.server (handed (flat_bytes (segments_of request.now))) room
+        ServedInC s.server (flat_bytes (segments_of request.now)) room
         result len.new (drop t.start t.room.items) t.shown t.server)) }
     ensures history { IfSome handle.old.value (λ s. MatchOption handle.new.value ⊥ (λ t.
-        Answered s.server (handed (flat_bytes (segments_of request.now))) room
+        Answered s.server (flat_bytes (segments_of request.now)) room
         result len.new (drop t.start t.room.items) t.shown t.server)) }
 {
     history_goes_on::<Files>();

@@ -1,39 +1,68 @@
-//! What the file system offers beyond virtiofsd: a TMPFILE is handed to the server as the CREATE of the same bytes.
+//! What the file system offers beyond virtiofsd, and the CREATE that a TMPFILE is handed to the server as.
 
-ghost use Rattle.std.specs.Prelude.{◌≡◌, ◌++◌, take, drop, IfOk, OnOk, if◌then◌else◌};
+ghost use Rattle.std.specs.Prelude.{◌≡◌, ◌++◌, take, drop, IfOk, OnOk};
 ghost use Rattle.vfs_segments.specs.Segments.{segments_of, flat_bytes};
+ghost use Rattle.vfs_grammar.specs.Limits.{AreLimits};
+ghost use Rattle.vfs_calls.specs.declared.call.kind.TheConstants as kind;
+ghost use Rattle.vfs_further.specs.Further.{Ordinary, Short, Tells, Unnamed, told_under};
+ghost use Rattle.vfs_further.specs.declared.row.Further.TheVariants.{Ordinary as IsOrdinary, Row as IsRow, Short as IsShort, Unnamed as IsUnnamed};
 ghost use Rattle.vfs_further.specs.Turns.{as_create};
-ghost use Rattle.vfs_c.specs.Offered.{handed};
+ghost use Rattle.vfs_c.specs.Offered.{AsksRow, row_limits, what_asked};
 
-use crate::files::OFFERS;
-use bitflags::Flags;
+use crate::files::{Files, OFFERS};
 use std::alloc::{AllocError, Global};
 use vfs_calls::CallData;
-use vfs_flags::{FsOptions, GREATEST_MAX_BUFFER};
+use vfs_flags::{GREATEST_MAX_BUFFER, LEAST_MAX_BUFFER};
 use vfs_further::{Further, what};
 use vfs_grammar::Limits;
-
-/// The greatest that a server may have.
-const GREATEST: Limits = Limits {
-    page_size: 4096,
-    max_buffer: GREATEST_MAX_BUFFER,
-};
+use vfs_server::server::Server;
 
 /// The opcode of a CREATE, as a request has it, and where it stands.
 static CREATE: [u8; 4] = [35, 0, 0, 0];
 
 const OPCODE_AT: usize = 4;
 
-/// Whether a request is a TMPFILE, which the file system offers.
-pub fn is_tmpfile(request: &[&[u8]]) -> bool
-    ensures { handed (flat_bytes (segments_of request.now)) ≡
-        (if result then as_create (flat_bytes (segments_of request.now))
-        else flat_bytes (segments_of request.now)) }
+/// What a request asks of a server by the rows that its file system offers: a call of a row, each of which is
+/// answered a text, is told in `call`, with so many bytes of room.
+pub fn asked(server: &Server<Files>, request: &[&[u8]], room: usize, call: &mut CallData) -> Further
+    ensures ordinary { result ≡ IsOrdinary →
+        what_asked server.now.limits (flat_bytes (segments_of request.now)) ≡ Ordinary }
+    ensures short { result ≡ IsShort →
+        what_asked server.now.limits (flat_bytes (segments_of request.now)) ≡ Short }
+    ensures unnamed { result ≡ IsUnnamed →
+        what_asked server.now.limits (flat_bytes (segments_of request.now)) ≡ Unnamed }
+    ensures row { result ≡ IsRow →
+        AsksRow server.now room (flat_bytes (segments_of request.now)) call.new }
+    ensures text { result ≡ IsRow → call.new.answer ≡ kind.TEXT }
+    ensures room { result ≡ IsRow → call.new.room ≡ room }
 {
-    let mut call = CallData::NONE;
-    match what(OFFERS, GREATEST, FsOptions::empty(), request, 0, &mut call) {
-        Further::Unnamed => true,
-        _ => false,
+    tell(server, request, room, call)
+}
+
+// The same, as the further table says it.
+fn tell(server: &Server<Files>, request: &[&[u8]], room: usize, call: &mut CallData) -> Further
+    ensures { Tells (what_asked server.now.limits (flat_bytes (segments_of request.now)))
+        (told_under server.now.options room) result call.old call.new }
+{
+    what(
+        OFFERS,
+        row_limits(server),
+        server.options(),
+        request,
+        room,
+        call,
+    )
+}
+
+/// The limits that rows are asked by.
+pub fn row_limits(server: &Server<Files>) -> Limits
+    ensures limits { result ≡ row_limits server.now.limits }
+    ensures within { AreLimits result }
+{
+    let largest = server.max_buffer();
+    Limits {
+        page_size: 4096,
+        max_buffer: largest.min(GREATEST_MAX_BUFFER).max(LEAST_MAX_BUFFER),
     }
 }
 

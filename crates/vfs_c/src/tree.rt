@@ -3,5 +3,6 @@
 
 mod laws;
 mod uses;
+mod uses_rows;
 mod uses_taken;
 mod uses_tmpfile;

@@ -4,7 +4,6 @@ ghost use Rattle.std.specs.Prelude.{◌≡◌, MatchOption};
 ghost use Rattle.vfs_segments.specs.Segments.{segments_of, flat_bytes};
 ghost use Rattle.vfs_rooms.specs.Codes.{ok};
 ghost use Rattle.vfs_c.specs.History.{HandlesTwo};
-ghost use Rattle.vfs_c.specs.Offered.{handed};
 ghost use Rattle.vfs_c.specs.Served.{new_server};
 
 use crate::files::Files;
@@ -16,7 +15,7 @@ use vfs_history::laws::history_keeps_books;
 use vfs_rooms::codes::OK;
 
 /// Makes a server, and has it handle two messages, each after it was told the time. If both are
-/// answered, the server's history is these four moments, and the books of both turns are kept.
+/// answered, the server's history is these moments, of a row none, and the books of its turns are kept.
 fn two_messages(
     alloc: Global,
     handle: &mut Handle,
@@ -26,7 +25,7 @@ fn two_messages(
 ) -> i32
     ensures { result ≡ ok → MatchOption handle.new.value ⊥ (λ s.
         HandlesTwo (new_server 4096 1048576 settings.now)
-        (handed (flat_bytes (segments_of one.now))) (handed (flat_bytes (segments_of two.now)))
+        (flat_bytes (segments_of one.now)) (flat_bytes (segments_of two.now))
         s.server) }
 {
     history_keeps_books::<Files>();

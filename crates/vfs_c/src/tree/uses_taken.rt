@@ -5,7 +5,6 @@ ghost use Rattle.std_alloc.specs.Vec.{vec_ptr};
 ghost use Rattle.vfs_grammar.specs.Samples.{lookup_of_a};
 ghost use Rattle.vfs_segments.specs.Segments.{segments_of, flat_bytes};
 ghost use Rattle.vfs_rooms.specs.Codes.{ok};
-ghost use Rattle.vfs_c.specs.Offered.{handed};
 ghost use Rattle.vfs_c.specs.TreeUses.{no_such_name, IsTaken};
 
 use crate::handle::Handle;
@@ -20,7 +19,7 @@ use vfs_rooms::codes::OK;
 
 /// Answers a request and takes the reply, as `nizwarf_message_take` of the header does: what is taken first,
 /// before the message, sees to it that there is memory. What was answered is the next turn of the server's
-/// history, and no reply is lost.
+/// history, or a row, and no reply is lost.
 fn message_is_taken(
     alloc: Global,
     handle: &mut Handle,
@@ -31,7 +30,7 @@ fn message_is_taken(
     len: &mut usize,
 ) -> i32
     ensures { result ≡ ok → IfSome handle.old.value (λ s. MatchOption handle.new.value ⊥ (λ t.
-        MatchOption taken.new.value ⊥ (λ m. IsTaken s.server (handed (flat_bytes (segments_of request.now))) room
+        MatchOption taken.new.value ⊥ (λ m. IsTaken s.server (flat_bytes (segments_of request.now)) room
         len.new m.room.items (vec_ptr m.room) place.new t.server))) }
 {
     let ready = nizwarf_take_at(alloc, handle, taken, place);

@@ -3,7 +3,7 @@ use Rattle.vfs_rooms.specs.Codes.{ok}
 use Rattle.vfs_c.specs.History.{Told}
 use Rattle.vfs_c.specs.Served.{told_time}
 use Rattle.vfs_c.proofs.Calling.{in_a_row}
-use Rattle.vfs_c.proofs.TreeNothingFound.{told_server, nothing_left, nothing_found, last_of, lookup_handed, forget_handed}
+use Rattle.vfs_c.proofs.TreeNothingFound.{told_server, nothing_left, nothing_found, last_of}
 use Rattle.vfs_c.proofs.tree.uses.nothing_is_found.Goals as goal
 
 pub returns-clause-bytes : goal.returns-clause-bytes
@@ -19,7 +19,7 @@ returns-clause-bytes c = λ is.
     (told_server (λ s. s.server) (λ s. drop s.start s.room.items) (λ s. s.shown)
     (λ s. record s { server = told_time s.server 1 0 }) (λ s. refl) _ _ _
     c.nizwarf_tell_time_at.ensures.told)
-    c.nizwarf_message_at-first.ensures.history first (lookup_handed _ c.requires.lookup))
+    c.nizwarf_message_at-first.ensures.history first c.requires.lookup)
     c.requires.reply c.nizwarf_copy_at.ensures.count c.nizwarf_copy_at.ensures.copied
 
 pub returns-clause-books : goal.returns-clause-books
@@ -28,8 +28,8 @@ returns-clause-books c = λ is.
     let first : c.nizwarf_message_at-first.result ≡ ok = search rules in
     let second : c.nizwarf_message_at-second.result ≡ ok = search rules in
     last_of (λ s. s.server) (λ s. drop s.start s.room.items) (λ s. s.shown) _ _ _ _ _
-    c.nizwarf_message_at-second.new.handle.value (lookup_handed _ c.requires.lookup)
-    (forget_handed _ c.requires.forget)
+    c.nizwarf_message_at-second.new.handle.value c.requires.lookup
+    c.requires.forget
     (in_a_row (λ s. s.server) (λ s. drop s.start s.room.items) (λ s. s.shown)
     c.history_keeps_books.ensures _ _ _ _ _ _ _ c.nizwarf_new_at-made.new.handle.value
     c.nizwarf_tell_time_at.new.handle.value c.nizwarf_message_at-first.new.handle.value

@@ -2,7 +2,7 @@ use Rattle.std.proofs.Common.{◌≡◌, drop, refl, rules}
 use Rattle.std_alloc.specs.Vec.{vec_ptr}
 use Rattle.vfs_rooms.specs.Codes.{ok}
 use Rattle.vfs_c.specs.Served.{told_time}
-use Rattle.vfs_c.proofs.TreeNothingFound.{told_server, nothing_left, lookup_handed}
+use Rattle.vfs_c.proofs.TreeNothingFound.{told_server, nothing_left}
 use Rattle.vfs_c.proofs.TreeNothingTaken.{nothing_taken}
 use Rattle.vfs_c.proofs.tree.uses_taken.nothing_is_taken.Goals as goal
 
@@ -20,7 +20,7 @@ returns-clause-reply c = λ is.
     (told_server (λ s. s.server) (λ s. drop s.start s.room.items) (λ s. s.shown)
     (λ s. record s { server = told_time s.server 1 0 }) (λ s. refl) _ _ _
     c.nizwarf_tell_time_at.ensures.told)
-    c.nizwarf_message_at-first.ensures.history first (lookup_handed _ c.requires.lookup))
+    c.nizwarf_message_at-first.ensures.history first c.requires.lookup)
     (c.nizwarf_take_at-took.ensures.taken took) (c.nizwarf_take_at-took.ensures.place took)
 
 pub returns-clause-ended : goal.returns-clause-ended
