@@ -3,6 +3,7 @@ mirror.py. Nodes are meant by a number that counts among those that are known, s
 one too."""
 import ctypes
 import errno
+import fcntl
 import os
 import pathlib
 import shutil
@@ -25,11 +26,17 @@ GROUPS = [0, 0, 0, 5, 6]
 ATTRIBUTES = [b"user.a", b"user.b", b"trusted.c", b"user." + b"n" * 250, *(b"security.%d" % i for i in range(12))]
 FLAGS = [os.O_RDONLY, os.O_RDWR, os.O_WRONLY | os.O_TRUNC, os.O_RDWR | os.O_TRUNC | os.O_APPEND]
 AT_EMPTY_PATH = 0x1000
+IOCTL, STATX = 39, 52
+# FS_IOC_GETFLAGS, FS_IOC_FSGETXATTR, FS_IOC_SETFLAGS and FS_IOC_FSSETXATTR of a flag that neither side has, and
+# another, each with what is given, and as how many bytes it comes back.
+COMMANDS = [(0x80086601, bytes(8), 4), (0x801C581F, bytes(28), 28), (0x40086602, b"\4" + bytes(7), 0),
+            (0x401C5820, b"\1" + bytes(27), 0), (0x8004FF7F, bytes(4), 4)]
 CLOCK_REALTIME_COARSE = 5
 OPERATIONS = {
     "LOOKUP": 8, "CREATE": 8, "MKNOD": 4, "MKDIR": 8, "SYMLINK": 4, "LINK": 7, "UNLINK": 8, "RMDIR": 6, "RENAME": 14,
     "TMPFILE": 4, "SETATTR": 10, "READ": 6, "WRITE": 10, "OPEN": 4, "READLINK": 2, "READDIR": 4, "SETXATTR": 5, "GETXATTR": 3,
     "LISTXATTR": 2, "REMOVEXATTR": 3, "FALLOCATE": 3, "LSEEK": 4, "FORGET": 5, "GETATTR": 3,
+    "STATX": 3, "IOCTL": 2,
 }
 SPECIAL = {"FIFO": (stat.S_IFIFO, 0), "socket": (stat.S_IFSOCK, 0), "device": (stat.S_IFCHR, os.makedev(1, 3))}
 WATCHED = {"d": "a directory", "f": "a file", "l": "a symbolic link", "s": "a FIFO, socket or device"}
@@ -73,6 +80,7 @@ def generate(random):
         "LSEEK": lambda: (node("f", 1), random.choice([os.SEEK_DATA, os.SEEK_HOLE]),
                           random.choice([0, 1, 4095, 4096, 4097, random.randrange(80000)])),
         "FORGET": lambda: (node("dfls"), random.random(), random.random() < 0.5), "GETATTR": lambda: (node("dfls"),),
+        "STATX": lambda: (node("dfls"),), "IOCTL": lambda: (node("df", 1), random.choice(COMMANDS)),
     }
     return (random.choice(GROUPS), name, *words[name]())
 
@@ -151,6 +159,18 @@ class Library:
     def getattr(self, node):
         return self.attributes(self.ask(Op.GETATTR, node, record(Op.GETATTR)), 16)
 
+    def statx(self, node):
+        return told(self.ask(STATX, node, struct.pack("<IIQII", 0, 0, 0, 0, 0xFFF))[32:])
+
+
+def told(of):
+    """What a `struct statx` says."""
+    mask, _, _, nlink, uid, gid, mode, _, size, _, _ = struct.unpack_from("<IIQIIIHxxQQQQ", of)
+    times = [struct.unpack_from("<qI", of, at) for at in (64, 80, 96, 112)]
+    return {"mask": mask & 0xFFF, "nlink": nlink, "uid": uid, "gid": gid, "mode": mode, "size": size,
+            "rdev": os.makedev(*struct.unpack_from("<II", of, 128)),
+            **dict(zip(("atime", "btime", "ctime", "mtime"), times))}
+
 
 def way(file):
     return f"/proc/self/fd/{file}"
@@ -174,7 +194,7 @@ def opened(file, flags, act):
 
 class Node:
     def __init__(self, file):
-        self.file, self.given = file, 0
+        self.file, self.given, self.born = file, 0, None
         is_so = os.fstat(file)
         self.inode = is_so.st_ino
         self.kind = {stat.S_IFDIR: "d", stat.S_IFLNK: "l", stat.S_IFREG: "f"}.get(stat.S_IFMT(is_so.st_mode), "s")
@@ -537,6 +557,31 @@ class Session:
 
     def getattr(self, of):
         self.compare(self.pick(of))
+
+    def statx(self, of):
+        node = self.pick(of)
+        buffer = ctypes.create_string_buffer(256)
+        if LIBC.statx(self.file(node), b"", AT_EMPTY_PATH, 0xFFF, buffer):
+            raise OSError(ctypes.get_errno(), "statx")
+        ours, theirs = self.library.statx(node), told(buffer.raw)
+        seen, kind = self.nodes[node], WATCHED[self.nodes[node].kind]
+        for key in ("mask", "mode", "nlink", "uid", "gid", "size", "rdev"):
+            if ours[key] != theirs[key] and (key != "size" or seen.kind != "d"):
+                self.note(f"{key} of {kind}")
+        if any(ours[key] != value for key, value in self.library.getattr(node).items() if "time" in key):
+            self.note(f"times of {kind}, which GETATTR does not tell")
+        born = ours["btime"], theirs["btime"]
+        seen.born = seen.born or born
+        if seen.born != born or not ours["btime"][0]:
+            self.note(f"birth of {kind}")
+
+    def ioctl(self, of, command):
+        node, (number, given, length) = self.pick(of), command
+        body = struct.pack("<QIIQII", 0, 0, number, 0, 0 if length else len(given), length) + (b"" if length else given)
+        call = self.on_file(node, os.O_RDONLY, lambda file: fcntl.ioctl(file, number, given)[:length])
+        if answers := self.both(lambda: self.library.ask(IOCTL, node, body), call, (node,)):
+            if answers[0] != bytes(16) + answers[1]:
+                self.note("another value")
 
     def forget(self, of, part, batch):
         node = self.pick(of)

@@ -2,8 +2,8 @@
 # Tests nizwarf-mount, with the tree in memory, on folders of its own.
 #
 # Usage: tests/mount/check.sh
-# Words that can't be are refused. In a mount files are made without a name (nameless.py), session.sh does what a
-# person does, memory goes back that was written and cut, and it is unmounted; then so with writeback, and with
+# Words that can't be are refused. In a mount files are made without a name (nameless.py), births and flags are told as
+# by a tmpfs beside (rows.py), session.sh does what a person does, memory goes back that was written and cut, and it is unmounted; then so with writeback, and with
 # no_io_uring; with other options, where it ends by a signal; with a link above it, and over vhost-user with an event
 # that is full (tests/share/ends.py); and once more, with limits, which bound the server's memory, and hold again once
 # what was there is removed.
@@ -27,7 +27,9 @@ vhost=$transport
 build_transport mount
 folder=$(mktemp -d)
 ends=$(mktemp -d)
-trap '{ umount -l "$folder"; rmdir "$folder"; rm -rf "$ends"; } 2> /dev/null || true' EXIT
+beside=$(mktemp -d)
+trap '{ umount -l "$folder" "$beside"; rmdir "$folder" "$beside"; rm -rf "$ends"; } 2> /dev/null || true' EXIT
+mount -t tmpfs check "$beside"
 
 # Starts to serve, with options, half an hour at most, and waits until it is mounted.
 start() {
@@ -127,6 +129,7 @@ session() {
     start -o "$2"
     echo "Requests come by $(way)."
     python3 -B "$here/tests/mount/nameless.py" "$folder" || wrong "files without a name, $1"
+    python3 -B "$here/tests/mount/rows.py" "$folder" "$beside" || wrong "births and flags, $1"
     "$here/tests/mount/session.sh" "$folder" || wrong "the session, $1"
     cut_files || status=1
     umount "$folder"
