@@ -673,16 +673,16 @@ static inline int nizwarf_do_record(const nizwarf_ops *ops, const nizwarf_req *r
 	answer->text = room;
 	switch (c->call) {
 	case NIZWARF_GETLK:
-		answer->text_len = sizeof(lock);
-		if (space < answer->text_len)
+		if (space < sizeof(lock))
 			return EIO;
+		answer->text_len = sizeof(lock);
 		error = NIZWARF_DO(getlk, c->node, &fi, &lock);
 		memcpy(room, &lock, sizeof(lock));
 		return error;
 	case NIZWARF_STATX:
-		answer->text_len = sizeof(statx);
-		if (space < answer->text_len)
+		if (space < sizeof(statx))
 			return EIO;
+		answer->text_len = sizeof(statx);
 		error = NIZWARF_DO(statx, c->node, c->flags, nizwarf_statx_mask(c),
 				   c->has & NIZWARF_HAS_HANDLE ? &fi : NULL, &statx, &timeout);
 		statx.attr_seconds = nizwarf_seconds_of(timeout);
@@ -697,7 +697,7 @@ static inline int nizwarf_do_record(const nizwarf_ops *ops, const nizwarf_req *r
 				   c->flags, req->request + c->data.at, (size_t)c->data.len, &out,
 				   room + sizeof(out), size, &len);
 		memcpy(room, &out, sizeof(out));
-		answer->text_len = sizeof(out) + len;
+		answer->text_len = sizeof(out) + (len < size ? len : size);
 		return !error && len > size ? EIO : error;
 	default:
 		return ENOSYS;

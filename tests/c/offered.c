@@ -533,6 +533,36 @@ static void called_as_told(void)
 	expect("forget_multi 64 1 163 forget_multi 6 65 169 ", 4096, 0);
 }
 
+/* One that says it handed out more than there was room for. */
+static int hand_out_too_much(REQ, uint32_t cmd, uint64_t arg, FI, uint32_t flags, const void *in_buf,
+			     size_t in_size, nizwarf_ioctl *out, void *out_buf, size_t out_size, size_t *len)
+{
+	(void)req, (void)ino, (void)cmd, (void)arg, (void)fi, (void)flags, (void)in_buf, (void)in_size;
+	out->result = 1;
+	memset(out_buf, 1, out_size);
+	*len = out_size + 1;
+	return 0;
+}
+
+/* What is answered has no more bytes than the room: where it says so, and where the room is smaller than the record. */
+static void text_in_room(void)
+{
+	static const nizwarf_ops table = { .ioctl = hand_out_too_much,
+					   .getlk = note_getlk,
+					   .statx = note_statx };
+	static const uint32_t calls[] = { NIZWARF_IOCTL, NIZWARF_GETLK, NIZWARF_STATX };
+	const size_t space = sizeof(nizwarf_ioctl) + 4;
+
+	for (size_t i = 0; i < sizeof(calls) / sizeof(*calls); i++) {
+		const nizwarf_call call = { .call = calls[i], .answer = NIZWARF_TEXT, .size = 100 };
+		const nizwarf_req req = { NULL, &call, request };
+		nizwarf_answer answer = NIZWARF_NO_ANSWER;
+
+		CHECK(nizwarf_do_record(&table, &req, ours, space, &answer) == EIO);
+		CHECK(answer.text_len == (calls[i] == NIZWARF_IOCTL ? space : 0));
+	}
+}
+
 /* INIT by `conn`: what virtiofsd does not know is agreed on besides, and sizes are lowered. */
 static void agreed_besides(void)
 {
@@ -566,6 +596,7 @@ int main(void)
 	unnamed_files();
 	records();
 	called_as_told();
+	text_in_room();
 	agreed_besides();
 	nizwarf_end_slot(&slot);
 	return 0;
