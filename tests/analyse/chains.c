@@ -30,7 +30,7 @@ void copy_else(void *to, const void *from, size_t n);
 	 sizeof(*(to)) == 16 ? copy_rooms((void *)(to), (void *)(from), n) :  \
 			       copy_else((to), (from), n))
 
+/* (the copy with annotations, which includes contracts.h) */
 #include "vhost_queue.c"
-#include "contracts.h"
 
 #endif

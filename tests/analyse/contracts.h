@@ -33,19 +33,24 @@
     ensures w->copied == \old(w->copied) + (\old(*len) - *len); */
 static void copy_up_to(struct worker *w, size_t most, const unsigned char **at, size_t *len);
 
-/*@ requires has_chain(w) && len <= LONGEST - w->len;
-    requires \valid_read(at + (0 .. len - 1)) && \separated(w, at + (0 .. len - 1));
+/*@ requires chain: has_chain(w);
+    requires len: len <= LONGEST - w->len;
+    requires at: \valid_read(at + (0 .. len - 1));
+    requires apart: \separated(w, at + (0 .. len - 1));
     assigns w->copied, w->request[0 .. LONGEST - 1], w->len, w->segments, w->segment[0 .. PIECES];
-    ensures has_chain(w);
-    ensures \result == 0 || \result == -1; */
+    ensures chain: has_chain(w);
+    ensures code: \result == 0 || \result == -1; */
 static int add_request(struct worker *w, const unsigned char *at, size_t len);
 
-/*@ requires has_chain(w) && \valid_read(piece) && \separated(w, piece);
-    requires \valid(at + (0 .. piece->len - 1)) && \separated(w, at + (0 .. piece->len - 1));
+/*@ requires chain: has_chain(w);
+    requires piece: \valid_read(piece);
+    requires apart: \separated(w, piece);
+    requires at: \valid(at + (0 .. piece->len - 1));
+    requires beside: \separated(w, at + (0 .. piece->len - 1));
     assigns w->copied, w->request[0 .. LONGEST - 1], w->len, w->segments, w->segment[0 .. PIECES],
       w->rooms, w->room[0 .. PIECES - 1], w->room_len;
-    ensures has_chain(w);
-    ensures \result == 0 || \result == -1; */
+    ensures chain: has_chain(w);
+    ensures code: \result == 0 || \result == -1; */
 static int add_piece(struct worker *w, unsigned char *at, const nizwarf_piece *piece);
 
 /*@ requires \valid(w) && \valid_read(by) && \separated(w, by, &by) && is_mapped(g, w);

@@ -1,24 +1,35 @@
 #!/usr/bin/env bash
-# Analyses the C that walks a guest's queues, programs/transport/vhost_queue.c and later.c, by Frama-C.
+# Analyses C that stands between a guest and the proved library by Frama-C: what walks a guest's queues
+# (programs/transport/vhost_queue.c, later.c), what is inline in the headers (include), and ids (passthrough_ids.c).
 #
 # Usage: tests/analyse/run.sh
-# WP proves that copy_up_to, add_request and add_piece keep to contracts.h, and neither read nor write outside of what
-# it gives them, for pieces of any size. Eva looks for undefined behaviour in a worker that serves a queue (entry.c):
-# three turns, with any regions and rings, any number that the guest writes, and any answer, now or later. An alarm, or
-# a goal that isn't proved, is an error if known.txt doesn't have it with a reason; so is one of those that is gone.
+# WP proves of functions, for requests, rooms and lists of any length, that they read and write nothing but what they are
+# given, come to an end, and keep to their contracts. Of the queues these are copy_up_to, add_request, add_piece and
+# take_chain (contracts.h). Of the headers they are those with loops over pieces, and all that make a table's calls: names
+# and data that these are handed lie in the request, texts that they answer in the room (door.acsl, tree.acsl,
+# table.acsl). Eva looks for undefined behaviour: in a worker that serves a queue three turns long (entry.c), with any
+# regions and rings, any number that the guest writes, and any answer, now or later; in all of nizwarf.h and
+# nizwarf_tree.h, with any bytes in up to three pieces, and with each pointer NULL (doors, of headers-entry.c); in a table
+# whose functions answer anything, or are not there, for calls that tell anything (tables, the same); in ids by any rules
+# (ids-entry.c). An alarm, or a goal that isn't proved, is an error if known.txt doesn't have it with a reason; so is one
+# of those that is gone.
 #
-# Assumed: what the proved library answers, as specifications.h says it again by hand; what Frama-C says of the C
-# library, and specifications.h of Linux; the contract of take_chain, whose loop is not proved; and that regions are
-# mapped as vhost_user.c tells. One thread runs, no kernel: a guest that writes meanwhile is any value at each atomic
-# read, and any step of a chain. Frama-C refuses _Atomic(T) and _Alignas, so they are left out, and it does not look at
-# pointers that are compared. WP's memory has types, by the hypotheses that it prints.
+# Assumed: what the proved library answers, as specifications.h, the three .acsl and headers-entry.c say it again by
+# hand; what Frama-C says of the C library, and specifications.h of Linux; and that regions are mapped as vhost_user.c
+# tells. One thread runs, no kernel: a guest that writes meanwhile is any value at each atomic read, and any step of a
+# chain. Frama-C refuses _Atomic(T) and _Alignas, so they are left out, and it does not look at pointers that are
+# compared. WP's memory has types, by the hypotheses that it prints: it reads copies of the sources in which bytes are
+# told from records, and a table's function is called by its name (annotations.txt). Eva takes from the contract of
+# take_chain which memory its rooms are of, which WP does not prove. That a name's record is as long as the name is
+# assumed of nizwarf_record_size.
 #
 # Not analysed is the rest of programs/. vhost_user.c goes by numbers of messages that the proved library read. Of a
-# guest's requests the proved door reads names and numbers: passthrough_*.c hands names and offsets on to Linux, the
-# latter below 2^63, and looks numbers of nodes and handles up in tables, which hostile.py asks for under sanitizers.
-# fuse_device.c and fuse_ring.c go by lengths of the host's kernel, which is trusted.
+# guest's requests the proved door reads names and numbers: passthrough.c cuts data at pieces of a request or a room,
+# passthrough_*.c hands names and offsets on to Linux, the latter below 2^63, and looks numbers of nodes and handles up in
+# tables, which hostile.py asks for under sanitizers; Frama-C lacks headers for them. fuse_device.c and fuse_ring.c go by
+# lengths of the host's kernel, which is trusted.
 #
-# It wants Frama-C, Why3, Z3 and CVC4. Status 0: so it is; 1: it is not; 2: it could not start.
+# It wants Frama-C, Why3, Z3, CVC4 and Python 3. Status 0: so it is; 1: it is not; 2: it could not start.
 set -euo pipefail
 . "$(dirname "$0")/../../tools/lib/usage.sh"
 . "$(dirname "$0")/../../tools/lib/program.sh"
@@ -27,44 +38,110 @@ need frama-c "Install it: apt-get install frama-c-base."
 need why3 "Install it: apt-get install why3."
 need z3 "Install it: apt-get install z3."
 need cvc4 "Install it: apt-get install cvc4."
+need python3 "Install it: apt-get install python3."
+# (another one has other words for the same)
+if [[ $(frama-c -version) != 25.* ]]; then
+    echo "Missing: Frama-C 25, as Debian 12 has it; here it is $(frama-c -version)." >&2
+    exit 2
+fi
 
 out=$here/out/analyse
-mkdir -p "$out"
+rm -rf "$out"
+mkdir -p "$out/annotated" "$out/found"
 cd "$here/tests/analyse"
 export WHY3CONFIG=$out/why3.conf
-[ -f "$WHY3CONFIG" ] || why3 config detect -C "$WHY3CONFIG" > "$out/said" 2>&1
+why3 config detect -C "$WHY3CONFIG" > "$out/said" 2>&1
+python3 annotate.py annotations.txt "$out/annotated" "$here"/programs/transport/vhost_queue.c "$here"/include/nizwarf*.h
 
-include="-include specifications.h -I headers -I $here/include -I $here/programs/transport"
-include="$include -idirafter /usr/include -idirafter /usr/include/$(cc -print-multiarch)"
-flags=(-c11 -machdep gcc_x86_64 "-cpp-extra-args=$include" -kernel-warn-key annot:missing-spec=inactive
+linux="-idirafter /usr/include -idirafter /usr/include/$(cc -print-multiarch)"
+queue="-include specifications.h -I headers"
+queue_here="-I $here/include -I $here/programs/transport"
+flags=(-c11 -machdep gcc_x86_64 -kernel-warn-key annot:missing-spec=inactive
     -kernel-warn-key typing:implicit-conv-void-ptr=inactive)
 
-# Adds a goal of each name that WP doesn't prove to the list of what is found: prove FUNCTIONS WORDS..
-prove() {
-    local functions=$1
-    shift
-    frama-c "${flags[@]}" chains.c -wp -wp-model Typed+Cast -wp-rte -wp-fct "$functions" "$@" \
-        -wp-prover z3,cvc4 -wp-timeout 120 -wp-par 2 > "$out/wp"
-    grep -q '\[wp\] Proved goals:' "$out/wp"
-    sed -n 's/^\[wp\] \[\(Failed\|Timeout\|Unknown\|Stepout\)\] Goal \(\S*\).*/WP: \2/p' "$out/wp" >> "$out/found"
-    awk '/^\[wp\] Proved goals:/ && $4 != $6 { print "WP: " $4 " of " $6 " goals are proved" }' "$out/wp" >> "$out/found"
-    sed -n 's/^\[wp\] Proved goals: *\(.*\)/\1 goals are proved./p' "$out/wp"
+# Runs are beside one another, as many as there are processors.
+count=$(grep -cE '^(only=[^ ]* )?run ' run.sh)
+: > "$out/done"
+run() {
+    while [ "$(jobs -rp | wc -l)" -ge "$(nproc)" ]; do
+        wait -n || true
+    done
+    tell "$@" &
 }
 
-: > "$out/found"
-part "WP: functions that copy and count"
-prove copy_up_to,add_request,add_piece
+# Makes a run, and tells what came of it: tell NAME HOW WORDS..
+tell() {
+    local name=$1 begun=$SECONDS said
+    shift
+    if ! said=$("$@"); then
+        echo "$name: it came to no end" > "$out/found/$name"
+        said="it came to no end: $out/$name"
+    fi
+    sed -i "s/^/$name: /" "$out/found/$name"
+    echo "$name" >> "$out/done"
+    echo "$(wc -l < "$out/done") of $count: $name: $said, $((SECONDS - begun)) s" >&2
+}
 
-part "Eva: a worker that serves a queue"
-frama-c "${flags[@]}" entry.c -eva -eva-precision 2 -eva-plevel 5000 -eva-partition-history 2 -eva-mlevel 8 \
-    -eva-auto-loop-unroll 16 -eva-use-spec take_chain -eva-warn-undefined-pointer-comparison none \
-    -then -report-no-proven -report-csv "$out/report" > "$out/eva"
-awk -F '\t' '$6 ~ /^(Unknown|Invalid)/ && $5 != "precondition" { print "Eva: " $4 ": " $5 ": " $7 }' \
-    "$out/report" >> "$out/found"
-sed -n 's/^ *\([0-9]* functions analyzed.*\)/\1/p' "$out/eva"
+# What WP doesn't prove of functions of a file: prove NAME FILE PROVERS FLAGS FUNCTION.. Of `only` some clauses, if that is
+# set: CVC4 comes to no end with all at once.
+prove() {
+    local name=$1 file=$2 provers=$3 includes=$4
+    shift 4
+    local functions
+    functions=$(printf '%s,' "$@")
+    frama-c "${flags[@]}" "-cpp-extra-args=$includes $linux" "$file" -wp -wp-model Typed+Cast -wp-rte \
+        -wp-fct "${functions%,}" ${only:+"-wp-prop=$only"} -wp-prover "$provers" -wp-timeout 60 -wp-par 2 \
+        > "$out/$name" 2>&1 || return
+    sed -n 's/^\[wp\] \[\(Failed\|Timeout\|Unknown\|Stepout\)\] Goal \(\S*\).*/WP: \2/p
+        s/^\[wp\] \[CVC4[^]]*\] Goal \(\S*\) : \(Failed\|Timeout\|Unknown\).*/WP: \1/p' "$out/$name" > "$out/found/$name"
+    awk '/^\[wp\] Proved goals:/ && $4 != $6 { print "WP: " $4 " of " $6 " goals are proved" }' "$out/$name" \
+        >> "$out/found/$name"
+    [ "$(grep -c '^\[rte:annot\] annotating function' "$out/$name")" = $# ] || return
+    sed -n 's/^\[wp\] Proved goals: *\(.*\)/\1 goals of '"$#"' functions are proved/p' "$out/$name" | grep .
+}
 
-part "what was found, and known.txt"
-sort -u "$out/found" > "$out/all"
+# What Eva can't show from an entry on: evaluate NAME FILE FLAGS WORDS..
+evaluate() {
+    local name=$1 file=$2 includes=$3
+    shift 3
+    frama-c "${flags[@]}" "-cpp-extra-args=$includes $linux" "$file" -eva "$@" \
+        -eva-warn-undefined-pointer-comparison none \
+        -then -report-no-proven -report-csv "$out/$name.csv" > "$out/$name" 2>&1 || return
+    # (the contract of take_chain is what WP proves)
+    awk -F '\t' '$6 ~ /^(Unknown|Invalid)/ && $5 != "precondition" && !($4 == "take_chain" && $5 == "postcondition") {
+        print "Eva: " $4 ": " $5 ": " $7 }' "$out/$name.csv" | sort -u > "$out/found/$name"
+    sed -n 's/^ *\([0-9]*\) functions analyzed.*/\1 functions are analysed/p' "$out/$name" | grep .
+}
+
+# (those that take longest come first)
+headers="-I headers -I $out/annotated -I ."
+run filled prove filled headers.c cvc4 "$headers" nizwarf_do_data nizwarf_do_record nizwarf_do_written \
+    nizwarf_do_init nizwarf_do_others nizwarf_do_release
+run chain prove chain chains.c z3,cvc4 "$queue -I $out/annotated $queue_here" take_chain
+run pieces prove pieces headers.c cvc4 "$headers" nizwarf_add_up nizwarf_put nizwarf_front nizwarf_begin_ask \
+    nizwarf_is_wrong nizwarf_is_cut nizwarf_put_changed nizwarf_take_interrupt nizwarf_message nizwarf_message_take
+run made prove made headers.c cvc4 "$headers" nizwarf_do_forgets nizwarf_do_quiet nizwarf_do_lock nizwarf_do_done \
+    nizwarf_do_entry nizwarf_do_attr nizwarf_do_open
+run copies prove copies chains.c z3,cvc4 "$queue -I $out/annotated $queue_here" copy_up_to add_request add_piece
+only=-same,-names run items prove items headers.c cvc4 "$headers" nizwarf_do_directory nizwarf_add_item \
+    nizwarf_add_direntry
+only=same,names run added prove added headers.c cvc4 "$headers" nizwarf_add_item nizwarf_add_direntry
+run fields prove fields headers.c cvc4 "$headers" nizwarf_forget_lookups nizwarf_batch_forget_pairs \
+    nizwarf_setattr_fields nizwarf_symlink_text nizwarf_access_mask nizwarf_lseek_whence nizwarf_copy_flags \
+    nizwarf_init_offered nizwarf_lock_asked nizwarf_ioctl_command nizwarf_ioctl_argument nizwarf_poll_events \
+    nizwarf_poll_number nizwarf_statx_mask nizwarf_init_further nizwarf_answer_options nizwarf_answer_backing \
+    nizwarf_answer_offset nizwarf_keep_interrupt nizwarf_served nizwarf_seconds_of nizwarf_nanoseconds_of \
+    nizwarf_entry_of nizwarf_has_open_flags nizwarf_file_of
+run worker evaluate worker entry.c "$queue $queue_here" -eva-precision 2 -eva-plevel 5000 -eva-partition-history 2 \
+    -eva-mlevel 8 -eva-auto-loop-unroll 16 -eva-use-spec take_chain
+run doors evaluate doors headers-entry.c "-I headers -I $here/include" -main doors -eva-precision 1 \
+    -eva-auto-loop-unroll 10 -eva-slevel 20 -eva-split-return auto
+run tables evaluate tables headers-entry.c "-I headers -I $here/include" -main ops -eva-precision 0 \
+    -eva-auto-loop-unroll 10 -eva-slevel 5 -eva-split-return auto
+run ids evaluate ids ids-entry.c "-I $here/programs/share" -eva-precision 1
+wait
+
+cat "$out"/found/* | sort -u > "$out/all"
 grep -v '^#\|^$\|^    ' known.txt | sort -u > "$out/known"
 if ! diff "$out/known" "$out/all" > "$out/differs"; then
     sed -n 's/^> /Not known: /p; s/^< /Known, but not there: /p' "$out/differs" >&2

@@ -1,0 +1,889 @@
+/* Where Eva begins: requests in any pieces, of any bytes, and rooms in any pieces, over a library that tells anything
+ * that its contracts let it (crates/vfs_door/src, crates/vfs_c/src), and a table of functions that answer anything. */
+#ifdef __FRAMAC__
+#include "__fc_builtin.h"
+#include <stddef.h>
+#include <stdint.h>
+#define __atomic_load_n(at, order) (*(volatile __typeof__(*(at)) *)(at))
+#define __atomic_store_n(at, value, order) ((void)(*(at) = (value)))
+#define __atomic_exchange_n(at, value, order)      \
+	({                                         \
+		__typeof__(*(at)) before_ = *(at); \
+		*(at) = (value);                   \
+		before_;                           \
+	})
+/* (fields that the struct stat of Frama-C lacks) */
+#define st_atimensec st_dev
+#define st_mtimensec st_dev
+#define st_ctimensec st_dev
+#include "nizwarf.h"
+#include "nizwarf_ops.h"
+
+enum { PIECES = 3, LONGEST = 1 << 20 };
+
+static volatile int any;
+
+#define ANY(of) Frama_C_make_unknown((char *)&(of), sizeof(of))
+#define ANY_LENGTH(most) Frama_C_unsigned_long_interval(0, most)
+
+/* ---- the library */
+
+static volatile uint8_t seen;
+
+/* Reads the first byte and the last. */
+static void look_at(const uint8_t *at, size_t len)
+{
+	//@ assert given: at != \null;
+	if (len) {
+		seen = at[0];
+		seen = at[len - 1];
+	}
+}
+
+/* (by itself, so that what Eva can't show of a text stands apart) */
+static void look_at_text(const uint8_t *text, size_t len)
+{
+	//@ assert given: text != \null;
+	if (len) {
+		seen = text[0];
+		seen = text[len - 1];
+	}
+}
+
+static void look_at_items(const nizwarf_item *items, size_t count)
+{
+	for (size_t i = 0; i < count; i++) {
+		//@ assert given: items[i].name != \null;
+		if (items[i].name_size) {
+			seen = items[i].name[0];
+			seen = items[i].name[items[i].name_size - 1];
+		}
+	}
+}
+
+static void look_at_request(const nizwarf_segment *request, size_t segments)
+{
+	for (size_t i = 0; i < segments; i++)
+		look_at(request[i].at, request[i].len);
+}
+
+static int32_t any_code(void)
+{
+	return Frama_C_interval(NIZWARF_OK, NIZWARF_NOT_ASKED);
+}
+
+int32_t nizwarf_ask_at(nizwarf_slot *slot, const nizwarf_session *session, const nizwarf_segment *request,
+		       size_t segments, size_t room, nizwarf_call *call, nizwarf_told *told)
+{
+	const uint64_t options = told->options;
+
+	//@ assert nothing: call->call == 0 && told->len == 0 && told->put == 0 && told->interrupts == 0;
+	look_at_request(request, segments);
+	slot->at = &seen;
+	ANY(*call);
+	if (any) {
+		told->len = told->put = ANY_LENGTH(room);
+		told->interrupts = ANY_LENGTH(UINT64_MAX);
+		return any_code();
+	}
+	call->room = room;
+	return any ? NIZWARF_ASKED : any_code();
+}
+
+int32_t nizwarf_ask_offered_at(nizwarf_slot *slot, const nizwarf_session *session, uint32_t offers,
+			       const nizwarf_segment *request, size_t segments, size_t room,
+			       nizwarf_call *call, nizwarf_told *told)
+{
+	return nizwarf_ask_at(slot, session, request, segments, room, call, told);
+}
+
+int32_t nizwarf_answer_at(nizwarf_slot *slot, const nizwarf_session *session, const nizwarf_call *call,
+			  const nizwarf_answer *answer, const uint8_t *text, size_t text_len,
+			  const nizwarf_item *items, size_t items_len, nizwarf_told *told)
+{
+	//@ assert nothing: told->len == 0 && told->put == 0 && told->give_back == 0 && told->taken == 0;
+	look_at_text(text, text_len);
+	look_at_items(items, items_len);
+	seen = (uint8_t)(session->options + answer->count);
+	slot->at = &seen;
+	told->len = told->put = ANY_LENGTH(call->room);
+	told->options = ANY_LENGTH(UINT64_MAX);
+	told->give_back = ANY_LENGTH(UINT64_MAX);
+	told->taken = ANY_LENGTH(items_len);
+	return any_code();
+}
+
+int32_t nizwarf_answer_offered_at(nizwarf_slot *slot, const nizwarf_session *session,
+				  const nizwarf_call *call, const nizwarf_answer *answer, const uint8_t *text,
+				  size_t text_len, const nizwarf_item *items, size_t items_len,
+				  nizwarf_told *told)
+{
+	return nizwarf_answer_at(slot, session, call, answer, text, text_len, items, items_len, told);
+}
+
+static size_t fill(uint8_t *piece, size_t len)
+{
+	//@ assert given: piece != \null;
+	if (len)
+		Frama_C_make_unknown((char *)piece, len);
+	return ANY_LENGTH(len);
+}
+
+size_t nizwarf_copy_slot_at(nizwarf_slot *slot, size_t at, uint8_t *piece, size_t piece_len)
+{
+	slot->at = &seen;
+	return fill(piece, piece_len);
+}
+
+int32_t nizwarf_end_slot_at(nizwarf_slot *slot)
+{
+	slot->at = NULL;
+	return any_code();
+}
+
+int32_t nizwarf_check_at(const nizwarf_session *session, const uint8_t *request, size_t len, size_t room,
+			 nizwarf_call *call, uint64_t *interrupts)
+{
+	look_at(request, len);
+	seen = (uint8_t)session->options;
+	ANY(*call);
+	*interrupts = ANY_LENGTH(UINT64_MAX);
+	return any_code();
+}
+
+int32_t nizwarf_check_offered_at(const nizwarf_session *session, uint32_t offers, const uint8_t *request,
+				 size_t len, size_t room, nizwarf_call *call, uint64_t *interrupts)
+{
+	return nizwarf_check_at(session, request, len, room, call, interrupts);
+}
+
+uint64_t nizwarf_init_offered_at(const uint8_t *request, size_t len)
+{
+	/* (not by look_at, so that what Eva can't show of nizwarf_front stands by itself) */
+	if (len)
+		seen = request[len - 1];
+	return ANY_LENGTH(UINT64_MAX);
+}
+
+uint64_t nizwarf_add_to_init_at(uint8_t *reply, size_t len, uint64_t offered, const nizwarf_init_more *more)
+{
+	fill(reply, len);
+	return more->want;
+}
+
+int32_t nizwarf_add_backing_at(uint8_t *reply, size_t len, int32_t id)
+{
+	fill(reply, len);
+	return any;
+}
+
+size_t nizwarf_print_request_at(const uint8_t *request, size_t len, uint64_t options, uint8_t *text,
+				size_t text_len)
+{
+	look_at(request, len);
+	return fill(text, text_len);
+}
+
+size_t nizwarf_print_reply_at(const uint8_t *request, size_t len, const uint8_t *reply, size_t reply_len,
+			      uint8_t *text, size_t text_len)
+{
+	look_at(request, len);
+	look_at(reply, reply_len);
+	return fill(text, text_len);
+}
+
+size_t nizwarf_notice_poll_at(uint64_t kh, uint8_t *out, size_t size)
+{
+	return fill(out, size);
+}
+
+size_t nizwarf_notice_inval_inode_at(uint64_t node, int64_t offset, int64_t len, uint8_t *out, size_t size)
+{
+	return fill(out, size);
+}
+
+size_t nizwarf_notice_inval_entry_at(uint64_t parent, uint32_t flags, const uint8_t *name, size_t name_len,
+				     uint8_t *out, size_t size)
+{
+	look_at(name, name_len);
+	return fill(out, size);
+}
+
+size_t nizwarf_notice_store_at(uint64_t node, uint64_t offset, uint32_t count, uint8_t *out, size_t size)
+{
+	return fill(out, size);
+}
+
+size_t nizwarf_notice_retrieve_at(uint64_t unique, uint64_t node, uint64_t offset, uint32_t count,
+				  uint8_t *out, size_t size)
+{
+	return fill(out, size);
+}
+
+size_t nizwarf_notice_delete_at(uint64_t parent, uint64_t child, const uint8_t *name, size_t name_len,
+				uint8_t *out, size_t size)
+{
+	look_at(name, name_len);
+	return fill(out, size);
+}
+
+size_t nizwarf_notice_resend_at(uint8_t *out, size_t size)
+{
+	return fill(out, size);
+}
+
+size_t nizwarf_notice_inc_epoch_at(uint8_t *out, size_t size)
+{
+	return fill(out, size);
+}
+
+size_t nizwarf_notice_prune_at(uint32_t count, uint8_t *out, size_t size)
+{
+	return fill(out, size);
+}
+
+/* Of the server over a tree. */
+
+static uint8_t taken_reply[LONGEST];
+
+int32_t nizwarf_new_at(nizwarf_server *server, uint32_t page_size, uint32_t max_buffer,
+		       const nizwarf_settings *settings)
+{
+	seen = (uint8_t)settings->nodes;
+	server->at = &seen;
+	return any_code();
+}
+
+int32_t nizwarf_tell_time_at(nizwarf_server *server, uint64_t seconds, uint32_t nanoseconds)
+{
+	server->at = &seen;
+	return any_code();
+}
+
+int32_t nizwarf_message_at(nizwarf_server *server, const nizwarf_segment *request, size_t segments,
+			   size_t room, size_t *len)
+{
+	look_at_request(request, segments);
+	server->at = &seen;
+	*len = ANY_LENGTH(room);
+	return any_code();
+}
+
+size_t nizwarf_copy_at(nizwarf_server *server, size_t at, uint8_t *piece, size_t piece_len)
+{
+	server->at = &seen;
+	return fill(piece, piece_len);
+}
+
+int32_t nizwarf_take_at(nizwarf_server *server, nizwarf_taken *taken, nizwarf_place *place)
+{
+	server->at = taken->at = &seen;
+	if (any)
+		return NIZWARF_OUT_OF_MEMORY;
+	place->at = taken_reply;
+	place->start = ANY_LENGTH(LONGEST / 2);
+	place->len = ANY_LENGTH(LONGEST / 2);
+	return NIZWARF_OK;
+}
+
+int32_t nizwarf_end_taken_at(nizwarf_taken *taken)
+{
+	taken->at = NULL;
+	return any_code();
+}
+
+uint64_t nizwarf_options_at(nizwarf_server *server)
+{
+	return server->at != NULL;
+}
+
+uint32_t nizwarf_max_buffer_at(nizwarf_server *server)
+{
+	return server->at != NULL;
+}
+
+int32_t nizwarf_end_at(nizwarf_server *server)
+{
+	server->at = NULL;
+	return any_code();
+}
+
+/* ---- what is handed in */
+
+static uint8_t bytes[PIECES][LONGEST], memory[PIECES][LONGEST];
+
+/* Pieces of any lengths, of which any may be NULL. */
+static void any_segments(nizwarf_segment *list)
+{
+	for (size_t i = 0; i < PIECES; i++)
+		list[i] = (nizwarf_segment){ any ? bytes[i] : NULL, ANY_LENGTH(LONGEST) };
+}
+
+static void any_rooms(nizwarf_room *list)
+{
+	for (size_t i = 0; i < PIECES; i++)
+		list[i] = (nizwarf_room){ any ? memory[i] : NULL, ANY_LENGTH(LONGEST) };
+}
+
+static void any_items(nizwarf_item *items)
+{
+	for (size_t i = 0; i < PIECES; i++) {
+		ANY(items[i]);
+		items[i].name = any ? bytes[0] : NULL;
+		items[i].name_size = ANY_LENGTH(LONGEST);
+	}
+}
+
+/* (each pointer is NULL in one round, and none in the last; lists have each number of pieces) */
+#define ROUNDS(most) for (int gone = most; gone >= 0; gone--)
+#define OR_NULL(number, at) (gone == (number) ? NULL : (at))
+#define COUNTS for (size_t count = 0; count <= PIECES; count++)
+
+static void asks(void)
+{
+	nizwarf_slot slot = NIZWARF_NONE;
+	nizwarf_session session;
+	nizwarf_segment request[PIECES];
+	nizwarf_room room[PIECES];
+	nizwarf_call call;
+	nizwarf_told told;
+
+	ANY(session);
+	ROUNDS(6) COUNTS
+	{
+		any_segments(request);
+		any_rooms(room);
+		ANY(call);
+		nizwarf_ask(OR_NULL(1, &slot), OR_NULL(2, &session), OR_NULL(3, request), count,
+			    OR_NULL(4, room), PIECES - count, OR_NULL(5, &call), OR_NULL(6, &told));
+		nizwarf_ask_offered(OR_NULL(1, &slot), OR_NULL(2, &session), (uint32_t)any,
+				    OR_NULL(3, request), count, OR_NULL(4, room), PIECES - count,
+				    OR_NULL(5, &call), OR_NULL(6, &told));
+	}
+	nizwarf_end_slot(&slot);
+	nizwarf_end_slot(NULL);
+}
+
+/* A call of any number: up to that of INIT, it, and above. */
+static uint32_t any_number(int range)
+{
+	return range == 0 ? Frama_C_unsigned_int_interval(0, NIZWARF_INIT - 1) :
+	       range == 1 ? NIZWARF_INIT :
+			    Frama_C_unsigned_int_interval(NIZWARF_INIT + 1, UINT32_MAX);
+}
+
+static void replies(void)
+{
+	nizwarf_slot slot = NIZWARF_NONE;
+	nizwarf_session session;
+	nizwarf_room room[PIECES];
+	nizwarf_item items[PIECES];
+	nizwarf_answer answer;
+	nizwarf_call call;
+	nizwarf_told told;
+
+	ANY(session);
+	ROUNDS(8) COUNTS for (int range = 0; range < 3; range++)
+	{
+		any_rooms(room);
+		any_items(items);
+		ANY(call);
+		ANY(answer);
+		call.call = any_number(range);
+		answer.text = OR_NULL(7, bytes[1]);
+		answer.text_len = count ? Frama_C_unsigned_long_interval(1, LONGEST) : 0;
+		answer.items = OR_NULL(8, items);
+		answer.items_len = count;
+		nizwarf_reply(OR_NULL(1, &slot), OR_NULL(2, &session), OR_NULL(3, &call), OR_NULL(4, &answer),
+			      OR_NULL(5, room), PIECES - count, OR_NULL(6, &told));
+	}
+}
+
+static void checks(void)
+{
+	nizwarf_session session;
+	nizwarf_call call;
+	uint64_t interrupts;
+
+	ANY(session);
+	ROUNDS(4)
+	{
+		nizwarf_check(OR_NULL(1, &session), OR_NULL(2, bytes[0]), ANY_LENGTH(LONGEST),
+			      ANY_LENGTH(SIZE_MAX), OR_NULL(3, &call), OR_NULL(4, &interrupts));
+		nizwarf_check_offered(OR_NULL(1, &session), (uint32_t)any, OR_NULL(2, bytes[0]),
+				      ANY_LENGTH(LONGEST), ANY_LENGTH(SIZE_MAX), OR_NULL(3, &call),
+				      OR_NULL(4, &interrupts));
+	}
+}
+
+static void texts(void)
+{
+	const size_t size = ANY_LENGTH(LONGEST), len = ANY_LENGTH(LONGEST);
+
+	ROUNDS(4)
+	{
+		char *text = OR_NULL(1, (char *)memory[0]);
+		const char *name = OR_NULL(2, (const char *)bytes[1]);
+		void *out = OR_NULL(3, memory[1]);
+
+		nizwarf_print_request(OR_NULL(2, bytes[0]), len, ANY_LENGTH(UINT64_MAX), text, size);
+		nizwarf_print_reply(OR_NULL(2, bytes[0]), len, OR_NULL(4, bytes[1]), len, text, size);
+		nizwarf_notice_poll(1, out, size);
+		nizwarf_notice_inval_inode(1, any, any, out, size);
+		nizwarf_notice_inval_entry(1, 0, name, len, out, size);
+		nizwarf_notice_store(1, 0, (uint32_t)any, out, size);
+		nizwarf_notice_retrieve(1, 1, 0, (uint32_t)any, out, size);
+		nizwarf_notice_delete(1, 2, name, len, out, size);
+		nizwarf_notice_resend(out, size);
+		nizwarf_notice_inc_epoch(out, size);
+		nizwarf_notice_prune((uint32_t)any, out, size);
+	}
+}
+
+static void interrupts(void)
+{
+	nizwarf_interrupts kept;
+
+	ANY(kept);
+	nizwarf_keep_interrupt(&kept, ANY_LENGTH(UINT64_MAX));
+	nizwarf_take_interrupt(&kept, ANY_LENGTH(UINT64_MAX));
+}
+
+static void servers(void)
+{
+	nizwarf_server server = NIZWARF_NONE;
+	nizwarf_taken taken = NIZWARF_NONE;
+	nizwarf_settings settings = NIZWARF_SETTINGS;
+	nizwarf_segment request[PIECES];
+	nizwarf_room room[PIECES];
+	const void *reply;
+	size_t len;
+
+	ROUNDS(6) COUNTS
+	{
+		any_segments(request);
+		any_rooms(room);
+		nizwarf_new(OR_NULL(1, &server), (uint32_t)any, (uint32_t)any, OR_NULL(2, &settings));
+		nizwarf_tell_time(OR_NULL(1, &server), ANY_LENGTH(UINT64_MAX), (uint32_t)any);
+		nizwarf_message(OR_NULL(1, &server), OR_NULL(2, request), count, OR_NULL(3, room),
+				PIECES - count, OR_NULL(4, &len));
+		nizwarf_message_take(OR_NULL(1, &server), OR_NULL(2, request), count, ANY_LENGTH(LONGEST),
+				     OR_NULL(5, &taken), OR_NULL(6, &reply), OR_NULL(4, &len));
+		nizwarf_end_taken(OR_NULL(5, &taken));
+		nizwarf_options(OR_NULL(1, &server));
+		nizwarf_max_buffer(OR_NULL(1, &server));
+		nizwarf_end(OR_NULL(1, &server));
+	}
+}
+
+/* ---- a table */
+
+static int make_entry(nizwarf_entry_param *e)
+{
+	ANY(*e);
+	return any;
+}
+
+static int op_init(const nizwarf_req *req, uint64_t capable, uint64_t *want)
+{
+	*want = ANY_LENGTH(UINT64_MAX);
+	return any;
+}
+
+static void op_destroy(const nizwarf_req *req)
+{
+	seen = (uint8_t)req->call->unique;
+}
+
+static int op_lookup(const nizwarf_req *req, uint64_t parent, const char *name, nizwarf_entry_param *e)
+{
+	return make_entry(e);
+}
+
+static void op_forget(const nizwarf_req *req, uint64_t ino, uint64_t nlookup)
+{
+	seen = (uint8_t)req->call->unique;
+}
+
+static int op_getattr(const nizwarf_req *req, uint64_t ino, const nizwarf_file_info *fi, nizwarf_attr *attr,
+		      struct timespec *attr_timeout)
+{
+	if (fi)
+		seen = (uint8_t)fi->fh;
+	ANY(*attr);
+	ANY(*attr_timeout);
+	return any;
+}
+
+static int op_setattr(const nizwarf_req *req, uint64_t ino, const nizwarf_setattr *set, uint32_t to_set,
+		      const nizwarf_file_info *fi, nizwarf_attr *attr, struct timespec *attr_timeout)
+{
+	seen = (uint8_t)set->size;
+	return op_getattr(req, ino, fi, attr, attr_timeout);
+}
+
+static int fill_all(void *buf, size_t size, size_t *len)
+{
+	if (size)
+		Frama_C_make_unknown(buf, size);
+	*len = ANY_LENGTH(SIZE_MAX);
+	return any;
+}
+
+static int op_readlink(const nizwarf_req *req, uint64_t ino, char *link, size_t size, size_t *len)
+{
+	return fill_all(link, size, len);
+}
+
+static int op_mknod(const nizwarf_req *req, uint64_t parent, const char *name, uint32_t mode, uint32_t rdev,
+		    nizwarf_entry_param *e)
+{
+	return make_entry(e);
+}
+
+static int op_mkdir(const nizwarf_req *req, uint64_t parent, const char *name, uint32_t mode,
+		    nizwarf_entry_param *e)
+{
+	return make_entry(e);
+}
+
+static int op_name(const nizwarf_req *req, uint64_t parent, const char *name)
+{
+	return any;
+}
+
+static int op_symlink(const nizwarf_req *req, const char *link, uint64_t parent, const char *name,
+		      nizwarf_entry_param *e)
+{
+	return make_entry(e);
+}
+
+static int op_rename(const nizwarf_req *req, uint64_t parent, const char *name, uint64_t newparent,
+		     const char *newname, uint32_t flags)
+{
+	return any;
+}
+
+static int op_link(const nizwarf_req *req, uint64_t ino, uint64_t newparent, const char *newname,
+		   nizwarf_entry_param *e)
+{
+	return make_entry(e);
+}
+
+static int op_open(const nizwarf_req *req, uint64_t ino, nizwarf_file_info *fi)
+{
+	ANY(*fi);
+	return any;
+}
+
+static int op_read(const nizwarf_req *req, uint64_t ino, size_t size, uint64_t off,
+		   const nizwarf_file_info *fi, void *buf, size_t *len)
+{
+	seen = (uint8_t)fi->fh;
+	return fill_all(buf, size, len);
+}
+
+static int op_write(const nizwarf_req *req, uint64_t ino, const void *buf, size_t size, uint64_t off,
+		    const nizwarf_file_info *fi, size_t *len)
+{
+	seen = (uint8_t)fi->fh;
+	*len = ANY_LENGTH(SIZE_MAX);
+	return any;
+}
+
+static int op_file(const nizwarf_req *req, uint64_t ino, const nizwarf_file_info *fi)
+{
+	seen = (uint8_t)fi->fh;
+	return any;
+}
+
+static int op_fsync(const nizwarf_req *req, uint64_t ino, int datasync, const nizwarf_file_info *fi)
+{
+	return op_file(req, ino, fi);
+}
+
+/* A name of any length. */
+static char any_name[4096];
+
+static int op_readdir(const nizwarf_req *req, uint64_t ino, uint64_t off, const nizwarf_file_info *fi,
+		      nizwarf_dir *dir)
+{
+	while (any)
+		if (!nizwarf_add_direntry(dir, any_name, ANY_LENGTH(UINT64_MAX), (uint32_t)any, off))
+			break;
+	return any;
+}
+
+static int op_readdirplus(const nizwarf_req *req, uint64_t ino, uint64_t off, const nizwarf_file_info *fi,
+			  nizwarf_dir *dir)
+{
+	nizwarf_entry_param e;
+
+	ANY(e);
+	while (any)
+		if (!nizwarf_add_direntry_plus(dir, any_name, &e, off))
+			break;
+	return any;
+}
+
+static int op_statfs(const nizwarf_req *req, uint64_t ino, nizwarf_statfs *stat)
+{
+	ANY(*stat);
+	return any;
+}
+
+static int op_setxattr(const nizwarf_req *req, uint64_t ino, const char *name, const void *value, size_t size,
+		       uint32_t flags)
+{
+	return any;
+}
+
+static int op_getxattr(const nizwarf_req *req, uint64_t ino, const char *name, size_t size, void *value,
+		       size_t *len)
+{
+	return fill_all(value, size, len);
+}
+
+static int op_listxattr(const nizwarf_req *req, uint64_t ino, size_t size, char *list, size_t *len)
+{
+	return fill_all(list, size, len);
+}
+
+static int op_access(const nizwarf_req *req, uint64_t ino, uint32_t mask)
+{
+	return any;
+}
+
+static int op_create(const nizwarf_req *req, uint64_t parent, const char *name, uint32_t mode,
+		     nizwarf_file_info *fi, nizwarf_entry_param *e)
+{
+	ANY(*fi);
+	return make_entry(e);
+}
+
+static int op_fallocate(const nizwarf_req *req, uint64_t ino, uint32_t mode, uint64_t offset, uint64_t length,
+			const nizwarf_file_info *fi)
+{
+	return op_file(req, ino, fi);
+}
+
+static int op_lseek(const nizwarf_req *req, uint64_t ino, uint64_t off, uint32_t whence,
+		    const nizwarf_file_info *fi, uint64_t *found)
+{
+	*found = ANY_LENGTH(UINT64_MAX);
+	return op_file(req, ino, fi);
+}
+
+static int op_copy(const nizwarf_req *req, uint64_t ino_in, uint64_t off_in, const nizwarf_file_info *fi_in,
+		   uint64_t ino_out, uint64_t off_out, const nizwarf_file_info *fi_out, uint64_t size,
+		   uint64_t flags, size_t *len)
+{
+	*len = ANY_LENGTH(SIZE_MAX);
+	return op_file(req, ino_in, fi_in) || op_file(req, ino_out, fi_out);
+}
+
+static int op_syncfs(const nizwarf_req *req, uint64_t ino)
+{
+	return any;
+}
+
+static void op_interrupt(void *user, uint64_t unique)
+{
+}
+
+static int op_conn(const nizwarf_req *req, nizwarf_conn_info *conn)
+{
+	ANY(*conn);
+	return any;
+}
+
+static void op_forget_multi(const nizwarf_req *req, size_t count, const nizwarf_forget *forgets)
+{
+	//@ assert some: 1 <= count <= NIZWARF_MOST_FORGETS;
+	seen = (uint8_t)(forgets[0].ino + forgets[count - 1].nlookup);
+}
+
+static int op_getlk(const nizwarf_req *req, uint64_t ino, const nizwarf_file_info *fi, nizwarf_lock *lock)
+{
+	ANY(*lock);
+	return op_file(req, ino, fi);
+}
+
+static int op_setlk(const nizwarf_req *req, uint64_t ino, const nizwarf_file_info *fi,
+		    const nizwarf_lock *lock, int sleep)
+{
+	seen = (uint8_t)lock->start;
+	return op_file(req, ino, fi);
+}
+
+static int op_flock(const nizwarf_req *req, uint64_t ino, const nizwarf_file_info *fi, int op)
+{
+	return op_file(req, ino, fi);
+}
+
+static int op_bmap(const nizwarf_req *req, uint64_t ino, size_t blocksize, uint64_t idx, uint64_t *block)
+{
+	*block = ANY_LENGTH(UINT64_MAX);
+	return any;
+}
+
+static int op_ioctl(const nizwarf_req *req, uint64_t ino, uint32_t cmd, uint64_t arg,
+		    const nizwarf_file_info *fi, uint32_t flags, const void *in_buf, size_t in_size,
+		    nizwarf_ioctl *out, void *out_buf, size_t out_size, size_t *len)
+{
+	ANY(*out);
+	return fill_all(out_buf, out_size, len);
+}
+
+static int op_poll(const nizwarf_req *req, uint64_t ino, const nizwarf_file_info *fi, uint32_t events,
+		   uint64_t kh, int notify, uint32_t *revents)
+{
+	*revents = (uint32_t)any;
+	return op_file(req, ino, fi);
+}
+
+static int op_tmpfile(const nizwarf_req *req, uint64_t parent, uint32_t mode, nizwarf_file_info *fi,
+		      nizwarf_entry_param *e)
+{
+	ANY(*fi);
+	return make_entry(e);
+}
+
+static int op_statx(const nizwarf_req *req, uint64_t ino, uint32_t flags, uint32_t mask,
+		    const nizwarf_file_info *fi, nizwarf_statx *statx, struct timespec *timeout)
+{
+	if (fi)
+		seen = (uint8_t)fi->fh;
+	ANY(*statx);
+	ANY(*timeout);
+	return any;
+}
+
+static void op_retrieve_reply(const nizwarf_req *req, uint64_t cookie, uint64_t ino, uint64_t offset,
+			      const void *data, size_t size)
+{
+}
+
+/* A table that lacks any of them. */
+static nizwarf_ops any_table(void)
+{
+	nizwarf_ops ops;
+
+#define OR_NONE(name, function) ops.name = any ? function : NULL
+	OR_NONE(init, op_init);
+	OR_NONE(destroy, op_destroy);
+	OR_NONE(lookup, op_lookup);
+	OR_NONE(forget, op_forget);
+	OR_NONE(getattr, op_getattr);
+	OR_NONE(setattr, op_setattr);
+	OR_NONE(readlink, op_readlink);
+	OR_NONE(mknod, op_mknod);
+	OR_NONE(mkdir, op_mkdir);
+	OR_NONE(unlink, op_name);
+	OR_NONE(rmdir, op_name);
+	OR_NONE(symlink, op_symlink);
+	OR_NONE(rename, op_rename);
+	OR_NONE(link, op_link);
+	OR_NONE(open, op_open);
+	OR_NONE(read, op_read);
+	OR_NONE(write, op_write);
+	OR_NONE(flush, op_file);
+	OR_NONE(release, op_file);
+	OR_NONE(fsync, op_fsync);
+	OR_NONE(opendir, op_open);
+	OR_NONE(readdir, op_readdir);
+	OR_NONE(readdirplus, op_readdirplus);
+	OR_NONE(releasedir, op_file);
+	OR_NONE(fsyncdir, op_fsync);
+	OR_NONE(statfs, op_statfs);
+	OR_NONE(setxattr, op_setxattr);
+	OR_NONE(getxattr, op_getxattr);
+	OR_NONE(listxattr, op_listxattr);
+	OR_NONE(removexattr, op_name);
+	OR_NONE(access, op_access);
+	OR_NONE(create, op_create);
+	OR_NONE(fallocate, op_fallocate);
+	OR_NONE(lseek, op_lseek);
+	OR_NONE(copy_file_range, op_copy);
+	OR_NONE(syncfs, op_syncfs);
+	OR_NONE(interrupt, op_interrupt);
+	OR_NONE(conn, op_conn);
+	OR_NONE(forget_multi, op_forget_multi);
+	OR_NONE(getlk, op_getlk);
+	OR_NONE(setlk, op_setlk);
+	OR_NONE(flock, op_flock);
+	OR_NONE(bmap, op_bmap);
+	OR_NONE(ioctl, op_ioctl);
+	OR_NONE(poll, op_poll);
+	OR_NONE(tmpfile, op_tmpfile);
+	OR_NONE(statx, op_statx);
+	OR_NONE(retrieve_reply, op_retrieve_reply);
+	return ops;
+}
+
+static void tables(void)
+{
+	const nizwarf_ops ops = any_table();
+	nizwarf_slot slot = NIZWARF_NONE;
+	nizwarf_session session;
+	nizwarf_item items[PIECES];
+	nizwarf_answer answer = NIZWARF_NO_ANSWER;
+	nizwarf_call call;
+	size_t len;
+
+	ANY(session);
+	Frama_C_make_unknown(any_name, sizeof(any_name) - 1);
+	ROUNDS(4)
+	COUNTS nizwarf_serve_ops(&ops, NULL, OR_NULL(1, &slot), OR_NULL(2, &session), OR_NULL(3, bytes[0]),
+				 ANY_LENGTH(LONGEST), OR_NULL(4, memory[0]), ANY_LENGTH(LONGEST), items,
+				 count, &len);
+	ANY(call);
+	call.room = ANY_LENGTH(LONGEST);
+	answer.text = bytes[1];
+	answer.text_len = ANY_LENGTH(LONGEST);
+	answer.error = any;
+	answer.handle = ANY_LENGTH(UINT64_MAX);
+	answer.has_handle = (uint32_t)any;
+	nizwarf_finish_ops(&ops, NULL, &slot, &session, &call, &answer, memory[0], &len);
+	nizwarf_end_ops(&ops, NULL, &session);
+}
+
+static void values(void)
+{
+	struct stat st;
+	struct statvfs held;
+
+	ANY(st);
+	ANY(held);
+	nizwarf_attr_of(&st);
+	nizwarf_statfs_of(&held);
+	nizwarf_timeout(Frama_C_double_interval(-1e308, 1e308));
+}
+
+static void fill_memory(void)
+{
+	Frama_C_make_unknown((char *)bytes, sizeof(bytes));
+	Frama_C_make_unknown((char *)memory, sizeof(memory));
+}
+
+/* nizwarf.h and nizwarf_tree.h. */
+void doors(void)
+{
+	fill_memory();
+	asks();
+	replies();
+	checks();
+	texts();
+	interrupts();
+	servers();
+}
+
+/* nizwarf_ops.h. */
+void ops(void)
+{
+	fill_memory();
+	tables();
+	values();
+}
+
+#endif
