@@ -3,14 +3,21 @@
 #ifndef DOOR_H
 #define DOOR_H
 
+#include <emmintrin.h>
 #include <nizwarf.h>
 #include <time.h>
+
+#ifndef likely
+#define likely(it) __builtin_expect(!!(it), 1)
+#define unlikely(it) __builtin_expect(!!(it), 0)
+#endif
 
 /* A session and a request of libfuse, with what the door wants of them behind: whoever has the first has both. */
 struct door_session {
 	struct fuse_session se;
 	uint64_t options;
-	uint32_t max_buffer;
+	/* The size of a page, and in the upper half the largest payload. */
+	uint64_t sizes;
 	/* How many interrupts are kept in libfuse's list: each is of a request that no file system asked about. */
 	unsigned int kept;
 };
@@ -19,7 +26,8 @@ struct door_req {
 	struct fuse_req req;
 	/* It is in libfuse's list, or ends by more than one: its end takes the session's lock. */
 	int known;
-	/* Its `call` is 0 where the door told none: the reply is then a header alone, and nothing else is read. */
+	/* Its `call` is 0 where the door told none, and `answer` QUIET: the reply is then a header alone, and nothing else
+	 * is read. */
 	nizwarf_call call;
 };
 
@@ -38,8 +46,8 @@ static inline nizwarf_call *call_of(fuse_req_t req)
 	return &own_of(req)->call;
 }
 
-/* A request of zeros, but for its lock, which is ready, and its call; and its end. */
-static struct fuse_req *door_take_req(void);
+static struct fuse_session *door_take_session(void);
+/* The end of a request that others knew. */
 static void door_give_req(struct fuse_req *req);
 
 /* From now on an interrupt finds the request; and it knows of one that came before. */

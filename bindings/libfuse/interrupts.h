@@ -27,11 +27,13 @@ static void end_interrupt(struct fuse_req *interrupt)
 	destroy_req(interrupt);
 }
 
-/* Takes an interrupt off the list of those that are kept. The session is locked, here and in the next. */
+/* Takes an interrupt off the list of those that are kept: it is a clean request then. The session is locked, here and
+ * in the next. */
 static struct fuse_req *take_kept(struct fuse_session *se, struct fuse_req *interrupt)
 {
 	list_del_req(interrupt);
 	list_init_req(interrupt);
+	memset(&interrupt->u, 0, sizeof(interrupt->u));
 	__atomic_store_n(&door_of(se)->kept, count_kept(se) - 1, __ATOMIC_RELAXED);
 	return interrupt;
 }
@@ -95,20 +97,24 @@ static void door_watch(fuse_req_t req)
 	pthread_mutex_unlock(&se->lock);
 }
 
-static int door_end_alone(fuse_req_t req)
+static __attribute__((noinline)) void end_overtaken(struct fuse_session *se, uint64_t unique)
 {
-	struct fuse_session *se = req->se;
+	pthread_mutex_lock(&se->lock);
+	end_kept(se, unique);
+	pthread_mutex_unlock(&se->lock);
+}
 
-	if (own_of(req)->known)
+static inline int door_end_alone(fuse_req_t req)
+{
+	if (unlikely(own_of(req)->known))
 		return 0;
-	if (count_kept(se)) {
-		pthread_mutex_lock(&se->lock);
-		end_kept(se, req->unique);
-		pthread_mutex_unlock(&se->lock);
+	if (unlikely(count_kept(req->se)))
+		end_overtaken(req->se, req->unique);
+	if (req->ch) {
+		fuse_chan_put(req->ch);
+		req->ch = NULL;
 	}
-	fuse_chan_put(req->ch);
-	req->ch = NULL;
-	destroy_req(req);
+	keep_req(req);
 	return 1;
 }
 

@@ -1,17 +1,49 @@
 /* Records of a directory: libfuse's programs lay them out by the two functions here, and hand them over in one piece. */
 
+enum { WORD = sizeof(uint64_t), PIECE = 16 };
+
+static inline uint64_t word_at(const char *at)
+{
+	uint64_t word;
+
+	memcpy(&word, at, WORD);
+	return word;
+}
+
+static inline void put_word(char *at, uint64_t word)
+{
+	memcpy(at, &word, WORD);
+}
+
+/* Copies a name: the last piece, or word, goes partly over the one before. */
+static inline void put_name(char *at, const char *name, size_t len)
+{
+	size_t i;
+
+	if (len >= PIECE) {
+		for (i = 0; i < len - PIECE; i += PIECE)
+			memcpy(at + i, name + i, PIECE);
+		memcpy(at + len - PIECE, name + len - PIECE, PIECE);
+	} else if (len >= WORD) {
+		put_word(at, word_at(name));
+		put_word(at + len - WORD, word_at(name + len - WORD));
+	} else {
+		memcpy(at, name, len);
+	}
+}
+
 /* Lays a record out, up to its end: the bytes that fill its last eight up are 0. */
 static inline void put_record(char *at, char *end, const char *name, size_t len, const struct stat *st,
 			      off_t off)
 {
 	struct fuse_dirent *record = (struct fuse_dirent *)(void *)at;
 
-	memset(end - sizeof(uint64_t), 0, sizeof(uint64_t));
+	put_word(end - WORD, 0);
 	record->ino = st->st_ino;
 	record->off = (uint64_t)off;
 	record->namelen = (uint32_t)len;
 	record->type = (st->st_mode & S_IFMT) >> 12;
-	memcpy(record->name, name, len);
+	put_name(record->name, name, len);
 }
 
 size_t fuse_add_direntry(fuse_req_t req, char *buf, size_t bufsize, const char *name,
@@ -33,29 +65,13 @@ size_t fuse_add_direntry_plus(fuse_req_t req, char *buf, size_t bufsize, const c
 
 	(void)req;
 	if (buf && whole <= bufsize) {
-		memset(buf, 0, front);
-		fill_entry((struct fuse_entry_out *)(void *)buf, e);
+		spell_entry((nizwarf_entry *)(void *)buf, e);
 		put_record(buf + front, buf + whole, name, len, &e->attr, off);
 	}
 	return whole;
 }
 
-/* (its two times are mostly the same) */
-static void fill_entry(struct fuse_entry_out *out, const struct fuse_entry_param *e)
-{
-	out->nodeid = e->ino;
-	out->generation = e->generation;
-	out->entry_valid = calc_timeout_sec(e->entry_timeout);
-	out->entry_valid_nsec = calc_timeout_nsec(e->entry_timeout);
-	out->attr_valid = out->entry_valid;
-	out->attr_valid_nsec = out->entry_valid_nsec;
-	if (e->attr_timeout != e->entry_timeout) {
-		out->attr_valid = calc_timeout_sec(e->attr_timeout);
-		out->attr_valid_nsec = calc_timeout_nsec(e->attr_timeout);
-	}
-	convert_stat(&e->attr, &out->attr);
-}
-
+/* Which of these bytes are 0. */
 static inline uint64_t zeros_in(uint64_t word)
 {
 	const uint64_t ones = UINT64_C(0x0101010101010101);
@@ -63,37 +79,40 @@ static inline uint64_t zeros_in(uint64_t word)
 	return (word - ones) & ~word & ones << 7;
 }
 
-/* Whether one of these bytes is 0. They are read by eights: those that fill the last eight up are there. */
-static inline int has_zero(const char *at, size_t len)
+/* 0, if no byte of a name is 0, and there is one. Of a short name those bytes are there, too, that fill its last eight
+ * up. */
+static inline uint64_t fault_of(const char *at, size_t len)
 {
-	uint64_t word;
+	const __m128i zero = _mm_setzero_si128();
+	__m128i least;
+	size_t i;
 
-	for (; len > sizeof(word); at += sizeof(word), len -= sizeof(word)) {
-		memcpy(&word, at, sizeof(word));
-		if (zeros_in(word))
-			return 1;
+	if (len >= PIECE) {
+		least = _mm_loadu_si128((const __m128i *)(const void *)(at + len - PIECE));
+		for (i = 0; i < len - PIECE; i += PIECE)
+			least = _mm_min_epu8(least, _mm_loadu_si128((const __m128i *)(const void *)(at + i)));
+		return (uint32_t)_mm_movemask_epi8(_mm_cmpeq_epi8(least, zero));
 	}
-	memcpy(&word, at, sizeof(word));
+	if (len >= WORD)
+		return zeros_in(word_at(at)) | zeros_in(word_at(at + len - WORD));
 	/* (the first byte is the lowest) */
-	return zeros_in(len < sizeof(word) ? word | UINT64_MAX << 8 * len : word) != 0;
+	return len ? zeros_in(word_at(at) | UINT64_MAX << 8 * len) : 1;
 }
 
 /* Whether records of a directory are whole, and what Linux takes. */
 static int are_records(const nizwarf_call *call, const char *at, size_t len)
 {
 	const size_t front = call->has & NIZWARF_PLUS ? sizeof(struct fuse_entry_out) : 0;
-	const char *end = at + len;
 	uint32_t name_len;
-	uint64_t whole;
+	size_t whole;
 
-	for (; at != end; at += whole) {
-		if ((size_t)(end - at) < front + FUSE_NAME_OFFSET)
+	while (len >= front + FUSE_NAME_OFFSET) {
+		memcpy(&name_len, at + front + offsetof(struct fuse_dirent, namelen), sizeof(name_len));
+		whole = front + FUSE_DIRENT_ALIGN(FUSE_NAME_OFFSET + (size_t)name_len);
+		if (unlikely(whole > len || fault_of(at + front + FUSE_NAME_OFFSET, name_len)))
 			return 0;
-		at += front;
-		memcpy(&name_len, at + offsetof(struct fuse_dirent, namelen), sizeof(name_len));
-		whole = FUSE_DIRENT_ALIGN(FUSE_NAME_OFFSET + (uint64_t)name_len);
-		if (!name_len || whole > (size_t)(end - at) || has_zero(at + FUSE_NAME_OFFSET, name_len))
-			return 0;
+		at += whole;
+		len -= whole;
 	}
-	return 1;
+	return !len;
 }

@@ -9,11 +9,11 @@ import re
 import sys
 
 # Functions of which each must be there: those on which the door stands.
-REPLACED = """send_reply_iov send_notify_iov fuse_reply_entry fuse_reply_attr fuse_reply_data fuse_lowlevel_notify_store
-fill_entry fuse_add_direntry fuse_add_direntry_plus check_interrupt do_lookup do_forget do_read do_write_buf do_setattr
-do_interrupt do_notify_reply opname""".split()
+REPLACED = """send_reply_iov send_notify_iov fuse_reply_entry fuse_reply_attr fuse_reply_write fuse_reply_data
+fuse_lowlevel_notify_store fuse_ll_alloc_req fill_entry fuse_add_direntry fuse_add_direntry_plus check_interrupt do_lookup
+do_forget do_read do_write_buf do_setattr do_interrupt do_notify_reply opname""".split()
 # What only those call, and others of the same kind: every function that decodes a request, but an INIT's and a DESTROY's.
-CALLED = r"(?:_?do_(?!init\b|destroy\b|fuse_)\w+|copy_\w+_common|convert_attr|fuse_req_opcode_sanity_ok|fuse_session_in2req" \
+CALLED = r"(?:_?do_(?!init\b|destroy\b|fuse_(?!reply_(?:write|copy)\b))\w+|copy_\w+_common|convert_attr|fuse_req_opcode_sanity_ok|fuse_session_in2req" \
          r"|fuse_req_check_allow_root|fuse_session_process_uring_cqe)"
 # What a version has: a word for the preprocessor, and where that shows.
 HAS = {
@@ -30,9 +30,7 @@ SHORT = r'^\tif \((?:\(size_t\) ?)?res < sizeof\(struct fuse_in_header\)\) \{\n[
 # How a session and a request are allocated and freed: with what the door wants of them behind. And where a file system
 # asks for interrupts: only from then on others know of its request.
 OWN = (
-    (r"calloc\(1, sizeof\(struct fuse_session\)\)", "calloc(1, sizeof(struct door_session))"),
-    (r"\(struct fuse_req \*\) ?calloc\(1, sizeof\(struct fuse_req\)\)", "door_take_req()"),
-    (r"\t\tpthread_mutex_init\(&req->lock, NULL\);\n", ""),
+    (r"\(struct fuse_session \*\) ?calloc\(1, sizeof\(struct fuse_session\)\)", "door_take_session()"),
     (r"pthread_mutex_destroy\(&req->lock\);\n\tfree\(req\);", "door_give_req(req);"),
     (r"(void fuse_free_req\(fuse_req_t req\)\n\{\n)", r"\1\tif (door_end_alone(req))\n\t\treturn;\n\n"),
     (r"(void fuse_req_interrupt_func\([^{]*\{\n)", r"\1\tdoor_watch(req);\n"),

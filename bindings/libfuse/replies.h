@@ -3,15 +3,6 @@
  * answers is held against the call that it was asked: a record of another kind, a number that is no error, a text
  * that is too long come to the caller as an error, where the kernel would refuse the reply, and the caller wait. */
 
-/* Memory of a thread: a slot, a room for a reply that has no data, the request that ended last, and an answer. */
-struct door_thread {
-	nizwarf_slot slot;
-	uint8_t *room;
-	size_t size;
-	struct door_req *spare;
-	nizwarf_answer answer;
-};
-
 enum {
 	/* The largest payload before an INIT. */
 	FIRST_BUFFER = 1 << 20,
@@ -20,6 +11,15 @@ enum {
 	HEADER = sizeof(struct fuse_out_header),
 	/* Of a reply without a text: the longest is CREATE's. */
 	SMALL_ROOM = HEADER + sizeof(struct fuse_entry_out) + sizeof(struct fuse_open_out),
+};
+
+/* Memory of a thread: a slot, the request that ended last, an answer, and a room for a reply that has a text. */
+struct door_thread {
+	nizwarf_slot slot;
+	struct door_req *spare;
+	nizwarf_answer answer;
+	uint8_t *room;
+	size_t size;
 };
 
 static pthread_key_t door_key;
@@ -53,58 +53,86 @@ static __attribute__((destructor)) void end_door(void)
 	pthread_key_delete(door_key);
 }
 
-/* Makes this thread's memory, or its room longer. */
-static __attribute__((noinline)) struct door_thread *make_thread(size_t size)
+static __attribute__((noinline)) struct door_thread *make_thread(void)
 {
-	struct door_thread *t = door_mine;
-	uint8_t *room;
+	struct door_thread *t = calloc(1, sizeof(*t));
 
-	if (!t) {
-		t = calloc(1, sizeof(*t));
-		if (!t || pthread_setspecific(door_key, t)) {
-			free(t);
-			return NULL;
-		}
-		door_mine = t;
-	}
-	room = realloc(t->room, size);
-	if (!room)
+	if (!t || pthread_setspecific(door_key, t)) {
+		free(t);
 		return NULL;
-	t->room = room;
-	t->size = size;
+	}
+	door_mine = t;
 	return t;
 }
 
-/* This thread's memory, with a room of so many bytes at least. NULL: there is none. */
-static inline struct door_thread *door_thread(size_t size)
+/* This thread's memory. NULL: there is none. */
+static inline struct door_thread *door_thread(void)
 {
 	struct door_thread *t = door_mine;
 
-	return t && t->size >= size ? t : make_thread(size);
+	return likely(t) ? t : make_thread();
 }
 
-/* A thread mostly ends the request that it took: the next one has its memory. */
-static struct fuse_req *door_take_req(void)
+/* Makes the room for a reply with a text so long at least. 0: there is no memory. */
+static int make_room(struct door_thread *t, size_t size)
 {
-	struct door_thread *t = door_mine;
-	struct door_req *taken = t ? t->spare : NULL;
+	uint8_t *room;
 
-	if (!taken) {
-		taken = calloc(1, sizeof(*taken));
+	if (t->size >= size)
+		return 1;
+	room = realloc(t->room, size);
+	if (!room)
+		return 0;
+	t->room = room;
+	t->size = size;
+	return 1;
+}
+
+/* What a request is between its end and its next use: zeros, but for its lock, and that it is listed nowhere and ends
+ * by one. */
+static void clean_req(struct fuse_req *req)
+{
+	memset(&req->ctx, 0, offsetof(struct door_req, call) - offsetof(struct door_req, req.ctx));
+	req->REQ_COUNT = 1;
+	list_init_req(req);
+}
+
+static __attribute__((noinline)) struct door_req *make_req(void)
+{
+	struct door_req *made = calloc(1, sizeof(*made));
+
+	if (!made)
+		return NULL;
+	pthread_mutex_init(&made->req.lock, NULL);
+	clean_req(&made->req);
+	return made;
+}
+
+/* A request, without its call. A thread mostly ends the one that it took: the next one has its memory. NULL: there is
+ * none. */
+static inline struct fuse_req *door_take_req(struct fuse_session *se)
+{
+	struct door_thread *t = door_thread();
+	struct door_req *taken;
+
+	if (unlikely(!t))
+		return NULL;
+	taken = t->spare;
+	t->spare = NULL;
+	if (unlikely(!taken)) {
+		taken = make_req();
 		if (!taken)
 			return NULL;
-		pthread_mutex_init(&taken->req.lock, NULL);
-		return &taken->req;
 	}
-	t->spare = NULL;
-	/* (the lock stays, and libfuse sets what is before it) */
-	memset(&taken->req.ctx, 0, offsetof(struct door_req, call) - offsetof(struct door_req, req.ctx));
+	taken->req.se = se;
 	taken->req.unique = 0;
 	taken->call.call = 0;
+	taken->call.answer = NIZWARF_QUIET;
 	return &taken->req;
 }
 
-static void door_give_req(struct fuse_req *req)
+/* Keeps the memory of a request that is clean. */
+static inline void keep_req(struct fuse_req *req)
 {
 	struct door_thread *t = door_mine;
 
@@ -112,38 +140,101 @@ static void door_give_req(struct fuse_req *req)
 	/* (which sees what is used after its end) */
 	t = NULL;
 #endif
-	if (t && !t->spare)
+	if (likely(t && !t->spare))
 		t->spare = own_of(req);
 	else
 		end_req(own_of(req));
 }
 
+static void door_give_req(struct fuse_req *req)
+{
+	clean_req(req);
+	keep_req(req);
+}
+
+static struct fuse_session *door_take_session(void)
+{
+	struct door_session *door = calloc(1, sizeof(*door));
+
+	if (!door)
+		return NULL;
+	door->sizes = (uint32_t)pagesize | (uint64_t)FIRST_BUFFER << 32;
+	return &door->se;
+}
+
 /* The session as it is now: an INIT may be answered meanwhile, if the client isn't a kernel. */
-static nizwarf_session session_of(struct fuse_session *se)
+static inline nizwarf_session session_of(struct fuse_session *se)
 {
 	struct door_session *door = door_of(se);
-	const uint32_t agreed = __atomic_load_n(&door->max_buffer, __ATOMIC_RELAXED);
+	const uint64_t sizes = __atomic_load_n(&door->sizes, __ATOMIC_RELAXED);
 	const nizwarf_session session = {
 		.options = __atomic_load_n(&door->options, __ATOMIC_RELAXED),
-		.page_size = (uint32_t)pagesize,
-		.max_buffer = agreed ? agreed : FIRST_BUFFER,
+		.page_size = (uint32_t)sizes,
+		.max_buffer = (uint32_t)(sizes >> 32),
 	};
 
 	return session;
 }
 
+/* What is told of an ask, or of an answer, before it. */
+static inline void begin_told(nizwarf_told *told, uint64_t options)
+{
+	memset(told, 0, sizeof(*told));
+	told->options = options;
+}
+
 /* An answer of this thread, in which a kind's own fields are still to be set: no other kind reads them. */
-static nizwarf_answer *begin_answer(struct door_thread *t, int error, uint64_t count)
+static void begin_answer(struct door_thread *t)
 {
 	nizwarf_answer *answer = &t->answer;
 
-	answer->error = error;
-	answer->count = count;
+	answer->error = 0;
+	answer->count = 0;
 	answer->has_count = 0;
 	answer->has_handle = 0;
 	answer->text = NULL;
 	answer->text_len = 0;
-	return answer;
+}
+
+/* A time in seconds and nanoseconds, as calc_timeout_sec and calc_timeout_nsec have them, by fewer steps. */
+static inline uint32_t spell_time(double t, uint64_t *seconds)
+{
+	const double most = 1e15;
+	double part;
+
+	if (unlikely(!(t >= 0 && t < most))) {
+		*seconds = calc_timeout_sec(t);
+		return calc_timeout_nsec(t);
+	}
+	*seconds = (uint64_t)(int64_t)t;
+	part = t - (double)(int64_t)t;
+	return part >= 0.999999999 ? 999999999 : (uint32_t)(int64_t)(part * 1.0e9);
+}
+
+_Static_assert(sizeof(nizwarf_entry) == sizeof(struct fuse_entry_out), "an entry as fuse.h has it");
+
+static inline void spell_attr(nizwarf_attr *out, const struct stat *st)
+{
+	convert_stat(st, (struct fuse_attr *)(void *)out);
+	out->flags = 0;
+}
+
+/* (its two times are mostly the same) */
+static inline void spell_entry(nizwarf_entry *out, const struct fuse_entry_param *e)
+{
+	out->node = e->ino;
+	out->generation = e->generation;
+	out->entry_nanoseconds = spell_time(e->entry_timeout, &out->entry_seconds);
+	out->attr_seconds = out->entry_seconds;
+	out->attr_nanoseconds = out->entry_nanoseconds;
+	if (e->attr_timeout != e->entry_timeout)
+		out->attr_nanoseconds = spell_time(e->attr_timeout, &out->attr_seconds);
+	spell_attr(&out->attr, &e->attr);
+}
+
+static void fill_entry(struct fuse_entry_out *out, const struct fuse_entry_param *e)
+{
+	spell_entry((nizwarf_entry *)(void *)out, e);
 }
 
 /* Copies pieces together. */
@@ -228,7 +319,7 @@ static int tell_init(fuse_req_t req, nizwarf_answer *answer, nizwarf_init_more *
 		buffer = LEAST_BUFFER;
 	if (buffer > MOST_BUFFER)
 		buffer = MOST_BUFFER;
-	__atomic_store_n(&door_of(req->se)->max_buffer, (uint32_t)buffer, __ATOMIC_RELAXED);
+	__atomic_store_n(&door_of(req->se)->sizes, (uint32_t)pagesize | buffer << 32, __ATOMIC_RELAXED);
 	nizwarf_init_keep(call_of(req), flags);
 	nizwarf_answer_options(answer, flags);
 	answer->text = (const uint8_t *)more;
@@ -238,7 +329,6 @@ static int tell_init(fuse_req_t req, nizwarf_answer *answer, nizwarf_init_more *
 
 static int tell_entry(nizwarf_answer *answer, const struct iovec *iov, int count)
 {
-	_Static_assert(sizeof(answer->entry) == sizeof(struct fuse_entry_out), "an entry as fuse.h has it");
 	return take_record(&answer->entry, sizeof(answer->entry), iov, count);
 }
 
@@ -322,14 +412,14 @@ static int tell_number(nizwarf_answer *answer, const struct iovec *iov, int coun
 }
 
 /* Bytes, which are put together in the thread's room: a reply may overlap its text. */
-static int tell_text(const nizwarf_call *call, nizwarf_answer *answer, const struct iovec *iov, int count)
+static int tell_text(const nizwarf_call *call, struct door_thread *t, const struct iovec *iov, int count)
 {
 	const size_t len = iov_length(iov, count);
-	/* (as large as the reply's: a larger one is elsewhere) */
-	struct door_thread *t = door_thread(SMALL_ROOM + len);
+	nizwarf_answer *answer = &t->answer;
 	nizwarf_ioctl record;
 
-	if (!t) {
+	/* (as large as the reply's: a larger one is elsewhere) */
+	if (!make_room(t, SMALL_ROOM + len)) {
 		answer->error = ENOMEM;
 		return 1;
 	}
@@ -347,19 +437,19 @@ static int tell_text(const nizwarf_call *call, nizwarf_answer *answer, const str
 	return 1;
 }
 
-static int tell_attribute(const nizwarf_call *call, nizwarf_answer *answer, const struct iovec *iov,
-			  int count)
+static int tell_attribute(const nizwarf_call *call, struct door_thread *t, const struct iovec *iov, int count)
 {
 	if (call->size)
-		return tell_text(call, answer, iov, count);
-	answer->has_count = 1;
-	return tell_number(answer, iov, count);
+		return tell_text(call, t, iov, count);
+	t->answer.has_count = 1;
+	return tell_number(&t->answer, iov, count);
 }
 
-static int tell(fuse_req_t req, nizwarf_answer *answer, nizwarf_init_more *more, const struct iovec *iov,
+static int tell(fuse_req_t req, struct door_thread *t, nizwarf_init_more *more, const struct iovec *iov,
 		int count)
 {
 	const nizwarf_call *call = call_of(req);
+	nizwarf_answer *answer = &t->answer;
 
 	switch (call->answer) {
 	case NIZWARF_DONE:
@@ -377,9 +467,9 @@ static int tell(fuse_req_t req, nizwarf_answer *answer, nizwarf_init_more *more,
 	case NIZWARF_STATISTICS:
 		return tell_statistics(answer, iov, count);
 	case NIZWARF_TEXT:
-		return tell_text(call, answer, iov, count);
+		return tell_text(call, t, iov, count);
 	case NIZWARF_TEXT_OR_COUNT:
-		return tell_attribute(call, answer, iov, count);
+		return tell_attribute(call, t, iov, count);
 	case NIZWARF_OFFSET:
 		return take_record(&answer->count, sizeof(answer->count), iov, count);
 	case NIZWARF_WRITTEN:
@@ -403,14 +493,15 @@ static int send_header(fuse_req_t req, int error)
 }
 
 /* Sends what the door put, with data after it: `iov` has a place for that in front. */
-static int send_put(fuse_req_t req, uint8_t *put, size_t len, struct iovec *iov, int count)
+static inline int send_put(fuse_req_t req, uint8_t *put, size_t len, struct iovec *iov, int count)
 {
 	int res;
 
 	iov[0].iov_base = put;
 	iov[0].iov_len = len;
 	res = fuse_send_msg(req->se, req->ch, iov, count SEND_OF(req));
-	fuse_free_req(req);
+	if (!door_end_alone(req))
+		fuse_free_req(req);
 	return res;
 }
 
@@ -421,96 +512,97 @@ static int send_lost(fuse_req_t req, int error)
 	return -ENOENT;
 }
 
+static __attribute__((noinline)) int send_none(fuse_req_t req, int32_t code)
+{
+	fuse_log(FUSE_LOG_ERR, "fuse: no reply to call %u: %d\n", call_of(req)->call, code);
+	return send_lost(req, code == NIZWARF_OUT_OF_MEMORY ? -ENOMEM : -EIO);
+}
+
 /* The door's reply to a call, by this thread's answer, if it has neither text nor items: it stays in the slot. */
-static int32_t put_answer(fuse_req_t req, struct door_thread *t, nizwarf_told *told)
+static inline int32_t put_answer(fuse_req_t req, struct door_thread *t, nizwarf_told *told)
 {
 	const nizwarf_session session = session_of(req->se);
 	const nizwarf_answer *answer = &t->answer;
 	const nizwarf_call *call = call_of(req);
 
-	memset(told, 0, sizeof(*told));
-	told->options = call->options;
+	begin_told(told, call->options);
 	/* (a pointer to something, also where there is nothing) */
 	return nizwarf_answer_at(&t->slot, &session, call, answer, (const uint8_t *)answer, 0,
 				 (const nizwarf_item *)(const void *)answer, 0, told);
 }
 
-/* The same of any answer that has no data: it is in the thread's room. */
-static int32_t put_told(fuse_req_t req, struct door_thread *t, size_t size, nizwarf_told *told)
+/* Answers a call by this thread's answer, which is an error or a record alone. */
+static int send_record(fuse_req_t req, struct door_thread *t)
 {
-	const nizwarf_session session = session_of(req->se);
-	const nizwarf_room room = { t->room, size };
-	const nizwarf_call *call = call_of(req);
+	_Alignas(struct fuse_out_header) uint8_t reply[SMALL_ROOM];
+	struct iovec iov[1];
+	nizwarf_told told;
 	int32_t code;
 
-	code = nizwarf_reply(&t->slot, &session, call, &t->answer, &room, 1, told);
-	if (code == NIZWARF_OK && call->call == NIZWARF_INIT && !t->answer.error)
-		__atomic_store_n(&door_of(req->se)->options, told->options, __ATOMIC_RELAXED);
-	return code;
+	call_of(req)->room = SMALL_ROOM;
+	code = put_answer(req, t, &told);
+	if (unlikely(code != NIZWARF_OK || !told.len))
+		return send_none(req, code);
+	nizwarf_copy_slot_at(&t->slot, 0, reply, sizeof(reply));
+	return send_put(req, reply, told.put, iov, 1);
 }
 
-/* Whether an answer to a call is a record alone, which the door encodes as it is told. */
-static inline int is_plain(const nizwarf_call *call)
-{
-	const uint32_t plain =
-		1 << NIZWARF_DONE | 1 << NIZWARF_ENTRY | 1 << NIZWARF_ATTR | 1 << NIZWARF_WRITTEN;
-
-	return plain >> call->answer & 1;
-}
-
-/* Answers a call by this thread's answer, which has no data. */
+/* Answers a call by this thread's answer, which may have a text, or say more than its record. */
 static int send_answer(fuse_req_t req, struct door_thread *t)
 {
+	const nizwarf_session session = session_of(req->se);
 	/* (as much room as it needs, so that a slot needs no more) */
-	const size_t size = SMALL_ROOM + (t->answer.error ? 0 : t->answer.text_len);
+	const size_t size = SMALL_ROOM + t->answer.text_len;
 	nizwarf_call *call = call_of(req);
-	nizwarf_told told;
 	struct iovec iov[1];
+	nizwarf_told told;
+	nizwarf_room room;
 	int32_t code;
 
-	if (!door_thread(size))
+	if (!make_room(t, size))
 		return send_lost(req, -ENOMEM);
 	call->room = size;
-	if (is_plain(call)) {
-		code = put_answer(req, t, &told);
-		nizwarf_copy_slot_at(&t->slot, 0, t->room, SMALL_ROOM);
-	} else {
-		code = put_told(req, t, size, &told);
-	}
-	if (code == NIZWARF_OK && told.len)
-		return send_put(req, t->room, told.put, iov, 1);
-	fuse_log(FUSE_LOG_ERR, "fuse: no reply to call %u: %d\n", call->call, code);
-	return send_lost(req, code == NIZWARF_OUT_OF_MEMORY ? -ENOMEM : -EIO);
+	room.at = t->room;
+	room.len = size;
+	code = nizwarf_reply(&t->slot, &session, call, &t->answer, &room, 1, &told);
+	if (code != NIZWARF_OK || !told.len)
+		return send_none(req, code);
+	if (call->call == NIZWARF_INIT)
+		__atomic_store_n(&door_of(req->se)->options, told.options, __ATOMIC_RELAXED);
+	return send_put(req, t->room, told.put, iov, 1);
 }
 
 /* An error, or 0 where that is all there is to say. */
 static int send_plain(fuse_req_t req, int error)
 {
-	struct door_thread *t = door_thread(SMALL_ROOM);
+	struct door_thread *t = door_thread();
 
 	if (!t)
 		return send_header(req, -ENOMEM);
-	begin_answer(t, error > NIZWARF_LAST_ERROR ? EIO : error, 0);
-	return send_answer(req, t);
+	t->answer.error = error > NIZWARF_LAST_ERROR ? EIO : error;
+	return send_record(req, t);
 }
 
 /* The header of a reply with `len` bytes of data, which the door doesn't see: those of a READ, or records of a
  * directory. 0: there is no memory. A header that says an error has no data. */
-static size_t put_data_header(fuse_req_t req, uint64_t len, uint8_t *header)
+static inline size_t put_data_header(fuse_req_t req, uint64_t len, uint8_t *header)
 {
-	struct door_thread *t = door_thread(HEADER);
+	struct door_thread *t = door_thread();
 	nizwarf_call *call = call_of(req);
 	nizwarf_told told;
 
-	if (!t)
+	if (unlikely(!t))
 		return 0;
 	/* A listing is told as bytes: libfuse has them in records already. */
-	call->call = NIZWARF_READ;
-	call->answer = NIZWARF_DATA;
-	call->length = call->size;
-	call->has = 0;
-	begin_answer(t, 0, len);
-	if (put_answer(req, t, &told) != NIZWARF_OK)
+	if (call->answer == NIZWARF_DIRECTORY) {
+		call->call = NIZWARF_READ;
+		call->answer = NIZWARF_DATA;
+		call->length = call->size;
+		call->has = 0;
+	}
+	t->answer.error = 0;
+	t->answer.count = len;
+	if (unlikely(put_answer(req, t, &told) != NIZWARF_OK))
 		return 0;
 	nizwarf_copy_slot_at(&t->slot, 0, header, HEADER);
 	return told.len;
@@ -528,13 +620,13 @@ static int send_data(fuse_req_t req, struct iovec *iov, int count)
 	    (count != 2 || !are_records(call, iov[1].iov_base, len)))
 		return send_plain(req, EIO);
 	whole = put_data_header(req, len, header);
-	if (!whole)
+	if (unlikely(!whole))
 		return send_header(req, -ENOMEM);
 	return send_put(req, header, HEADER, iov, whole > HEADER ? count : 1);
 }
 
 /* What was answered is no answer to the call: an error, if it is due a reply. */
-static int send_wrong(fuse_req_t req)
+static __attribute__((noinline)) int send_wrong(fuse_req_t req)
 {
 	const nizwarf_call *call = call_of(req);
 
@@ -551,25 +643,27 @@ static int send_wrong(fuse_req_t req)
 /* A reply with a record that libfuse laid out. */
 static int send_told(fuse_req_t req, const struct iovec *iov, int count)
 {
-	struct door_thread *t = door_thread(SMALL_ROOM);
+	struct door_thread *t = door_thread();
 	nizwarf_init_more more;
 
 	if (!t)
 		return send_lost(req, -ENOMEM);
-	if (tell(req, begin_answer(t, 0, 0), &more, iov, count))
-		return send_answer(req, t);
-	return send_wrong(req);
+	begin_answer(t);
+	if (!tell(req, t, &more, iov, count))
+		return send_wrong(req);
+	return t->answer.error ? send_record(req, t) : send_answer(req, t);
 }
 
-/* Each reply but those of the three below. `iov` has a place for the header in front. */
+/* Each reply but those of the four below. `iov` has a place for the header in front. */
 static int send_reply_iov(fuse_req_t req, int error, struct iovec *iov, int count)
 {
 	const nizwarf_call *call = call_of(req);
 
-	if (!call->call || call->call == NIZWARF_DESTROY)
-		return send_header(req, error);
-	if (call->answer == NIZWARF_QUIET)
+	if (unlikely(call->answer == NIZWARF_QUIET)) {
+		if (!call->call || call->call == NIZWARF_DESTROY)
+			return send_header(req, error);
 		return send_wrong(req);
+	}
 	if (error)
 		return send_plain(req, -error);
 	if (call->answer == NIZWARF_DATA || call->answer == NIZWARF_DIRECTORY)
@@ -579,52 +673,55 @@ static int send_reply_iov(fuse_req_t req, int error, struct iovec *iov, int coun
 	return send_told(req, iov + 1, count - 1);
 }
 
-/* Begins an answer by an entry of this kind. NULL: the call wants another one, or there is no memory; it has its
- * reply, which came to `res`. */
-static nizwarf_entry *begin_entry(fuse_req_t req, uint32_t kind, struct door_thread **t, int *res)
+/* This thread's memory, where a call is to be answered by a record of this kind. NULL: it is not so, or there is none;
+ * send_other answers then. */
+static inline struct door_thread *begin_record(fuse_req_t req, uint32_t kind)
 {
-	const nizwarf_call *call = call_of(req);
+	struct door_thread *t = door_thread();
 
-	*t = door_thread(SMALL_ROOM);
-	if (!call->call || call->answer != kind) {
-		*res = send_wrong(req);
+	if (unlikely(!t || call_of(req)->answer != kind))
 		return NULL;
-	}
-	if (!*t) {
-		*res = send_lost(req, -ENOMEM);
-		return NULL;
-	}
-	begin_answer(*t, 0, 0);
-	(*t)->answer.entry.attr.flags = 0;
-	return &(*t)->answer.entry;
+	t->answer.error = 0;
+	return t;
+}
+
+static __attribute__((noinline)) int send_other(fuse_req_t req, uint32_t kind)
+{
+	return call_of(req)->answer == kind ? send_lost(req, -ENOMEM) : send_wrong(req);
 }
 
 int fuse_reply_entry(fuse_req_t req, const struct fuse_entry_param *e)
 {
-	struct door_thread *t;
-	nizwarf_entry *entry;
-	int res;
+	struct door_thread *t = begin_record(req, NIZWARF_ENTRY);
 
-	entry = begin_entry(req, NIZWARF_ENTRY, &t, &res);
-	if (!entry)
-		return res;
-	fill_entry((struct fuse_entry_out *)(void *)entry, e);
-	return send_answer(req, t);
+	if (unlikely(!t))
+		return send_other(req, NIZWARF_ENTRY);
+	spell_entry(&t->answer.entry, e);
+	return send_record(req, t);
 }
 
 int fuse_reply_attr(fuse_req_t req, const struct stat *attr, double attr_timeout)
 {
-	struct door_thread *t;
+	struct door_thread *t = begin_record(req, NIZWARF_ATTR);
 	nizwarf_entry *entry;
-	int res;
 
-	entry = begin_entry(req, NIZWARF_ATTR, &t, &res);
-	if (!entry)
-		return res;
-	entry->attr_seconds = calc_timeout_sec(attr_timeout);
-	entry->attr_nanoseconds = calc_timeout_nsec(attr_timeout);
-	convert_stat(attr, (struct fuse_attr *)(void *)&entry->attr);
-	return send_answer(req, t);
+	if (unlikely(!t))
+		return send_other(req, NIZWARF_ATTR);
+	entry = &t->answer.entry;
+	entry->attr_nanoseconds = spell_time(attr_timeout, &entry->attr_seconds);
+	spell_attr(&entry->attr, attr);
+	return send_record(req, t);
+}
+
+int fuse_reply_write(fuse_req_t req, size_t count)
+{
+	const uint32_t kind = call_of(req)->call == NIZWARF_COPY_64 ? NIZWARF_OFFSET : NIZWARF_WRITTEN;
+	struct door_thread *t = begin_record(req, kind);
+
+	if (unlikely(!t))
+		return send_other(req, kind);
+	t->answer.count = count;
+	return send_record(req, t);
 }
 
 /* Data by descriptors, where the call isn't a READ. */

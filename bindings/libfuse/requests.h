@@ -20,11 +20,8 @@ enum {
 /* A request as it came, and what of it is in memory: all of it, but for data that stay in a pipe. */
 struct door_message {
 	const struct fuse_buf *buf;
-	struct fuse_chan *ch;
 	const char *in;
 	size_t len;
-	/* Memory that is to be freed. */
-	char *own;
 };
 
 /* Stands for data that are in a pipe, of which the door asks the length alone. */
@@ -555,6 +552,8 @@ static void on_init(fuse_req_t req, const nizwarf_call *c, const struct door_mes
 	const size_t len = m->len - sizeof(struct fuse_in_header);
 
 	memcpy(record, m->in + sizeof(struct fuse_in_header), len < sizeof(record) ? len : sizeof(record));
+	call_of(req)->other_offset = nizwarf_init_offered_at(
+		(const uint8_t *)m->in, m->len < NIZWARF_INIT_FRONT ? m->len : NIZWARF_INIT_FRONT);
 	do_init(req, c->node, record);
 }
 
@@ -619,11 +618,10 @@ static door_call *const door_calls[] = {
 /* ---- From a message to its call ------------------------------------------------------------------------ */
 
 /* Moves bytes out of the pipe that a message is in. */
-static int take_bytes(const struct door_message *m, struct fuse_bufvec *pipe, char *to, size_t len)
+static int take_bytes(struct fuse_bufvec *pipe, char *to, size_t len)
 {
 	struct fuse_bufvec memory = FUSE_BUFVEC_INIT(len);
 
-	(void)m;
 	memory.buf[0].mem = to;
 	return fuse_ll_copy_from_pipe(&memory, pipe) >= 0;
 }
@@ -638,27 +636,25 @@ static int may_stay(const struct fuse_session *se, const struct door_message *m)
 	return (in->opcode == FUSE_WRITE && se->op.write_buf) || in->opcode == FUSE_NOTIFY_REPLY;
 }
 
-/* Takes of a message that is in a pipe into memory what the door is to read. 0: the message is lost. */
-static int take_message(struct fuse_session *se, struct door_message *m)
+/* Takes of a message that is in a pipe into memory what the door is to read: its front, or all, which is to be freed.
+ * 0: the message is lost. */
+static int take_message(struct fuse_session *se, struct door_message *m, char *front, char **whole)
 {
 	struct fuse_bufvec pipe = { .count = 1, .buf[0] = *m->buf };
-	const size_t size = m->buf->size;
-	char *whole;
+	const size_t size = m->buf->size, len = size < WRITE_FRONT ? size : WRITE_FRONT;
 
-	m->len = size < WRITE_FRONT ? size : WRITE_FRONT;
-	m->own = malloc(WRITE_FRONT);
-	m->in = m->own;
-	if (!m->own || !take_bytes(m, &pipe, m->own, m->len))
+	m->in = front;
+	m->len = 0;
+	if (!take_bytes(&pipe, front, len))
 		return 0;
-	if (m->len == size || may_stay(se, m))
+	m->len = len;
+	if (len == size || may_stay(se, m))
 		return 1;
-	whole = realloc(m->own, size);
-	if (!whole)
+	*whole = malloc(size);
+	if (!*whole || !take_bytes(&pipe, *whole + len, size - len))
 		return 0;
-	m->own = whole;
-	m->in = whole;
-	if (!take_bytes(m, &pipe, whole + m->len, size - m->len))
-		return 0;
+	memcpy(*whole, front, len);
+	m->in = *whole;
 	m->len = size;
 	return 1;
 }
@@ -676,18 +672,14 @@ static inline int is_row(const struct door_message *m)
 	return m->len < sizeof(*in) || (in->opcode < 64 && rows >> in->opcode & 1);
 }
 
-/* Asks the door for the call of a message. */
-static int32_t ask(struct door_thread *t, struct fuse_session *se, const struct door_message *m,
-		   nizwarf_call *call, nizwarf_told *told)
+/* Asks the door for the call of a message that is of a row, or of which data are in a pipe. */
+static __attribute__((noinline)) int32_t ask_further(struct door_thread *t, const nizwarf_session *session,
+						     size_t room, const struct door_message *m,
+						     nizwarf_call *call, nizwarf_told *told)
 {
-	const nizwarf_session session = session_of(se);
-	const size_t room = session.max_buffer + FUSE_BUFFER_HEADER_SIZE;
 	nizwarf_segment segments[MOST_SEGMENTS];
 	size_t left = m->buf->size - m->len, count = 1;
-	int32_t code;
 
-	memset(told, 0, sizeof(*told));
-	told->options = session.options;
 	segments[0].at = m->in;
 	segments[0].len = m->len;
 	for (; left; left -= segments[count++].len) {
@@ -695,14 +687,29 @@ static int32_t ask(struct door_thread *t, struct fuse_session *se, const struct 
 		segments[count].len = left < ABSENT ? left : ABSENT;
 	}
 	if (is_row(m))
-		code = nizwarf_ask_offered_at(&t->slot, &session, DOOR_OFFERS, segments, count, room, call,
+		return nizwarf_ask_offered_at(&t->slot, session, DOOR_OFFERS, segments, count, room, call,
 					      told);
-	else
-		code = nizwarf_ask_at(&t->slot, &session, segments, count, room, call, told);
-	if (code == NIZWARF_ASKED && call->call == NIZWARF_INIT)
-		call->other_offset = nizwarf_init_offered_at(
-			(const uint8_t *)m->in, m->len < NIZWARF_INIT_FRONT ? m->len : NIZWARF_INIT_FRONT);
-	return code;
+	return nizwarf_ask_at(&t->slot, session, segments, count, room, call, told);
+}
+
+/* Asks the door for the call of a message. */
+static inline int32_t ask(struct door_thread *t, struct fuse_session *se, const struct door_message *m,
+			  nizwarf_call *call, nizwarf_told *told)
+{
+	const nizwarf_session session = session_of(se);
+	const nizwarf_segment segment = { m->in, m->len };
+	const size_t room = session.max_buffer + FUSE_BUFFER_HEADER_SIZE;
+
+	begin_told(told, session.options);
+	if (unlikely(m->len != m->buf->size || is_row(m)))
+		return ask_further(t, &session, room, m, call, told);
+	return nizwarf_ask_at(&t->slot, &session, &segment, 1, room, call, told);
+}
+
+static void forget_call(fuse_req_t req)
+{
+	call_of(req)->call = 0;
+	call_of(req)->answer = NIZWARF_QUIET;
 }
 
 /* Ends a request that comes to no file system by an error, if a client waits for a reply. */
@@ -710,7 +717,7 @@ static void refuse(fuse_req_t req, const struct door_message *m, int error)
 {
 	const struct fuse_in_header *in = (const void *)m->in;
 
-	call_of(req)->call = 0;
+	forget_call(req);
 	if (m->len < sizeof(*in) || in->opcode == FUSE_FORGET || in->opcode == FUSE_BATCH_FORGET ||
 	    in->opcode == FUSE_INTERRUPT || in->opcode == FUSE_NOTIFY_REPLY) {
 		fuse_reply_none(req);
@@ -728,7 +735,7 @@ static void finish(fuse_req_t req, struct door_thread *t, const struct door_mess
 	_Alignas(struct fuse_out_header) uint8_t reply[LONGEST_FINISHED];
 	struct iovec iov[1];
 
-	call_of(req)->call = 0;
+	forget_call(req);
 	req->unique = m->len < sizeof(*in) ? 0 : in->unique;
 	if (told->interrupts && has_interrupts(req->se)) {
 		interrupt(req, told->interrupts);
@@ -749,9 +756,9 @@ static void finish(fuse_req_t req, struct door_thread *t, const struct door_mess
 }
 
 /* With -o allow_root, whoever is neither the owner nor root may go on with what is open alone. */
-static int is_denied(const struct fuse_session *se, const nizwarf_call *c)
+static inline int is_denied(const struct fuse_session *se, const nizwarf_call *c)
 {
-	if (!se->deny_others || c->uid == se->owner || c->uid == 0)
+	if (likely(!se->deny_others) || c->uid == se->owner || c->uid == 0)
 		return 0;
 	switch (c->call) {
 	case NIZWARF_INIT:
@@ -769,8 +776,14 @@ static int is_denied(const struct fuse_session *se, const nizwarf_call *c)
 	}
 }
 
+/* Whether a request comes before an INIT was answered, or is a second one. */
+static inline int is_early(const struct fuse_session *se, const nizwarf_call *c)
+{
+	return se->got_init == (c->call == NIZWARF_INIT);
+}
+
 /* Makes the call that a request asks for. */
-static void make_call(fuse_req_t req, const struct door_message *m)
+static inline void make_call(struct fuse_session *se, fuse_req_t req, const struct door_message *m)
 {
 	const size_t known = sizeof(door_calls) / sizeof(*door_calls);
 	const nizwarf_call *c = call_of(req);
@@ -779,9 +792,10 @@ static void make_call(fuse_req_t req, const struct door_message *m)
 	req->ctx.uid = c->uid;
 	req->ctx.gid = c->gid;
 	req->ctx.pid = c->pid;
-	if (count_kept(req->se) > MOST_KEPT)
-		end_oldest(req->se);
-	if (c->call < known && door_calls[c->call])
+	req->ctx.umask = 0;
+	if (unlikely(count_kept(se) > MOST_KEPT))
+		end_oldest(se);
+	if (likely(c->call < known && door_calls[c->call]))
 		door_calls[c->call](req, c, m);
 	else
 		ABSENT_OP(req);
@@ -807,37 +821,61 @@ static int wait_for_memory(const struct door_message *m, int *tries)
 	return 1;
 }
 
-static void serve(fuse_req_t req, struct door_thread *t, const struct door_message *m)
+static __attribute__((noinline)) void print_request(const struct door_message *m, uint64_t options)
 {
-	nizwarf_call *call = call_of(req);
-	struct fuse_session *se = req->se;
-	nizwarf_told told;
 	char line[512];
-	int32_t code;
+
+	nizwarf_print_request(m->in, m->len, options, line, sizeof(line));
+	fuse_log(FUSE_LOG_DEBUG, "%s\n", line);
+}
+
+/* Ends a request that comes to no file system: `code` is what the ask came to. */
+static __attribute__((noinline)) void end_asked(fuse_req_t req, struct door_thread *t,
+						const struct door_message *m, const nizwarf_told *told,
+						int32_t code)
+{
+	struct fuse_session *se = req->se;
+
+	if (code == NIZWARF_OK)
+		finish(req, t, m, told);
+	else if (code != NIZWARF_ASKED)
+		refuse(req, m, code == NIZWARF_OUT_OF_MEMORY ? ENOMEM : EIO);
+	else if (is_early(se, call_of(req)))
+		refuse(req, m, EIO);
+	else
+		refuse(req, m, EACCES);
+	clear_pipe(se, m);
+}
+
+/* Asks again while there is no memory, if that is waited for. */
+static __attribute__((noinline)) int32_t ask_again(struct door_thread *t, struct fuse_session *se,
+						   const struct door_message *m, nizwarf_call *call,
+						   nizwarf_told *told)
+{
+	int32_t code = NIZWARF_OUT_OF_MEMORY;
 	int tries = 0;
 
-	do
-		code = ask(t, se, m, call, &told);
-	while (code == NIZWARF_OUT_OF_MEMORY && wait_for_memory(m, &tries));
-	if (se->debug) {
-		nizwarf_print_request(m->in, m->len, session_of(se).options, line, sizeof(line));
-		fuse_log(FUSE_LOG_DEBUG, "%s\n", line);
-	}
-	if (code == NIZWARF_OK) {
-		finish(req, t, m, &told);
-		clear_pipe(se, m);
-	} else if (code != NIZWARF_ASKED) {
-		refuse(req, m, code == NIZWARF_OUT_OF_MEMORY ? ENOMEM : EIO);
-		clear_pipe(se, m);
-	} else if (se->got_init == (call->call == NIZWARF_INIT)) {
-		refuse(req, m, EIO);
-		clear_pipe(se, m);
-	} else if (is_denied(se, call)) {
-		refuse(req, m, EACCES);
-		clear_pipe(se, m);
-	} else {
-		make_call(req, m);
-	}
+	while (code == NIZWARF_OUT_OF_MEMORY && wait_for_memory(m, &tries))
+		code = ask(t, se, m, call, told);
+	return code;
+}
+
+static inline void serve(struct fuse_session *se, fuse_req_t req, struct door_thread *t,
+			 const struct door_message *m)
+{
+	nizwarf_call *call = call_of(req);
+	nizwarf_told told;
+	int32_t code;
+
+	code = ask(t, se, m, call, &told);
+	if (unlikely(code == NIZWARF_OUT_OF_MEMORY))
+		code = ask_again(t, se, m, call, &told);
+	if (unlikely(se->debug))
+		print_request(m, session_of(se).options);
+	if (unlikely(code != NIZWARF_ASKED || is_early(se, call) || is_denied(se, call)))
+		end_asked(req, t, m, &told, code);
+	else
+		make_call(se, req, m);
 }
 
 /* A character device begins by a request that the door doesn't know. */
@@ -855,7 +893,7 @@ static void begin_device(fuse_req_t req, const struct door_message *m)
 }
 
 /* Says that there is no memory for a request. */
-static void send_no_memory(struct fuse_session *se, const struct door_message *m)
+static void send_no_memory(struct fuse_session *se, struct fuse_chan *ch, const struct door_message *m)
 {
 	const struct fuse_in_header *in = (const void *)m->in;
 	struct fuse_out_header out = { .error = -ENOMEM };
@@ -865,32 +903,48 @@ static void send_no_memory(struct fuse_session *se, const struct door_message *m
 	    in->opcode == FUSE_INTERRUPT || in->opcode == FUSE_NOTIFY_REPLY)
 		return;
 	out.unique = in->unique;
-	fuse_send_msg(se, m->ch, iov, 1 SEND_OF(NULL));
+	fuse_send_msg(se, ch, iov, 1 SEND_OF(NULL));
+}
+
+/* Waits for the memory of a request. NULL: it isn't waited for, or for too long, and the client is told. */
+static __attribute__((noinline)) struct fuse_req *wait_for_req(struct fuse_session *se, struct fuse_chan *ch,
+							       const struct door_message *m, int taken)
+{
+	struct fuse_req *req = NULL;
+	int tries = 0;
+
+	while (taken && !req && wait_for_memory(m, &tries))
+		req = door_take_req(se);
+	if (!req) {
+		send_no_memory(se, ch, m);
+		clear_pipe(se, m);
+	}
+	return req;
 }
 
 void PROCESS_BUF(struct fuse_session *se, const struct fuse_buf *buf, struct fuse_chan *ch)
 {
-	struct door_message m = { .buf = buf, .ch = ch, .in = buf->mem, .len = buf->size };
-	const int taken = !(buf->flags & FUSE_BUF_IS_FD) || take_message(se, &m);
-	struct door_thread *t = NULL;
+	struct door_message m = { .buf = buf, .in = buf->mem, .len = buf->size };
+	const int in_pipe = buf->flags & FUSE_BUF_IS_FD;
+	_Alignas(struct fuse_in_header) char front[WRITE_FRONT];
 	struct fuse_req *req = NULL;
-	int tries = 0;
+	char *whole = NULL;
+	int taken = 1;
 
-	do {
-		t = door_thread(SMALL_ROOM);
-		if (taken && t)
-			req = fuse_ll_alloc_req(se);
-	} while (taken && !req && wait_for_memory(&m, &tries));
-	if (!req) {
-		send_no_memory(se, &m);
-		clear_pipe(se, &m);
-	} else {
-		req->ch = ch ? fuse_chan_get(ch) : NULL;
-		if (se->cuse_data && !se->got_init)
+	if (unlikely(in_pipe))
+		taken = take_message(se, &m, front, &whole);
+	if (likely(taken))
+		req = door_take_req(se);
+	if (unlikely(!req))
+		req = wait_for_req(se, ch, &m, taken);
+	if (likely(req)) {
+		if (ch)
+			req->ch = fuse_chan_get(ch);
+		if (unlikely(se->cuse_data) && !se->got_init)
 			begin_device(req, &m);
 		else
-			serve(req, t, &m);
+			serve(se, req, door_mine, &m);
 	}
-	if (m.own)
-		free(m.own);
+	if (unlikely(in_pipe))
+		free(whole);
 }
