@@ -79,40 +79,46 @@ static inline uint64_t zeros_in(uint64_t word)
 	return (word - ones) & ~word & ones << 7;
 }
 
-/* 0, if no byte of a name is 0, and there is one. Of a short name those bytes are there, too, that fill its last eight
- * up. */
+/* The least of what it was and of each sixteenth byte of a long name, by its place in a piece. */
+static inline __m128i least_of(__m128i least, const char *at, size_t len)
+{
+	const char *last = at + len - PIECE;
+
+	for (; at < last; at += PIECE)
+		least = _mm_min_epu8(least, _mm_loadu_si128((const __m128i *)(const void *)at));
+	return _mm_min_epu8(least, _mm_loadu_si128((const __m128i *)(const void *)last));
+}
+
+/* 0, if no byte of a short name is 0, and there is one. Those bytes are there, too, that fill its last eight up. */
 static inline uint64_t fault_of(const char *at, size_t len)
 {
-	const __m128i zero = _mm_setzero_si128();
-	__m128i least;
-	size_t i;
-
-	if (len >= PIECE) {
-		least = _mm_loadu_si128((const __m128i *)(const void *)(at + len - PIECE));
-		for (i = 0; i < len - PIECE; i += PIECE)
-			least = _mm_min_epu8(least, _mm_loadu_si128((const __m128i *)(const void *)(at + i)));
-		return (uint32_t)_mm_movemask_epi8(_mm_cmpeq_epi8(least, zero));
-	}
 	if (len >= WORD)
 		return zeros_in(word_at(at)) | zeros_in(word_at(at + len - WORD));
 	/* (the first byte is the lowest) */
 	return len ? zeros_in(word_at(at) | UINT64_MAX << 8 * len) : 1;
 }
 
-/* Whether records of a directory are whole, and what Linux takes. */
+/* Whether records of a directory are whole, and what Linux takes. What is wrong of names is looked at once, at the
+ * end. */
 static int are_records(const nizwarf_call *call, const char *at, size_t len)
 {
 	const size_t front = call->has & NIZWARF_PLUS ? sizeof(struct fuse_entry_out) : 0;
+	__m128i least = _mm_set1_epi8(-1);
+	uint64_t faults = 0;
 	uint32_t name_len;
 	size_t whole;
 
 	while (len >= front + FUSE_NAME_OFFSET) {
 		memcpy(&name_len, at + front + offsetof(struct fuse_dirent, namelen), sizeof(name_len));
 		whole = front + FUSE_DIRENT_ALIGN(FUSE_NAME_OFFSET + (size_t)name_len);
-		if (unlikely(whole > len || fault_of(at + front + FUSE_NAME_OFFSET, name_len)))
+		if (unlikely(whole > len))
 			return 0;
+		if (name_len >= PIECE)
+			least = least_of(least, at + front + FUSE_NAME_OFFSET, name_len);
+		else
+			faults |= fault_of(at + front + FUSE_NAME_OFFSET, name_len);
 		at += whole;
 		len -= whole;
 	}
-	return !len;
+	return !len && !faults && !_mm_movemask_epi8(_mm_cmpeq_epi8(least, _mm_setzero_si128()));
 }

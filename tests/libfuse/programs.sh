@@ -45,47 +45,21 @@ field() {
     sed 's/^ *//; s/ *$//' <<< "${fields[$2 - 1]:-}"
 }
 
-# Unpacks the packages of the suite, with all that they depend on, into a folder that is a root.
-make_root() {
-    local root=$1 wanted=(bash coreutils diffutils grep sed util-linux mount fuse3) program packages all name
+# Runs this script in a root of the suite, with what it reads there.
+enter() {
+    local root search program packages wanted=()
+    . "$here/tools/lib/debian.sh"
+    . "$here/tools/lib/libfuse.sh"
     for program in "${programs[@]}"; do
         read -ra packages <<< "$(field "$program" 2)"
         wanted+=("${packages[@]}")
     done
-    rm -rf "$root.part"
-    mkdir -p "$root.part"/usr/{bin,sbin,lib,lib64} "$root.part"/{etc,proc,dev,run,tmp}
-    for name in bin sbin lib lib64; do ln -s "usr/$name" "$root.part/$name"; done
-    use_suite "$suite" "$root.part/apt"
-    mapfile -t all < <(apt-get "${apt[@]}" install -y -s --no-install-recommends "${wanted[@]}" |
-        sed -nE 's/^Inst ([^ ]+) .*/\1/p')
-    mkdir "$root.part/debs"
-    (cd "$root.part/debs" && apt-get "${apt[@]}" download "${all[@]}")
-    for name in "$root.part"/debs/*.deb; do
-        dpkg-deb --fsys-tarfile "$name" | tar -x -C "$root.part" --keep-directory-symlink
-    done
-    rm -r "$root.part/debs" "$root.part/apt"
-    printf '%s\n' 'root:x:0:0::/root:/bin/bash' 'sshd:x:100:100::/run/sshd:/bin/false' > "$root.part/etc/passwd"
-    ln -s /proc/self/mounts "$root.part/etc/mtab"
-    mv "$root.part" "$root"
-}
-
-# Runs this script in the root of the suite, with what it reads there.
-enter() {
-    local root
-    . "$here/tools/lib/debian.sh"
     root=$(dirname "$folder")/programs-$suite
-    [ -e "$root" ] || { echo "Downloading programs of $suite .." >&2 && quietly "$root.said" make_root "$root"; }
-    mkdir -p "$root/here" "$root/lib-of-it" "$root/work"
-    mount --bind "$here" "$root/here"
-    mount -t proc none "$root/proc"
-    mount --rbind /dev "$root/dev"
-    mount -t tmpfs none "$root/run"
-    [ "$lib" = - ] || mount --bind "$lib" "$root/lib-of-it"
-    mkdir -p "$folder"
-    mount --bind "$folder" "$root/work"
-    [ "$lib" = - ] || lib=/lib-of-it
+    [ -e "$root" ] || { echo "Downloading programs of $suite .." >&2 &&
+        quietly "$root.said" unpack_root "$root" "$suite" "${wanted[@]}"; }
+    bind_root "$root" "$folder" "$lib"
     exec chroot "$root" /usr/bin/env -i PATH=/usr/sbin:/usr/bin OWN_MOUNTS=yes HOME=/root \
-        /here/tests/libfuse/programs.sh "$lib" /work/it "${programs[@]}"
+        /here/tests/libfuse/programs.sh "${search:--}" /work/it "${programs[@]}"
 }
 
 [ -z "$suite" ] || enter

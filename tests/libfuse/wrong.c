@@ -91,6 +91,37 @@ static void give_entry(fuse_req_t req)
 		held--;
 }
 
+/* Times as libfuse spells them. */
+static const struct {
+	double time;
+	uint64_t seconds;
+	uint32_t nanoseconds;
+} times[] = {
+	{ 0, 0, 0 },
+	{ 1, 1, 0 },
+	{ 0.5, 0, 500000000 },
+	{ 86400.25, 86400, 250000000 },
+	{ 0.9999999999, 0, 999999999 },
+	{ 1e14 + 0.5, 100000000000000, 500000000 },
+	{ 1e15, 1000000000000000, 0 },
+	{ 1e18, 1000000000000000000, 0 },
+	{ 2e19, UINT64_MAX, 999999999 },
+	{ -1, 0, 0 },
+	{ -0.0, 0, 0 },
+};
+
+enum { TIMES = sizeof(times) / sizeof(*times) };
+
+/* Gives an entry with one of the times, and the next one for its attributes. */
+static void give_times(fuse_req_t req, size_t i)
+{
+	struct fuse_entry_param entry = { .ino = 2, .attr = { .st_ino = 2, .st_mode = S_IFREG | 0644 } };
+
+	entry.entry_timeout = times[i].time;
+	entry.attr_timeout = times[(i + 1) % TIMES].time;
+	fuse_reply_entry(req, &entry);
+}
+
 static void on_lookup(fuse_req_t req, fuse_ino_t parent, const char *name)
 {
 	const struct statvfs st = { .f_bsize = 1 };
@@ -108,6 +139,8 @@ static void on_lookup(fuse_req_t req, fuse_ino_t parent, const char *name)
 		fuse_reply_buf(req, "bytes", 5);
 	else if (!strcmp(name, "good"))
 		give_entry(req);
+	else if (*name == 't')
+		give_times(req, (size_t)atoi(name + 1));
 	else
 		fuse_reply_err(req, ENOENT);
 }
@@ -134,6 +167,25 @@ static void on_read(fuse_req_t req, fuse_ino_t ino, size_t size, off_t off, stru
 	fuse_reply_buf(req, text, ino == 2 ? size : size + 1);
 }
 
+/* A record of a name of `len` bytes, of which one is 0 if there are as many, is told as a node from NAMES on. */
+enum { NAMES = 1000, LONGEST_NAME = 40, PLACES = 64, NONE = PLACES - 1 };
+
+static void list_name(fuse_req_t req, size_t len, size_t zero)
+{
+	const struct stat st = { .st_ino = 2, .st_mode = S_IFREG };
+	char name[LONGEST_NAME + 1];
+	_Alignas(8) char at[128];
+	size_t whole;
+
+	memset(at, 'x', sizeof(at));
+	memcpy(name, text, len);
+	name[len] = 0;
+	whole = fuse_add_direntry(req, at, sizeof(at), name, &st, 1);
+	if (zero < len)
+		at[24 + zero] = 0;
+	fuse_reply_buf(req, at, whole);
+}
+
 /* A directory's records: whole, with a name that ends after them, without a name, with a 0 in it, or too many. */
 static void on_readdir(fuse_req_t req, fuse_ino_t ino, size_t size, off_t off, struct fuse_file_info *fi)
 {
@@ -143,6 +195,10 @@ static void on_readdir(fuse_req_t req, fuse_ino_t ino, size_t size, off_t off, s
 	size_t len = fuse_add_direntry(req, at, sizeof(at), "name", &st, 1);
 
 	(void)off, (void)fi;
+	if (ino >= NAMES) {
+		list_name(req, (ino - NAMES) / PLACES, (ino - NAMES) % PLACES);
+		return;
+	}
 	if (ino == 3)
 		memcpy(at + 16, &long_name, 4);
 	else if (ino == 4)
@@ -261,7 +317,7 @@ static const struct fuse_init_in init = {
 	.major = 7, .minor = 38, .max_readahead = 65536, .flags = FUSE_BIG_WRITES
 };
 static const struct fuse_getxattr_in attribute[] = { { .size = 8 }, { .size = 0 } };
-static const struct fuse_read_in reading = { .size = 64 };
+static const struct fuse_read_in reading = { .size = 64 }, much = { .size = 4096 };
 static const struct fuse_open_in opening = { 0 };
 static const struct fuse_ioctl_in asking = { .out_size = 8 };
 static const struct fuse_forget_in one_forget = { .nlookup = 1 };
@@ -416,6 +472,55 @@ static void try_interrupts(void)
 	end("the oldest of 100 that have no request", i);
 }
 
+/* Names of each length, with a 0 at each place: Linux takes those that have none, and what fills the last eight up is
+ * 0. */
+static void try_names(void)
+{
+	struct request asked = { FUSE_READDIR, 0, &much, sizeof(much), 0, "a name", 0 };
+	struct fuse_dirent record;
+	char expected[LONGEST_NAME];
+	size_t len, zero, right = 0, whole;
+
+	for (len = 1; len <= LONGEST_NAME; len++)
+		for (zero = 0; zero <= len; zero++) {
+			asked.node = NAMES + len * PLACES + (zero < len ? zero : NONE);
+			asked.error = zero < len ? EIO : 0;
+			send_request(&asked);
+			whole = 16 + 24 + (len + 7) / 8 * 8;
+			memset(expected, 0, sizeof(expected));
+			memcpy(expected, text, len);
+			memcpy(&record, reply + 16, sizeof(record));
+			if (zero < len)
+				right += is_answered(&asked) != 0;
+			else
+				right += is_answered(&asked) && reply_len == whole && record.namelen == len &&
+					 record.type == S_IFREG >> 12 && record.ino == 2 && record.off == 1 &&
+					 !memcmp(reply + 40, expected, whole - 40);
+		}
+	judge("names of each length", right == LONGEST_NAME * (LONGEST_NAME + 3) / 2);
+}
+
+static void try_times(void)
+{
+	struct request asked = { FUSE_LOOKUP, 1, NULL, 0, 0, "a time", 0 };
+	struct fuse_entry_out entry;
+	size_t i, next, right = 0;
+	char name[8];
+
+	for (i = 0; i < TIMES; i++) {
+		next = (i + 1) % TIMES;
+		asked.record = name;
+		asked.size = (size_t)snprintf(name, sizeof(name), "t%zu", i) + 1;
+		send_request(&asked);
+		memcpy(&entry, reply + 16, sizeof(entry));
+		right += is_answered(&asked) && entry.entry_valid == times[i].seconds &&
+			 entry.entry_valid_nsec == times[i].nanoseconds &&
+			 entry.attr_valid == times[next].seconds &&
+			 entry.attr_valid_nsec == times[next].nanoseconds;
+	}
+	judge("times of entries", right == TIMES);
+}
+
 static void try_answers(void)
 {
 	size_t i;
@@ -428,6 +533,8 @@ static void try_answers(void)
 		send_request(&good[i]);
 		judge(good[i].what, is_answered(&good[i]));
 	}
+	try_names();
+	try_times();
 	try_retrieve(1);
 	try_retrieve(64);
 	try_retrieve(4096);

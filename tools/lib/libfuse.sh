@@ -1,9 +1,8 @@
-# For the scripts beside it that build a program over libfuse with the layer here, and no library of it, as with
-# sanitizers; they source transport.sh first.
+# For the scripts that run programs over libfuse with the layer here.
 # shellcheck shell=bash
 
-# Builds a program of the sources that tools/libfuse.sh left in a folder for a suite, and of a file:
-# compile_libfuse FOLDER SUITE FILE TO FLAGS..
+# Builds a program without a library, as with sanitizers, of the sources that tools/libfuse.sh left in a folder for a suite, and of a file:
+# compile_libfuse FOLDER SUITE FILE TO FLAGS.. It wants transport.sh.
 compile_libfuse() {
     local built=$1/$2-nizwarf file=$3 to=$4 sources
     mapfile -t sources < <(find "$built/tree/lib" -maxdepth 1 -name '*.c' ! -name mount_bsd.c ! -name fuse_uring.c)
@@ -11,4 +10,62 @@ compile_libfuse() {
         -DFUSERMOUNT_DIR='"/usr/bin"' -DHAVE_CUSTOM_IO -I "$built/build" -I "$built/tree/include" \
         -I "$built/tree/lib" -include fuse_config.h -o "$to" "$file" "${sources[@]}" "$built"/tree/lib/modules/*.c \
         "${library[@]:?find_library sets it}" -pthread -ldl
+}
+
+# Unpacks packages of a suite of Debian, with all that they depend on, into a folder that is a root: unpack_root ROOT
+# SUITE PACKAGE.. It wants debian.sh, as what follows does.
+# shellcheck disable=SC2154
+unpack_root() {
+    local root=$1.part suite=$2 all name
+    rm -rf "$root"
+    mkdir -p "$root"/usr/{bin,sbin,lib,lib64} "$root"/{etc,proc,dev,run,tmp,lib-of-it,work,here}
+    for name in bin sbin lib lib64; do ln -s "usr/$name" "$root/$name"; done
+    use_suite "$suite" "$root/apt"
+    mapfile -t all < <(apt-get "${apt[@]}" install -y -s --no-install-recommends bash coreutils diffutils grep sed \
+        util-linux mount fuse3 "${@:3}" | sed -nE 's/^Inst ([^ ]+) .*/\1/p')
+    mkdir "$root/debs"
+    (cd "$root/debs" && apt-get "${apt[@]}" download "${all[@]}")
+    for name in "$root"/debs/*.deb; do
+        dpkg-deb --fsys-tarfile "$name" | tar -x -C "$root" --keep-directory-symlink
+    done
+    rm -r "$root/debs" "$root/apt"
+    printf '%s\n' 'root:x:0:0::/root:/bin/bash' 'sshd:x:100:100::/run/sshd:/bin/false' > "$root/etc/passwd"
+    ln -s /proc/self/mounts "$root/etc/mtab"
+    mv "$root" "$1"
+}
+
+# Mounts what programs want in such a root, and a folder as `work`, in a mount namespace of its own; and a library of
+# libfuse, if it is given: bind_root ROOT WORK LIB. It sets `search` to where that is found then.
+# shellcheck disable=SC2034,SC2154
+bind_root() {
+    mount --bind "$here" "$1/here"
+    mount -t proc none "$1/proc"
+    mount --rbind /dev "$1/dev"
+    mount -t tmpfs none "$1/run"
+    mount -t tmpfs none "$1/tmp"
+    mkdir -p "$2"
+    mount --bind "$2" "$1/work"
+    search=''
+    [ "$3" = - ] || { mount --bind "$3" "$1/lib-of-it" && search=/lib-of-it; }
+}
+
+# Unpacks of the sources of packages what these patterns name, without Debian's changes: unpack_sources FOLDER SUITE
+# "PACKAGE PATTERN.."..
+unpack_sources() {
+    local folder=$1 part=$1.part words it
+    rm -rf "$part"
+    mkdir -p "$part/tree"
+    use_suite "$2" "$part/apt"
+    sed 's/^Types: deb$/Types: deb-src/' "$part/apt/sources/debian.sources" > "$part/apt/sources/source.sources"
+    apt-get "${apt[@]}" update
+    for it in "${@:3}"; do
+        read -ra words <<< "$it"
+        mkdir "$part/${words[0]}"
+        (cd "$part" && apt-get "${apt[@]}" --download-only source "${words[0]}")
+        tar -C "$part/${words[0]}" --strip-components=1 --wildcards -xf "$part/${words[0]}"_*.orig.tar.?z \
+            "${words[@]:1}"
+        mv "$part/${words[0]}" "$part/tree/"
+    done
+    mv "$part/tree" "$folder"
+    rm -rf "$part"
 }
