@@ -10,12 +10,7 @@ static inline uint64_t word_at(const char *at)
 	return word;
 }
 
-static inline void put_word(char *at, uint64_t word)
-{
-	memcpy(at, &word, WORD);
-}
-
-/* Copies a name: the last piece, or word, goes partly over the one before. */
+/* Copies a name: the last piece goes partly over the one before. */
 static inline void put_name(char *at, const char *name, size_t len)
 {
 	size_t i;
@@ -24,11 +19,17 @@ static inline void put_name(char *at, const char *name, size_t len)
 		for (i = 0; i < len - PIECE; i += PIECE)
 			memcpy(at + i, name + i, PIECE);
 		memcpy(at + len - PIECE, name + len - PIECE, PIECE);
-	} else if (len >= WORD) {
-		put_word(at, word_at(name));
-		put_word(at + len - WORD, word_at(name + len - WORD));
-	} else {
-		memcpy(at, name, len);
+	} else if (len >= 8) {
+		memcpy(at, name, 8);
+		memcpy(at + len - 8, name + len - 8, 8);
+	} else if (len >= 4) {
+		memcpy(at, name, 4);
+		memcpy(at + len - 4, name + len - 4, 4);
+	} else if (len >= 2) {
+		memcpy(at, name, 2);
+		memcpy(at + len - 2, name + len - 2, 2);
+	} else if (len) {
+		*at = *name;
 	}
 }
 
@@ -38,7 +39,7 @@ static inline void put_record(char *at, char *end, const char *name, size_t len,
 {
 	struct fuse_dirent *record = (struct fuse_dirent *)(void *)at;
 
-	put_word(end - WORD, 0);
+	memset(end - WORD, 0, WORD);
 	record->ino = st->st_ino;
 	record->off = (uint64_t)off;
 	record->namelen = (uint32_t)len;
