@@ -59,6 +59,11 @@ if [[ " ${parts[*]} " == *" tests "* ]]; then
     /usr/bin/python3 -c 'import pytest' 2> /dev/null ||
         { echo "Missing: pytest. Install it: apt-get install python3-pytest." >&2 && exit 2; }
 fi
+if [[ " ${parts[*]} " == *" programs "* ]] && [ "$suite" = "$(sed -n 's/^VERSION_CODENAME=//p' /etc/os-release)" ]; then
+    for command in sshfs /usr/sbin/sshd fuse-overlayfs squashfuse mksquashfs; do
+        need "$command" "Install them: apt-get install sshfs openssh-server fuse-overlayfs squashfuse squashfs-tools."
+    done
+fi
 folder=$(realpath -m "${folder:-$here/out/libfuse}")
 words=(--suite "$suite" "$folder")
 [[ " ${parts[*]} " != *" tests "* ]] || words=(--all "${words[@]}")
