@@ -9,7 +9,7 @@ use Rattle.vfs_grammar.specs.Books.{KeepsBooks}
 use Rattle.vfs_grammar.specs.declared.limits.Limits.{Limits}
 use Rattle.vfs_grammar.specs.declared.error.Error.{Error}
 use Rattle.vfs_server.specs.Step.{ServerState, IsStep, turn_over}
-use Rattle.vfs_history.specs.History.{Handled, Changed, turns_in, turn_of_end, IsHandled, IsHistory, Begins, GoesOn, GoesOnChanged, GoesOnEnded, HasOneRun, HasTurns, HeldCountsStay, HistoriesJoin, HistoriesKeepBooks, HistoriesSplit}
+use Rattle.vfs_history.specs.History.{Handled, Changed, turns_in, turn_of_end, IsHandled, IsHistory, GoesOn, GoesOnChanged, GoesOnEnded, HasOneRun, HasTurns, HeldCountsStay, HistoriesJoin, HistoriesKeepBooks, HistoriesSplit}
 use Rattle.vfs_history.proofs.Counts.{never_below_held}
 use Rattle.vfs_history.proofs.Ending.{is_end}
 
@@ -20,9 +20,6 @@ turns_of_handled S (t ∷ ts) = ap (λ (l : List Turn). t ∷ l) (turns_of_handl
 
 module _ {S I : Type 0} (allows : S → Call → Handed I → S → Type 0)
     (gives : I → Option Item → I → Type 0) where
-  pub begins : Begins allows gives
-  begins server = refl
-
   -- a step is a request that was handled
   is_handled : (old : ServerState S) (request : List ℕ) (writer : Written)
       (outcome : Result ℕ Error) (after : Written) (new : ServerState S)

@@ -74,10 +74,6 @@ module _ {S I : Type 0}
   IsHistory old (Changed before after ∷ moments) new =
       (old.fs ≡ before) × IsHistory (record old { fs = after }) moments new
 
-  -- no moments lead from any state to itself
-  abbrev pub Begins : Type 0
-  Begins = (server : ServerState S) → IsHistory server [] server
-
   -- the turn of a step
   abbrev pub turn_of : (old : ServerState S) (request : List ℕ) (writer : Written)
       (outcome : Result ℕ Error) (writer_after : Written) (new : ServerState S)

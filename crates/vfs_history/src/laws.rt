@@ -1,16 +1,11 @@
 //! What holds of every history of a server over any file system.
 
-ghost use Rattle.vfs_history.specs.History.{Begins, GoesOn, GoesOnChanged, GoesOnEnded, HasOneRun, HasTurns, HeldCountsStay, HistoriesJoin, HistoriesKeepBooks, HistoriesSplit};
+ghost use Rattle.vfs_history.specs.History.{GoesOn, GoesOnChanged, GoesOnEnded, HasOneRun, HasTurns, HeldCountsStay, HistoriesJoin, HistoriesKeepBooks, HistoriesSplit};
 ghost use Rattle.vfs_history.specs.Serving.{GoesOnServed};
 ghost use Rattle.vfs_history.specs.Sessions.{SessionsAreHistories};
 
 use vfs_files::FileSystem;
 use vfs_laws::books::turns_keep_books;
-
-/// No moments are a history of any server, from its state to the same.
-pub fn history_begins<F: FileSystem>()
-    ensures { Begins F.allows F.DirIter.gives }
-{}
 
 /// A history goes on by what a transport calls: by `Server::handle_message`, with the turn of its step;
 /// by `serve`, with the turn of these bytes and this room, unless the request was not handed on; by a

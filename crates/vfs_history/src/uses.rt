@@ -1,12 +1,17 @@
 //! Servers that are called message by message.
 
-ghost use Rattle.std.specs.Prelude.{◌≡◌, ◌∷◌, [], map, IfErr, IfOk};
+ghost use Rattle.std.specs.Prelude.{◌≡◌, ◌≤◌, ◌+◌, ◌∷◌, ◌++◌, [], List, map, IfErr, IfOk};
+ghost use Rattle.vfs_grammar.specs.Books.{KeepsBooks, answered, sent};
 ghost use Rattle.vfs_grammar.specs.Samples.{lookup_of_a};
-ghost use Rattle.vfs_grammar.specs.Turn.{Turn};
+ghost use Rattle.vfs_grammar.specs.Turn.{Turn, events_in};
+ghost use Rattle.vfs_server.specs.Step.{ServerState};
 ghost use Rattle.vfs_history.specs.Calls.{AreServed, forget_of_5, GivesBack, HandlesEach, IsSeen, KeepsHistory, ServedNone};
-ghost use Rattle.vfs_history.specs.History.{Handled, Changed, turn_of_end};
+ghost use Rattle.vfs_history.specs.History.{GivesBackWithinHeld, Handled, Changed, IsHistory, Moment, turn_of_end, turns_in};
 
-use crate::laws::{history_goes_on, history_has_turns, history_keeps_books};
+use crate::laws::{
+    held_counts_never_fall_below_zero, histories_join, history_goes_on, history_has_turns,
+    history_is_cut, history_keeps_books,
+};
 use std::alloc::Global;
 use std::io;
 use vfs_files::{FileSystem, SerializableFileSystem};
@@ -178,4 +183,49 @@ fn look_up_then_forget<F: FileSystem>(
     let found = server.handle_message(alloc, readers.0, one);
     let forgotten = server.handle_message(alloc, readers.1, two);
     (found, forgotten)
+}
+
+/// However many messages a server handles, its limits stay: it refuses in the end what it refused before.
+fn handle_each_within_limits<F: FileSystem>(
+    alloc: Global,
+    server: &mut Server<F>,
+    readers: Vec<Reader<'_>>,
+    w: &mut Writer,
+)
+    ensures { server.new.limits ≡ server.old.limits }
+{
+    history_has_turns::<F>();
+    handle_each(alloc, server, readers, w);
+}
+
+/// The books of each part of a history are kept, wherever it is cut.
+fn both_parts_keep_books<F: FileSystem>()
+    ensures { (first last : ServerState F) (before after : List (Moment F)) →
+        IsHistory F.allows F.DirIter.gives first (before ++ after) last →
+        KeepsBooks (turns_in before) × KeepsBooks (turns_in after) }
+{
+    history_is_cut::<F>();
+    history_keeps_books::<F>();
+}
+
+/// The books of a history, and of one that begins where it ends, are kept over both.
+fn both_histories_keep_books<F: FileSystem>()
+    ensures { (first middle last : ServerState F) (before after : List (Moment F)) →
+        IsHistory F.allows F.DirIter.gives first before middle →
+        IsHistory F.allows F.DirIter.gives middle after last →
+        KeepsBooks (turns_in (before ++ after)) }
+{
+    histories_join::<F>();
+    history_keeps_books::<F>();
+}
+
+/// A client held two lookups of node 5 when a history began. If after each turn it has given back no more than these
+/// and what was delivered, then no more was sent back than these and what was answered.
+fn two_were_held<F: FileSystem>()
+    ensures { (old new : ServerState F) (moments : List (Moment F)) →
+        IsHistory F.allows F.DirIter.gives old moments new →
+        GivesBackWithinHeld 5 2 (turns_in moments) →
+        sent 5 (events_in (turns_in moments)) ≤ 2 + answered 5 (events_in (turns_in moments)) }
+{
+    held_counts_never_fall_below_zero::<F>();
 }
