@@ -2,5 +2,6 @@
 //! books of lookups and forgets are kept. Laws alone.
 #![tactic(auto)]
 
+mod crossing;
 pub mod laws;
 mod uses;
