@@ -4,3 +4,4 @@
 pub mod history;
 pub mod laws;
 pub mod session;
+mod uses;
