@@ -1,5 +1,5 @@
 -- Changes of a tree, by the node that each finds.
-use Rattle.std.specs.Prelude.{ℕ, ◌-◌, ◌==◌, nat_le, min, Bool, true, false, List, [], map, Option, Some, None, is_some, option_map, option_and_then, if◌then◌else◌}
+use Rattle.std.specs.Prelude.{ℕ, ◌-◌, nat_le, min, Bool, true, false, List, [], map, Option, Some, None, is_some, option_map, option_and_then, if◌then◌else◌}
 use Rattle.std.specs.Option.{option_map_or}
 use Rattle.vfs_files.specs.declared.entry.Context.{Context}
 use Rattle.vfs_nodes.specs.Children.{child_named}

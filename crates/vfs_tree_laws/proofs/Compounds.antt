@@ -16,7 +16,7 @@ use Rattle.vfs_tree_laws.proofs.Keeping.{keeps-with_names}
 use Rattle.vfs_tree_laws.proofs.NamesIn.{one, one_same, one_other, Apart, names_in-found}
 use Rattle.vfs_tree.proofs.Nodes.{node_at-with_new, node_at-with_new_other, changed, with_names}
 use Rattle.vfs_tree_laws.proofs.Shapes.{Shape, Fits, AllFit, Good, kind_new, kind_new_other, good-with_new, Counted, Home, linked_from, good_from, counted_from, home_from}
-use Rattle.vfs_tree_laws.proofs.Steps.{Step, found_link, none_lost, step-with_child, step-without_child, step-with_other_child, step_home, linked_counted, linked-recounted, linked-with_node, linked-settled}
+use Rattle.vfs_tree_laws.proofs.Steps.{Step, found_link, none_lost, step-with_child, step-without_child, step_home, linked_counted, linked-recounted, linked-with_node, linked-settled}
 use Rattle.vfs_tree_laws.proofs.Tables.{links_in, names_at, kind_in, kind_at, is_dir, names_at_most, names_at_both, names_to-with_new, free_number}
 use Rattle.vfs_tree_laws.proofs.Changes.{unnamed_at, made}
 

@@ -9,7 +9,7 @@ use Rattle.vfs_tree_laws.proofs.Tables.{kind_in, kind_at, free_number}
 use Rattle.vfs_tree.specs.Children.{Children, is_directory, child_named, leading}
 use Rattle.vfs_tree.specs.Node.{accessed, new_node}
 use Rattle.vfs_tree_laws.specs.Laws.{names_of, IsSound, IsLinked, CallsKeepLinks}
-use Rattle.vfs_tree.specs.Rename.{same_node, moved_into, whiteout, renamed}
+use Rattle.vfs_tree.specs.Rename.{same_node, whiteout, renamed}
 use Rattle.vfs_tree.specs.State.{State, node_at, with_node, with_resized, with_new, change, child_at}
 use Rattle.vfs_tree.specs.Tree.{linked, all_forgotten, make_refusal, link_refusal, taken_out}
 use Rattle.vfs_nodes.specs.declared.children.Child.{Child}

@@ -15,12 +15,11 @@ use Rattle.vfs_nodes.specs.declared.kind.Kind.{Kind}
 use Rattle.vfs_nodes.specs.declared.node.Node.{Node}
 use Rattle.vfs_tree_laws.proofs.Ascending.{gone-remove_entry, none_from}
 use Rattle.vfs_tree_laws.proofs.Cases.{more_inodes, Covers, calls_covered}
-use Rattle.vfs_tree_laws.proofs.Held.{at, sound_counted, sound-with_new, settles}
+use Rattle.vfs_tree_laws.proofs.Held.{at, sound_counted, settles}
 use Rattle.vfs_tree_laws.proofs.Keeping.{keeps-with_names, keeps-begun, keeps-laid, there-change}
 use Rattle.vfs_tree.proofs.Nodes.{node_at-with_node, node_at-with_node_other, node_at-without_node_other, node_at-with_new, node_at-with_new_other, kinds_apart, changed, with_names}
-use Rattle.vfs_tree_laws.proofs.WayUp.{IsPlaced, Goes, Avoids, rooted_from, goes_from, placed_from, names_place, name_leads, rooted_ways, goes_still, avoids_from, avoids_still, goes_on}
+use Rattle.vfs_tree_laws.proofs.WayUp.{IsPlaced, Goes, Avoids, rooted_from, goes_from, placed_from, names_place, name_leads, rooted_ways, goes_still, avoids_from, goes_on}
 use Rattle.vfs_tree_laws.proofs.Refused.{all_false, or_none, Renames}
-use Rattle.std.specs.Option.{option_or}
 use Rattle.vfs_tree.specs.Naming.{is_improper, directory_refusal, is_directory_at, is_nameless, is_crowded, name_refusal, has_no_number}
 use Rattle.vfs_tree_laws.proofs.Changes.{unnamed_at, forgotten_at, made, nameless, white_of, begun, back_of, laid, left_with}
 use Rattle.vfs_files.specs.declared.entry.Context.{Context}

@@ -7,7 +7,7 @@ use Rattle.std.proofs.lemmas.Cmp.{nat_cmp_total, tied_itself}
 use Rattle.std.proofs.lemmas.List.Sums.{sum_by-append}
 use Rattle.vfs_files.specs.Values.{Item}
 use Rattle.vfs_files.specs.Calls.{Call, Answer, Handed, Plain, Iterator}
-use Rattle.vfs_grammar.specs.Books.{times, forgotten, answered_nodes}
+use Rattle.vfs_grammar.specs.Books.{times, forgotten}
 use Rattle.vfs_tree.specs.Children.{leading}
 use Rattle.vfs_tree.specs.Node.{accessed, new_node}
 use Rattle.vfs_tree.specs.State.{State, node_at, child_at, with_node, with_resized, with_new}
