@@ -22,6 +22,7 @@ mod request;
 mod stop;
 mod take;
 mod text;
+mod uses;
 
 pub use message::Message;
 pub use reply::{agreed_options, print_reply};
