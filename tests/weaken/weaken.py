@@ -44,7 +44,6 @@ MOST_ROUNDS = 8
 CITED, ENTRY = "(search rules)", "arith"
 
 ERROR = re.compile(r"(?:\./)?(\S+?\.(?:antt|rt)):(\d+):(\d+): error: (?:`([^`]*)`: )?(.*)")
-OPEN_GOAL = re.compile(r"note: (?:\./)?(\S+?):\d+:\d+: it is not proved ")
 NO_PROOF = re.compile(r"fn (\S+): no proof: .* did not prove ")
 # What a tactic says where it finds nothing.
 GAVE_UP = re.compile(r"^`(search|grind|omega|simp|rw|cc)\b[^`]*`|no proof of .* was found|is not proved|does not hold|rewrites nothing")
@@ -196,8 +195,7 @@ def mended(text, places):
 
 def is_own(path, own):
     """Whether a path of a function, or of a file of its proof, is that of the function whose clause was weakened."""
-    module, name = own or ("", "")
-    return bool(own) and f"::{path}::".find(f"::{module}::" if module else "::") >= 0 and f"::{name}::" in f"::{path}::"
+    return bool(own) and all(f"::{it}::" in f"::{path}::" for it in own if it)
 
 
 class Verdict(Exception):
@@ -235,16 +233,17 @@ def judged(status, lines, own):
         missing = NO_PROOF.match(it)
         if missing and not is_own(missing[1], own):
             goals.append(it)
+    # (a goal may only lack a lemma that is to be mended)
+    if mends:
+        return mends
     if goals:
         raise Verdict("goal", goals[0])
     if any(it.lstrip("./").startswith(("specs/", "src/")) for it in errors):
         raise Verdict("none", errors[0])
-    if not mends:
-        others = [it for it in errors if not is_own(it.split(":")[0].removeprefix("./proofs/").replace("/", "::"), own)]
-        if not others:
-            raise Verdict("nothing", "")
+    others = [it for it in errors if not is_own(it.split(":")[0].removeprefix("./proofs/").replace("/", "::"), own)]
+    if others:
         raise Verdict("line", others[0])
-    return mends
+    raise Verdict("nothing", "")
 
 
 def tried(prover, name, texts, rlibs, own):
