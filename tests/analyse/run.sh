@@ -126,10 +126,9 @@ run copies prove copies chains.c z3,cvc4 "$queue -I $out/annotated $queue_here" 
 only=-same,-names run items prove items headers.c cvc4 "$headers" nizwarf_do_directory nizwarf_add_item \
     nizwarf_add_direntry
 only=same,names run added prove added headers.c cvc4 "$headers" nizwarf_add_item nizwarf_add_direntry
-run fields prove fields headers.c cvc4 "$headers" nizwarf_forget_lookups nizwarf_batch_forget_pairs \
-    nizwarf_setattr_fields nizwarf_symlink_text nizwarf_access_mask nizwarf_lseek_whence nizwarf_copy_flags \
-    nizwarf_init_offered nizwarf_lock_asked nizwarf_ioctl_command nizwarf_ioctl_argument nizwarf_poll_events \
-    nizwarf_poll_number nizwarf_statx_mask nizwarf_init_further nizwarf_answer_options nizwarf_answer_backing \
+read_fields=$(sed -n '/-- fields of a call/,/-- what is inline/s/^static inline .*\b\(nizwarf_\w*\)(.*/\1/p' table.acsl)
+# shellcheck disable=SC2086
+run fields prove fields headers.c cvc4 "$headers" $read_fields nizwarf_answer_options nizwarf_answer_backing \
     nizwarf_answer_offset nizwarf_keep_interrupt nizwarf_served nizwarf_seconds_of nizwarf_nanoseconds_of \
     nizwarf_entry_of nizwarf_has_open_flags nizwarf_file_of
 run worker evaluate worker entry.c "$queue $queue_here" -eva-precision 2 -eva-plevel 5000 -eva-partition-history 2 \
