@@ -216,7 +216,8 @@ def memory(folder, mount, files, *words):
         if i % 1000 == 0:
             os.mkdir(f"{folder}/many/d{i // 1000}")
         os.mknod(f"{folder}/many/d{i // 1000}/f{i:06}")
-    server = serve(folder, *words, mount=mount)
+    # (each worker has rooms of its own, which it uses first by chance)
+    server = serve(folder, *words, "--thread-pool-size=1", mount=mount)
 
     def know(folders):
         for i in folders:
