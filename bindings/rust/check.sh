@@ -70,6 +70,7 @@ mount_as_other() {
 make_package() {
     local index=$folder/index
     cargo package --quiet --offline --allow-dirty --target-dir "$built" || return
+    [ "$(cargo package --quiet --offline --allow-dirty --list | grep -c '^LICENSE-')" = 2 ] || return
     git init -q "$index"
     echo '{"dl": "file:///none", "api": "file:///none"}' > "$index/config.json"
     git -C "$index" add . || return
