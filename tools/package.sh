@@ -22,8 +22,8 @@
 #               the pages
 #   --no-demo   leaves out nizwarf-demo and nizwarf-decode
 #
-# It wants a C compiler with binutils, Python, and the Rattle toolchain. Without dpkg-deb it makes the tarball
-# alone, and says so.
+# It wants a C compiler with binutils, Python, libseccomp-dev, and the Rattle toolchain. Without dpkg-deb it makes the
+# tarball alone, and says so.
 # Status 0: all is made, and as it should be; 1: not so; 2: it could not start.
 set -euo pipefail
 . "$(dirname "$0")/lib/usage.sh"
@@ -353,6 +353,7 @@ if ! command -v dpkg-deb > /dev/null; then
     echo "Missing: the command \`dpkg-deb\`, so the tarball alone is made." >&2
 fi
 part "programs, pages and packages"
+tell_of_filter
 make_all "$work/out"
 if [ -n "$check" ]; then
     part "the same again, to be compared"

@@ -39,6 +39,13 @@ find_border() {
     border=${library[0]}
 }
 
+# Tells if nizwarf-share would have no filter of system calls.
+tell_of_filter() {
+    if ! cc -include seccomp.h -fsyntax-only -x c - < /dev/null 2> /dev/null; then
+        echo "It is built without libseccomp: \`apt-get install libseccomp-dev\` has it." >&2
+    fi
+}
+
 # Builds a program of programs/Makefile into a folder, with what `library` has: make_program FOLDER PROGRAM FLAGS..
 make_program() {
     need make "Install it: apt-get install make."
@@ -55,8 +62,8 @@ build_transport() {
     [ "$name" = mount ] || find_border
     if [ "$name" != share ]; then
         link_door
-    elif ! cc -include seccomp.h -fsyntax-only -x c - < /dev/null 2> /dev/null; then
-        echo "It is built without libseccomp: \`apt-get install libseccomp-dev\` has it." >&2
+    else
+        tell_of_filter
     fi
     mkdir -p "$here/out/c"
     folder=$(mktemp -d -p "$here/out/c")
