@@ -57,7 +57,7 @@ block QEMU 1 > commands
 bash -e commands > said 2>&1
 block QEMU 2 > commands
 sed -i "\$s,\$, -nodefaults -no-user-config -display none -machine q35 -cpu max -kernel $folder/kernel -initrd $folder/files \
--append 'console=ttyS0 quiet panic=0' -serial file:$console," commands
+-append 'console=ttyS0 quiet panic=0 no_timer_check' -serial file:$console," commands
 timeout 300 bash -e commands > said 2>&1
 guest_was_there
 done_with "a guest of QEMU"
@@ -68,7 +68,7 @@ guest_of_libvirt() {
     cat > machine << XML
 <domain type='qemu'><name>guest</name><memory unit='MiB'>256</memory><vcpu>1</vcpu>
 <os><type arch='x86_64' machine='q35'>hvm</type><kernel>$folder/kernel</kernel><initrd>$folder/files</initrd>
-<cmdline>console=ttyS0 quiet panic=0</cmdline></os><cpu mode='maximum'/><on_poweroff>destroy</on_poweroff>
+<cmdline>console=ttyS0 quiet panic=0 no_timer_check</cmdline></os><cpu mode='maximum'/><on_poweroff>destroy</on_poweroff>
 $(cat memory)
 <devices>
 $(cat "$1")

@@ -41,7 +41,7 @@ has_64_mib() {
 # Serves a guest by commands of a page, which are read: a server first, whose socket it waits for, and QEMU.
 serve_guest() {
     sed -e "s,qemu-system-x86_64 \.\.\.,& -nodefaults -no-user-config -display none -machine q35 -cpu max -kernel $folder/kernel \
--initrd $folder/$1 -append 'console=ttyS0 quiet panic=0' -serial file:$folder/console," \
+-initrd $folder/$1 -append 'console=ttyS0 quiet panic=0 no_timer_check' -serial file:$folder/console," \
         -e 's,^nizwarf.*[ =]\(/run/.*socket\|/run/.*sock\).* &$,&\nuntil [ -S \1 ]; do sleep 0.1; done,' \
         -e 's, \.\.\. , ,' -e '$a\kill %1; wait %1' > commands
     rm -f console
@@ -50,10 +50,10 @@ serve_guest() {
 }
 
 shown nizwarf-decode.1 > commands
-bash -e commands > came
+bash -e commands > came 2>&1
 grep -q READDIR came
 shown nizwarf-demo.1 > commands
-bash -e commands > came
+bash -e commands > came 2>&1
 grep -q STATFS came
 mapfile -t lines < <(shown nizwarf-mount.8)
 mounted has_64_mib "${lines[@]}"
