@@ -6,7 +6,7 @@ import re
 import subprocess
 import sys
 
-OUT, PAGE, KNOWN = "out/plant", "docs/generated/plant.md", "tools/measure/plant_known.txt"
+OUT, PAGE, KNOWN = "out/plant", "out/plant/page.md", "tools/measure/plant_known.txt"
 HEAD = """# Wrong bodies
 
 What `tools/measure/plant.sh --page` printed: `rt plant` puts wrong bodies under the contracts of a crate's functions, and
@@ -78,15 +78,14 @@ def kept():
         if total != sum_of(crate[1]):
             continue
         counts = dict(it.split("=") for it in re.search(r"^plants (.*)", said, re.M)[1].split())
-        proved = [f"{crate[1]}: {' '.join(it.split())}" for it in re.findall(r"^proves +(.*)", said, re.M)]
-        bare = [f"{crate[1]}: {' '.join(it.split())}" for it in re.findall(r"^no-ensures +(.*)", said, re.M)]
-        yield crate[1], commit, minutes, counts, [re.sub(r"\S+\.rt:\d+:?(\d+:?)? ?", "", it) for it in proved], bare
+        proved = [f"{crate[1]}: {' '.join(it.split())}" for it in re.findall(r"^proves +\S+\.rt:\d+ (.*)", said, re.M)]
+        yield crate[1], commit, minutes, counts, proved
 
 
 def told():
     """The page, and how many bodies are proved without a reason."""
     known, rows, lines, commits, unknown = reasons(), [], [], set(), 0
-    for crate, commit, minutes, counts, proved, _ in kept():
+    for crate, commit, minutes, counts, proved in kept():
         commits.add(f"{crate} at {commit} for {minutes} minutes")
         rows.append(f"| `{crate}` | {counts['planted-in']} | {counts['no-ensures']} | {counts['refused']} "
                     f"| {counts['not-judged']} | {counts['not-run']} | {counts['proves']} |")
