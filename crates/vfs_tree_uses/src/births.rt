@@ -52,9 +52,9 @@ fn file_flags(tree: &TreeFs, cmd: u32, place: u32) -> Result<usize, Errno>
 
 /// So are those of a directory; a FIFO has none.
 fn other_flags(tree: &TreeFs, number: u64) -> Result<usize, Errno>
-    ensures directory { tree.now ≡ small_tree → number ≡ 1 → result ≡ Ok 20 }
-    ensures fifo { tree.now ≡ fifo_tree → number ≡ 2 → result ≡ Err 25 }
-    ensures nowhere { tree.now ≡ small_tree → number ≡ 2 → result ≡ Err 2 }
+    ensures directory { tree.entry.now ≡ small_tree → number ≡ 1 → result ≡ Ok 20 }
+    ensures fifo { tree.entry.now ≡ fifo_tree → number ≡ 2 → result ≡ Err 25 }
+    ensures nowhere { tree.entry.now ≡ small_tree → number ≡ 2 → result ≡ Err 2 }
 {
     tree.ioctl(number, 0x8008_6601, 4)
 }
