@@ -7,7 +7,7 @@
 # as root mounted.c mounts a table of wrong answers. All that runs under
 # the sanitizers of the compiler too, if it has them. The structs are laid out as in version 0.2, and a program of that
 # version runs with what is built and what is packed: tests/c/version-0.2. All names that the libraries define begin with
-# `nizwarf_`.
+# `nizwarf_`, and none that C calls takes 64 KiB of stack.
 # Records and numbers of crates are those of the kernel's header, the machine's and the newest that Debian has, by
 # tests/c/kernel.py.
 # Last, tools/package.sh packs the libraries, and the examples are built by pkg-config against what is installed of
@@ -118,7 +118,7 @@ sed -n '/^# What kernels asked/,/^# The corpus/p' "$here/crates/vfs_sessions/std
 
 part "the examples and the programs that hold the libraries against the headers"
 run_all -O2
-part "the headers by themselves, and names"
+part "the headers by themselves, names, and the stack"
 for headers in include tests/c/version-0.2; do
     cc -std=c11 -pedantic -Wall -Wextra -Werror -I "$here/$headers" -fsyntax-only "$here/tests/c/layout.c"
 done
@@ -133,6 +133,7 @@ if [ -n "$other_names" ]; then
     echo "Names of the libraries that do not begin with nizwarf_: $(paste -sd ' ' <<< "$other_names")" >&2
     exit 1
 fi
+"$here/tools/dev/stack.py" --most 65535 "${library[@]:0:2}"
 part "the records and numbers of crates against the kernel's header"
 "$here/tests/c/kernel.py"
 
