@@ -741,9 +741,8 @@ static inline int nizwarf_take_interrupt(nizwarf_interrupts *kept, uint64_t uniq
  * Says what a request in one piece is, if there are `room` bytes for a reply. NIZWARF_ASKED: it is whole,
  * and asks for `call`. NIZWARF_OK: it needs no file system, and nizwarf_ask would finish it; of an INTERRUPT
  * `*interrupts` is then the number of the request that it wants to end, else it is 0. Others: it is refused,
- * as nizwarf_ask would. But an INIT of a later major version, in a room of 16 to 79 bytes, is NIZWARF_OK here,
- * and NIZWARF_ENCODE_MESSAGE there. Whether a request has as many bytes as its header's `len` says is not
- * judged, since not all servers do.
+ * as nizwarf_ask would. Whether a request has as many bytes as its header's `len` says is not judged, since not
+ * all servers do.
  *
  * Memory is allocated only for the pairs of a BATCH_FORGET and for a security context: no other request
  * ends in NIZWARF_OUT_OF_MEMORY. */

@@ -91,9 +91,6 @@ static void hold_check(const struct messages *m, size_t size)
 	memset(&call, 0, sizeof(call));
 	memset(&checked, 0, sizeof(checked));
 	code = nizwarf_ask(&slot, &session, &piece, 1, &room, 1, &call, &told);
-	/* (our version, told a newer client, is the only such reply longer than a header) */
-	if (code == NIZWARF_ENCODE_MESSAGE && size >= 16)
-		code = NIZWARF_OK;
 	before = asked;
 	CHECK(nizwarf_check(&session, m->request, m->len, size, &checked, &interrupts) == code);
 	CHECK(!memcmp(&call, &checked, sizeof(call)) && interrupts == told.interrupts);

@@ -68,3 +68,7 @@ pub record HasContext (asked : Asked) (told : CallData) : Type 0 where
   pub name : IsNameIn mkdir_with_context told.name (0x64 ∷ [])
   pub context_name : IsNameIn mkdir_with_context told.context_name (0x73 ∷ [])
   pub context : bytes_in mkdir_with_context told.context ≡ 0x76 ∷ []
+
+-- request 9: an INIT of the major version 8
+abbrev pub later_init : List ℕ
+later_init = header_9 56 26 ++ (eight 8 ++ zeros 8)

@@ -40,7 +40,7 @@ pub fn ask_init(
 }
 
 // What an INIT of this version asks: it is refused, or told ours, where it isn't served.
-fn ask_of_version(
+pub fn ask_of_version(
     header: &InHeader,
     init_in: &InitInCompat,
     flags2: u32,

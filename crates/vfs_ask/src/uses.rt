@@ -10,10 +10,10 @@ ghost use Rattle.vfs_calls.specs.Shapes.{nothing};
 ghost use Rattle.vfs_ask.specs.Asked.{IsFinished};
 ghost use Rattle.vfs_ask.specs.declared.checked.Checked.TheVariants.{Refused};
 ghost use Rattle.vfs_ask.specs.Memory.{LacksNoMemory};
-ghost use Rattle.vfs_ask.specs.Uses.{HasContext, LooksUpA, mkdir_with_context, ReadsThree, RenamesAToB, rename_of_a_to_b};
+ghost use Rattle.vfs_ask.specs.Uses.{HasContext, LooksUpA, later_init, mkdir_with_context, ReadsThree, RenamesAToB, rename_of_a_to_b};
 
 use crate::asked::{Asked, ask};
-use crate::checked::{Checked, check_as};
+use crate::checked::{Checked, check, check_as};
 use crate::with_opcode::ask_as;
 use std::alloc::Global;
 use vfs_calls::{CallData, number};
@@ -188,4 +188,17 @@ fn check_getattr_as(
     ensures { result ≡ Refused Error.DecodeMessage }
 {
     check_as(number::GETATTR, alloc, LIMITS, options, r, room, call)
+}
+
+/// An INIT of the major version 8 is told ours, in 80 bytes: with one byte less of room it is refused.
+fn check_later_init(
+    alloc: Global,
+    options: FsOptions,
+    r: Reader<'_>,
+    call: &mut CallData,
+) -> Checked
+    requires { r.left ≡ later_init }
+    ensures { result ≡ Refused Error.EncodeMessage }
+{
+    check(alloc, LIMITS, options, r, 79, call)
 }

@@ -1,15 +1,24 @@
-use Rattle.std.proofs.Common.{length, ap}
+use Rattle.std.proofs.Common.{rules}
 use Rattle.vfs_flags.specs.Flags.{fs_options_bits}
+use Rattle.vfs_flags.specs.Numbers.{opcode_of}
+use Rattle.vfs_grammar.specs.Ask.{ask}
+use Rattle.vfs_server.specs.MemoryByPieces.{MayWantBehind}
 use Rattle.vfs_ask.specs.Asked.{interrupted_by}
+use Rattle.vfs_ask.specs.Checked.{Judges}
 use Rattle.vfs_ask.specs.Memory.{MayWant}
-use Rattle.vfs_ask.proofs.Checking.{judges}
+use Rattle.vfs_ask.proofs.Checking.{judges_less}
+use Rattle.vfs_ask.proofs.Memory.{read_header_is}
 use Rattle.vfs_ask.proofs.checked.check.Goals as goal
 
-pub returns : goal.returns
-returns c =
+pub returns-in-Ok : goal.returns-in-Ok
+returns-in-Ok c =
     let q = c.args.r.left in
     let options = fs_options_bits c.args.options in
-    rw (c.of.ensures) (judges (MayWant c.args.limits options c.args.room c.args.r) q options (interrupted_by c.args.limits q)
-    c.args.room c.empty-nowhere.result c.ask_request-asked.new.w (ap (λ w. length w.left) c.empty-nowhere.ensures)
-    c.ask_request-asked.new.call
-    c.args.limits c.ask_request-asked.result c.ask_request-asked.ensures)
+    let by = interrupted_by c.args.limits q in
+    let h = c.in-Ok.header in
+    let wanted = MayWantBehind c.args.limits options c.args.room (opcode_of h.opcode) h c.read_record-header.new.reader.pieces in
+    let said : Judges wanted q options by c.args.room (ask c.args.limits options c.args.room q) c.check_behind.result
+    c.check_behind.new.call = search rules in
+    judges_less (MayWant c.args.limits options c.args.room c.args.r) wanted
+    (λ w. rw (c.in-Ok.ensures.pieces, read_header_is q h c.in-Ok.ensures.value) at w)
+    q options by c.args.room (ask c.args.limits options c.args.room q) _ _ said

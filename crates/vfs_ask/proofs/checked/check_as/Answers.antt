@@ -1,16 +1,44 @@
-use Rattle.std.proofs.Common.{length, ap}
+use Rattle.std.proofs.Common.{◌≡◌, ◌≤◌, ◌∙◌, length, drop, refl, arith, rules, subst, sym}
 use Rattle.vfs_flags.specs.Flags.{fs_options_bits}
+use Rattle.vfs_flags.specs.Numbers.{opcode_of}
+use Rattle.vfs_wire.specs.declared.headers.InHeader.{InHeader}
+use Rattle.vfs_segments.specs.Lengths.{lengths_from}
+use Rattle.vfs_grammar.specs.Ask.{ask}
+use Rattle.vfs_server.specs.MemoryByPieces.{MayWantBehind}
 use Rattle.vfs_ask.specs.Asked.{interrupted_by}
+use Rattle.vfs_ask.specs.Checked.{Judges}
 use Rattle.vfs_ask.specs.Memory.{MayWant}
-use Rattle.vfs_ask.specs.WithOpcode.{with_opcode, unread_with_opcode}
-use Rattle.vfs_ask.proofs.Checking.{judges}
+use Rattle.vfs_ask.specs.WithOpcode.{unread_with_opcode, with_opcode}
+use Rattle.vfs_ask.proofs.Checking.{judges_less}
+use Rattle.vfs_ask.proofs.Memory.{read_header_is}
+use Rattle.vfs_ask.proofs.WithOpcode.{header_as, header_whole, none_as, same_length, same_rest}
 use Rattle.vfs_ask.proofs.checked.check_as.Goals as goal
 
-pub returns : goal.returns
-returns c =
-    let q = with_opcode c.args.opcode c.args.r.left in
+pub returns-in-Ok : goal.returns-in-Ok
+returns-in-Ok c =
+    let q = c.args.r.left in
+    let n = c.args.opcode in
+    let named = with_opcode n q in
+    let limits = c.args.limits in
+    let room = c.args.room in
     let options = fs_options_bits c.args.options in
-    rw (c.of.ensures) (judges (MayWant c.args.limits options c.args.room (unread_with_opcode c.args.opcode c.args.r)) q options
-    (interrupted_by c.args.limits q) c.args.room c.empty-nowhere.result c.ask_request_as-asked.new.w
-    (ap (λ w. length w.left) c.empty-nowhere.ensures) c.ask_request_as-asked.new.call
-    c.args.limits c.ask_request_as-asked.result c.ask_request_as-asked.ensures)
+    let by = interrupted_by limits named in
+    let h : InHeader = record c.in-Ok.header { opcode = n } in
+    let left = c.read_record-header.new.reader in
+    let whole : 40 ≤ length q = header_whole q c.in-Ok.header c.in-Ok.ensures.value in
+    let eight : 8 ≤ length q = omega (arith, whole) in
+    let is = header_as n c.ranges.opcode.fits q c.in-Ok.header c.in-Ok.ensures.value in
+    let moved : left.left ≡ drop 40 q = search rules in
+    let rest : drop 40 named ≡ left.left = same_rest n c.ranges.opcode.fits q eight ∙ sym moved in
+    let long : length q ≡ c.available_bytes-len.result = search rules in
+    let wanted = MayWantBehind limits options room (opcode_of n) h left.pieces in
+    let behind = c.check_behind.ensures named (same_length n c.ranges.opcode.fits q eight ∙ long) is rest in
+    let said : Judges wanted named options by room (ask limits options room named) c.check_behind.result
+    c.check_behind.new.call = rw (is, rest) behind in
+    judges_less (MayWant limits options room (unread_with_opcode n c.args.r)) wanted
+    (λ w. subst (λ (g : InHeader). MayWantBehind limits options room (opcode_of g.opcode) g (lengths_from 40 c.args.r.pieces))
+    (read_header_is named h is) (rw c.in-Ok.ensures.pieces at w))
+    named options by room (ask limits options room named) _ _ said
+
+pub returns : goal.returns
+returns c = rw (none_as c.args.opcode c.args.r.left c.in-Err.error c.in-Err.ensures.value) (refl, search rules)
