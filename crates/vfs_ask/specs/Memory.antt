@@ -1,5 +1,5 @@
 -- Which requests are refused for want of memory.
-use Rattle.std.specs.Prelude.{◌≢◌, ⊤, ℕ, Err}
+use Rattle.std.specs.Prelude.{◌≢◌, ⊤, ℕ, List, Err}
 use Rattle.vfs_flags.specs.Numbers.{opcode_of}
 use Rattle.vfs_wire.specs.Records.{in_header}
 use Rattle.vfs_segments.specs.Lengths.{lengths_from}
@@ -17,6 +17,11 @@ abbrev pub MayWant : Limits → (options space : ℕ) → Unread → Type 0
 MayWant limits options space u =
     MayWantBehind limits options space (opcode_of (header_of u.left).opcode) (header_of u.left)
     (lengths_from (size_of in_header) u.pieces)
+
+-- memory may be wanted for a request with these bytes, of which those behind the header lie in these pieces
+abbrev pub MayWantBehindHeader : Limits → (options space : ℕ) → (request : List ℕ) → (pieces : List ℕ) → Type 0
+MayWantBehindHeader limits options space q pieces =
+    MayWantBehind limits options space (opcode_of (header_of q).opcode) (header_of q) pieces
 
 -- a request is not refused for want of memory: a call is told, or what it came to is another thing
 abbrev pub LacksNoMemory : Asked → Type 0

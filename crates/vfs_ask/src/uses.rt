@@ -14,6 +14,7 @@ ghost use Rattle.vfs_ask.specs.Uses.{HasContext, LooksUpA, later_init, mkdir_wit
 
 use crate::asked::{Asked, ask};
 use crate::checked::{Checked, check, check_as};
+use crate::rest::ask_rest;
 use crate::with_opcode::ask_as;
 use std::alloc::Global;
 use vfs_calls::{CallData, number};
@@ -105,6 +106,23 @@ fn getattr_of_a_header_alone(
 {
     let room = w.available_bytes();
     ask(alloc, LIMITS, options, r, room, w, call)
+}
+
+/// The same where the header lies in one piece, and nothing follows it.
+fn getattr_of_a_head(
+    alloc: Global,
+    options: FsOptions,
+    head: &[u8],
+    r: Reader<'_>,
+    w: &mut Writer,
+    call: &mut CallData,
+) -> Asked
+    requires head { head.now ≡ header_9 40 3 }
+    requires rest { r.left ≡ [] }
+    ensures { IsFinished (Refusal Error.DecodeMessage) 0 w.old result w.new call.new }
+{
+    let room = w.available_bytes();
+    ask_rest(alloc, LIMITS, options, head, r, room, w, call)
 }
 
 /// A LOOKUP of `a` that lies in one segment is told: there is memory for its name.
