@@ -1069,12 +1069,12 @@ static inline int nizwarf_is_changed(const nizwarf_session *session, const nizwa
 	       session->options & NIZWARF_PASSTHROUGH && answer->count;
 }
 
-/* Whether the library makes of any answer of this kind what is replied: that is so of most calls. */
+/* Whether the library makes of any answer of this kind what is replied: that is so of most calls, but for a text
+ * that is a record. */
 static inline int nizwarf_is_plain(const nizwarf_call *call)
 {
 	const uint32_t others = 1u << NIZWARF_DIRECTORY | 1u << NIZWARF_FAULT_OR_SILENCE |
-				1u << NIZWARF_WANT | 1u << NIZWARF_OPENED | 1u << NIZWARF_CREATED |
-				1u << NIZWARF_TEXT;
+				1u << NIZWARF_WANT | 1u << NIZWARF_OPENED | 1u << NIZWARF_CREATED;
 
 	return call->answer > 31 || !(others >> call->answer & 1);
 }
@@ -1114,7 +1114,7 @@ static inline int32_t nizwarf_reply(nizwarf_slot *slot, const nizwarf_session *s
 		if (!items[i].name)
 			return NIZWARF_NULL;
 	plain = nizwarf_is_plain(call);
-	if (!plain && nizwarf_is_record(call))
+	if (nizwarf_is_record(call))
 		code = nizwarf_answer_offered_at(slot, session, call, answer, text, answer->text_len, items,
 						 answer->items_len, told);
 	else

@@ -1,8 +1,9 @@
 //! Asking a request for its call.
 
-ghost use Rattle.std.specs.Prelude.{◌≡◌, ◌≢◌, ◌≤◌, ◌++◌, ℕ, ⊤, false, length, min, true, MatchOption};
+ghost use Rattle.std.specs.Prelude.{◌≡◌, ◌≢◌, ◌≤◌, ◌++◌, ◌∷◌, [], ℕ, ⊤, false, length, min, true, MatchOption};
 ghost use Rattle.vfs_flags.specs.Flags.{fs_options_bits};
-ghost use Rattle.vfs_segments.specs.Segments.{segments_of, flat_bytes};
+ghost use Rattle.vfs_segments.specs.Lengths.{lengths_from};
+ghost use Rattle.vfs_segments.specs.Segments.{segments_of, flat_bytes, lengths_of};
 ghost use Rattle.vfs_segments.specs.Written.{Written};
 ghost use Rattle.vfs_grammar.specs.Ask.{ask as ask_of};
 ghost use Rattle.vfs_grammar.specs.Limits.{AreLimits};
@@ -19,6 +20,7 @@ ghost use Rattle.vfs_door.specs.Shown.{bytes_shown};
 use crate::answer::{HEADER_SIZE, put_of};
 use crate::data::{SessionData, ToldData};
 use crate::memory::{Memory, Part};
+use crate::rest::ask_pieces;
 use std::alloc::Global;
 use vfs_ask::{Asked, LONGEST_REPLY, ask, ask_at_once};
 use vfs_calls::{CallData, kind, number};
@@ -93,8 +95,43 @@ pub fn tell_call(alloc: Global, memory: &mut Memory, call: &mut CallData) -> i32
     take_and_tell(alloc, memory, call)
 }
 
-/// Asks the request in these segments, with `room` bytes of room: the code of what came of it.
+/// Asks the request in these segments, with `room` bytes of room: the code of what came of it. Most have their header
+/// in one piece, and in one all that follows it.
+#[inline(always)]
 pub fn ask_segments(
+    alloc: Global,
+    memory: &mut Memory,
+    limits: Limits,
+    options: FsOptions,
+    request: &[&[u8]],
+    room: usize,
+    call: &mut CallData,
+    told: &mut ToldData,
+) -> i32
+    requires { AreLimits limits }
+    ensures asked { AsksOrNot limits (fs_options_bits options)
+        (flat_bytes (segments_of request.now)) room
+        result call.new told.old told.new (bytes_shown memory.new) }
+    ensures memory { HasRoomFor (min room 80) memory.old.asked →
+        HasFor room (ask_of limits (fs_options_bits options) room (flat_bytes (segments_of request.now)))
+        memory.old.answers → length request.now ≤ 4 →
+        ¬ (MayWant limits (fs_options_bits options) room (unread_in (segments_of request.now))) →
+        result ≢ no_memory }
+    ensures kept { result ≡ is_asked → HasRoomFor (put_of call.new call.new.room) memory.new.answers }
+    ensures keeps { (n : ℕ) → HasRoomFor n memory.old.answers → HasRoomFor n memory.new.answers }
+{
+    match header_and_rest(request) {
+        Some((head, rest)) => {
+            ask_pieces(alloc, memory, limits, options, head, rest, room, call, told)
+        }
+        None => ask_cut(alloc, memory, limits, options, request, room, call, told),
+    }
+}
+
+// The same, wherever the segments are cut.
+#[cold]
+#[inline(never)]
+fn ask_cut(
     alloc: Global,
     memory: &mut Memory,
     limits: Limits,
@@ -141,7 +178,9 @@ pub fn is_asked_most(request: &[&[u8]]) -> bool {
 #[inline(always)]
 fn header_and_rest<'a>(request: &[&'a [u8]]) -> Option<(&'a [u8], &'a [u8])>
     ensures { MatchOption result ⊤ (λ parts. (length parts.0.now ≡ 40)
-        × (flat_bytes (segments_of request.now) ≡ parts.0.now ++ parts.1.now)) }
+        × (flat_bytes (segments_of request.now) ≡ parts.0.now ++ parts.1.now)
+        × (lengths_from 40 (lengths_from 0 (lengths_of (segments_of request.now)))
+        ≡ lengths_from 0 (length parts.1.now ∷ []))) }
 {
     if request.len() == 1 && request[0].len() >= InHeader::SIZE {
         let all = request[0];

@@ -21,6 +21,7 @@ mod handle;
 mod memory;
 mod notices;
 mod print;
+mod rest;
 mod uses;
 mod uses_further;
 mod uses_notices;

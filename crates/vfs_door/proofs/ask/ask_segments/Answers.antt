@@ -1,23 +1,21 @@
-use Rattle.std.proofs.Common.{◌≡◌, ◌<◌, ◌≤◌, ◌^◌, ℕ, length, Err, arith, inl, inr, refl, rules}
+use Rattle.std.proofs.Common.{◌≡◌, ◌∷◌, List, ℕ, [], length, rules, subst, sym}
+use Rattle.vfs_flags.specs.Flags.{fs_options_bits}
+use Rattle.vfs_segments.specs.Lengths.{lengths_from}
 use Rattle.vfs_segments.specs.Segments.{flat_bytes, segments_of}
-use Rattle.vfs_door.proofs.Leaving.{nothing_shown}
+use Rattle.vfs_grammar.specs.Ask.{ask}
+use Rattle.vfs_ask.specs.Memory.{MayWantBehindHeader}
+use Rattle.vfs_rooms.specs.Codes.{no_memory}
+use Rattle.vfs_door.specs.Kept.{HasFor}
 use Rattle.vfs_door.proofs.ask.ask_segments.Goals as goal
 
-pub returns-in-Err-clause-asked : goal.returns-in-Err-clause-asked
-returns-in-Err-clause-asked c =
-    inr (record {
-      why = inl (search rules);
-      no_call = search rules;
-      same_told = refl;
-      nothing = nothing_shown (record c.args.memory.now { shown = 0 }) refl;
-    })
-
-not_less : (n : ℕ) → (n < 2 ^ 64 → ⊥) → 2 ^ 64 ≤ n
-not_less n short = omega (arith, short)
-
-pub returns-in-Err-clause-memory : goal.returns-in-Err-clause-memory
-returns-in-Err-clause-memory c reply answer few none code =
-    let n : ℕ = length (flat_bytes (segments_of c.args.request.now)) in
-    let long : 2 ^ 64 ≤ n = not_less n (λ fits. let e = c.in-Err.ensures.few few fits in cc) in
-    let chain = c.in-Err.ensures.too_long long in
-    search (rules, chain)
+pub returns-in-Some-clause-memory : goal.returns-in-Some-clause-memory
+returns-in-Some-clause-memory c reply answer few none code =
+    let all = flat_bytes (segments_of c.args.request.now) in
+    let options = fs_options_bits c.args.options in
+    let bytes = c.in-Some.ensures.1 in
+    let behind = lengths_from 0 (length c.in-Some.rest.now ∷ []) in
+    let wants = λ (q p : List ℕ). MayWantBehindHeader c.args.limits options c.args.room q p in
+    let want : c.ask_pieces.result ≡ no_memory = search (rules, code) in
+    c.ask_pieces.ensures.memory reply
+    (subst (λ (q : List ℕ). HasFor c.args.room (ask c.args.limits options c.args.room q) c.args.memory.now.answers) bytes answer)
+    (λ w. none (subst (wants all) (sym c.in-Some.ensures.2) (subst (λ (q : List ℕ). wants q behind) (sym bytes) w))) want
