@@ -131,6 +131,14 @@ static nizwarf_answer answer_of(const nizwarf_call *call, const uint8_t *reply, 
 	return answer;
 }
 
+/* Whether a request is one that the tree has, where of the door nothing is offered. */
+static int is_of_tree(size_t len)
+{
+	const uint32_t opcode = len < 8 ? 0 : u32(request + 4);
+
+	return opcode == NIZWARF_IOCTL || opcode == NIZWARF_TMPFILE || opcode == NIZWARF_STATX;
+}
+
 /* The first bytes of the request to both, in two pieces where it is cut. Gives the length of the
  * reply. */
 static size_t compare(size_t len, size_t cut)
@@ -142,8 +150,7 @@ static size_t compare(size_t len, size_t cut)
 	nizwarf_told told;
 	size_t their_len;
 
-	/* (the tree has it, and of the door nothing is offered here) */
-	if (len >= 8 && u32(request + 4) == NIZWARF_TMPFILE)
+	if (is_of_tree(len))
 		return 0;
 	compared++;
 	if (ask(pieces, 2, len, ROOM, &call, &told) != NIZWARF_ASKED)
@@ -172,7 +179,7 @@ static void compare_room(size_t space, size_t full)
 	nizwarf_told told;
 	size_t i;
 
-	if (u32(request + 4) == NIZWARF_TMPFILE)
+	if (is_of_tree(request_len))
 		return;
 	if (ask(&piece, 1, request_len, space, &call, &told) != NIZWARF_ASKED)
 		return;
@@ -613,7 +620,7 @@ int main(int argc, char **argv)
 	for (opcode = 0; opcode < 52; opcode++)
 		if (forms[opcode].record || forms[opcode].kind)
 			CHECK(told_calls[opcode] || opcode == READDIRPLUS || opcode == RENAME2 ||
-			      opcode == NIZWARF_TMPFILE);
+			      opcode == NIZWARF_IOCTL || opcode == NIZWARF_TMPFILE);
 	if (argc > 1)
 		recorded = try_recorded(argv[1]);
 	CHECK(nizwarf_end_slot(&slot) == NIZWARF_OK && nizwarf_end(&server) == NIZWARF_OK);
