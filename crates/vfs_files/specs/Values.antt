@@ -86,14 +86,14 @@ extension_values_of ext = record {
 
 -- ---- directories' items
 
--- the four values of a directory entry, its name as bytes without the 0
+-- an item of a directory: its four values, the name as bytes without the 0
 pub record Item : Type 0 where
   pub ino : ℕ
   pub offset : ℕ
   pub type_ : ℕ
   pub name : List ℕ
 
--- the values of an entry
+-- the values of an item as `next` gives it
 abbrev pub item : DirEntry → Item
 item e = record { ino = e.ino; offset = e.offset; type_ = e.type_; name = name_text e.name }
 

@@ -32,7 +32,7 @@ pub trait FileSystem {
     /// What its open files and directories are named by.
     type Handle: Number;
 
-    /// What gives the entries of its directories.
+    /// What gives the items of its directories.
     type DirIter: DirectoryIterator + Drop;
 
     /// From the old state the call may hand this back and leave the new state.
@@ -59,7 +59,7 @@ pub trait FileSystem {
     /// is there where the kernel asks through an open file.
     ///
     /// An implementation repeats this clause, with its own relation in place of `allows`, since its
-    /// parameter is an `Option` of an associated type (docs/DECISIONS.md).
+    /// parameter is an `Option` of an associated type (docs/generated/refused.md).
     fn getattr(
         &mut self,
         ctx: Context,
@@ -165,7 +165,7 @@ pub trait FileSystem {
             self.new };
 
     /// Takes an empty directory out of the directory `parent` (RMDIR). The node stays as long as
-    /// the kernel counts lookups of it. A directory with entries is ENOTEMPTY, a file ENOTDIR.
+    /// the kernel counts lookups of it. A directory with names is ENOTEMPTY, a file ENOTDIR.
     fn rmdir(&mut self, ctx: Context, parent: Self::Inode, name: CStr<'_>) -> Result<(), Fault>
         ensures { allows self.old
             (Rmdir ctx (Self.Inode.value parent) (name_text name.entry))
@@ -411,13 +411,13 @@ pub trait FileSystem {
             (Plain (opened_answer Self.Handle.value result))
             self.new };
 
-    /// Answers what gives the entries of a directory (READDIR, READDIRPLUS). `offset` is 0 at the
-    /// beginning of the directory, or that of an entry that was given before: the reading goes on
+    /// Answers what gives the items of a directory (READDIR, READDIRPLUS). `offset` is 0 at the
+    /// beginning of the directory, or that of an item that was given before: the reading goes on
     /// behind it. `handle` is that of the `opendir`, and says nothing where that answered none.
     ///
-    /// `size` is how many bytes of records the reply may have. Entries are taken until one doesn't
+    /// `size` is how many bytes of records the reply may have. Items are taken until one doesn't
     /// fit in there; a reply without records says that the directory has ended. READDIRPLUS calls
-    /// `lookup` for each entry that it takes but `.` and `..`.
+    /// `lookup` for each item that it takes but `.` and `..`.
     fn readdir(
         &mut self,
         ctx: Context,

@@ -1,4 +1,4 @@
-//! Entries of a directory in memory, for a file system that keeps no iterator of its own.
+//! Items of a directory in memory, for a file system that keeps no iterator of its own.
 
 ghost use Rattle.std.specs.Prelude.{◌≡◌, ◌++◌, ◌∷◌, [], length, IfErr, OnOk};
 ghost use Rattle.vfs_files.specs.Calls.{out_of_memory};
@@ -10,7 +10,7 @@ use std::alloc::Global;
 use std::marker::Model;
 use vfs_flags::{Errno, Fault};
 
-// An entry, but for its name: that stands before `end`, from the end of the name before it on.
+// An item, but for its name: that stands before `end`, from the end of the name before it on.
 #[derive(Clone, Copy)]
 struct Kept {
     ino: u64,
@@ -19,19 +19,19 @@ struct Kept {
     end: usize,
 }
 
-/// Entries of a directory with names in memory of their own.
+/// Items of a directory with names in memory of their own.
 ///
-/// A file system that answers a [`readdir`](crate::FileSystem::readdir) adds the entries in order,
+/// A file system that answers a [`readdir`](crate::FileSystem::readdir) adds the items in order,
 /// and hands the list back: as an iterator it gives each of them once, and then the end. What
 /// happens in the directory meanwhile does not change it.
 ///
-/// All names lie in one vector, one behind the other, so that an entry takes no allocation of its
+/// All names lie in one vector, one behind the other, so that an item takes no allocation of its
 /// own.
 #[derive(Drop)]
 pub struct EntryList {
     names: Vec<u8>,
     entries: Vec<Kept>,
-    // How many entries were given.
+    // How many items were given.
     given: usize,
     // Where the name of the next one begins.
     begin: usize,
@@ -52,7 +52,7 @@ impl Model for EntryList {
 }
 
 impl EntryList {
-    /// A list without entries.
+    /// A list without items.
     pub fn new(alloc: Global) -> EntryList
         ensures { result ≡ [] }
     {
@@ -64,14 +64,14 @@ impl EntryList {
         }
     }
 
-    /// How many entries are left to give.
+    /// How many items are left to give.
     pub fn len(&self) -> usize
         ensures { result ≡ length self.now }
     {
         self.entries.len() - self.given
     }
 
-    /// Adds an entry behind the others, with a copy of its name. `Errno::ENOMEM` where there is no
+    /// Adds an item behind the others, with a copy of its name. `Errno::ENOMEM` where there is no
     /// memory for it: then the list stays.
     pub fn push(&mut self, added: DirEntry<'_>) -> Result<(), Fault>
         ensures ok { OnOk result (self.new ≡ self.old ++ item added.entry ∷ []) }

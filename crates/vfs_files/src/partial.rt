@@ -22,7 +22,7 @@ use vfs_wire::{Attr, SetattrIn, Statvfs64};
 /// A file system by one function for all calls but three, so that it says only what it serves, and
 /// leaves the rest to [`unserved`]. Each is a [`FileSystem`], whose nodes and handles are numbers.
 pub trait PartialFileSystem {
-    /// What gives the entries of its directories.
+    /// What gives the items of its directories.
     type Entries: DirectoryIterator + Drop;
 
     /// From the old state the call may hand this back and leave the new state.

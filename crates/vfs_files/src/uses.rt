@@ -39,7 +39,7 @@ fn two_of_three<R: ZeroCopyReader>(bytes: &mut Vec<u8>, r: &mut R) -> Result<u32
     write_bytes(bytes, r, 3, 2, 4)
 }
 
-/// A list to which two entries were added, and which gave one: it has one left.
+/// A list to which two items were added, and which gave one: it has one left.
 fn one_of_two_is_left(
     alloc: Global,
     first: DirEntry<'_>,

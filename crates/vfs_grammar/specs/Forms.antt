@@ -31,8 +31,8 @@ pub record Listing : Type 0 where
   pub space : ℕ
 
 -- What a request asks: to be ended without a call, by this coming back; a call, or that a directory
--- be read, with what is kept of the request for its reply; or the rest, where there is memory for a
--- copy of some of its bytes, if one is needed.
+-- be read, with what is kept of the request for its reply; or one of these, where there is memory
+-- for a copy of some of its bytes, if one is needed.
 pub data Ask : Type 0 where
   Ends : (reply : Reply) → Ask
   Asks : (echo : Echo) (call : Call) → Ask
@@ -51,7 +51,7 @@ faulted number h = Ends (Bytes (fault_reply (Some number) h.unique))
 abbrev pub silent : Ask
 silent = Ends NoReply
 
--- a part of a request that is at fault refuses it; otherwise the rest says what it asks
+-- a part of a request that is at fault refuses it; otherwise the next part says what it asks
 abbrev pub refused_or : {A : Type 0} → Result A Error → (next : A → Ask) → Ask
 refused_or (Err error) next = refused error
 refused_or (Ok part) next = next part

@@ -91,7 +91,7 @@ version_out = record (init_out.made (replicate 18 0)) {
 
 -- What INIT replies, of the version, the limits, the client's read-ahead and the agreed options.
 -- Requests in the background are bounded by what the field holds, and the threshold is three
--- quarters of that, each quarter without its rest; times are kept by the nanosecond.
+-- quarters of that, each quarter rounded down; times are kept by the nanosecond.
 abbrev pub init_out_of : Limits → (max_readahead options : ℕ) → InitOut
 init_out_of limits max_readahead options = record version_out {
   max_readahead = max_readahead;

@@ -37,7 +37,8 @@ IsReplied NoReply room outcome room_after = (outcome ≡ Ok 0) × (room_after �
 IsReplied (Bytes reply) room outcome room_after = IsPut reply room outcome room_after
 IsReplied (OpenBehind reply) room outcome room_after = IsPutOpen reply room outcome room_after
 
--- whether what comes back fits into a room of this length
+-- whether what comes back fits into a room of this length: only `Bytes` may not, for `IsPutOpen`
+-- says that its reply does
 abbrev pub fits : (room_len : ℕ) → Reply → Bool
 fits room_len (Bytes reply) = nat_le (length reply) room_len
 fits room_len _ = true

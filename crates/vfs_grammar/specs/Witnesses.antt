@@ -14,7 +14,7 @@ use Rattle.vfs_grammar.specs.Turn.{Turn, IsRead, Follows, node_answered}
 use Rattle.vfs_grammar.specs.declared.limits.Limits.{Limits}
 use Rattle.vfs_grammar.specs.declared.error.Error.TheVariants.{OutOfMemory}
 
--- Who tells what happened at a request: how much space there was for the reply; that the file
+-- Who tells what happened at a request: how long the room was, as `space`; that the file
 -- system wasn't called; that it was called, so, with this answer, and that one lookup of a node, if
 -- there is one, was then given back for this caller; that a directory was read, with these records
 -- and this answer; and that this came back to the client; and that there was no memory for a copy,

@@ -100,9 +100,9 @@ pub fn refusals_change_nothing()
 {}
 
 /// After `EncodeMessage` the room holds as much as it has place for of the reply that the grammar
-/// gives for the request and the answer, which is longer. Of a READ, READDIR or READDIRPLUS that
-/// has no room for the sixteen bytes of a header no call was made, the room is as it was, and the
-/// options are the old ones.
+/// gives for the request and the answer, which is longer. Or the request was a READ, READDIR or
+/// READDIRPLUS, whose room has no place for the sixteen bytes of a header: no call was made, the
+/// room is as it was, and the options are the old ones.
 pub fn unfit_replies_are_cut_off()
     ensures { (limits : Limits) (options after : ℕ) (t : Turn) → IsTurn limits options t after →
         t.outcome ≡ Err Error.EncodeMessage →

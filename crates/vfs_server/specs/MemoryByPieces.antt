@@ -17,7 +17,7 @@ MayWantFor h pieces form =
     TailIsCut h (layout_size layout) (pieces_behind layout pieces) ⊎ MayHoldContext options)
     (λ R layout above count. Unit {0}) form
 
--- the same by the opcode
+-- the same by the opcode, where `space` is the length of the room
 abbrev pub MayWantBehind : Limits → (options space : ℕ) → Option Opcode → InHeader
     → (pieces : List ℕ) → Type 0
 MayWantBehind limits options space None h pieces = ⊥

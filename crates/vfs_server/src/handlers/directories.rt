@@ -36,7 +36,7 @@ impl<F: FileSystem> Session<F> {
         read_in.size > self.limits.max_buffer || read_in.size as usize > w.available_bytes()
     }
 
-    /// READDIR and READDIRPLUS (`struct fuse_read_in`): the records of a directory's entries, with
+    /// READDIR and READDIRPLUS (`struct fuse_read_in`): the records of a directory's items, with
     /// `plus` each with what a LOOKUP of it answers. They are put into the room behind the place of
     /// the reply's header, which is filled in last.
     pub(super) fn list(
