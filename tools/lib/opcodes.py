@@ -1,17 +1,18 @@
-"""Opcodes by name: those of virtiofsd in the tables of docs/PROTOCOL.md, and two that are refused there."""
+"""Opcodes by name, as Linux spells them: those of virtiofsd, of crates/vfs_flags/src/opcode.rt."""
 import enum
 import pathlib
 import re
 
-PROTOCOL = pathlib.Path(__file__).resolve().parents[2] / "docs/PROTOCOL.md"
+SOURCE = pathlib.Path(__file__).resolve().parents[2] / "crates/vfs_flags/src/opcode.rt"
+# Linux has these in one word.
+ONE_WORD = {"TMP_FILE": "TMPFILE", "SETUP_MAPPING": "SETUPMAPPING", "REMOVE_MAPPING": "REMOVEMAPPING"}
 
 
 def names():
-    rows = re.findall(r"^\| (\d+(?:, \d+)*) ([A-Z][A-Z_0-9]*(?:, [A-Z][A-Z_0-9]*)*) \|", PROTOCOL.read_text("utf-8"), re.M)
-    named = {int(number): name for numbers, names in rows
-             for number, name in zip(numbers.split(", "), names.split(", "))}
-    # (those after TMPFILE are none of virtiofsd's)
-    return {**{number: name for number, name in named.items() if number <= 51}, 48: "SETUPMAPPING", 49: "REMOVEMAPPING"}
+    """The name of each number."""
+    found = re.findall(r"^    ([A-Z]\w*) = (\d+),$", SOURCE.read_text("utf-8"), re.M)
+    words = {int(number): re.sub(r"(?<=[a-z])(?=[A-Z])", "_", name).upper() for name, number in found}
+    return {number: ONE_WORD.get(name, name) for number, name in words.items()}
 
 
 Op = enum.IntEnum("Op", {name: number for number, name in sorted(names().items())})
