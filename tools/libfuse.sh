@@ -17,14 +17,15 @@
 #
 # With --check tests/libfuse/check.sh holds the two libraries side by side.
 #
-# It wants apt-get, a C compiler, meson, ninja, pkg-config, patch and xz, of which it names the packages, and the Rattle
-# toolchain. It links the proved library if that is built and no source is newer; otherwise tools/lib/unproved.sh builds
-# it without a proof, which takes a minute more.
+# It wants apt-get, a C compiler, meson, ninja, pkg-config, patch and xz, of which it names the packages that are missing,
+# and the Rattle toolchain. It links the proved library if that is built and no source is newer; otherwise
+# tools/lib/unproved.sh builds it without a proof, which takes a minute more.
 # Status 0: it was built, and with --check all came to what it must; 1: not so; 2: it could not start.
 set -euo pipefail
 . "$(dirname "$0")/lib/usage.sh"
 . "$(dirname "$0")/lib/transport.sh"
 . "$(dirname "$0")/lib/debian.sh"
+. "$(dirname "$0")/lib/libfuse.sh"
 
 usage() {
     echo "Usage: tools/libfuse.sh [--check | --unmodified] [--all] [--sanitize WHAT] [--suite SUITE] [FOLDER]" >&2
@@ -53,40 +54,33 @@ while [ $# != 0 ]; do
     esac
     shift
 done
-for command in apt-get apt-cache patch xz; do
-    need "$command" "Install it: apt-get install patch xz-utils."
-done
-for command in cc meson ninja pkg-config; do
-    need "$command" "Install it: apt-get install gcc g++ libc6-dev meson ninja-build pkg-config."
-done
-need python3 "Install it: apt-get install python3."
+need_packages "${to_build[@]}"
 folder=$(realpath -m "${folder:-$here/out/libfuse}")
 mkdir -p "$folder"
 [ "$kind" = unmodified ] || find_library vfs_door
 
-# The sources of the package, with Debian's changes.
+# The sources of the package, with Debian's changes. (`set -e` means nothing where a function is judged)
 fetch() {
-    local part=$folder/part change
+    local part=$folder/part-$suite change
     rm -rf "$part"
     mkdir -p "$part/tree"
-    use_suite "$suite" "$part/apt"
+    use_suite "$suite" "$part/apt" || return 1
     sed 's/^Types: deb$/Types: deb-src/' "$part/apt/sources/debian.sources" > "$part/apt/sources/source.sources"
-    apt-get "${apt[@]}" update
-    (cd "$part" && apt-get "${apt[@]}" --download-only source fuse3)
-    tar -C "$part/tree" --strip-components=1 -xf "$part"/fuse3_*.orig.tar.?z
-    tar -C "$part" -xf "$part"/fuse3_*.debian.tar.xz
+    apt-get "${apt[@]}" update || return 1
+    (cd "$part" && apt-get "${apt[@]}" --download-only source fuse3) || return 1
+    tar -C "$part/tree" --strip-components=1 -xf "$part"/fuse3_*.orig.tar.?z || return 1
+    tar -C "$part" -xf "$part"/fuse3_*.debian.tar.xz || return 1
     while read -r change; do
-        patch -s -d "$part/tree" -p1 < "$part/debian/patches/$change"
+        patch -s -d "$part/tree" -p1 < "$part/debian/patches/$change" || return 1
     done < <(sed '/^ *#/d; /^ *$/d' "$part/debian/patches/series" 2> /dev/null)
     basename "$part"/fuse3_*.dsc .dsc | sed 's/^fuse3_//' > "$part/tree/debian-version"
-    mv "$part/tree" "$folder/source-$suite"
-    rm -rf "$part"
+    mv "$part/tree" "$folder/source-$suite" && rm -rf "$part"
 }
 
 source=$folder/source-$suite
 if [ ! -e "$source" ]; then
     echo "Downloading the sources of libfuse .." >&2
-    quietly "$folder/said" fetch || {
+    quietly "$folder/said-$suite" fetch || {
         echo "Debian's package fuse3 of $suite can't be had by apt-get here." >&2
         exit 2
     }
@@ -147,7 +141,7 @@ build() {
 }
 
 echo "Building libfuse $(cat "$source/debian-version") of $suite, $kind .." >&2
-quietly "$folder/said" build || exit 1
+quietly "$folder/said-$suite" build || exit 1
 [ "$kind" = unmodified ] || cat "$work/left-out" >&2
 mkdir -p "$lib"
 # A program that runs stays what it is.

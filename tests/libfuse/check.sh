@@ -51,19 +51,13 @@ if [ ! -e /dev/fuse ]; then
     echo "It takes /dev/fuse." >&2
     exit 2
 fi
-need unshare "Install it: apt-get install util-linux."
-need readelf "Install it: apt-get install binutils."
-if [[ " ${parts[*]} " == *" tests "* ]]; then
-    need fusermount3 "Install it: apt-get install fuse3."
-    need g++ "Install it: apt-get install g++."
-    /usr/bin/python3 -c 'import pytest' 2> /dev/null ||
-        { echo "Missing: pytest. Install it: apt-get install python3-pytest." >&2 && exit 2; }
-fi
+wanted=("${to_build[@]}" "unshare util-linux")
+[[ " ${parts[*]} " != *" tests "* ]] || wanted+=("fusermount3 fuse3" "pytest-3 python3-pytest")
 if [[ " ${parts[*]} " == *" programs "* ]] && [ "$suite" = "$(sed -n 's/^VERSION_CODENAME=//p' /etc/os-release)" ]; then
-    for command in sshfs /usr/sbin/sshd fuse-overlayfs squashfuse mksquashfs; do
-        need "$command" "Install them: apt-get install sshfs openssh-server fuse-overlayfs squashfuse squashfs-tools."
-    done
+    wanted+=("sshfs sshfs" "/usr/sbin/sshd openssh-server" "ssh openssh-client" "fuse-overlayfs fuse-overlayfs"
+        "squashfuse squashfuse" "mksquashfs squashfs-tools")
 fi
+need_packages "${wanted[@]}"
 folder=$(realpath -m "${folder:-$here/out/libfuse}")
 words=(--suite "$suite" "$folder")
 [[ " ${parts[*]} " != *" tests "* ]] || words=(--all "${words[@]}")

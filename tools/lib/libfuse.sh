@@ -1,5 +1,10 @@
-# For the scripts that run programs over libfuse with the layer here.
+# For the scripts that build libfuse with the layer here, and run programs over it.
 # shellcheck shell=bash
+
+# What is wanted to build it, for need_packages.
+# shellcheck disable=SC2034
+to_build=("apt-get apt" "apt-cache apt" "patch patch" "xz xz-utils" "cc gcc libc6-dev" "g++ g++" "meson meson"
+    "ninja ninja-build" "pkg-config pkg-config" "readelf binutils" "python3 python3")
 
 # Builds a program without a library, as with sanitizers, of the sources that tools/libfuse.sh left in a folder for a suite, and of a file:
 # compile_libfuse FOLDER SUITE FILE TO FLAGS.. It wants transport.sh.
@@ -16,15 +21,15 @@ compile_libfuse() {
 # SUITE PACKAGE.. It wants debian.sh, as what follows does.
 # shellcheck disable=SC2154
 unpack_root() {
-    local root=$1.part suite=$2 all name
+    local root=$1.part suite=$2 packages name
     rm -rf "$root"
     mkdir -p "$root"/usr/{bin,sbin,lib,lib64} "$root"/{etc,proc,dev,run,tmp,lib-of-it,work,here}
     for name in bin sbin lib lib64; do ln -s "usr/$name" "$root/$name"; done
     use_suite "$suite" "$root/apt"
-    mapfile -t all < <(apt-get "${apt[@]}" install -y -s --no-install-recommends bash coreutils diffutils grep sed \
+    mapfile -t packages < <(apt-get "${apt[@]}" install -y -s --no-install-recommends bash coreutils diffutils grep sed \
         util-linux mount fuse3 "${@:3}" | sed -nE 's/^Inst ([^ ]+) .*/\1/p')
     mkdir "$root/debs"
-    (cd "$root/debs" && apt-get "${apt[@]}" download "${all[@]}")
+    (cd "$root/debs" && apt-get "${apt[@]}" download "${packages[@]}")
     for name in "$root"/debs/*.deb; do
         dpkg-deb --fsys-tarfile "$name" | tar -x -C "$root" --keep-directory-symlink
     done

@@ -15,6 +15,16 @@ need() {
     fi
 }
 
+# Stops where commands are not there, and names the packages of all of them: need_packages "COMMAND PACKAGE.."..
+need_packages() {
+    local it words missing=() packages=()
+    for it in "$@"; do
+        read -ra words <<< "$it"
+        command -v "${words[0]}" > /dev/null || { missing+=("${words[0]}") && packages+=("${words[@]:1}"); }
+    done
+    [ ${#missing[@]} = 0 ] || { echo "Missing: ${missing[*]}. Install them: apt-get install ${packages[*]}." >&2 && exit 2; }
+}
+
 # Stops where somebody else than root runs it: need_root "why".
 need_root() {
     if [ "$(id -u)" != 0 ]; then
