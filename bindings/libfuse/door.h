@@ -22,9 +22,12 @@ struct door_session {
 	unsigned int kept;
 };
 
+/* Who knows of a request: its own thread; others, since it is in libfuse's list, or ends by more than one, so that its
+ * end takes the session's lock; or nobody, since it has ended, and its memory waits for the next one. */
+enum { DOOR_ALONE, DOOR_KNOWN, DOOR_ENDED };
+
 struct door_req {
 	struct fuse_req req;
-	/* It is in libfuse's list, or ends by more than one: its end takes the session's lock. */
 	int known;
 	/* Its `call` is 0 where the door told none, and `answer` QUIET: the reply is then a header alone, and nothing else
 	 * is read. */
@@ -52,10 +55,31 @@ static void door_give_req(struct fuse_req *req);
 
 /* From now on an interrupt finds the request; and it knows of one that came before. */
 static void door_watch(fuse_req_t req);
-/* Ends a request of which no other thread knows. 0: it is not so, and nothing was done. */
+/* Ends a request of which no other thread knows, if it hasn't ended. 0: others know, and nothing was done. */
 static int door_end_alone(fuse_req_t req);
 /* Ends what a session keeps. */
 static void door_end_session(struct fuse_session *se);
+
+/* Waits a millisecond for memory. 0: that was done too often. */
+static inline int door_pause(int *tries)
+{
+	const struct timespec pause = { 0, 1000000 };
+
+	if (++*tries > 1000)
+		return 0;
+	nanosleep(&pause, NULL);
+	return 1;
+}
+
+/* Memory for what a client sends next: without it a session would end. */
+#define DOOR_WAIT(allocation)                       \
+	({                                          \
+		void *at_ = (allocation);           \
+		int tries_ = 0;                     \
+		while (!at_ && door_pause(&tries_)) \
+			at_ = (allocation);         \
+		at_;                                \
+	})
 
 /* What a reply and a listing tell of an entry. */
 static void fill_entry(struct fuse_entry_out *out, const struct fuse_entry_param *e);

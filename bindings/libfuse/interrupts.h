@@ -3,7 +3,12 @@
  * fuse_req_interrupt_func, and goes without a lock before. An interrupt that finds no request is kept: for one that
  * asks later, or that it has overtaken. */
 
-enum { MOST_KEPT = 64 };
+enum {
+	/* So many are kept, before the oldest is sent back at the next call. */
+	MOST_KEPT = 64,
+	/* And so many at most, if no call comes. */
+	MOST_EVER = 8192,
+};
 
 static int has_interrupts(const struct fuse_session *se)
 {
@@ -51,22 +56,6 @@ static int end_kept(struct fuse_session *se, uint64_t unique)
 	return 0;
 }
 
-/* Interrupts a request, or keeps that. */
-static void interrupt(fuse_req_t req, uint64_t unique)
-{
-	struct fuse_session *se = req->se;
-
-	req->u.i.unique = unique;
-	pthread_mutex_lock(&se->lock);
-	if (find_interrupted(se, req)) {
-		end_interrupt(req);
-	} else {
-		list_add_req(req, &se->interrupts);
-		__atomic_store_n(&door_of(se)->kept, count_kept(se) + 1, __ATOMIC_RELAXED);
-	}
-	pthread_mutex_unlock(&se->lock);
-}
-
 /* Where many are kept, the oldest is most likely of a request that ended before it came: Linux sends it again, if that
  * is not so. */
 static void end_oldest(struct fuse_session *se)
@@ -81,6 +70,24 @@ static void end_oldest(struct fuse_session *se)
 		fuse_reply_err(oldest, EAGAIN);
 }
 
+/* Interrupts a request, or keeps that. */
+static void interrupt(fuse_req_t req, uint64_t unique)
+{
+	struct fuse_session *se = req->se;
+
+	req->u.i.unique = unique;
+	pthread_mutex_lock(&se->lock);
+	if (find_interrupted(se, req)) {
+		end_interrupt(req);
+	} else {
+		list_add_req(req, &se->interrupts);
+		__atomic_store_n(&door_of(se)->kept, count_kept(se) + 1, __ATOMIC_RELAXED);
+	}
+	pthread_mutex_unlock(&se->lock);
+	if (count_kept(se) > MOST_EVER)
+		end_oldest(se);
+}
+
 static void door_watch(fuse_req_t req)
 {
 	struct fuse_session *se = req->se;
@@ -88,8 +95,8 @@ static void door_watch(fuse_req_t req)
 	if (!has_interrupts(se))
 		return;
 	pthread_mutex_lock(&se->lock);
-	if (!own_of(req)->known) {
-		own_of(req)->known = 1;
+	if (own_of(req)->known == DOOR_ALONE) {
+		own_of(req)->known = DOOR_KNOWN;
 		list_add_req(req, &se->list);
 		if (end_kept(se, req->unique))
 			req->interrupted = 1;
@@ -106,8 +113,8 @@ static __attribute__((noinline)) void end_overtaken(struct fuse_session *se, uin
 
 static inline int door_end_alone(fuse_req_t req)
 {
-	if (unlikely(own_of(req)->known))
-		return 0;
+	if (unlikely(own_of(req)->known != DOOR_ALONE))
+		return own_of(req)->known == DOOR_ENDED;
 	if (unlikely(count_kept(req->se)))
 		end_overtaken(req->se, req->unique);
 	if (req->ch) {

@@ -37,6 +37,8 @@ OWN = (
     (r"(int fuse_req_interrupted\([^{]*\{\n)", r"\1\tdoor_watch(req);\n"),
     (r"(void fuse_session_destroy\([^{]*\{\n)", r"\1\tdoor_end_session(se);\n"),
 )
+# The memory for what a client sends.
+ROOM = r"= (malloc\(se->bufsize\)|buf_alloc\(bufsize, internal\));"
 PROCESS = r"fuse_session_process_buf_int(?:ernal)?"
 
 
@@ -75,6 +77,10 @@ def main():
     kept, count = re.subn(SHORT, "", kept, flags=re.M)
     if count != 2:
         sys.exit("fuse_lowlevel.c doesn't receive messages as is known here.")
+    # Nor does one for which there is no memory.
+    kept, count = re.subn(ROOM, r"= DOOR_WAIT(\1);", kept)
+    if not count:
+        sys.exit("fuse_lowlevel.c doesn't allocate messages as is known here.")
     kept, count = re.subn(r'(#include "mount_util\.h"\n)', r'\1#include "door.h"\n', kept)
     if count != 1:
         sys.exit("fuse_lowlevel.c doesn't include what is known here.")

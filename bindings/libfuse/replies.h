@@ -105,6 +105,7 @@ static __attribute__((noinline)) struct door_req *make_req(void)
 		return NULL;
 	pthread_mutex_init(&made->req.lock, NULL);
 	clean_req(&made->req);
+	made->call.answer = NIZWARF_QUIET;
 	return made;
 }
 
@@ -126,24 +127,28 @@ static inline struct fuse_req *door_take_req(struct fuse_session *se)
 	}
 	taken->req.se = se;
 	taken->req.unique = 0;
-	taken->call.call = 0;
-	taken->call.answer = NIZWARF_QUIET;
+	taken->known = DOOR_ALONE;
 	return &taken->req;
 }
 
-/* Keeps the memory of a request that is clean. */
+/* Keeps the memory of a request that is clean. Until it is taken, whoever answers the request again is told. */
 static inline void keep_req(struct fuse_req *req)
 {
 	struct door_thread *t = door_mine;
+	struct door_req *own = own_of(req);
 
 #ifdef __SANITIZE_ADDRESS__
 	/* (which sees what is used after its end) */
 	t = NULL;
 #endif
-	if (likely(t && !t->spare))
-		t->spare = own_of(req);
-	else
-		end_req(own_of(req));
+	if (likely(t && !t->spare)) {
+		own->known = DOOR_ENDED;
+		own->call.call = 0;
+		own->call.answer = NIZWARF_QUIET;
+		t->spare = own;
+	} else {
+		end_req(own);
+	}
 }
 
 static void door_give_req(struct fuse_req *req)
@@ -418,6 +423,12 @@ static int tell_text(const nizwarf_call *call, struct door_thread *t, const stru
 	nizwarf_answer *answer = &t->answer;
 	nizwarf_ioctl record;
 
+	if (call->call == NIZWARF_READLINK && len > LONGEST_LINK)
+		return 0;
+	if (call->answer == NIZWARF_TEXT_OR_COUNT && len > call->size) {
+		answer->error = ERANGE;
+		return 1;
+	}
 	/* (as large as the reply's: a larger one is elsewhere) */
 	if (!make_room(t, SMALL_ROOM + len)) {
 		answer->error = ENOMEM;
@@ -426,14 +437,10 @@ static int tell_text(const nizwarf_call *call, struct door_thread *t, const stru
 	gather(t->room, iov, count);
 	answer->text = t->room;
 	answer->text_len = len;
-	if (call->call == NIZWARF_READLINK)
-		return len <= LONGEST_LINK;
 	if (call->call == NIZWARF_IOCTL && len >= sizeof(record)) {
 		memcpy(&record, t->room, sizeof(record));
 		return record.flags & FUSE_IOCTL_RETRY || len - sizeof(record) <= call->size;
 	}
-	if (call->answer == NIZWARF_TEXT_OR_COUNT && len > call->size)
-		answer->error = ERANGE;
 	return 1;
 }
 
@@ -486,8 +493,13 @@ static int tell(fuse_req_t req, struct door_thread *t, nizwarf_init_more *more, 
 static int send_header(fuse_req_t req, int error)
 {
 	struct iovec iov[1];
-	int res = fuse_send_reply_iov_nofree(req, error, iov, 1);
+	int res;
 
+	if (own_of(req)->known == DOOR_ENDED) {
+		fuse_log(FUSE_LOG_ERR, "fuse: a request was answered again\n");
+		return -EINVAL;
+	}
+	res = fuse_send_reply_iov_nofree(req, error, iov, 1);
 	fuse_free_req(req);
 	return res;
 }
@@ -608,6 +620,19 @@ static inline size_t put_data_header(fuse_req_t req, uint64_t len, uint8_t *head
 	return told.len;
 }
 
+/* Puts pieces together, in front of which `iov` has a place for a header. 0: there is no memory. */
+static __attribute__((noinline)) int join_pieces(struct iovec *iov, int count, size_t len)
+{
+	struct door_thread *t = door_thread();
+
+	if (!t || !make_room(t, len))
+		return 0;
+	gather(t->room, iov + 1, count - 1);
+	iov[1].iov_base = t->room;
+	iov[1].iov_len = len;
+	return 1;
+}
+
 /* A reply with data, which are sent from where they are. */
 static int send_data(fuse_req_t req, struct iovec *iov, int count)
 {
@@ -616,16 +641,25 @@ static int send_data(fuse_req_t req, struct iovec *iov, int count)
 	_Alignas(struct fuse_out_header) uint8_t header[HEADER];
 	size_t whole;
 
-	if (call->answer == NIZWARF_DIRECTORY && len &&
-	    (count != 2 || !are_records(call, iov[1].iov_base, len)))
-		return send_plain(req, EIO);
+	if (call->answer == NIZWARF_DIRECTORY && len) {
+		if (len > call->size)
+			return send_plain(req, EIO);
+		if (unlikely(count > 2)) {
+			if (!join_pieces(iov, count, len))
+				return send_plain(req, ENOMEM);
+			count = 2;
+		}
+		if (!are_records(call, iov[1].iov_base, len))
+			return send_plain(req, EIO);
+	}
 	whole = put_data_header(req, len, header);
 	if (unlikely(!whole))
 		return send_header(req, -ENOMEM);
 	return send_put(req, header, HEADER, iov, whole > HEADER ? count : 1);
 }
 
-/* What was answered is no answer to the call: an error, if it is due a reply. */
+/* What was answered is no answer to the call: an error, if it is due a reply. The file system is told what a kernel
+ * would say to it. */
 static __attribute__((noinline)) int send_wrong(fuse_req_t req)
 {
 	const nizwarf_call *call = call_of(req);
@@ -634,10 +668,11 @@ static __attribute__((noinline)) int send_wrong(fuse_req_t req)
 		return send_header(req, 0);
 	if (call->answer == NIZWARF_QUIET) {
 		fuse_free_req(req);
-		return 0;
+		return -EINVAL;
 	}
 	fuse_log(FUSE_LOG_ERR, "fuse: what was answered is no answer to call %u\n", call->call);
-	return send_plain(req, EIO);
+	send_plain(req, EIO);
+	return -EINVAL;
 }
 
 /* A reply with a record that libfuse laid out. */
@@ -730,7 +765,7 @@ static int reply_flat(fuse_req_t req, struct fuse_bufvec *bufv)
 	struct fuse_bufvec flat = FUSE_BUFVEC_INIT(fuse_buf_size(bufv));
 	ssize_t res;
 
-	flat.buf[0].mem = malloc(flat.buf[0].size + 1);
+	flat.buf[0].mem = malloc(flat.buf[0].size ? flat.buf[0].size : 1);
 	if (!flat.buf[0].mem)
 		return fuse_reply_err(req, ENOMEM);
 	res = fuse_buf_copy(&flat, bufv, 0);

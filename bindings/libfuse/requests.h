@@ -12,8 +12,6 @@ enum {
 	WRITE_FRONT = sizeof(struct fuse_in_header) + sizeof(struct fuse_write_in),
 	ABSENT = 1 << 16,
 	MOST_SEGMENTS = 64,
-	/* In milliseconds. */
-	MOST_WAITS = 1000,
 	BIT_KILLPRIV_V2 = 28,
 };
 
@@ -159,7 +157,10 @@ static void on_batch_forget(fuse_req_t req, const nizwarf_call *c, const struct 
 		return;
 	}
 	if (se->op.forget) {
-		own_of(req)->known = 1;
+		/* (no reply goes there) */
+		fuse_chan_put(req->ch);
+		req->ch = NULL;
+		own_of(req)->known = DOOR_KNOWN;
 		req->REQ_COUNT += (int)pairs;
 		for (i = 0; i < pairs; i++) {
 			memcpy(&one, at + i * sizeof(one), sizeof(one));
@@ -299,16 +300,16 @@ static void write_buffers(fuse_req_t req, const nizwarf_call *c, const struct do
 			  struct fuse_file_info *file)
 {
 	struct fuse_bufvec bufv = { .count = 1, .buf[0] = *m->buf };
-	const int in_pipe = m->len < m->buf->size;
+	const size_t in_pipe = m->buf->size - m->len, asked = c->size;
 	struct fuse_session *se = req->se;
 
-	bufv.buf[0].size = c->size;
+	bufv.buf[0].size = asked;
 	if (!in_pipe) {
 		bufv.buf[0].flags = 0;
 		bufv.buf[0].mem = (char *)(uintptr_t)bytes_at(m, c->data);
 	}
 	se->op.write_buf(req, c->node, &bufv, (off_t)c->offset, file);
-	if (in_pipe && bufv.idx < bufv.count)
+	if (in_pipe && (bufv.idx < bufv.count || in_pipe > asked))
 		fuse_ll_clear_pipe(se);
 }
 
@@ -519,10 +520,13 @@ static void on_poll(fuse_req_t req, const nizwarf_call *c, const struct door_mes
 static void on_notify_reply(fuse_req_t req, const nizwarf_call *c, const struct door_message *m)
 {
 	const struct fuse_in_header *in = (const void *)m->in;
+	const int is_longer = m->buf->size - m->len > c->size;
 	struct fuse_session *se = req->se;
 	struct fuse_notify_req *asked;
 	struct fuse_buf buf = *m->buf;
 
+	if (m->len == m->buf->size)
+		buf.flags &= ~FUSE_BUF_IS_FD;
 #ifndef HAVE_RETRIEVE_HEADER
 	/* (of others who asked takes the header off) */
 	buf.size -= sizeof(*in);
@@ -536,6 +540,8 @@ static void on_notify_reply(fuse_req_t req, const nizwarf_call *c, const struct 
 	pthread_mutex_unlock(&se->lock);
 	if (asked != &se->notify_list) {
 		asked->reply(asked, req, c->node, in + 1, &buf);
+		if (is_longer)
+			fuse_ll_clear_pipe(se);
 		return;
 	}
 	fuse_reply_none(req);
@@ -626,6 +632,16 @@ static int take_bytes(struct fuse_bufvec *pipe, char *to, size_t len)
 	return fuse_ll_copy_from_pipe(&memory, pipe) >= 0;
 }
 
+/* Waits for memory where a file system is never told again what it is told now: of lookups that are given back.
+ * 0: it's not so, or was waited for too long. */
+static int wait_for_memory(const struct door_message *m, int *tries)
+{
+	const struct fuse_in_header *in = (const void *)m->in;
+
+	return in && m->len >= sizeof(*in) &&
+	       (in->opcode == FUSE_FORGET || in->opcode == FUSE_BATCH_FORGET) && door_pause(tries);
+}
+
 /* Whether what follows the front of a message may stay in a pipe. */
 static int may_stay(const struct fuse_session *se, const struct door_message *m)
 {
@@ -642,6 +658,7 @@ static int take_message(struct fuse_session *se, struct door_message *m, char *f
 {
 	struct fuse_bufvec pipe = { .count = 1, .buf[0] = *m->buf };
 	const size_t size = m->buf->size, len = size < WRITE_FRONT ? size : WRITE_FRONT;
+	int tries = 0;
 
 	m->in = front;
 	m->len = 0;
@@ -650,7 +667,9 @@ static int take_message(struct fuse_session *se, struct door_message *m, char *f
 	m->len = len;
 	if (len == size || may_stay(se, m))
 		return 1;
-	*whole = malloc(size);
+	do
+		*whole = malloc(size);
+	while (!*whole && wait_for_memory(m, &tries));
 	if (!*whole || !take_bytes(&pipe, *whole + len, size - len))
 		return 0;
 	memcpy(*whole, front, len);
@@ -807,20 +826,6 @@ static void clear_pipe(struct fuse_session *se, const struct door_message *m)
 		fuse_ll_clear_pipe(se);
 }
 
-/* Waits for memory where a file system is never told again what it is told now: of lookups that are given back.
- * 0: it's not so, or was waited for too long. */
-static int wait_for_memory(const struct door_message *m, int *tries)
-{
-	const struct fuse_in_header *in = (const void *)m->in;
-	const struct timespec pause = { 0, 1000000 };
-
-	if (!in || m->len < sizeof(*in) || (in->opcode != FUSE_FORGET && in->opcode != FUSE_BATCH_FORGET) ||
-	    ++*tries > MOST_WAITS)
-		return 0;
-	nanosleep(&pause, NULL);
-	return 1;
-}
-
 static __attribute__((noinline)) void print_request(const struct door_message *m, uint64_t options)
 {
 	char line[512];
@@ -882,10 +887,11 @@ static inline void serve(struct fuse_session *se, fuse_req_t req, struct door_th
 static void begin_device(fuse_req_t req, const struct door_message *m)
 {
 	const struct fuse_in_header *in = (const void *)m->in;
+	struct fuse_session *se = req->se;
 
 	if (m->len < sizeof(*in) + sizeof(struct cuse_init_in) || in->opcode != CUSE_INIT) {
 		refuse(req, m, EIO);
-		clear_pipe(req->se, m);
+		clear_pipe(se, m);
 		return;
 	}
 	req->unique = in->unique;

@@ -8,7 +8,8 @@
 #   answers    wrong answers of a file system come to their caller alone, under sanitizers
 #   memory     each allocation of some requests is refused in turn: nothing is lost
 #   hostile    the sessions of tests/beside, and 300 generated, under sanitizers: none reads past, none ends it
-#   threads    libfuse's passthrough_ll under the thread sanitizer, used by four at once
+#   threads    libfuse's passthrough_ll under the thread sanitizer, used by four at once; and requests that other
+#              threads answer, while they are interrupted
 #   programs   those of tests/libfuse/programs.txt, as the machine has them, or of another suite, downloaded: trees are
 #              equal with both libraries
 #   tests      libfuse's own tests with both libraries: the same cases pass; one that fails with one alone is tried
@@ -115,7 +116,9 @@ check_hostile() {
 
 check_threads() {
     compile "$folder/$suite-nizwarf/tree/example/passthrough_ll.c" "$work/threads" -fsanitize=thread
-    "$here/tests/libfuse/threads.sh" "$work/threads" "$work/threaded"
+    "$here/tests/libfuse/threads.sh" "$work/threads" "$work/threaded" || return 1
+    compile "$here/tests/libfuse/wrong.c" "$work/others" -fsanitize=thread
+    "$work/others" threads 2> "$work/said" || { cat "$work/said" && return 1; }
 }
 
 check_programs() {

@@ -59,5 +59,5 @@ reports=(report*)
 [ ${#reports[@]} = 0 ] || cat "${reports[@]}" > reports
 touch reports
 echo "$(grep -c '^WARNING' reports || true) reports of the thread sanitizer"
-! grep -E '^SUMMARY.*/(requests|replies|notices|door)\.h' reports || status=1
+! grep -E '^SUMMARY.*/(requests|replies|notices|door|listings|interrupts)\.h' reports || status=1
 exit $status

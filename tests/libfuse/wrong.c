@@ -1,22 +1,28 @@
 /* A file system over libfuse whose answers are wrong, and one whose memory is refused.
  *
- * Usage: wrong answers|memory
+ * Usage: wrong answers|memory|threads
  * It hands requests to a session by fuse_session_process_buf, and takes the replies by custom io. With `answers` the
  * file system answers by a number that is no error, by a text that is too long, by the record of another call: each is
  * to come to who asked as an error that Linux takes, and the next request is served; and interrupts come to their
  * requests. With `memory` each allocation of each of some requests is refused in turn, on a new thread: one reply comes,
- * of an error or of success, and each entry and each lookup that is given back is told. It prints how many of how many
- * did so. Status 0: all. */
+ * of an error or of success, and each entry and each lookup that is given back is told; and what a sanitizer takes for
+ * a fault of the file system, as a request that is answered twice, loses nothing. With `threads` others answer, and
+ * interrupts come meanwhile. It prints how many of how many did so. Status 0: all. */
 #define _GNU_SOURCE
 #define FUSE_USE_VERSION 317
+#include <cuse_lowlevel.h>
 #include <errno.h>
+#include <fcntl.h>
 #include <fuse_lowlevel.h>
 #include <linux/fuse.h>
+#include <malloc.h>
 #include <pthread.h>
+#include <sched.h>
 #include <stdatomic.h>
 #include <stdio.h>
 #include <stdlib.h>
 #include <string.h>
+#include <sys/mman.h>
 #include <sys/uio.h>
 #include <unistd.h>
 
@@ -26,6 +32,7 @@ static struct fuse_session *session;
 static char reply[SIZE];
 static size_t reply_len;
 static int replies, passed, tried;
+static char text[LONGEST + 1];
 /* How many entries the client holds, and how many it should. */
 static long held, owed;
 /* Which allocation is refused: 0 none. */
@@ -74,10 +81,24 @@ static ssize_t take_reply(int fd, struct iovec *iov, int count, void *user)
 	return (ssize_t)at;
 }
 
-static ssize_t no_request(int fd, void *at, size_t len, void *user)
+/* The next message of the client. */
+static const char *next_message;
+static size_t next_len;
+
+static ssize_t give_request(int fd, void *at, size_t len, void *user)
 {
-	(void)fd, (void)at, (void)len, (void)user;
-	return 0;
+	(void)fd, (void)user;
+	if (next_len > len)
+		abort();
+	memcpy(at, next_message, next_len);
+	return (ssize_t)next_len;
+}
+
+static ssize_t give_to_pipe(int fd, off_t *from, int pipe, off_t *to, size_t len, unsigned int flags,
+			    void *user)
+{
+	(void)fd, (void)from, (void)to, (void)flags, (void)user;
+	return next_len > len ? -1 : write(pipe, next_message, next_len);
 }
 
 /* ---- The file system: what it does with a name is the name --------------------------------------- */
@@ -122,6 +143,26 @@ static void give_times(fuse_req_t req, size_t i)
 	fuse_reply_entry(req, &entry);
 }
 
+/* How many answers to one request were taken. */
+static int taken;
+
+/* Answers in several ways, after the request has ended. */
+static void answer_again(fuse_req_t req)
+{
+	struct fuse_entry_param entry = { .ino = 2 };
+	struct fuse_bufvec data = FUSE_BUFVEC_INIT(3);
+
+	data.buf[0].mem = text;
+	taken = !fuse_reply_err(req, ENOENT);
+	taken += !fuse_reply_err(req, ENOENT);
+	taken += !fuse_reply_entry(req, &entry);
+	taken += !fuse_reply_write(req, 1);
+	taken += !fuse_reply_buf(req, text, 3);
+	taken += !fuse_reply_data(req, &data, 0);
+	taken += !fuse_reply_readlink(req, "link");
+	fuse_reply_none(req);
+}
+
 static void on_lookup(fuse_req_t req, fuse_ino_t parent, const char *name)
 {
 	const struct statvfs st = { .f_bsize = 1 };
@@ -139,13 +180,13 @@ static void on_lookup(fuse_req_t req, fuse_ino_t parent, const char *name)
 		fuse_reply_buf(req, "bytes", 5);
 	else if (!strcmp(name, "good"))
 		give_entry(req);
+	else if (!strcmp(name, "again"))
+		answer_again(req);
 	else if (*name == 't')
 		give_times(req, (size_t)atoi(name + 1));
 	else
 		fuse_reply_err(req, ENOENT);
 }
-
-static char text[LONGEST + 1];
 
 static void on_readlink(fuse_req_t req, fuse_ino_t ino)
 {
@@ -155,16 +196,45 @@ static void on_readlink(fuse_req_t req, fuse_ino_t ino)
 static void on_getxattr(fuse_req_t req, fuse_ino_t ino, const char *name, size_t size)
 {
 	(void)name;
+	struct fuse_bufvec endless = FUSE_BUFVEC_INIT(SIZE_MAX);
+
+	endless.buf[0].mem = text;
 	if (!size)
 		fuse_reply_buf(req, text, 3);
+	else if (ino == 4)
+		fuse_reply_data(req, &endless, 0);
 	else
 		fuse_reply_buf(req, text, ino == 2 ? size : size + 1);
 }
 
 static void on_read(fuse_req_t req, fuse_ino_t ino, size_t size, off_t off, struct fuse_file_info *fi)
 {
+	struct fuse_bufvec endless = FUSE_BUFVEC_INIT(SIZE_MAX);
+
 	(void)off, (void)fi;
-	fuse_reply_buf(req, text, ino == 2 ? size : size + 1);
+	endless.buf[0].mem = text;
+	if (ino == 4)
+		fuse_reply_data(req, &endless, 0);
+	else
+		fuse_reply_buf(req, text, ino == 2 ? size : size + 1);
+}
+
+/* What came of a WRITE. */
+static char written[SIZE];
+static size_t written_len;
+
+static void on_write(fuse_req_t req, fuse_ino_t ino, struct fuse_bufvec *from, off_t off,
+		     struct fuse_file_info *fi)
+{
+	struct fuse_bufvec to = FUSE_BUFVEC_INIT(fuse_buf_size(from));
+
+	(void)off, (void)fi;
+	to.buf[0].mem = written;
+	/* (of node 3 a part is left where it is) */
+	if (ino == 3)
+		to.buf[0].size /= 2;
+	written_len = (size_t)fuse_buf_copy(&to, from, 0);
+	fuse_reply_write(req, written_len);
 }
 
 /* A record of a name of `len` bytes, of which one is 0 if there are as many, is told as a node from NAMES on. */
@@ -186,6 +256,18 @@ static void list_name(fuse_req_t req, size_t len, size_t zero)
 	fuse_reply_buf(req, at, whole);
 }
 
+/* Two records, in as many pieces. */
+static void list_by_pieces(fuse_req_t req)
+{
+	const struct stat st = { .st_ino = 2, .st_mode = S_IFREG };
+	_Alignas(8) char at[64] = { 0 };
+	const size_t len = fuse_add_direntry(req, at, sizeof(at), "name", &st, 1);
+	const struct iovec pieces[] = { { at, len - 1 }, { at + len - 1, 9 }, { at + len + 8, len - 8 } };
+
+	fuse_add_direntry(req, at + len, sizeof(at) - len, "other", &st, 2);
+	fuse_reply_iov(req, pieces, 3);
+}
+
 /* A directory's records: whole, with a name that ends after them, without a name, with a 0 in it, or too many. */
 static void on_readdir(fuse_req_t req, fuse_ino_t ino, size_t size, off_t off, struct fuse_file_info *fi)
 {
@@ -197,6 +279,10 @@ static void on_readdir(fuse_req_t req, fuse_ino_t ino, size_t size, off_t off, s
 	(void)off, (void)fi;
 	if (ino >= NAMES) {
 		list_name(req, (ino - NAMES) / PLACES, (ino - NAMES) % PLACES);
+		return;
+	}
+	if (ino == 7) {
+		list_by_pieces(req);
 		return;
 	}
 	if (ino == 3)
@@ -213,7 +299,7 @@ static void on_open(fuse_req_t req, fuse_ino_t ino, struct fuse_file_info *fi)
 	if (ino == 2)
 		fuse_reply_open(req, fi);
 	else if (ino == 3)
-		fuse_reply_write(req, 1);
+		taken = !fuse_reply_write(req, 1);
 	else
 		fuse_reply_err(req, 0);
 }
@@ -253,11 +339,15 @@ static void on_interrupt(fuse_req_t req, void *data)
 
 /* How many bytes came of what a notice asked for. */
 static size_t retrieved;
+static char kept[1 << 17];
 
 static void on_retrieved(fuse_req_t req, void *cookie, fuse_ino_t ino, off_t off, struct fuse_bufvec *bufv)
 {
+	struct fuse_bufvec to = FUSE_BUFVEC_INIT(sizeof(kept));
+
 	(void)cookie, (void)ino, (void)off;
-	retrieved = fuse_buf_size(bufv);
+	to.buf[0].mem = kept;
+	retrieved = (size_t)fuse_buf_copy(&to, bufv, 0);
 	fuse_reply_none(req);
 }
 
@@ -267,6 +357,7 @@ static const struct fuse_lowlevel_ops ops = {
 	.readlink = on_readlink,
 	.getxattr = on_getxattr,
 	.read = on_read,
+	.write_buf = on_write,
 	.readdir = on_readdir,
 	.open = on_open,
 	.ioctl = on_ioctl,
@@ -288,20 +379,51 @@ struct request {
 	int forgets;
 };
 
-/* (a copy of its own length: what is after it isn't the request's) */
-static void send_request(const struct request *r)
+/* Lays a message out, and answers its length. */
+static size_t put_message(char *at, const struct request *r)
 {
 	const struct fuse_in_header in = {
 		.len = (uint32_t)(sizeof(in) + r->size), .opcode = r->opcode, .unique = 7, .nodeid = r->node
 	};
-	static _Thread_local _Alignas(8) char room[SIZE];
-	struct fuse_buf buf = { .size = sizeof(in) + r->size, .mem = room };
 
-	memcpy(room, &in, sizeof(in));
+	memcpy(at, &in, sizeof(in));
 	if (r->size)
-		memcpy(room + sizeof(in), r->record, r->size);
+		memcpy(at + sizeof(in), r->record, r->size);
+	return in.len;
+}
+
+/* (a copy of its own length: what is after it isn't the request's) */
+static void send_request(const struct request *r)
+{
+	static _Thread_local _Alignas(8) char room[SIZE];
+	struct fuse_buf buf = { .mem = room };
+
+	buf.size = put_message(room, r);
 	replies = 0;
 	fuse_session_process_buf(session, &buf);
+}
+
+static int begin_io(const struct fuse_custom_io *io)
+{
+#if FUSE_VERSION >= FUSE_MAKE_VERSION(3, 17)
+	return fuse_session_custom_io(session, io, sizeof(*io), dup(0));
+#else
+	return fuse_session_custom_io(session, io, dup(0));
+#endif
+}
+
+/* Has the session receive a request itself, by a pipe if it is long; with some bytes after it. */
+static void receive_request(const struct request *r, size_t more)
+{
+	static _Alignas(8) char room[SIZE];
+	struct fuse_buf buf = { .size = 0 };
+
+	next_message = room;
+	next_len = put_message(room, r) + more;
+	replies = 0;
+	if (fuse_session_receive_buf(session, &buf) == (int)next_len)
+		fuse_session_process_buf(session, &buf);
+	free(buf.mem);
 }
 
 static struct fuse_out_header header_of_reply(void)
@@ -345,6 +467,7 @@ static const struct request wrong[] = {
 	{ FUSE_GETXATTR, 3, &value, sizeof(value.in) + 7, ERANGE, "a value of 9 bytes for 8", 0 },
 	{ FUSE_GETXATTR, 2, &length, sizeof(length.in) + 7, EIO, "a value for its length", 0 },
 	{ FUSE_READ, 3, &reading, sizeof(reading), EIO, "65 bytes for 64", 0 },
+	{ FUSE_READ, 4, &reading, sizeof(reading), EIO, "2^64 - 1 bytes for 64", 0 },
 	{ FUSE_READDIR, 3, &reading, sizeof(reading), EIO, "a name past its record", 0 },
 	{ FUSE_READDIR, 4, &reading, sizeof(reading), EIO, "a record without a name", 0 },
 	{ FUSE_READDIR, 5, &reading, sizeof(reading), EIO, "a name with a 0", 0 },
@@ -355,12 +478,27 @@ static const struct request wrong[] = {
 	{ FUSE_IOCTL, 4, &asking, sizeof(asking), EIO, "half a record of an IOCTL", 0 },
 };
 
+/* What comes by a pipe. */
+static struct {
+	struct fuse_batch_forget_in in;
+	struct fuse_forget_one one[300];
+} many_forgets = { .in.count = 300 };
+static struct {
+	struct fuse_write_in in;
+	char data[8000];
+} writing = { .in.size = 8000 };
+static const struct request forgets_by_pipe = {
+	FUSE_BATCH_FORGET, 0, &many_forgets, sizeof(many_forgets), -1, "BATCH_FORGET by a pipe", 300
+};
+
 static const struct request good[] = {
 	{ FUSE_LOOKUP, 1, "good", 5, 0, "LOOKUP", 0 },
 	{ FUSE_READLINK, 2, NULL, 0, 0, "READLINK", 0 },
 	{ FUSE_GETXATTR, 2, &value, sizeof(value.in) + 7, 0, "GETXATTR", 0 },
 	{ FUSE_READ, 2, &reading, sizeof(reading), 0, "READ", 0 },
 	{ FUSE_READDIR, 2, &reading, sizeof(reading), 0, "READDIR", 0 },
+	{ FUSE_READDIR, 7, &reading, sizeof(reading), 0, "READDIR by pieces", 0 },
+	{ FUSE_WRITE, 2, &writing, sizeof(writing), 0, "WRITE", 0 },
 	{ FUSE_OPEN, 2, &opening, sizeof(opening), 0, "OPEN", 0 },
 	{ FUSE_IOCTL, 2, &asking, sizeof(asking), 0, "IOCTL", 0 },
 	{ FUSE_FORGET, 2, &one_forget, sizeof(one_forget), -1, "FORGET", 1 },
@@ -387,26 +525,81 @@ static int is_answered(const struct request *r)
 	       (!r->error || out.len == sizeof(out));
 }
 
+/* A descriptor with this in it, as a pipe has it. */
+static int fill_file(const char *at, size_t len)
+{
+	const int fd = memfd_create("message", 0);
+
+	if (fd < 0 || write(fd, at, len) != (ssize_t)len || lseek(fd, 0, SEEK_SET))
+		exit(2);
+	return fd;
+}
+
 /* What a notice asks for comes whole, however long it is. */
-static void try_retrieve(size_t size)
+static void try_retrieve(size_t size, int by_file)
 {
 	struct fuse_notify_retrieve_out asked;
 	struct fuse_notify_retrieve_in in = { .size = (uint32_t)size };
-	static _Alignas(8) char room[SIZE];
+	static _Alignas(8) char room[sizeof(kept)];
 	struct fuse_in_header head = { .len = (uint32_t)(sizeof(head) + sizeof(in) + size),
 				       .opcode = FUSE_NOTIFY_REPLY,
 				       .nodeid = 2 };
 	struct fuse_buf buf = { .size = head.len, .mem = room };
+	size_t i;
 
 	retrieved = 0;
+	for (i = 0; i < size; i++)
+		room[sizeof(head) + sizeof(in) + i] = (char)(i * 7 >> 3);
 	fuse_lowlevel_notify_retrieve(session, 2, size, 0, NULL);
 	memcpy(&asked, reply + sizeof(struct fuse_out_header), sizeof(asked));
 	head.unique = asked.notify_unique;
 	memcpy(room, &head, sizeof(head));
 	memcpy(room + sizeof(head), &in, sizeof(in));
 	replies = 0;
+	if (by_file) {
+		buf.flags = FUSE_BUF_IS_FD;
+		buf.fd = fill_file(room, buf.size);
+	}
 	fuse_session_process_buf(session, &buf);
-	judge("what was retrieved", !replies && retrieved == size);
+	if (by_file)
+		close(buf.fd);
+	judge("what was retrieved",
+	      !replies && retrieved == size && !memcmp(kept, room + sizeof(head) + sizeof(in), size));
+}
+
+/* Whether the session takes the next request for what it is. */
+static int goes_on(void)
+{
+	static const struct request next = { FUSE_READLINK, 2, NULL, 0, 0, "READLINK", 0 };
+
+	receive_request(&next, 0);
+	return is_answered(&next) && reply_len == sizeof(struct fuse_out_header) + 5 &&
+	       !memcmp(reply + sizeof(struct fuse_out_header), "short", 5);
+}
+
+/* What comes by a pipe, as if by a kernel: the next request begins after it. */
+static void try_pipes(void)
+{
+	struct request request = { FUSE_WRITE, 2, &writing, sizeof(writing), 0, "a WRITE by a pipe", 0 };
+	struct fuse_write_out out;
+	const long before = held;
+	size_t i;
+
+	for (i = 0; i < sizeof(writing.data); i++)
+		writing.data[i] = (char)(i * 11 >> 3);
+	for (i = 0; i < sizeof(many_forgets.one) / sizeof(*many_forgets.one); i++)
+		many_forgets.one[i] = (struct fuse_forget_one){ 2, 1 };
+	receive_request(&request, 0);
+	memcpy(&out, reply + sizeof(struct fuse_out_header), sizeof(out));
+	judge(request.what, is_answered(&request) && out.size == sizeof(writing.data) &&
+				    !memcmp(written, writing.data, sizeof(writing.data)) && goes_on());
+	request.node = 3;
+	receive_request(&request, 0);
+	judge("half a WRITE", replies == 1 && goes_on());
+	receive_request(&request, 100);
+	judge("a WRITE with bytes after it", replies == 1 && goes_on());
+	receive_request(&forgets_by_pipe, 0);
+	judge(forgets_by_pipe.what, !replies && held == before - forgets_by_pipe.forgets && goes_on());
 }
 
 static void interrupt(uint64_t unique)
@@ -500,6 +693,22 @@ static void try_names(void)
 	judge("names of each length", right == LONGEST_NAME * (LONGEST_NAME + 3) / 2);
 }
 
+/* Records that come by several pieces are one listing. */
+static void try_pieces(void)
+{
+	static const struct request asked = { FUSE_READDIR, 7, &reading, sizeof(reading), 0, "pieces", 0 };
+	struct fuse_dirent record[2];
+	const char *at = reply + sizeof(struct fuse_out_header);
+
+	send_request(&asked);
+	memcpy(&record[0], at, sizeof(*record));
+	memcpy(&record[1], at + 32, sizeof(*record));
+	judge("a listing by pieces", is_answered(&asked) &&
+					     reply_len == sizeof(struct fuse_out_header) + 64 &&
+					     record[0].namelen == 4 && record[1].namelen == 5 &&
+					     !memcmp(at + 24, "name", 4) && !memcmp(at + 56, "other", 5));
+}
+
 static void try_times(void)
 {
 	struct request asked = { FUSE_LOOKUP, 1, NULL, 0, 0, "a time", 0 };
@@ -521,7 +730,125 @@ static void try_times(void)
 	judge("times of entries", right == TIMES);
 }
 
-static void try_answers(void)
+/* ---- A character device ---------------------------------------------------------------------------- */
+
+static void on_device_open(fuse_req_t req, struct fuse_file_info *fi)
+{
+	fi->fh = 5;
+	fuse_reply_open(req, fi);
+}
+
+static void on_device_read(fuse_req_t req, size_t size, off_t off, struct fuse_file_info *fi)
+{
+	(void)off;
+	fuse_reply_buf(req, text, fi->fh == 5 && size > 9 ? 9 : size);
+}
+
+static void on_device_write(fuse_req_t req, const char *buf, size_t size, off_t off,
+			    struct fuse_file_info *fi)
+{
+	(void)off, (void)fi;
+	fuse_reply_write(req, size == 6 && !memcmp(buf, "bytes", 6) ? 6 : 0);
+}
+
+/* Asks for what its argument points to, before it answers. */
+static void on_device_ioctl(fuse_req_t req, int cmd, void *arg, struct fuse_file_info *fi, unsigned int flags,
+			    const void *in, size_t in_size, size_t out_size)
+{
+	const struct iovec asked = { arg, 8 };
+
+	(void)fi, (void)flags, (void)in, (void)out_size;
+	if (in_size)
+		fuse_reply_ioctl(req, cmd, NULL, 0);
+	else
+		fuse_reply_ioctl_retry(req, &asked, 1, NULL, 0);
+}
+
+static const struct cuse_lowlevel_ops device_ops = {
+	.open = on_device_open, .read = on_device_read, .write = on_device_write, .ioctl = on_device_ioctl
+};
+
+/* What the last reply has after its header. */
+static int has_reply(const void *record, size_t size)
+{
+	const struct fuse_out_header out = header_of_reply();
+
+	return replies == 1 && out.unique == 7 && !out.error && out.len == reply_len &&
+	       reply_len == sizeof(out) + size && !memcmp(reply + sizeof(out), record, size);
+}
+
+static void try_device_calls(void)
+{
+	static const struct fuse_open_in open = { 0 };
+	static const struct fuse_read_in read = { .fh = 5, .size = 64 };
+	static const struct {
+		struct fuse_write_in in;
+		char data[8];
+	} write = { { .fh = 5, .size = 6 }, "bytes" };
+	struct {
+		struct fuse_ioctl_in in;
+		char data[8];
+	} ioctl = { { .fh = 5, .flags = FUSE_IOCTL_UNRESTRICTED, .cmd = 3, .arg = 4096, .in_size = 8 }, "" };
+	const struct fuse_open_out opened = { .fh = 5 };
+	const struct fuse_write_out six = { .size = 6 };
+	const struct {
+		struct fuse_ioctl_out out;
+		struct fuse_ioctl_iovec in;
+	} retry = { { .flags = FUSE_IOCTL_RETRY, .in_iovs = 1 }, { 4096, 8 } };
+	const struct fuse_ioctl_out three = { .result = 3 };
+
+	send_request(&(struct request){ FUSE_OPEN, 0, &open, sizeof(open), 0, "", 0 });
+	judge("OPEN of a device", has_reply(&opened, sizeof(opened)));
+	send_request(&(struct request){ FUSE_READ, 0, &read, sizeof(read), 0, "", 0 });
+	judge("READ of a device", has_reply(text, 9));
+	send_request(&(struct request){ FUSE_WRITE, 0, &write, sizeof(write.in) + 6, 0, "", 0 });
+	judge("WRITE of a device", has_reply(&six, sizeof(six)));
+	send_request(&(struct request){ FUSE_IOCTL, 0, &ioctl, sizeof(ioctl), 0, "", 0 });
+	judge("IOCTL of a device", has_reply(&three, sizeof(three)));
+	ioctl.in.in_size = 0;
+	send_request(&(struct request){ FUSE_IOCTL, 0, &ioctl, sizeof(ioctl.in), 0, "", 0 });
+	judge("IOCTL of a device, which asks for more", has_reply(&retry, sizeof(retry)));
+}
+
+/* A device's first request is of another kind: what comes before it reaches nobody, and it comes once. */
+static void try_device(const struct fuse_custom_io *io)
+{
+	static const char *info[] = { "DEVNAME=wrong" };
+	static const struct cuse_info device = { .dev_major = 7,
+						 .dev_minor = 9,
+						 .dev_info_argc = 1,
+						 .dev_info_argv = info,
+						 .flags = CUSE_UNRESTRICTED_IOCTL };
+	static const struct cuse_init_in init_in = { .major = 7, .minor = 38 };
+	static const struct request first = {
+		CUSE_INIT, 0, &init_in, sizeof(init_in), ENOSYS, "CUSE_INIT", 0
+	};
+	struct fuse_session *before = session;
+	char *name[] = { "device", NULL };
+	struct fuse_args args = FUSE_ARGS_INIT(1, name);
+	struct cuse_init_out out;
+
+	session = cuse_lowlevel_new(&args, &device, &device_ops, NULL);
+	if (!session || begin_io(io))
+		exit(2);
+	send_request(&(struct request){ FUSE_OPEN, 0, &opening, sizeof(opening), EIO, "", 0 });
+	judge("a request before CUSE_INIT", replies == 1 && header_of_reply().error == -EIO);
+	send_request(&first);
+	memcpy(&out, reply + sizeof(struct fuse_out_header), sizeof(out));
+	judge(first.what,
+	      replies == 1 && !header_of_reply().error && out.major == 7 &&
+		      out.flags == CUSE_UNRESTRICTED_IOCTL && out.dev_major == 7 && out.dev_minor == 9 &&
+		      reply_len == sizeof(struct fuse_out_header) + sizeof(out) + strlen(*info) + 1 &&
+		      !strcmp(reply + sizeof(struct fuse_out_header) + sizeof(out), *info));
+	send_request(&first);
+	judge("a second CUSE_INIT", is_answered(&first));
+	try_device_calls();
+	fuse_session_destroy(session);
+	fuse_opt_free_args(&args);
+	session = before;
+}
+
+static void try_answers(const struct fuse_custom_io *io)
 {
 	size_t i;
 
@@ -533,18 +860,24 @@ static void try_answers(void)
 		send_request(&good[i]);
 		judge(good[i].what, is_answered(&good[i]));
 	}
+	judge("told that it is no answer", !taken);
+	try_pieces();
 	try_names();
 	try_times();
-	try_retrieve(1);
-	try_retrieve(64);
-	try_retrieve(4096);
+	try_retrieve(1, 0);
+	try_retrieve(64, 0);
+	try_retrieve(4096, 0);
+	try_retrieve(4096, 1);
+	try_retrieve(100000, 1);
+	try_pipes();
 	try_interrupts();
+	try_device(io);
 }
 
 struct attempt {
 	const struct request *request;
 	long nth;
-	int reached;
+	int receives, reached;
 };
 
 static void *attempt_on_thread(void *at)
@@ -553,7 +886,10 @@ static void *attempt_on_thread(void *at)
 
 	allocated = 0;
 	refused = a->nth;
-	send_request(a->request);
+	if (a->receives)
+		receive_request(a->request, 0);
+	else
+		send_request(a->request);
 	a->reached = allocated >= a->nth;
 	refused = 0;
 	return NULL;
@@ -576,41 +912,189 @@ static int is_whole(const struct request *r)
 	       (!out.error || out.error == -ENOMEM);
 }
 
+/* Refuses each allocation of a request in turn. */
+static void refuse_each(const struct request *r, int receives)
+{
+	struct attempt a = { .request = r, .receives = receives };
+	pthread_t thread;
+
+	for (a.nth = 1, a.reached = 1; a.reached && a.nth < 100; a.nth++) {
+		if (pthread_create(&thread, NULL, attempt_on_thread, &a) || pthread_join(thread, NULL))
+			exit(2);
+		judge(r->what, is_whole(r));
+	}
+}
+
+/* A request that is answered twice is answered once. */
+static void try_again(void)
+{
+	static const struct request r = { FUSE_LOOKUP, 1, "again", 6, ENOENT, "again", 0 };
+
+	send_request(&r);
+	judge("answers to one request", is_answered(&r) && taken == 1);
+	send_request(&good[0]);
+	owed++;
+	judge("a request after it", is_answered(&good[0]) && held == owed);
+}
+
+/* Interrupts alone, of requests that never come, take no more memory than some do. */
+static void try_many_interrupts(void)
+{
+	enum { MANY = 100000, MOST_MEMORY = 16 << 20 };
+	const size_t before = mallinfo2().uordblks;
+	int i;
+
+	for (i = 0; i < MANY; i++)
+		interrupt(1000 + (uint64_t)i);
+	judge("interrupts of no request", mallinfo2().uordblks < before + MOST_MEMORY);
+	send_request(&good[1]);
+}
+
 static void try_memory(void)
 {
-	struct attempt a;
-	pthread_t thread;
+	static const struct request endless = {
+		FUSE_GETXATTR, 4, &value, sizeof(value.in) + 7, ENOMEM, "2^64 - 1 bytes of a value", 0
+	};
 	size_t i;
 
 	for (i = 0; i < sizeof(good) / sizeof(*good); i++)
-		for (a.nth = 1, a.reached = 1; a.reached && a.nth < 100; a.nth++) {
-			a.request = &good[i];
-			if (pthread_create(&thread, NULL, attempt_on_thread, &a) ||
-			    pthread_join(thread, NULL))
-				exit(2);
-			judge(good[i].what, is_whole(&good[i]));
-		}
+		refuse_each(&good[i], 0);
+	refuse_each(&good[0], 1);
+	for (i = 0; i < sizeof(many_forgets.one) / sizeof(*many_forgets.one); i++)
+		many_forgets.one[i] = (struct fuse_forget_one){ 2, 1 };
+	refuse_each(&forgets_by_pipe, 1);
+	send_request(&endless);
+	judge(endless.what, is_answered(&endless));
+	try_again();
+	try_many_interrupts();
+}
+
+/* ---- Others that answer ---------------------------------------------------------------------------- */
+
+enum { REQUESTS = 4000, ANSWERERS = 4, ASKERS = 2, FIRST = 100 };
+
+/* Requests that wait: each is answered by a thread of its own choice, which asks for interrupts of every other one. */
+static fuse_req_t queue[REQUESTS];
+static atomic_int queued, fetched, begun, answered[REQUESTS];
+
+static void on_getattr_queue(fuse_req_t req, fuse_ino_t ino, struct fuse_file_info *fi)
+{
+	static pthread_mutex_t lock = PTHREAD_MUTEX_INITIALIZER;
+
+	(void)ino, (void)fi;
+	pthread_mutex_lock(&lock);
+	queue[queued] = req;
+	queued++;
+	pthread_mutex_unlock(&lock);
+}
+
+static void on_told(fuse_req_t req, void *data)
+{
+	(void)req, (void)data;
+}
+
+static void *answer_some(void *none)
+{
+	const struct stat st = { .st_ino = 2, .st_mode = S_IFREG };
+	int i;
+
+	while ((i = fetched++) < REQUESTS) {
+		while (queued <= i)
+			sched_yield();
+		if (i % 4 == 1)
+			fuse_req_interrupted(queue[i]);
+		else if (i % 4 == 3)
+			fuse_req_interrupt_func(queue[i], on_told, NULL);
+		if (i % 8 == 5)
+			fuse_reply_err(queue[i], EINTR);
+		else
+			fuse_reply_attr(queue[i], &st, 1);
+	}
+	return none;
+}
+
+/* Sends requests, and interrupts of them, of some before they come or after they ended. */
+static void *ask_some(void *none)
+{
+	static const struct fuse_getattr_in in;
+	struct {
+		struct fuse_in_header head;
+		struct fuse_interrupt_in in;
+	} stop = { { .len = sizeof(stop), .opcode = FUSE_INTERRUPT }, { 0 } };
+	struct {
+		struct fuse_in_header head;
+		struct fuse_getattr_in in;
+	} ask = { { .len = sizeof(ask), .opcode = FUSE_GETATTR, .nodeid = 2 }, in };
+	struct fuse_buf buf;
+	int i;
+
+	while ((i = begun++) < REQUESTS) {
+		ask.head.unique = FIRST + (uint64_t)i;
+		buf = (struct fuse_buf){ .size = sizeof(ask), .mem = &ask };
+		fuse_session_process_buf(session, &buf);
+		stop.head.unique = FIRST + REQUESTS + (uint64_t)i;
+		stop.in.unique = FIRST + (uint64_t)(i * 7 % REQUESTS);
+		buf = (struct fuse_buf){ .size = sizeof(stop), .mem = &stop };
+		fuse_session_process_buf(session, &buf);
+	}
+	return none;
+}
+
+/* (of an interrupt, whose number is a later one, it may say that it is to be sent again) */
+static ssize_t count_reply(int fd, struct iovec *iov, int count, void *user)
+{
+	struct fuse_out_header out;
+	size_t len = 0;
+	int i;
+
+	(void)fd, (void)user;
+	memcpy(&out, iov->iov_base, sizeof(out));
+	for (i = 0; i < count; i++)
+		len += iov[i].iov_len;
+	if (out.unique >= FIRST && out.unique < FIRST + REQUESTS && out.len == len)
+		answered[out.unique - FIRST]++;
+	return (ssize_t)len;
+}
+
+static void try_threads(void)
+{
+	pthread_t threads[ANSWERERS + ASKERS];
+	int i, right = 0;
+
+	for (i = 0; i < ANSWERERS + ASKERS; i++)
+		if (pthread_create(&threads[i], NULL, i < ANSWERERS ? answer_some : ask_some, NULL))
+			exit(2);
+	for (i = 0; i < ANSWERERS + ASKERS; i++)
+		pthread_join(threads[i], NULL);
+	for (i = 0; i < REQUESTS; i++)
+		right += answered[i] == 1;
+	judge("each request is answered once", right == REQUESTS);
 }
 
 int main(int count, char **words)
 {
-	static const struct fuse_custom_io io = { .read = no_request, .writev = take_reply };
+	const int by_others = count == 2 && !strcmp(words[1], "threads");
+	const struct fuse_custom_io io = { .read = give_request,
+					   .writev = by_others ? count_reply : take_reply,
+					   .splice_receive = give_to_pipe };
 	static const struct request first = { FUSE_INIT, 0, &init, sizeof(init), 0, "INIT", 0 };
+	struct fuse_lowlevel_ops own = ops;
 	char *name[] = { "wrong", NULL };
 	struct fuse_args args = FUSE_ARGS_INIT(1, name);
 
 	memset(text, 'a', LONGEST);
-	session = fuse_session_new(&args, &ops, sizeof(ops), NULL);
-#if FUSE_VERSION >= FUSE_MAKE_VERSION(3, 17)
-	if (count != 2 || !session || fuse_session_custom_io(session, &io, sizeof(io), dup(0)))
-#else
-	if (count != 2 || !session || fuse_session_custom_io(session, &io, dup(0)))
-#endif
+	if (by_others)
+		own.getattr = on_getattr_queue;
+	session = fuse_session_new(&args, &own, sizeof(own), NULL);
+	if (count != 2 || !session || begin_io(&io))
 		return 2;
 	send_request(&first);
-	judge("INIT", is_answered(&first));
-	if (!strcmp(words[1], "answers"))
-		try_answers();
+	if (!by_others)
+		judge("INIT", is_answered(&first));
+	if (by_others)
+		try_threads();
+	else if (!strcmp(words[1], "answers"))
+		try_answers(&io);
 	else
 		try_memory();
 	fuse_session_destroy(session);
