@@ -316,6 +316,7 @@ static void write_buffers(fuse_req_t req, const nizwarf_call *c, const struct do
 static void on_write(fuse_req_t req, const nizwarf_call *c, const struct door_message *m)
 {
 	struct fuse_file_info file = file_of(c);
+	struct fuse_session *se = req->se;
 
 	file.flags = (int)c->flags;
 	file.lock_owner = c->lock_owner;
@@ -324,8 +325,8 @@ static void on_write(fuse_req_t req, const nizwarf_call *c, const struct door_me
 	if (c->data.len < c->size) {
 		fuse_reply_err(req, EIO);
 		if (m->len < m->buf->size)
-			fuse_ll_clear_pipe(req->se);
-	} else if (req->se->op.write_buf) {
+			fuse_ll_clear_pipe(se);
+	} else if (se->op.write_buf) {
 		write_buffers(req, c, m, &file);
 	} else {
 		CALL(req, write, c->node, bytes_at(m, c->data), c->size, (off_t)c->offset, &file);

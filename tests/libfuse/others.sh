@@ -9,6 +9,7 @@
 #   rofiles  rofiles-fuse of ostree: test-rofiles-fuse.sh
 #   nbdfuse  libnbd's tests of nbdfuse
 #   raw, qcow2   QEMU's iotests of such images behind an export of qemu-storage-daemon, `check -fuse -g auto`
+#   bindfs   bindfs's tests, by bindfs of Debian's sid, which links libfuse3.so.4: only if it is named, with that library
 #
 # apt-get downloads the packages and what tests of sources there are, 400 MB, by lists of its own into FOLDER/others, where
 # all runs, in a root of its own; nothing is installed. A line says of each suite how many cases passed with both, and
@@ -66,6 +67,21 @@ run_image() {
         sed -nE 's/^([a-z0-9-]+) +(pass|fail) .*/\1 \2ed/p' | sort -u || true
 }
 
+# (of its cases one that fails is the last; sudo is a script here, and pkg-config)
+# shellcheck disable=SC2016
+run_bindfs() {
+    mkdir -p src bin
+    cp -r /sources/bindfs/tests .
+    ln -s /usr/bin/bindfs src/bindfs
+    printf '#!/bin/bash\nexec setpriv --reuid="$2" --regid="$4" --clear-groups -- "${@:5}"\n' > bin/sudo
+    printf '#!/bin/sh\necho 2.9.9\n' > bin/pkg-config
+    chmod 755 . bin/*
+    cd tests
+    PATH=$PWD/../bin:$PATH ruby test_bindfs.rb > "$said" 2>&1 || echo "test_bindfs.rb ended by $? failed"
+    sed -nE 's/^OK$/passed/p; s/^SKIP.*/skipped/p; s/^--- (.*) ---$/: \1/p' "$said" |
+        awk '/^:/ { name = $0; next } { print ++number name, $1 }'
+}
+
 run_raw() { run_image raw; }
 run_qcow2() { run_image qcow2; }
 
@@ -79,7 +95,7 @@ fi
 # ---- Outside of it ------------------------------------------------------------------------------------
 
 usage() {
-    echo "Usage: tests/libfuse/others.sh LIB FOLDER [portal|rofiles|nbdfuse|raw|qcow2].." >&2
+    echo "Usage: tests/libfuse/others.sh LIB FOLDER [portal|rofiles|nbdfuse|raw|qcow2|bindfs].." >&2
     exit 2
 }
 
@@ -97,12 +113,24 @@ shift 2
 suites=("$@")
 [ $# != 0 ] || suites=(portal rofiles nbdfuse raw qcow2)
 for it in "${suites[@]}"; do
-    [[ " portal rofiles nbdfuse raw qcow2 " == *" $it "* ]] || usage
+    [[ " portal rofiles nbdfuse raw qcow2 bindfs " == *" $it "* ]] || usage
 done
+if [ "${suites[*]}" = bindfs ]; then
+    suite=sid folder=$folder-sid
+elif [[ " ${suites[*]} " == *" bindfs "* ]]; then
+    usage
+fi
 mkdir -p "$folder"
 root=$folder/root
 
 make_root() {
+    if [ "$suite" = sid ]; then
+        unpack_root "$root" "$suite" dash libc-bin findutils attr e2fsprogs passwd procps ruby bindfs
+        printf '%s\n' 'nobody:x:65534:65534::/:/bin/sh' >> "$root/etc/passwd"
+        printf '%s\n' 'root:x:0:' 'nogroup:x:65534:' > "$root/etc/group"
+        ln -sf which.debianutils "$root/usr/bin/which"
+        return
+    fi
     unpack_root "$root" "$suite" dash libc-bin findutils gawk procps python3 perl attr bc file hostname e2fsprogs \
         xdg-desktop-portal-tests libglib2.0-bin ostree-tests libnbd-bin nbdkit qemu-utils qemu-system-common \
         qemu-system-x86
@@ -110,11 +138,24 @@ make_root() {
     chroot "$root" glib-compile-schemas /usr/share/glib-2.0/schemas
 }
 
+# (bindfs's sources are had of the machine's suite, and what its tests want of C is built here)
+fetch_sources() {
+    local it
+    if [ "$suite" != sid ]; then
+        unpack_sources "$folder/sources" "$suite" 'libnbd */fuse/* */tests/functions.sh.in' \
+            'qemu */tests/qemu-iotests/* */python/*'
+        return
+    fi
+    unpack_sources "$folder/sources" bookworm 'bindfs */tests/*' || return 1
+    for it in "$folder"/sources/bindfs/tests/*.c; do
+        cc -w -D_GNU_SOURCE -o "${it%.c}" "$it" || return 1
+    done
+}
+
 [ -e "$root" ] || { echo "Downloading programs of $suite .." >&2 && quietly "$folder/said" make_root; } || exit 2
 if [ ! -e "$folder/sources" ]; then
     echo "Downloading tests of $suite .." >&2
-    quietly "$folder/said" unpack_sources "$folder/sources" "$suite" 'libnbd */fuse/* */tests/functions.sh.in' \
-        'qemu */tests/qemu-iotests/* */python/*' || exit 2
+    quietly "$folder/said" fetch_sources || exit 2
 fi
 mkdir -p "$root/sources"
 mount --bind "$folder/sources" "$root/sources"

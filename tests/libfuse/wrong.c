@@ -598,6 +598,10 @@ static void try_pipes(void)
 	judge("half a WRITE", replies == 1 && goes_on());
 	receive_request(&request, 100);
 	judge("a WRITE with bytes after it", replies == 1 && goes_on());
+	writing.in.size += 100;
+	receive_request(&request, 0);
+	judge("a WRITE of more than there is", replies == 1 && header_of_reply().error < 0 && goes_on());
+	writing.in.size -= 100;
 	receive_request(&forgets_by_pipe, 0);
 	judge(forgets_by_pipe.what, !replies && held == before - forgets_by_pipe.forgets && goes_on());
 }
@@ -940,7 +944,7 @@ static void try_again(void)
 /* Interrupts alone, of requests that never come, take no more memory than some do. */
 static void try_many_interrupts(void)
 {
-	enum { MANY = 100000, MOST_MEMORY = 16 << 20 };
+	enum { MANY = 30000, MOST_MEMORY = 8 << 20 };
 	const size_t before = mallinfo2().uordblks;
 	int i;
 
