@@ -65,8 +65,8 @@ enum { GATHER = 1000000 };
 enum { PIPE = 2 * FUSE_DEVICE_PIPED, LEAST_PIPED = 1 << 16, MOST_PIPED = PIPE - 2 * PAGE };
 
 /* In milliseconds, after a signal: how often it is looked what became of the requests; from when on they are
- * looked at, and until when; and when it ends, although some don't come back. */
-enum { LOOK_TICK = 50, LOOK_FROM = 300, LOOK_UNTIL = 1300, MOST_JOIN = 600 };
+ * looked at, and until when; and when it ends, although some don't come back, or workers that have none. */
+enum { LOOK_TICK = 50, LOOK_FROM = 300, LOOK_UNTIL = 1300, MOST_JOIN = 600, MOST_IDLE = 2000 };
 
 enum outcome { SERVED, ENDED, FAILED };
 
@@ -833,13 +833,31 @@ int fuse_device_joins(pthread_t thread)
 	return 0;
 }
 
-/* The same, up to this time. -1: it waits for something else, and what it uses is left. */
-static int end(struct worker *w, uint64_t until)
+/* Whether a request is being answered. */
+static int is_answering(struct device *d)
+{
+	for (int i = 0; i < TRANSPORT_MOST_WORKERS; i++)
+		if (atomic_load(&d->turns[i].count) % 2)
+			return 1;
+	return 0;
+}
+
+/* Whether what is to end is waited for no longer, since this time. (Where no request is, a busy machine has not let it
+ * run.) */
+static int was_awaited(struct device *d, uint64_t since)
+{
+	const uint64_t most = is_answering(d) ? MOST_JOIN : MOST_IDLE;
+
+	return now() - since > most * 1000000;
+}
+
+/* Ends a worker. -1: it waits for something else, and what it uses is left. */
+static int end(struct worker *w, uint64_t since)
 {
 	const struct timespec pause = { 0, 5000000 };
 
 	while (pthread_tryjoin_np(w->thread, NULL) == EBUSY) {
-		if (now() > until)
+		if (was_awaited(w->of, since))
 			return -1;
 		pthread_kill(w->thread, SIGRTMIN);
 		nanosleep(&pause, NULL);
@@ -900,9 +918,10 @@ static int next_tick(struct device *d, struct seen *seen)
 	return (int)seen->tick;
 }
 
-/* What became of requests since a first signal. */
+/* What became of requests since a first signal; when it was looked last, and for how long it was waited: on a busy
+ * machine, where this thread is late, others are too. */
 struct asked {
-	uint64_t at;
+	uint64_t at, last, waited;
 	int looks;
 	unsigned turns[TRANSPORT_MOST_WORKERS];
 };
@@ -922,7 +941,7 @@ static void *unmount(void *given)
 /* At a first signal: unmounts, if nobody else does. */
 static void begin_end(struct device *d, struct asked *asked)
 {
-	asked->at = now();
+	asked->at = asked->last = now();
 	if (!d->folder)
 		return;
 	d->is_unmounting = !pthread_create(&d->unmounts, NULL, unmount, d);
@@ -934,8 +953,10 @@ static void begin_end(struct device *d, struct asked *asked)
  * ends with its user. */
 static int is_stuck(struct device *d, struct asked *asked)
 {
-	const uint64_t since = (now() - asked->at) / 1000000;
+	const uint64_t at = now(), more = (at - asked->last) / 1000, most = 2000 * LOOK_TICK;
+	const uint64_t since = (asked->waited += more < most ? more : most) / 1000;
 
+	asked->last = at;
 	if (!asked->looks && since >= LOOK_FROM) {
 		asked->looks = 1;
 		for (int i = 0; i < TRANSPORT_MOST_WORKERS; i++)
@@ -1012,7 +1033,8 @@ static int await_signals(void)
 /* Ends the process, although a worker waits for what does not come. */
 static _Noreturn void leave(struct device *d)
 {
-	fprintf(stderr, "%s: a request does not come back: it ends without\n", d->by->program);
+	fprintf(stderr, "%s: a %s does not come back: it ends without\n", d->by->program,
+		is_answering(d) ? "request" : "worker");
 	if (d->folder && atomic_load(&d->failed))
 		fuse_device_detach(d->by, d->folder);
 	if (d->by->left)
@@ -1023,8 +1045,8 @@ static _Noreturn void leave(struct device *d)
 /* Ends the workers, and what unmounts. -1: one waits for something. */
 static int end_all(struct device *d)
 {
-	const uint64_t until = now() + (uint64_t)MOST_JOIN * 1000000;
 	const struct timespec pause = { 0, 5000000 };
+	const uint64_t since = now();
 	int left;
 
 	pthread_mutex_lock(&d->lock);
@@ -1032,11 +1054,11 @@ static int end_all(struct device *d)
 	pthread_cond_broadcast(&d->call);
 	pthread_mutex_unlock(&d->lock);
 	/* One that doesn't come back may still start others: those it counted have a thread. */
-	left = end(&d->worker[0], until);
+	left = end(&d->worker[0], since);
 	for (unsigned i = 1; i <= atomic_load(&d->others); i++)
-		left |= end(&d->worker[i], until);
+		left |= end(&d->worker[i], since);
 	while (d->is_unmounting && pthread_tryjoin_np(d->unmounts, NULL) == EBUSY) {
-		if (now() > until)
+		if (was_awaited(d, since))
 			return -1;
 		nanosleep(&pause, NULL);
 	}

@@ -87,7 +87,8 @@ int fuse_device_unmount(const transport *by, const char *folder)
 	if (!umount2(point, UMOUNT_NOFOLLOW) || errno != EBUSY)
 		return 0;
 	fprintf(stderr, "%s: %s is in use, and goes with its last user\n", by->program, folder);
-	return umount2(point, MNT_DETACH | UMOUNT_NOFOLLOW) ? say(by, folder) : 0;
+	/* EINVAL: another one has unmounted it meanwhile. */
+	return umount2(point, MNT_DETACH | UMOUNT_NOFOLLOW) && errno != EINVAL ? say(by, folder) : 0;
 }
 
 void fuse_device_detach(const transport *by, const char *folder)

@@ -100,10 +100,21 @@ try_mount() {
     echo "$* : $(tail -n 1 "$work/said"), $before descriptors before it and $after after it."
 }
 
-# Ends by a signal, also where the folder is in use. What stands by unmounts if the server is killed.
+# Ends by a signal, also where the folder is in use, and where another one unmounts it just then. What stands by unmounts
+# if the server is killed.
 try_signals() {
+    local before
+    cc -shared -fPIC -Wall -Wextra -Werror -o "$work/unmount_first.so" "$here/tests/share/unmount_first.c"
+    for before in "" "$work/unmount_first.so"; do
+        try_signal "$before" "$@"
+    done
+    echo "A signal unmounted it, and an open file was served to its end, with $*"
+}
+
+# try_signal LOADED-BEFORE WORDS
+try_signal() {
     mkdir -p "$work/folder" "$work/mount"
-    "$share" --log-level=error "$@" "$work/folder" "$work/mount" &
+    LD_PRELOAD=$1 "$share" --log-level=error "${@:2}" "$work/folder" "$work/mount" &
     server=$!
     await_mount
     exec 3> "$work/mount/open"
@@ -117,7 +128,7 @@ try_signals() {
     wait "$server" || wrong "the server ended with $? after a signal"
     server=
     [ "$(cat "$work/folder/open")" = late ] || wrong "an open file was cut off"
-    echo "A signal unmounted it, and an open file was served to its end, with $*"
+    rm "$work/folder/open"
 }
 
 try_kill() {
