@@ -12,7 +12,7 @@
 #   rattle     the format of Rattle's files, by `rt fmt` on a copy
 #   rust       the format of Rust's, by rustfmt
 #   python     Python's files, by pyflakes
-#   c          each file in C compiles with no warning
+#   c          each file in C compiles with no warning, and the examples of manual pages
 #   format     the format of C's, by clang-format
 #   door       the libraries for C, built without a proof, and the tests in C over them
 #   crate      the tests of bindings/rust over that library
@@ -24,6 +24,7 @@
 set -euo pipefail
 . "$(dirname "$0")/lib/usage.sh"
 . "$(dirname "$0")/lib/transport.sh"
+. "$(dirname "$0")/lib/man.sh"
 cd "$here"
 
 parts=(documents opcode numbers shell rattle rust python c format door crate)
@@ -31,7 +32,7 @@ parts=(documents opcode numbers shell rattle rust python c format door crate)
 declare -A wanted=(
     [documents]="rt python3" [opcode]="python3" [numbers]="python3" [shell]="shellcheck" [rattle]="rt"
     [rust]="rustfmt" [python]="pyflakes3"
-    [c]="cc" [format]="clang-format" [door]="rt cc" [crate]="cargo rt cc"
+    [c]="cc python3" [format]="clang-format" [door]="rt cc" [crate]="cargo rt cc"
 )
 declare -A package=([cc]="gcc libc6-dev" [rt]="")
 
@@ -121,7 +122,8 @@ check_c() {
     each -n 1 bash -c '
         case $0 in *share_sandbox.c) ! echo "#include <seccomp.h>" | cc -fsyntax-only -x c - 2> /dev/null || set -- -DWITH_SECCOMP ;; esac
         cc -std=c11 -O1 -Wall -Wextra -Werror -I include -I programs/transport -I /usr/include/fuse3 \
-            -fsyntax-only "$@" "$0"' <<< "$known"
+            -fsyntax-only "$@" "$0"' <<< "$known" || return
+    packaging/man.py "$folder/man" && hold_pages "$folder/man"
 }
 
 check_crate() {

@@ -30,6 +30,7 @@ set -euo pipefail
 . "$(dirname "$0")/lib/transport.sh"
 . "$(dirname "$0")/lib/messages.sh"
 . "$(dirname "$0")/lib/debs.sh"
+. "$(dirname "$0")/lib/man.sh"
 # shellcheck disable=SC2154
 session=$crate library=()
 
@@ -239,19 +240,6 @@ page_missing() {
     compgen -G "$1/man[18]/$2.[18]" > /dev/null || echo "$2"
 }
 
-# The prototypes that pages of functions have, as C.
-prototypes() {
-    awk -f "$packaging/prototypes.awk" "$work"/man/*.3
-}
-
-# Names a page of functions whose example is missing, or does not compile: wrong_example PAGE.
-wrong_example() {
-    awk -f "$packaging/examples.awk" "$1" > "$work/example.c"
-    [ -s "$work/example.c" ] \
-        && cc -std=c11 -D_DEFAULT_SOURCE -Wall -Wextra -Werror -fsyntax-only -I "$here/include" "$work/example.c" \
-        || echo "${1##*/}"
-}
-
 # The tree of the tarball, into a folder. The programs stand alone.
 make_tree() {
     local tree=$1 page missing
@@ -273,10 +261,7 @@ make_tree() {
         { [ -e "$tree/share/man/man3/$name.3" ] && grep -qx "\.Ss $name" "$work"/man/*.3; } || echo "$name"
     done)
     [ -z "$missing" ] || wrong "functions of the headers without a page: $missing"
-    prototypes | cc -fsyntax-only -Werror -I "$here/include" -include nizwarf_ops.h -x c - \
-        || wrong "a page shows a function in another form than the headers."
-    missing=$(for page in "$work"/man/*.3; do wrong_example "$page"; done)
-    [ -z "$missing" ] || wrong "pages without an example that compiles: $missing"
+    hold_pages "$work/man" || wrong "pages of functions."
     missing=$(for_programs page_missing "$tree/share/man")
     [ -z "$missing" ] || wrong "programs without a page: $missing"
     missing=$(for_programs unexplained "$tree/bin")

@@ -1,0 +1,23 @@
+# For the scripts that look at the manual pages: they know where they are by `here`.
+# shellcheck shell=bash disable=SC2154
+
+# Holds the pages of functions, which packaging/man.py put into a folder, against the headers: each shows functions as
+# they are declared, and an example that compiles. What is not so is told: hold_pages FOLDER.
+hold_pages() {
+    local page example=$1/example.c status=0
+    awk -f "$here/packaging/prototypes.awk" "$1"/*.3 \
+        | cc -fsyntax-only -Werror -I "$here/include" -include nizwarf_ops.h -x c - || {
+        echo "A page shows a function in another form than the headers." >&2
+        status=1
+    }
+    for page in "$1"/*.3; do
+        awk -f "$here/packaging/examples.awk" "$page" > "$example"
+        if [ ! -s "$example" ] ||
+            ! cc -std=c11 -D_DEFAULT_SOURCE -Wall -Wextra -Werror -fsyntax-only -I "$here/include" "$example"; then
+            echo "The example of ${page##*/} is missing, or does not compile." >&2
+            status=1
+        fi
+    done
+    rm "$example"
+    return $status
+}
