@@ -120,6 +120,21 @@ python3 -B "$here/tests/package/asked.py" "$work/ask" "$socket" "$folder"
 systemctl stop "$unit.socket" "$unit.service"
 is_gone "$socket"
 await_end nizwarf-share
+# A group may have the socket, and the server more words, as the page and the unit say.
+put_edit() {
+    mkdir -p "/run/systemd/system/$1.d"
+    cat > "/run/systemd/system/$1.d/edit.conf"
+}
+printf '%s\n' '[Socket]' SocketGroup=nogroup SocketMode=0660 | put_edit "$unit.socket"
+printf '%s\n' '[Service]' 'Environment="WORDS=--cache=always --xattr"' | put_edit "$unit.service"
+systemctl daemon-reload
+systemctl start "$unit.socket"
+[ "$(stat -c '%a %G' "$socket")" = "660 nogroup" ]
+rm "$folder/file"
+python3 -B "$here/tests/package/asked.py" "$work/ask" "$socket" "$folder"
+pgrep -f "^/usr/bin/nizwarf-share --fd=3 --cache=always --xattr \." > seen
+systemctl stop "$unit.socket" "$unit.service"
+await_end nizwarf-share
 cp /usr/lib/systemd/system/nizwarf-share@.service nizwarf-share@srv.service
 systemd-analyze security --offline=true --threshold=35 --no-pager "$work/nizwarf-share@srv.service" | tail -n 1
 echo "systemd: a folder is served to who connects, and no more once it is stopped."

@@ -36,6 +36,7 @@ is_busy() {
 # Whether the guest read and wrote, and nothing serves the folder any more but what listens.
 guest_was_there() {
     tr -d '\r' < $console | grep -qx "The guest reads hello."
+    tr -d '\r' < $console | grep -qx "By its fstab it reads hello."
     [ "$(cat /srv/data/of-guest)" = text ]
     rm /srv/data/of-guest $console
 }

@@ -71,8 +71,12 @@ put_page_files() {
     put_guest "$work/guest" "$here/tests/package/page-guest.sh"
     echo "modules='$modules'" > "$work/guest/settings"
     awk -v section="The guest" -v wanted=1 -f "$here/tests/package/page.awk" "$here/docs/SHARE.md" > "$work/guest/commands"
+    # shellcheck disable=SC2016
+    sed -n 's/.*In its fstab: `\([^`]*\)`.*/\1/p' "$here/docs/SHARE.md" > "$work/guest/etc/fstab"
     [ -s "$work/guest/commands" ]
+    [ -s "$work/guest/etc/fstab" ]
     pack_guest "$work/guest" "$at/files"
+    rm "$work/guest/etc/fstab"
     awk -v commands=yes -f "$here/packaging/examples.awk" "$here/packaging/man/nizwarf-vhost.1" | grep '^mount ' > "$work/guest/commands"
     pack_guest "$work/guest" "$at/files-of-vhost"
     cp "$kernel"/boot/vmlinuz-* "$at/kernel"
