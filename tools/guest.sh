@@ -68,7 +68,7 @@ if [ -n "$shared" ]; then
         words=("${words[@]::3}" --shared-dir "$folder" --killpriv-v2) queues=1
     fi
 fi
-timeout 600 "$transport" "${words[@]}" &
+timeout 1800 "$transport" "${words[@]}" &
 transport_id=$!
 started+=("$transport_id")
 for _ in $(seq 100); do
@@ -77,7 +77,7 @@ for _ in $(seq 100); do
 done
 began=$SECONDS
 : > "$work/console"
-timeout -k 5 590 qemu-system-x86_64 -nodefaults -no-user-config -display none \
+timeout -k 5 1790 qemu-system-x86_64 -nodefaults -no-user-config -display none \
     -machine q35,accel=tcg -cpu max -smp 1 -m 256 \
     -object memory-backend-memfd,id=memory,size=256M,share=on -numa node,memdev=memory \
     -kernel "$kernel"/boot/vmlinuz-* -initrd "$work/files" -append 'console=ttyS0 quiet loglevel=3 panic=0 no_timer_check' \
