@@ -159,10 +159,13 @@ static _Noreturn void name_files(const transport *by, int device, int socket, in
 	signal(SIGTERM, SIG_IGN);
 	signal(SIGHUP, SIG_IGN);
 	prctl(PR_SET_NAME, "nizwarf-backing");
-	if (getrlimit(RLIMIT_NOFILE, &files))
+	if (getrlimit(RLIMIT_NOFILE, &files) || chdir("/") || keep_capability()) {
+		say(by, "what names files");
 		_exit(1);
+	}
 	most_named = files.rlim_cur;
-	if (chdir("/") || keep_descriptors(device, socket) || keep_capability() || limit(by->user))
+	/* (from here on it has nowhere to say why: the server says that files are served by requests) */
+	if (keep_descriptors(device, socket) || limit(by->user))
 		_exit(1);
 	while (answer_one())
 		;
