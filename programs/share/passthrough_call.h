@@ -102,7 +102,8 @@ uint64_t inode_of(const struct call *call, uint64_t device, uint64_t inode, bool
 /* What a descriptor is of: 0, or -1 with errno. */
 int look_at(int fd, struct statx *seen);
 /* The entry of a file that was found so, opened with O_PATH and looked at, or of the name: a node was reserved, which
- * it is, or is given back. `*is_new`, if there is one, becomes true if the file wasn't known. 0, or an error. */
+ * it is, or is given back. `*is_new`, if there is one, becomes true if the file wasn't known, or by a handle
+ * alone. 0, or an error. */
 int enter(const struct call *call, const struct found *found, int fd, const struct statx *seen,
 	  nizwarf_entry *entry, bool *is_new);
 int enter_name(const struct call *call, const struct found *found, nizwarf_entry *entry, bool *is_new);

@@ -293,22 +293,6 @@ bool node_may_be_known(struct nodes *all, const struct node *directory, uint64_t
 	return node != NULL;
 }
 
-uint64_t node_find(struct nodes *all, const struct statx *seen)
-{
-	struct node *node;
-	uint64_t number = 0;
-
-	/* (no node goes meanwhile) */
-	pthread_rwlock_rdlock(&all->nodes.lock);
-	node = known(all, seen, NULL);
-	if (node) {
-		atomic_fetch_add(&node->lookups, 1);
-		number = node->counted.number;
-	}
-	pthread_rwlock_unlock(&all->nodes.lock);
-	return number;
-}
-
 int node_look_up(struct nodes *all, struct node *node)
 {
 	bool is_there;
@@ -347,20 +331,40 @@ static void grow_chains(struct nodes *all)
 	free(old);
 }
 
-/* Adds a lookup of a known node; or `*made`, if that isn't NULL, which is NULL then: but not if no handle
- * is told, and the file may be known by one. The node's number; 0: neither could be. */
+/* Adds a lookup of a known node, under the lock: its number; 0: it isn't known. */
+static uint64_t add_to_known(const struct nodes *all, const struct statx *seen,
+			     const struct file_handle *handle)
+{
+	struct node *node = known(all, seen, handle);
+
+	if (!node)
+		return 0;
+	atomic_fetch_add(&node->lookups, 1);
+	return node->counted.number;
+}
+
+/* The same, with the lock: which others may have meanwhile that only look. (No node goes meanwhile.) */
+static uint64_t find_known(struct nodes *all, const struct statx *seen, const struct file_handle *handle)
+{
+	uint64_t number;
+
+	pthread_rwlock_rdlock(&all->nodes.lock);
+	number = add_to_known(all, seen, handle);
+	pthread_rwlock_unlock(&all->nodes.lock);
+	return number;
+}
+
+/* Adds a lookup of a known node; or `*made`, which is NULL then: but not if no handle is told, and the file may be
+ * known by one. The node's number; 0: neither could be. */
 static uint64_t add_lookup(struct nodes *all, const struct statx *seen, const struct file_handle *handle,
 			   struct node **made)
 {
-	struct node *node, **chain;
-	uint64_t number = 0;
+	struct node **chain;
+	uint64_t number;
 
 	pthread_rwlock_wrlock(&all->nodes.lock);
-	node = known(all, seen, handle);
-	if (node) {
-		atomic_fetch_add(&node->lookups, 1);
-		number = node->counted.number;
-	} else if (made && (handle || !is_by_handle(all, seen)) && add(&all->nodes, &(*made)->counted)) {
+	number = add_to_known(all, seen, handle);
+	if (!number && (handle || !is_by_handle(all, seen)) && add(&all->nodes, &(*made)->counted)) {
 		if (all->nodes.count > all->chain_count)
 			grow_chains(all);
 		chain = chain_of(all, (*made)->on->device, (*made)->inode);
@@ -375,12 +379,19 @@ static uint64_t add_lookup(struct nodes *all, const struct statx *seen, const st
 	return number;
 }
 
-/* The same of a file that is open, and known by a handle meanwhile. */
+uint64_t node_find(struct nodes *all, const struct statx *seen)
+{
+	return find_known(all, seen, NULL);
+}
+
+/* The same of a file that is open, and known by a handle meanwhile; or `*made`, if that isn't NULL. */
 static uint64_t add_opened(struct nodes *all, int fd, const struct statx *seen, struct node **made)
 {
 	union handle_room room;
 
-	return some_handle(all, seen) && handle_by(fd, &room) ? add_lookup(all, seen, &room.handle, made) : 0;
+	if (!some_handle(all, seen) || !handle_by(fd, &room))
+		return 0;
+	return made ? add_lookup(all, seen, &room.handle, made) : find_known(all, seen, &room.handle);
 }
 
 uint64_t node_find_opened(struct nodes *all, int fd, const struct statx *seen)
@@ -504,7 +515,10 @@ int node_enter(struct nodes *all, const struct found *found, int fd, const struc
 	struct node *made;
 	int error;
 
-	*number = handle ? add_lookup(all, seen, handle, NULL) : 0;
+	*number = handle ? find_known(all, seen, handle) : 0;
+	/* (what is known by its handle is not found without one either) */
+	if (is_new && *number)
+		*is_new = true;
 	if (*number) {
 		node_let_go(all, fd);
 		return 0;

@@ -190,7 +190,7 @@ int node_look_up(struct nodes *all, struct node *node);
 
 /* Gives the number of a file, with a lookup more, which was opened with O_PATH: `fd`, and what was reserved
  * for a node, is the node's from then on, or given back. `*is_new`, if there is one, becomes true if it
- * wasn't known. 0, or an error. */
+ * wasn't known, or is known by a handle, which node_find() doesn't look for. 0, or an error. */
 int node_enter(struct nodes *all, const struct found *found, int fd, const struct statx *seen,
 	       uint64_t *number, bool *is_new);
 
