@@ -1069,12 +1069,12 @@ static inline int nizwarf_is_changed(const nizwarf_session *session, const nizwa
 	       session->options & NIZWARF_PASSTHROUGH && answer->count;
 }
 
-/* Whether the library makes of any answer of this kind what is replied: that is so of most calls, but for a text
- * that is a record. */
+/* Whether the library makes of any answer of this kind what is replied, whatever its text is: that is so of most. */
 static inline int nizwarf_is_plain(const nizwarf_call *call)
 {
 	const uint32_t others = 1u << NIZWARF_DIRECTORY | 1u << NIZWARF_FAULT_OR_SILENCE |
-				1u << NIZWARF_WANT | 1u << NIZWARF_OPENED | 1u << NIZWARF_CREATED;
+				1u << NIZWARF_WANT | 1u << NIZWARF_OPENED | 1u << NIZWARF_CREATED |
+				1u << NIZWARF_TEXT;
 
 	return call->answer > 31 || !(others >> call->answer & 1);
 }
@@ -1093,7 +1093,6 @@ static inline int32_t nizwarf_reply(nizwarf_slot *slot, const nizwarf_session *s
 	const uint8_t *text;
 	size_t total, i;
 	int32_t code;
-	int plain;
 
 	if (told)
 		memset(told, 0, sizeof(*told));
@@ -1113,19 +1112,26 @@ static inline int32_t nizwarf_reply(nizwarf_slot *slot, const nizwarf_session *s
 	for (i = 0; i < answer->items_len; i++)
 		if (!items[i].name)
 			return NIZWARF_NULL;
-	plain = nizwarf_is_plain(call);
+	if (nizwarf_is_plain(call)) {
+		code = nizwarf_answer_at(slot, session, call, answer, text, answer->text_len, items,
+					 answer->items_len, told);
+		if (code == NIZWARF_OK && answer->error > NIZWARF_LAST_ERROR)
+			code = nizwarf_answer_fault(slot, session, call, told);
+		nizwarf_put(slot, room, rooms, told->put);
+		return code;
+	}
 	if (nizwarf_is_record(call))
 		code = nizwarf_answer_offered_at(slot, session, call, answer, text, answer->text_len, items,
 						 answer->items_len, told);
 	else
 		code = nizwarf_answer_at(slot, session, call, answer, text, answer->text_len, items,
 					 answer->items_len, told);
-	if (code == NIZWARF_OK && (answer->error > NIZWARF_LAST_ERROR ||
-				   (!plain && (nizwarf_is_cut(call, answer, told->taken) ||
-					       (!answer->error && call->answer == NIZWARF_FAULT_OR_SILENCE &&
-						call->call != NIZWARF_NOTIFY_REPLY)))))
+	if (code == NIZWARF_OK &&
+	    (answer->error > NIZWARF_LAST_ERROR || nizwarf_is_cut(call, answer, told->taken) ||
+	     (!answer->error && call->answer == NIZWARF_FAULT_OR_SILENCE &&
+	      call->call != NIZWARF_NOTIFY_REPLY)))
 		code = nizwarf_answer_fault(slot, session, call, told);
-	if (!plain && code == NIZWARF_OK && nizwarf_is_changed(session, call, answer))
+	if (code == NIZWARF_OK && nizwarf_is_changed(session, call, answer))
 		nizwarf_put_changed(slot, call, answer, room, rooms, told);
 	else
 		nizwarf_put(slot, room, rooms, told->put);

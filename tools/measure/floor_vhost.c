@@ -1,33 +1,21 @@
-/* What a daemon of virtio-fs takes without a file system, and what the system calls of files take without a daemon: for
- * growth.sh.
+/* What a daemon of virtio-fs takes without a file system, and what with the system calls of files alone: for growth.sh.
  *
- * Usage: floor_vhost SOCKET
- *        floor_vhost CLASS FOLDER COUNT
- * The first answers each request at once over the transport of programs/transport, by the same few bytes: data that it
- * tells of are not there. The second makes the system calls of COUNT requests of a class of tests/beside/pace.c, as
- * nizwarf-share makes them of files that are known, and prints the nanoseconds that they took on the processor. */
+ * Usage: floor_vhost SOCKET [FOLDER]
+ * It answers each request at once over the transport of programs/transport, by the same few bytes: data that it tells of
+ * are not there. With a folder it makes the system's calls before that nizwarf-share makes for a request of files that are
+ * known, and does nothing else. */
 #define _GNU_SOURCE
 #include <dirent.h>
 #include <fcntl.h>
-#include <inttypes.h>
 #include <stdio.h>
 #include <stdlib.h>
 #include <sys/stat.h>
 #include <sys/syscall.h>
 #include <sys/uio.h>
-#include <time.h>
 #include <unistd.h>
 #include "transport.h"
 
-enum {
-	FILE_SIZE = 32 << 20,
-	SMALL = 4096,
-	LARGE = 1 << 20,
-	LISTED = 40000,
-	NAMES = 32768,
-	HANDLE = 1,
-	NODE = 2
-};
+enum { SMALL = 4096, LARGE = 1 << 20, LISTED = 40000, NAMES = 32768, HANDLE = 1, NODE = 2 };
 
 /* ---- a back end */
 
@@ -50,6 +38,9 @@ static size_t put(const nizwarf_room *room, size_t rooms, uint64_t unique, int e
 	}
 	return head.len;
 }
+
+static void make_calls_of(const struct fuse_in_header *asked, const nizwarf_segment *request, size_t segments,
+			  const nizwarf_room *room, size_t rooms);
 
 static size_t answer_transfer(const struct fuse_in_header *asked, const unsigned char *record,
 			      const nizwarf_room *room, size_t rooms)
@@ -76,8 +67,9 @@ static int32_t serve(void *user, unsigned worker, const nizwarf_segment *request
 	static const struct fuse_open_out open = { .fh = HANDLE };
 	struct fuse_in_header asked;
 
-	(void)user, (void)worker, (void)segments;
+	(void)user, (void)worker;
 	memcpy(&asked, request->at, sizeof(asked));
+	make_calls_of(&asked, request, segments, room, rooms);
 	switch (asked.opcode) {
 	case FUSE_INIT:
 		*len = put(room, rooms, asked.unique, 0, &init, sizeof(init), 0);
@@ -108,8 +100,7 @@ static int32_t serve(void *user, unsigned worker, const nizwarf_segment *request
 /* ---- system calls */
 
 /* What they are of: the folder, its file, and its folder `names`. */
-static int folder, file, names;
-static unsigned char memory[LARGE];
+static int folder = -1, file, names;
 
 static void need(int fact, const char *what)
 {
@@ -124,19 +115,6 @@ static void look_at(int at, const char *name, int flags)
 	struct statx seen;
 
 	need(!statx(at, name, flags, STATX_BASIC_STATS | STATX_MNT_ID, &seen), name);
-}
-
-/* Reads or writes so many bytes, in pieces of a page. */
-static void transfer(int writes, size_t size, unsigned long serial)
-{
-	struct iovec pieces[LARGE / SMALL];
-	const int count = (int)(size / SMALL);
-	const off_t at = (off_t)(serial * size % FILE_SIZE);
-
-	for (int i = 0; i < count; i++)
-		pieces[i] = (struct iovec){ memory + (size_t)i * SMALL, SMALL };
-	need((writes ? pwritev(file, pieces, count, at) : preadv(file, pieces, count, at)) == (ssize_t)size,
-	     "file");
 }
 
 /* Lists the names, and looks at each, if that is wanted. */
@@ -157,38 +135,64 @@ static void list(int looks)
 	need(!got, "names");
 }
 
-static int make_calls(const char *class, unsigned long serial)
+/* The data of a READ or a WRITE, right from or into the request's pieces: up to so many bytes, behind the header of a
+ * reply, or the first piece of a request. */
+static void transfer_pieces(const struct fuse_in_header *asked, const nizwarf_segment *request,
+			    size_t segments, const nizwarf_room *room, size_t rooms)
 {
-	const size_t size = strstr(class, "1m") ? LARGE : SMALL;
+	static struct iovec pieces[LARGE / SMALL + 2];
+	const int writes = asked->opcode == FUSE_WRITE;
+	const size_t most = sizeof(pieces) / sizeof(*pieces);
+	size_t skip = writes ? request->len : sizeof(struct fuse_out_header), left;
+	struct fuse_read_in of;
+	int count = 0;
 
-	if (!strcmp(class, "getattr"))
-		look_at(folder, "", AT_EMPTY_PATH | AT_SYMLINK_NOFOLLOW);
-	else if (!strcmp(class, "lookup"))
-		look_at(folder, "file", AT_SYMLINK_NOFOLLOW | AT_NO_AUTOMOUNT);
-	else if (!strncmp(class, "read-", 5) || !strncmp(class, "write-", 6))
-		transfer(*class == 'w', size, serial);
-	else if (!strncmp(class, "readdir", 7))
-		list(class[7]);
-	else
-		return !strcmp(class, "unknown");
-	return 1;
+	memcpy(&of, (const unsigned char *)request->at + sizeof(*asked), sizeof(of));
+	left = of.size;
+	for (size_t i = 0; i < (writes ? segments : rooms) && left && (size_t)count < most; i++) {
+		unsigned char *at = writes ? (void *)(uintptr_t)request[i].at : room[i].at;
+		const size_t len = writes ? request[i].len : room[i].len, past = skip < len ? skip : len;
+		const size_t some = len - past < left ? len - past : left;
+
+		skip -= past;
+		left -= some;
+		if (some)
+			pieces[count++] = (struct iovec){ at + past, some };
+	}
+	need((writes ? pwritev(file, pieces, count, (off_t)of.offset) :
+		       preadv(file, pieces, count, (off_t)of.offset)) == (ssize_t)of.size,
+	     "file");
 }
 
-static void time_calls(const char *class, const char *path, unsigned long count)
+/* What nizwarf-share makes of the system's calls for a request. */
+static void make_calls_of(const struct fuse_in_header *asked, const nizwarf_segment *request, size_t segments,
+			  const nizwarf_room *room, size_t rooms)
 {
-	struct timespec from, to;
+	if (folder < 0)
+		return;
+	switch (asked->opcode) {
+	case FUSE_LOOKUP:
+		look_at(folder, "file", AT_SYMLINK_NOFOLLOW | AT_NO_AUTOMOUNT);
+		break;
+	case FUSE_GETATTR:
+		look_at(folder, "", AT_EMPTY_PATH | AT_SYMLINK_NOFOLLOW);
+		break;
+	case FUSE_READ:
+	case FUSE_WRITE:
+		transfer_pieces(asked, request, segments, room, rooms);
+		break;
+	case FUSE_READDIR:
+	case FUSE_READDIRPLUS:
+		list(asked->opcode == FUSE_READDIRPLUS);
+	}
+}
 
+static void open_folder(const char *path)
+{
 	folder = open(path, O_PATH | O_DIRECTORY | O_CLOEXEC);
 	file = openat(folder, "file", O_RDWR | O_CLOEXEC);
 	names = openat(folder, "names", O_RDONLY | O_DIRECTORY | O_CLOEXEC);
 	need(folder >= 0 && file >= 0 && names >= 0, path);
-	need(make_calls(class, 0), class);
-	clock_gettime(CLOCK_THREAD_CPUTIME_ID, &from);
-	for (unsigned long i = 0; i < count; i++)
-		make_calls(class, i);
-	clock_gettime(CLOCK_THREAD_CPUTIME_ID, &to);
-	printf("%.0f\n", ((double)(to.tv_sec - from.tv_sec) * 1e9 + (double)(to.tv_nsec - from.tv_nsec)) /
-				 (double)count);
 }
 
 int main(int count, char **words)
@@ -198,12 +202,12 @@ int main(int count, char **words)
 	};
 	int listener;
 
-	if (count == 4)
-		return time_calls(words[1], words[2], strtoul(words[3], NULL, 10)), 0;
-	if (count != 2) {
-		fputs("Usage: floor_vhost SOCKET, or floor_vhost CLASS FOLDER COUNT\n", stderr);
+	if (count != 2 && count != 3) {
+		fputs("Usage: floor_vhost SOCKET [FOLDER]\n", stderr);
 		return 2;
 	}
+	if (count == 3)
+		open_folder(words[2]);
 	listener = vhost_user_listen(&by, words[1]);
 	return listener < 0 ? 1 : vhost_user_serve(&by, listener);
 }

@@ -1,8 +1,8 @@
 """Measures how daemons grow with what they serve, for growth.sh, which says what.
 
-Usage: growth.py PACE FLOOR WORK MOST FACTS SHARE PASSTHROUGH_LL VIRTIOFSD..
-PACE is the built tests/beside/pace.c, FLOOR floor_vhost.c, WORK an empty folder in memory, MOST the most files. It prints
-the page."""
+Usage: growth.py PACE FLOOR WORK MOST FACTS SHARE COUNTING PASSTHROUGH_LL VIRTIOFSD..
+PACE is the built tests/beside/pace.c, FLOOR floor_vhost.c, WORK an empty folder in memory, MOST the most files; COUNTING is
+the share with locks.c. It prints the page."""
 import os
 import socket
 import statistics
@@ -17,6 +17,8 @@ QUEUES, DEPTHS, MACHINES = (1, 2, 4, 8), (1, 4, 16, 64), 8
 # each file, and walks a list of them.
 AGAIN, REQUESTS, MOST_OF_LIST = 20_000, 40_000, 10_000
 SHARE, HELD, VIRTIOFSD, LIBFUSE, FLOOR = "nizwarf-share", "nizwarf-share, descriptors", "virtiofsd", "passthrough_ll", "floor"
+# The transport with the file's calls, and the share that counts its locks.
+CALLS, LOCKS = "floor with calls", "nizwarf-share with locks"
 # The classes of pace.c, how many requests of each are timed at once, and in how many rounds.
 CLASSES = {"unknown": ("an unknown opcode", 4000), "getattr": ("GETATTR", 4000), "lookup": ("LOOKUP of a known file", 4000),
            "read-4k": ("READ of 4 KiB", 4000), "write-4k": ("WRITE of 4 KiB", 4000), "read-1m": ("READ of 1 MiB", 60),
@@ -48,8 +50,8 @@ class Daemon:
             for end in (ours, theirs):
                 end.setsockopt(socket.SOL_SOCKET, socket.SO_SNDBUF, 4 << 20)
             words, path = [*words, f"/dev/fd/{theirs.fileno()}"], str(ours.fileno())
-        elif name == FLOOR:
-            words = [*words, path]
+        elif name in (FLOOR, CALLS):
+            words = [*words, path, *([shared] if name == CALLS else [])]
         else:
             words = [*words, f"--socket-path={path}"]
         kept = [end.fileno() for end in (ours, theirs) if end]
@@ -95,10 +97,10 @@ def words_of(name, pool=0, handles="prefer"):
     """The command of a daemon. (Without a thread of a pool virtiofsd answers by the thread of its queue.)"""
     if name == LIBFUSE:
         return [passthrough_ll, "-f", "-o", f"source={shared},cache=auto"]
-    if name == FLOOR:
+    if name in (FLOOR, CALLS):
         return [floor]
-    is_ours = name in (SHARE, HELD)
-    own = [share, f"--node-limit={2 * SIZES[-1]}"] if is_ours else virtiofsd
+    is_ours = name in (SHARE, HELD, LOCKS)
+    own = [counting if name == LOCKS else share, f"--node-limit={2 * SIZES[-1]}"] if is_ours else virtiofsd
     return [*own, f"--shared-dir={shared}", "--sandbox=none", "--seccomp=none", "--no-announce-submounts",
             "--inode-file-handles=" + ("never" if name == HELD else handles), f"--thread-pool-size={pool or int(is_ours)}"]
 
@@ -192,21 +194,40 @@ def machines(name, count):
     return cells
 
 
+def locks():
+    """Of each lock that was waited for, how often it was taken for a request of each class, how many of a thousand waited, and
+    the nanoseconds for a request."""
+    kinds, cells = {"getattr": "GETATTR", "again": "LOOKUP", "know": "first LOOKUP", "write-4k": "WRITE of 4 KiB"}, {}
+    for kind, what in kinds.items():
+        say(f"locks, {what}")
+        os.environ["LOCKS"] = f"{work}/locks-{kind}"
+        daemon = Daemon(LOCKS, words_of(LOCKS, 4), 4)
+        if kind == "again":
+            daemon.ask("know", 16, 1000)
+        count = min(REQUESTS, most) if kind == "know" else REQUESTS
+        daemon.ask(kind, 64, count)
+        daemon.end()
+        with open(os.environ.pop("LOCKS"), encoding="utf-8") as file:
+            for name, taken, waited, ns in (line.split() for line in file):
+                cells.setdefault(name, {})[kind] = tuple(int(it) / count for it in (taken, waited, ns))
+    # (what a session takes but once says nothing of a request)
+    kept = {name: of for name, of in cells.items() if any(taken >= 0.01 for taken, _, _ in of.values())}
+    rows = [[f"`{name}`", *("{:.2f}/{:.1f}/{:.0f}".format(of[kind][0], 1000 * of[kind][1], of[kind][2]) if kind in of and of[kind][0] >= 0.01
+                            else "-" for kind in kinds)] for name, of in sorted(kept.items())]
+    table(["Lock", *kinds.values()], rows)
+
+
 def parts():
-    """Of each class what the transport takes, the file's calls, and each daemon, and what is left of that."""
-    daemons = [Daemon(name, words_of(name, handles="never")) for name in (FLOOR, HELD, VIRTIOFSD)]
+    """Of each class what the transport takes, the same with the file's calls, and each daemon, and its part that is more."""
+    daemons = [Daemon(name, words_of(name, handles="never")) for name in (FLOOR, CALLS, HELD, VIRTIOFSD)]
     rows = []
     for kind, (what, count) in CLASSES.items():
         say(what)
-        taken = []
-        for _ in range(ROUNDS):
-            calls = subprocess.run([floor, kind, shared, str(count)], stdout=subprocess.PIPE, text=True, check=True).stdout
-            taken.append((float(calls), *(daemon.ask(kind, 16, count)[1] / count for daemon in daemons)))
-        calls, transport, *whole = (statistics.median(column) / 1000 for column in zip(*taken))
-        rows.append([what, f"{transport:,.2f}", f"{calls:,.2f}"])
-        for one in whole:
-            left = one - transport - calls
-            rows[-1] += [f"{one:,.2f}", f"{left:,.2f}", f"{left / one:.2f}"]
+        taken = [[daemon.ask(kind, 16, count)[1] / count / 1000 for daemon in daemons] for _ in range(ROUNDS)]
+        rows.append([what, *(f"{statistics.median(column):,.2f}" for column in list(zip(*taken))[:2])])
+        for at in (2, 3):
+            low, own, high = statistics.quantiles([(them[at] - them[1]) / them[at] for them in taken], n=4)
+            rows[-1] += [f"{statistics.median(them[at] for them in taken):,.2f}", f"{own:.2f} ({low:.2f} to {high:.2f})"]
     for daemon in daemons:
         daemon.end()
     return rows
@@ -247,15 +268,18 @@ def main():
         say(f"{name}, machines")
         rows.append([name, *(machines(name, count) for count in (1, MACHINES))])
     table(["Daemon", "1 machine", f"{MACHINES} machines"], rows)
+    print("\n## Locks\n\nOf four queues and workers, 64 in flight: how often a request takes each lock, how many of a thousand wait for it, and the\n"
+          "nanoseconds that a request waits (tools/measure/locks.c).")
+    locks()
     print("\n## Where the processor's time goes\n\nMicroseconds of the processor for a request, 16 in flight, of a daemon with one worker that holds files by descriptors:\n"
-          "medians of {} rounds in turns. The transport is that of a back end that answers at once without a file system, and the\n"
-          "file's calls are those that the share makes, in a loop of their own: both by tools/measure/floor_vhost.c. What is left\n"
-          "is what a daemon does itself, and what its calls take longer between others; its part is that of the whole.".format(ROUNDS))
-    table(["Request", "transport", "the file's calls", "nizwarf-share", "left", "part", "virtiofsd", "left", "part"], parts())
+          "medians of {} rounds in turns. The transport is that of a back end that answers at once without a file system; the second\n"
+          "makes the calls of the file's system besides, as the share does (tools/measure/floor_vhost.c). What a daemon takes beyond\n"
+          "is its own: as a part of the whole, and between what half of the rounds lie.".format(ROUNDS))
+    table(["Request", "transport", "with the calls", "nizwarf-share", "its own", "virtiofsd", "its own"], parts())
 
 
 if __name__ == "__main__":
-    pace, floor, work, most, facts, share, passthrough_ll = sys.argv[1:8]
-    virtiofsd, shared, most = sys.argv[8:], work + "/shared", int(most)
+    pace, floor, work, most, facts, share, counting, passthrough_ll = sys.argv[1:9]
+    virtiofsd, shared, most = sys.argv[9:], work + "/shared", int(most)
     sizes = [size for size in SIZES if size <= most]
     main()

@@ -2,7 +2,8 @@
 # Measures how nizwarf-share grows with what it serves, beside Debian's virtiofsd and libfuse's passthrough_ll: the
 # memory of a file from 1,000 to 3,000,000, the time of a LOOKUP among them, of a FORGET of all, of DESTROY and INIT; of
 # a name of a folder of 10 to 1,000,000; requests a second over 1 to 8 queues, by 1 to 64 in flight, and of eight machines
-# at once; and where the processor's time of a request goes. It prints a page; how far it is stands on standard error.
+# at once; how long its locks are waited for; and where the processor's time of a request goes. It prints a page; how far it
+# is stands on standard error.
 #
 # Usage: tools/measure/growth.sh [--page] [MOST]
 # With --page it writes docs/generated/growth.md once all is measured, and has tools/dev/pictures.sh draw it. MOST is the
@@ -47,6 +48,8 @@ fi
 # By its own loader and libraries, whatever the machine has.
 libraries=$there/usr/lib/x86_64-linux-gnu
 virtiofsd=("$libraries/ld-linux-x86-64.so.2" --library-path "$libraries" "$there/usr/libexec/virtiofsd")
+build_transport share vfs_door "$here/tools/measure/locks.c" -I "$here/tools/measure" -include locks.h
+counting=$transport
 build_transport share vfs_door
 find_border
 folder=$here/out/c
@@ -63,7 +66,7 @@ facts="Begun on $(LC_ALL=C date '+%-d %B %Y'), commit $(git -C "$here" describe 
 Linux $(uname -r), $(nproc) processors, load $(cut -d ' ' -f 1-3 /proc/loadavg); $("${virtiofsd[@]}" --version 2>&1), libfuse $(head -n 1 "$beside/versions")."
 measure() {
     python3 -B "$here/tools/measure/growth.py" "$folder/pace" "$folder/floor_vhost" "$work" "$most" "$facts" "$transport" \
-        "$beside/passthrough_ll" "${virtiofsd[@]}"
+        "$counting" "$beside/passthrough_ll" "${virtiofsd[@]}"
 }
 if [ -z "$page" ]; then
     measure

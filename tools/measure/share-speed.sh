@@ -90,6 +90,7 @@ if [ -z "$page" ]; then
 else
     measure "${@:2}" > "$work/page.md"
     cp "$work/page.md" "$here/docs/generated/$what.md"
+    cp "$work/all.tsv" "$here/docs/speed/$what.tsv"
     [ ! -e "$work/calls.tsv" ] || cp "$work/calls.tsv" "$here/docs/speed/$what-calls.tsv"
 fi
 echo "load $(cut -d ' ' -f 1-3 /proc/loadavg) at the end" >&2

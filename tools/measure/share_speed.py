@@ -44,13 +44,16 @@ MS_REMOUNT = 32
 
 SHARE_HEAD = """# A share beside libfuse's passthrough and bindfs
 
-What a program waits for files over a mount of `nizwarf-share`: its time by the clock, by that over a mount of the
-other; in brackets the same of the servers' processor time. Below 1 the share is quicker, and the greater of two
-is beside the quicker other. Medians of {rounds} rounds in turns: `tools/measure/share-speed.sh {rounds}`.
+What a program waits for files over a mount of `nizwarf-share`: its time by the clock, by that over a mount of
+libfuse's passthrough_ll or bindfs, whichever is quicker; in brackets the same of the servers' processor time, by
+whichever takes less. Below 1 the share is quicker. Medians of {rounds} rounds in turns:
+`tools/measure/share-speed.sh {rounds}`. [Both others, and the spread](../speed/share.tsv).
 {facts}
 
 Each has its defaults: names and attributes are remembered for a second, and no name that is missing. The share has its
-sandbox and 4 workers. A WRITE has up to 512 KiB at the share, 1 MiB at passthrough_ll and 4 KiB at bindfs."""
+sandbox, the filter and 4 workers, over io_uring as many on each processor. A WRITE has up to 512 KiB at the share, 1 MiB
+at passthrough_ll and 4 KiB at bindfs.
+"""
 TREE_HEAD = """# The tree beside tmpfs, bindfs and libfuse's passthrough
 
 What a program waits for files of the tree in memory, mounted by `tools/mount.sh{options}`: its time by the clock, by that
@@ -76,20 +79,13 @@ CALLS = """
 [System calls](../speed/{table}) of the server, for each file, name, listing, MiB or block, are by `strace -c`, under which a
 class takes long enough that names may be looked up again. Those of less than one in twenty are left out, and what waits:
 `poll` and `futex`."""
-RING_HEAD = """
-## By io_uring
-
-The same with `-o io_uring`, in the same rounds: a worker for each of the share's threads on each processor, where Linux
-offers it by `fuse.enable_uring`. Both ways the share has the sandbox and the filter.
-"""
 SHARE_WHY = """
 What the share alone does: each file that is looked up is opened with O_PATH, and closed when it is forgotten, so that
 a request goes to the file that was looked up, whatever is renamed meanwhile, and no path is walked or link followed.
-bindfs holds no file and walks the path of each request from the folder on, so it may reach another file. What the
-share opens by a name is compared with that file by `fstat`; and with libseccomp each system call passes a filter,
-which none of the others' do. Its data of 64 KiB and more go by a pipe between the file and the kernel, without a copy of
-its own. And a worker that is alone, to which requests come soon one after another, looks up to 20 microseconds for the
-next one before it sleeps.
+bindfs holds no file and walks the path of each request, so it may reach another file. What the share opens by a name is
+compared with that file by `fstat`; and each system call passes a filter. By read(2) its data of 64 KiB and more go by a
+pipe, without a copy of its own; and a worker that is alone looks up to 20 microseconds for the next request before it
+sleeps.
 """
 
 
@@ -201,19 +197,24 @@ def fill(folder, what, jobs):
             shutil.copytree(work + "/clone", f"{folder}/job-{job}/clone", symlinks=True)
 
 
+def spread(values):
+    """The median, and between what half of the values lie."""
+    low, _, high = statistics.quantiles(values, n=4) if len(values) > 1 else values * 3
+    return statistics.median(values), low, high
+
+
 def ratios(ours, theirs):
-    """The medians by the clock and of the processor, or none."""
+    """The medians by the clock and of the processor, with the spread, or none."""
     if None in ours + theirs:
         return None
-    return tuple(statistics.median(mine[at] / its[at] if its[at] else 1 for mine, its in zip(ours, theirs))
-                 for at in (0, 1))
+    return tuple(spread([mine[at] / its[at] if its[at] else 1 for mine, its in zip(ours, theirs)]) for at in (0, 1))
 
 
 def rows_of(servers, own, what):
-    """For each of our own servers the ratios of a class: of each number of jobs by the clock, and of the processor."""
+    """A class's cells of each of our own servers: for each number of jobs the ratios to each other."""
     names, cells = list(servers), {it: [] for it in own}
     for jobs in JOBS:
-        print(f"{time.strftime('%H:%M:%S')} {what}, {jobs} job{'s' * (jobs > 1)}", file=sys.stderr)
+        print(f"{time.strftime('%H:%M:%S')} {what}, {said_of(jobs)}", file=sys.stderr)
         times = {name: [] for name in names}
         for turn in range(min(rounds, FEW.get(what, rounds))):
             for i in range(len(names)):
@@ -227,9 +228,21 @@ def rows_of(servers, own, what):
                 # (of bindfs the quicker one of the two ways)
                 other = name.split(",")[0]
                 if name not in own:
-                    beside[other] = max(beside.get(other, (0, 0)), ratios(times[it], times[name]) or (0, 0))
-            cells[it] += [shown(beside[other], isinstance(servers[other], Tmpfs)) for other in beside]
-    return ["| " + " | ".join([SAID[what], *cells[it]]) + " |" for it in own]
+                    found = ratios(times[it], times[name]) or ((0, 0, 0), (0, 0, 0))
+                    beside[other] = tuple(max(pair) for pair in zip(beside.get(other, found), found))
+            cells[it].append((jobs, {other: both for other, both in beside.items()}))
+    return cells
+
+
+def row_of(servers, of, what):
+    """A row of the page: what is beside each other, of each number of jobs."""
+    return "| " + " | ".join([SAID[what], *(shown(both, isinstance(servers[other], Tmpfs)) for _, beside in of for other, both in beside.items())]) + " |"
+
+
+def quickest_of(cells, own, what):
+    """The same of each of our own, beside the quickest other."""
+    greatest = [[tuple(max(of) for of in zip(*beside.values())) for _, beside in cells[it]] for it in own]
+    return "| " + " | ".join([SAID[what], *(shown(both) for each in greatest for both in each)]) + " |"
 
 
 def appends(server):
@@ -243,7 +256,7 @@ def appends(server):
 
 
 def shown(both, is_alone=False):
-    clock, spent = both
+    (clock, *_), (spent, *_) = both
     return "-" if not clock else f"{clock:.2f}" if is_alone else f"{clock:.2f} ({spent:.2f})"
 
 
@@ -258,6 +271,10 @@ def calls_of(server, what):
     return ", ".join(f"{name} {count:.1f}".replace(".0", "") for name, count in kept) or "less"
 
 
+def said_of(jobs):
+    return f"{jobs} job{'s' * (jobs > 1)}"
+
+
 def main():
     subprocess.run(["git", "-C", repository, "archive", "--output", work + "/archive", "--format=tar", "HEAD"],
                    check=True)
@@ -267,7 +284,7 @@ def main():
         servers = {"over the layer": Server(["env", "LD_LIBRARY_PATH=" + ours, *words]), "passthrough_ll": Server(words)}
         print("| Class | 1 job | 4 jobs |\n|---|---|---|")
         for what in sys.argv[12:] or CLASSES:
-            print(*rows_of(servers, ["over the layer"], what), flush=True)
+            print(row_of(servers, rows_of(servers, ["over the layer"], what)["over the layer"], what), flush=True)
         return
     others = {"passthrough_ll": Server(words),
               "bindfs": Server([bindfs, "-f", "{folder}", "{mount}"]),
@@ -286,18 +303,23 @@ def main():
     most, _ = resource.getrlimit(resource.RLIMIT_NOFILE)
     print(head.format(rounds=rounds, facts=facts, options=options and f" -o {options}"))
     print(BOTH_HEAD.format(most=most))
-    columns = list(dict.fromkeys(name.split(",")[0] for name in others))
-    table = "| Class | " + " | ".join(f"{it}, {jobs} job{'s' * (jobs > 1)}" for jobs in JOBS for it in columns) + \
-        " |\n|---" + "|---" * (2 * len(columns)) + "|"
-    print(table)
-    later = []
+    if kind == "tree":
+        columns = [f"{it}, {said_of(jobs)}" for jobs in JOBS for it in dict.fromkeys(name.split(",")[0] for name in others)]
+    else:
+        columns = [f"{'io_uring' if it == BY_RING else 'read(2)'}, {said_of(jobs)}" for it in own for jobs in JOBS]
+    print("| Class | " + " | ".join(columns) + " |\n|---" + "|---" * len(columns) + "|")
+    lines = []
     for what in classes:
         of = {"the floor": Floor([floor, "-o", options, "{mount}"]), **others} if what == "floor" else servers
-        first, *more = rows_of(of, [it for it in of if it not in others], what)
-        print(first, flush=True)
-        later += more
-    if later:
-        print(RING_HEAD, table, *later, sep="\n", flush=True)
+        ours_of = [it for it in of if it not in others]
+        cells = rows_of(of, ours_of, what)
+        print(row_of(of, cells[ours_of[0]], what) if kind == "tree" else quickest_of(cells, ours_of, what), flush=True)
+        lines += [(SAID[what], it, jobs, other, *(f"{at:.2f}" for one in both for at in one))
+                  for it in ours_of for jobs, beside in cells[it] for other, both in beside.items()]
+    with open(f"{work}/all.tsv", "w", encoding="utf-8") as file:
+        print("class", "ours", "jobs", "other", "clock", "from", "to", "processor", "from", "to", sep="\t", file=file)
+        for line in lines:
+            print(*line, sep="\t", file=file)
     print(why, end="")
     if "overwrite-1m" in classes:
         print(appends(servers["the tree"]), flush=True)

@@ -1,11 +1,12 @@
 /* Measures what a request costs this server: nanoseconds of processor time and allocations, for each
  * class of request and each cutting of it, and how the cost grows with what is asked.
  *
- * speed [--only TEXT] [--runs N] [--ms N] [--growth | --write FOLDER]
+ * speed [--only TEXT] [--runs N] [--ms N] [--growth | --write FOLDER | --rounds N]
  *
  * It is linked with the library of crates/vfs_speed (tools/measure/speed.sh does it), makes the requests
  * itself, and compares the digests of the replies, over all cuttings and one to three rounds, before
- * it times anything. --write leaves the batches of requests in a folder and measures nothing.
+ * it times anything. --write leaves the batches of requests in a folder and measures nothing; --rounds serves those of
+ * the classes so many times, in one piece, for path.sh.
  */
 #define _GNU_SOURCE
 #include <stdint.h>
@@ -602,10 +603,25 @@ static int write_batches(const char *folder)
 	return 0;
 }
 
+/* Serves the requests of a class in one piece, and tells how many they are. */
+static void serve_class(const struct class *class, uint32_t rounds)
+{
+	struct bytes batch = batch_of(class);
+	uint32_t room = 0, len = 0;
+	struct work work = { .batch = &batch, .replies_len = rooms(&batch, &room, &len) };
+
+	work.replies = calloc(work.replies_len + 1, 1);
+	if (!work.replies || !perform(&work, rounds))
+		abort();
+	printf("%u\n", class->count);
+	free(work.replies);
+	free(batch.at);
+}
+
 int main(int argc, char **argv)
 {
 	const char *folder = NULL;
-	int growth = 0, differ = 0;
+	int growth = 0, differ = 0, rounds = 0;
 
 	for (int i = 1; i < argc; i++) {
 		if (!strcmp(argv[i], "--growth"))
@@ -618,9 +634,11 @@ int main(int argc, char **argv)
 			ms = atoi(argv[++i]) > 0 ? atoi(argv[i]) : 1;
 		else if (i + 1 < argc && !strcmp(argv[i], "--write"))
 			folder = argv[++i];
+		else if (i + 1 < argc && !strcmp(argv[i], "--rounds"))
+			rounds = atoi(argv[++i]) > 0 ? atoi(argv[i]) : 1;
 		else {
 			fprintf(stderr,
-				"Usage: speed [--only TEXT] [--runs N] [--ms N] [--growth | --write FOLDER]\n");
+				"Usage: speed [--only TEXT] [--runs N] [--ms N] [--growth | --write FOLDER | --rounds N]\n");
 			return 2;
 		}
 	}
@@ -630,6 +648,11 @@ int main(int argc, char **argv)
 		measure_growth();
 		return 0;
 	}
+	for (size_t i = 0; rounds && i < sizeof(classes) / sizeof(*classes); i++)
+		if (strstr(classes[i].name, only))
+			serve_class(&classes[i], (uint32_t)rounds);
+	if (rounds)
+		return 0;
 	printf("%-26s%-14s%8s%14s%14s%10s\n", "class", "cutting", "pieces", "least ns", "middle ns",
 	       "allocs");
 	for (size_t i = 0; i < sizeof(classes) / sizeof(*classes); i++)
