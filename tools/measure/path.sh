@@ -5,8 +5,9 @@
 # Usage: tools/measure/path.sh [--listing] [CLASS..]
 # CLASS is a class of tools/measure/speed.c: null/getattr and null/lookup, if none is named. It prints a table for each: how
 # many instructions of a request a function has itself, and how many of them read memory, write it, compare, jump, and do
-# else. What counts is what Server::handle_message calls, and itself. With --listing each instruction follows, with how
-# often a request comes by it.
+# else. That is all from the pieces of the request and its room on, up to the outcome. With --listing each instruction
+# follows, with how often a request comes by it. docs/speed/bound.tsv has, counted by hand, what the request's records,
+# checks and one dispatch need.
 #
 # It wants valgrind, python3, binutils, a C compiler and the Rattle toolchain, and takes the library of crates/vfs_speed
 # as tools/measure/speed.sh does: proved.
