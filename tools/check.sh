@@ -6,6 +6,7 @@
 #        tools/check.sh --missing
 #
 #   documents  the pages against the sources
+#   figures    the commands and commits that made pages name; `Older: PAGE ..` if what they measure changed since
 #   opcode     the files in which an opcode stands, against the list of CONTRIBUTING.md
 #   numbers    opcodes, calls, kinds, bits, codes and fields, wherever they stand, against their one table
 #   shell      scripts, by shellcheck
@@ -27,10 +28,10 @@ set -euo pipefail
 . "$(dirname "$0")/lib/man.sh"
 cd "$here"
 
-parts=(documents opcode numbers shell rattle rust python c format door crate)
+parts=(documents figures opcode numbers shell rattle rust python c format door crate)
 # What a part runs, by its package. The toolchain is none of Debian's.
 declare -A wanted=(
-    [documents]="rt python3" [opcode]="python3" [numbers]="python3" [shell]="shellcheck" [rattle]="rt"
+    [documents]="rt python3" [figures]="python3 git" [opcode]="python3" [numbers]="python3" [shell]="shellcheck" [rattle]="rt"
     [rust]="rustfmt" [python]="pyflakes3"
     [c]="cc python3" [format]="clang-format" [door]="rt cc" [crate]="cargo rt cc"
 )
@@ -93,6 +94,7 @@ scripts() { files '*.sh' '.ci/run'; }
 c_files() { files '*.c' '*.h'; }
 
 check_documents() { tools/dev/documents.sh; }
+check_figures() { tools/dev/figures.py; }
 check_opcode() { tools/dev/opcode.py; }
 check_numbers() { tools/dev/numbers.py; }
 check_shell() { scripts | each shellcheck; }
@@ -138,6 +140,7 @@ check_crate() {
 count_of() {
     case $1 in
         documents) echo "$(files '*.md' | wc -l) pages" ;;
+        figures) echo "$(files 'docs/generated/*.md' docs/SPEED.md | wc -l) pages" ;;
         opcode) echo "$(tools/dev/opcode.py --opcodes | wc -w) opcodes" ;;
         numbers) tools/dev/numbers.py | sed 's/:.*//' ;;
         shell) echo "$(scripts | wc -l) scripts" ;;
@@ -171,6 +174,8 @@ for part in "${parts[@]}"; do
         cat "$folder/said"
         echo "FAILED: $part"
         failed+=("$part")
+    elif [ "$part" = figures ]; then
+        grep -v ' faults$' "$folder/said" || true
     fi
     times+=("$part $((SECONDS - begun)) s")
 done

@@ -234,6 +234,14 @@ def tables(kinds, judged):
                 yield f"| {part} | {len(names)} | {some(names)} |"
 
 
+def of_today():
+    """The day and the commit that a run is of."""
+    today = datetime.datetime.now(datetime.timezone.utc)
+    words = ["git", "-C", str(PAGE.parent), "describe", "--always", "--dirty", "--exclude", "*"]
+    commit = subprocess.run(words, stdout=subprocess.PIPE, stderr=subprocess.DEVNULL, text=True, check=False).stdout.strip()
+    return f"Of {today.day} {today:%B %Y}, {f'commit {commit}' if commit else 'of no commit'}"
+
+
 def hold(made, versions, write):
     """Writes the tables into the page, or says whether it has them. Above them stands of when they are."""
     text = PAGE.read_text(encoding="utf-8")
@@ -242,8 +250,7 @@ def hold(made, versions, write):
     start, end = text.index(MARKS[0]) + len(MARKS[0]), text.index(MARKS[1])
     stands = text[start:end].strip("\n").partition("\n\n")[2]
     if write:
-        today = datetime.datetime.now(datetime.timezone.utc)
-        when = f"Of {today.day} {today:%B %Y}, with {versions}."
+        when = f"{of_today()}, with {versions}."
         PAGE.write_text(f"{text[:start]}\n{when}\n\n{made}\n\n{text[end:]}", encoding="utf-8")
     elif stands != made:
         print(f"{PAGE.name} says otherwise:", file=sys.stderr)

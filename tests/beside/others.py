@@ -24,7 +24,6 @@ start.
 import argparse
 import collections
 import concurrent.futures
-import datetime
 import errno
 import itertools
 import re
@@ -348,8 +347,7 @@ def main(peers, seed, count, page):
     draw, fail = (table, failures_in_short) if page else (plain, failures)
     known = list(known_sessions())
     names = [name for name, _, _ in known]
-    today = datetime.datetime.now(datetime.timezone.utc)
-    print(f"Of {today.day} {today:%B %Y}. {len(known)} sessions, each to a new process.")
+    print(f"{beside.of_today()}. {len(known)} sessions, each to a new process.")
     show(draw(["Server", "Whom it trusts, by its documents"],
               [[of_one(peer), peer.trusts] for peer in peers]))
     found = {peer: judge_all(peer, known) for peer in peers}
