@@ -77,7 +77,7 @@
  * bits, but moves no field and changes no number: a program for an earlier one runs as it did, if it
  * answers ENOSYS to a call it doesn't know. Anything may change with the major one. */
 #define NIZWARF_VERSION_MAJOR 0
-#define NIZWARF_VERSION_MINOR 2
+#define NIZWARF_VERSION_MINOR 3
 #define NIZWARF_VERSION_PATCH 0
 #define NIZWARF_VERSION (NIZWARF_VERSION_MAJOR << 16 | NIZWARF_VERSION_MINOR << 8 | NIZWARF_VERSION_PATCH)
 

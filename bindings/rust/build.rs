@@ -7,7 +7,7 @@ use std::process::{exit, Command};
 
 const NAME: &str = "nizwarf";
 /// From this version on, and before the next major one, the library has what this crate uses.
-const VERSIONS: [&str; 2] = [">= 0.2", "< 1"];
+const VERSIONS: [&str; 2] = [">= 0.3", "< 1"];
 
 fn main() {
     for name in [

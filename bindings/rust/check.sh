@@ -80,13 +80,14 @@ make_package() {
 
 # Builds an example with the feature `static`, with an installed library that has both kinds, and runs it without.
 build_static() {
-    local installed=$folder/installed
+    local installed=$folder/installed version
+    version=$(sed -n 's/^version = "\(.*\)"$/\1/p' "$here/bindings/rust/Cargo.toml")
     mkdir -p "$installed"
     cc -shared -o "$installed/libnizwarf.so" -Wl,--whole-archive "$NIZWARF_LIB_DIR/libvfs_door.a" \
         -Wl,--no-whole-archive "$NIZWARF_LIB_DIR/liblibc_c.a" || return
     printf 'create %s\naddlib %s\naddlib %s\nsave\n' "$installed/libnizwarf.a" "$NIZWARF_LIB_DIR"/lib{vfs_door,libc_c}.a |
         ar -M || return
-    sed -e "s,^prefix=.*,prefix=$installed,; s,^libdir=.*,libdir=$installed," -e 's/@VERSION@/0.2.0/' \
+    sed -e "s,^prefix=.*,prefix=$installed,; s,^libdir=.*,libdir=$installed," -e "s/@VERSION@/$version/" \
         "$here/packaging/nizwarf.pc.in" > "$installed/nizwarf.pc"
     env -u NIZWARF_LIB_DIR PKG_CONFIG_PATH="$installed" \
         cargo build --offline --features static --example hello --target-dir "$built/static" || return

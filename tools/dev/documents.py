@@ -312,13 +312,20 @@ VERSIONS = {
     "CHANGELOG.md": r"^## (\d+\.\d+\.\d+)",
     "include/nizwarf.h": r"^#define NIZWARF_VERSION_(?:MAJOR|MINOR|PATCH) (\d+)$",
     "bindings/rust/Cargo.toml": r'^version = "([^"]+)"',
+    "bindings/rust/Cargo.lock": r'^name = "nizwarf"\nversion = "([^"]+)"',
+    "crates/vfs_door/src/lib.rt": r"nizwarf_version\(\)[^{]*{[^}]*}\s*{\s*0x0*(\w\w?)_(\w\w)(\w\w)\s*}",
+    # (of the minor version: what is new in it, what the crate wants, and what who builds it writes)
+    "packaging/nizwarf.map": r"(?s).*^NIZWARF_(\S+) {",
+    "bindings/rust/build.rs": r'">= ([^"]+)"',
+    "bindings/rust/README.md": r'^nizwarf = { version = "([^"]+)"',
 }
 version = None
 for path in filter(os.path.exists, VERSIONS):
     found = re.findall(VERSIONS[path], read(path), re.M)
-    said = ".".join(found[:3] if path.endswith(".h") else found[:1])
+    found = [f"{int(it, 16)}" for it in found[0]] if path.endswith(".rt") and found else found
+    said = ".".join(found[:3] if path.endswith((".h", ".rt")) else found[:1])
     version = version or said
-    if said != version:
+    if said != version and f"{said}.0" != version:
         faults.append(f"{path}: the version is {said or 'not there'}, and that of CHANGELOG.md {version}")
 for maker in ("tools/dev/pictures.sh", "tools/dev/begin.py"):
     faults += subprocess.run([maker, "--check"], stdout=subprocess.PIPE, stderr=subprocess.STDOUT, text=True).stdout.splitlines()

@@ -28,7 +28,7 @@
 #   the toolchain       README.md's has the logic of `rt version`, whose kits have several letters for one
 #                       logic; figures keep the one that they were made with
 #   the manual          names no field that the headers lack
-#   the version         is one in CHANGELOG.md, include/nizwarf.h and, if it is there, bindings/rust/Cargo.toml
+#   the version         is one in CHANGELOG.md, the header, the library, its newest symbols, and the crate
 #   pictures            are those that tools/dev/pictures.sh draws
 #   what to begin with  docs/BEGIN.md and docs/generated/protocol.md are as tools/dev/begin.py makes them
 set -eu

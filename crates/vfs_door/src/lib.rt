@@ -297,9 +297,9 @@ pub extern "C" fn nizwarf_copy_slot_at(
 /// The version of this library: 65536 times the major one, 256 times the minor one, and the patch.
 #[unsafe(no_mangle)]
 pub extern "C" fn nizwarf_version() -> u32
-    ensures { result ≡ 512 }
+    ensures { result ≡ 768 }
 {
-    0x0000_0200
+    0x0000_0300
 }
 
 /// Gives the memory of a slot back. Answers 0, or 11 where it had none.
