@@ -56,7 +56,7 @@ cp "$here/tests/mount/session.sh" "$root/"
 printf '%s\n' "modules='$modules'" "shared='$shared'" > "$root/settings"
 pack_guest "$root" "$work/files"
 
-# Behind the script, so that a signal ends it at once, and them with it.
+# In the background, so that a signal ends it at once, and them with it.
 words=("$work/socket") queues=2
 if [ -n "$shared" ]; then
     # (in memory where that is a file system, as what must come is of one)

@@ -15,7 +15,7 @@
  *   though nizwarf_check takes both;
  * - what nobody looks at, as SETUPMAPPING, with ENOSYS.
  *
- * The options are those of the program's reply to INIT. Nothing is handed on before that came, nor behind
+ * The options are those of the program's reply to INIT. Nothing is handed on before that came, nor after
  * a DESTROY, nor a second INIT: as numbers of requests are the peer's, no reply could be told from that of
  * an INIT then. Names, nodes and handles are the peer's too: whether there are such, the program knows.
  *
@@ -73,7 +73,7 @@ static ssize_t refuse(const struct fuse_in_header *asked, int error)
 	return sizeof(reply);
 }
 
-/* Answers a request of so many bytes that needs no file system. */
+/* Answers a request of that many bytes that needs no file system. */
 static ssize_t finish(size_t size)
 {
 	const nizwarf_segment piece = { request, size };
@@ -85,7 +85,7 @@ static ssize_t finish(size_t size)
 	return (ssize_t)told.len;
 }
 
-/* Judges a request of so many bytes. */
+/* Judges a request of that many bytes. */
 static ssize_t judge(size_t size)
 {
 	struct fuse_in_header asked;

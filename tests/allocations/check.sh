@@ -2,7 +2,7 @@
 # Refuses each request for memory of the built programs vfs_sessions and vfs_demo, one a run, and
 # looks at how that run ends: until one meets no refusal.
 #
-# Behind its line `refusals` vfs_sessions makes calls one after another, each in a part of its own
+# After its line `refusals` vfs_sessions makes calls one after another, each in a part of its own
 # (crates/vfs_corpus/src/refusals.rt has their form). Of the allocations of a part one is refused.
 # That part is right where it ends in one of these ways, and all others where they are those of a
 # run that is refused nothing:
@@ -10,16 +10,16 @@
 # - a reader or a writer: `OutOfMemory`, with the same counts as before;
 # - the server: `OutOfMemory`, with no call, and with room and options as before; in a session that
 #   outcome alone;
-# - the file system: an ENOMEM reply, the room behind it and the options as before; the call is the
+# - the file system: an ENOMEM reply, the room after it and the options as before; the call is the
 #   same, and its answer ENOMEM.
 #
 # The lines of vfs_demo's stored session are parts too, by one server over files in memory. What is
-# answered behind a refused one is what a session without that line answers: nothing was moved.
-# Behind them stands a LOOKUP of `a` twice, cut behind its header, which wants no memory, and inside
+# answered after a refused one is what a session without that line answers: nothing was moved.
+# After them stands a LOOKUP of `a` twice, cut after its header, which wants no memory, and inside
 # its name, which wants it once.
 #
 # vfs_demo answers its stored session. Any of its allocations is refused, and a run ends as above, or
-# the program itself wants memory: status 4, and `out of memory` behind some of the answers.
+# the program itself wants memory: status 4, and `out of memory` after some of the answers.
 #
 # Usage: tests/allocations/check.sh
 # It wants both programs built and as new as the sources, as `rt ci` leaves them, a C compiler and

@@ -54,7 +54,7 @@ def refused(program, stdin, part, clean):
 
 
 def parts_of(output):
-    """The parts of what vfs_sessions wrote behind its line `refusals`."""
+    """The parts of what vfs_sessions wrote after its line `refusals`."""
     parts = []
     for text in output.split("request ")[1:]:
         head, answered, *lines = text.splitlines()
@@ -109,7 +109,7 @@ def wrong(what, it):
 
 
 class Refusals:
-    """The runs of vfs_sessions on some lines behind the line `refusals`."""
+    """The runs of vfs_sessions on some lines after the line `refusals`."""
 
     def __init__(self, program, lines):
         self.program, self.lines = program, lines
@@ -124,7 +124,7 @@ class Refusals:
         return b"".join([b"refusals\n", *(line for at, line in enumerate(self.lines) if at != but)])
 
     def wanted(self, at):
-        """The parts behind this one, where it was refused."""
+        """The parts after this one, where it was refused."""
         if at < self.first_line:
             return self.parts[at + 1:]
         without = run(self.program, self.stdin(at - self.first_line))

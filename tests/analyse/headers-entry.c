@@ -40,7 +40,7 @@ static void look_at(const uint8_t *at, size_t len)
 	}
 }
 
-/* (by itself, so that what Eva can't show of a text stands apart) */
+/* (by itself, so that what Eva can't show of a text is apart) */
 static void look_at_text(const uint8_t *text, size_t len)
 {
 	//@ assert given: text != \null;

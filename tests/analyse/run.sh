@@ -1,5 +1,5 @@
 #!/usr/bin/env bash
-# Analyses C that stands between a guest and the proved library by Frama-C: what walks a guest's queues
+# Analyses C that is between a guest and the proved library by Frama-C: what walks a guest's queues
 # (programs/transport/vhost_queue.c, later.c), what is inline in the headers (include), and ids (passthrough_ids.c).
 #
 # Usage: tests/analyse/run.sh

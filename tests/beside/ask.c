@@ -5,7 +5,7 @@
  * the target of a migration does. A line is that of the programs here, ROOMS SEGMENTS: lengths joined by `+`, and
  * hexadecimal digits joined by `+`. Each segment and each room gets a descriptor of its own. Once a line is read it
  * prints
- *   LENGTH HEX        what the daemon completed it with: a length, and so many bytes of the room
+ *   LENGTH HEX        what the daemon completed it with: a length, and that many bytes of the room
  *   .. behind HEX     the same, if other bytes of the room were written: the whole room
  *   none              not completed within three seconds, or PATIENCE of a tenth; no line is asked after that
  *   hung up           the daemon closed the socket; nor after that
@@ -23,7 +23,7 @@
 #endif
 
 /* The request lies in the memory from REQUEST on, the room from ROOM on: so the data of a WRITE, and those of a READ in
- * a room behind the header's, begin with a page. */
+ * a room after the header's, begin with a page. */
 enum { ENTRIES = 128, PIECES = 64, REQUEST = (1 << 20) - 80, ROOM = (4 << 20) - 16, MEMORY = 8 << 20 };
 
 /* Of the protocol, of the daemon's features, and messages and directions of a state. */
@@ -81,7 +81,7 @@ static int save(const char *path, uint64_t features)
 	return transfer(SAVE, path);
 }
 
-/* Puts the chain, as it stands, into the request queue, and waits. Gives the length, -1 for none, -2 if the
+/* Puts the chain, as it is, into the request queue, and waits. Gives the length, -1 for none, -2 if the
  * daemon hung up. */
 static int64_t round_trip(void)
 {

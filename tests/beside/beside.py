@@ -40,7 +40,7 @@ LAYER = "fuse.rs", "descriptor_utils.rs", "filesystem.rs", "server.rs"
 OF_THE_LAYER = "EPROTO", "ENOMEM"
 # The bytes of INIT's reply that have the options agreed on: `flags` and `flags2`.
 OPTIONS = (28, 32), (48, 52)
-# Where the mode stands in a reply with attributes, by the reply's length: of GETATTR and SETATTR, of an entry.
+# Where the mode is in a reply with attributes, by the reply's length: of GETATTR and SETATTR, of an entry.
 MODES = {120: 92, 144: 116}
 
 REFUSED, PANIC, OTHER_PANIC, SAME, DIFFER = KINDS = (

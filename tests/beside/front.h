@@ -103,7 +103,7 @@ static inline void meet(const char *path)
 	}
 }
 
-/* Shares a new memory of `size` bytes, and starts so many queues, of which those behind the first are for requests, of
+/* Shares a new memory of `size` bytes, and starts that many queues, of which those after the first are for requests, of
  * `entries` descriptors. Gives the features that were agreed on: those that it takes, and of those that are liked what
  * the daemon has. */
 static inline uint64_t begin_queues(uint32_t queues, size_t size, uint32_t entries, uint64_t liked)

@@ -4,7 +4,7 @@ import struct
 
 import requests
 
-# Bodies that keep all rules, by opcode: the record, and names or data behind it.
+# Bodies that keep all rules, by opcode: the record, and names or data after it.
 BODIES = {
     1: b"name\0", 2: struct.pack("<Q", 1), 3: bytes(16), 4: bytes(88), 5: b"", 6: b"name\0text\0",
     8: struct.pack("<IIII", 0o100644, 0, 0, 0) + b"name\0", 9: struct.pack("<II", 0o755, 0) + b"name\0",
@@ -64,6 +64,6 @@ def whole():
 
 
 def session(seed, number):
-    """The requests of a session, behind the first one of each, which is a good INIT."""
+    """The requests of a session, after the first one of each, which is a good INIT."""
     chance = random.Random(f"{seed} {number}")
     return [some_request(chance) for _ in range(chance.randrange(1, 7))]

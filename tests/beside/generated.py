@@ -181,7 +181,7 @@ class Maker:
             yield Request(27, node, [bytes(8)], "32", [40], (0, 0), 0)
 
     def session(self, count):
-        """So many requests, each made once the one before it was answered."""
+        """That many requests, each made once the one before it was answered."""
         yield from self.first()
         for _ in range(count - FIRST):
             yield self.make()

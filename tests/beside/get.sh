@@ -1,5 +1,5 @@
 #!/usr/bin/env bash
-# Gets a server of FUSE from Debian's packages, and builds it with what of it stands beside this script.
+# Gets a server of FUSE from Debian's packages, and builds it with what of it is beside this script.
 #
 # Usage: tests/beside/get.sh libfuse|fuser|go-fuse|virtiofsd SUITE TO FOLDER
 # It leaves the program as TO, and its package's version as TO.version; of virtiofsd TO is the folder with the

@@ -3,7 +3,7 @@
  * Usage: libfuse DESCRIPTOR
  * The descriptor is a socket that keeps messages apart. The file system is an empty root, whose functions
  * look at each byte that they are handed, as those of a real one do. libfuse and this are compiled with
- * the address sanitizer, and the bytes of the buffer behind a message are poisoned: a look at one of them
+ * the address sanitizer, and the bytes of the buffer after a message are poisoned: a look at one of them
  * ends the program with a trace. Status 0: the other end was closed; 1: the session ended before that; 2:
  * it could not start. */
 #define _DEFAULT_SOURCE

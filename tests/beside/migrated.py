@@ -48,7 +48,7 @@ class Daemon:
         return self.asking.stdout.readline().rstrip("\n")
 
     def ask(self, opcode, body=b"", node=1, room=4096, user=0, extensions=b""):
-        """The error and what stands behind the header of the reply."""
+        """The error and what is after the header of the reply."""
         made = bytearray(requests.request(opcode, body + extensions, node=node, extensions=len(extensions) // 8))
         struct.pack_into("<II", made, 24, user, user)
         said = self.say(requests.line(f"16+{room}", bytes(made)))

@@ -3,7 +3,7 @@
  * Usage: nizwarf DESCRIPTOR
  * The descriptor is a socket that keeps messages apart. The file system is an empty root, whose functions
  * look at each byte that they are handed. A request ends where a page that can't be read begins, and so does
- * the room for its reply: a look behind one of them ends the program. What is refused, and has a header, is
+ * the room for its reply: a look past one of them ends the program. What is refused, and has a header, is
  * answered EIO, as programs/transport/fuse_device.c does. Status 0: the other end was closed; 1: it could not go on;
  * 2: it could not start. */
 #define _GNU_SOURCE
@@ -268,7 +268,7 @@ static const nizwarf_ops ops = {
 	.retrieve_reply = on_retrieve_reply,
 };
 
-/* The end of LONGEST bytes behind which nothing can be read. */
+/* The end of LONGEST bytes after which nothing can be read. */
 static unsigned char *fenced(void)
 {
 	const size_t page = (size_t)sysconf(_SC_PAGESIZE), size = (LONGEST + page - 1) / page * page;

@@ -15,7 +15,7 @@ one more request after it, by which it is judged:
   ended by design: it was not, after a DESTROY, an INIT of another version, or without an INIT
   ended by an error: it was not, after anything else
   panicked: the process said so, or was aborted
-  read past: a sanitizer or a page that can't be read caught a look behind the message
+  read past: a sanitizer or a page that can't be read caught a look past the message
 With --count it makes M sessions more, the same for each N of --seed, and shrinks what breaks a server, one for
 each place in its source. With --page the tables are markdown, and that of where a server broke is short.
 Status 1: the server here did not go on, or read past a message, alone or in front of another; 2: it could not
@@ -212,7 +212,7 @@ def judge_all(peer, sessions):
 
 
 def shrink(peer, asked, wanted):
-    """The smallest request found that breaks a server in the same place, behind an INIT if there was one."""
+    """The smallest request found that breaks a server in the same place, after an INIT if there was one."""
     tries = 60 if peer.how == "pair" else 20
 
     def breaks(rest):
@@ -247,7 +247,7 @@ def shrink(peer, asked, wanted):
 
 
 def shown(asked):
-    """Requests in words: the opcode, and what is behind the header."""
+    """Requests in words: the opcode, and what is after the header."""
     made = []
     for request in asked:
         name = requests.NAMES.get(opcode(request), f"opcode {opcode(request)}")

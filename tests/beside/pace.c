@@ -1,7 +1,7 @@
 /* Keeps a vhost-user daemon of virtio-fs busy with requests as a guest of Linux sends them, and takes its time.
  *
  * Usage: pace SOCKET PID [QUEUES] < LINES
- * A line is CLASS DEPTH COUNT: COUNT requests of a class, of which DEPTH are in flight, over so many queues in turn (1).
+ * A line is CLASS DEPTH COUNT: COUNT requests of a class, of which DEPTH are in flight, over that many queues in turn (1).
  * The daemon is the process PID; the folder that it shares has a file `file` of 32 MiB, and a folder `names`. SOCKET may
  * be a number: that of a socket that keeps messages apart, as a daemon has it in place of /dev/fuse, with one request in
  * flight. For each line it prints
@@ -10,9 +10,9 @@
  * A request's header, its record and its data have descriptors of their own, in an indirect table; data lie in
  * pages of 4 KiB. The classes: */
 #define CLASSES "unknown getattr lookup read-4k write-4k read-1m write-1m readdir readdirplus"
-/* And of files that are remembered, of a folder `many` with files 0000000, 0000001 ..: `know` looks up so many more,
- * `again` so many of those, here and there; `forget` gives all back; `list` lists a folder of so many names, `list-N`;
- * `destroy` ends the session, and `init` begins another one. */
+/* And of files that are remembered, of a folder `many` with files 0000000, 0000001 ..: `know` looks up that many more,
+ * `again` that many of those, here and there; `forget` gives all back; `list` lists a folder of that many names,
+ * `list-N`; `destroy` ends the session, and `init` begins another one. */
 /* Status 3: it could not ask, or a request was answered with another error than it should be. */
 #define _GNU_SOURCE
 #include "front.h"
@@ -362,7 +362,7 @@ static void begin_session(void)
 
 /* ---- files that are remembered */
 
-/* Looks so many more files up, or so many of those that are known. */
+/* Looks that many more files up, or that many of those that are known. */
 static uint64_t look_up_many(unsigned depth, unsigned long count, int again)
 {
 	const struct request r = { .opcode = LOOKUP,
@@ -418,7 +418,7 @@ static uint64_t forget_all(unsigned depth, unsigned long count)
 	return 0;
 }
 
-/* The offset behind the last one of so many bytes of names; and counts them. */
+/* The offset after the last one of that many bytes of names; and counts them. */
 static uint64_t take_names(size_t len, unsigned long *count)
 {
 	const unsigned char *data = place_of(0)->data;
@@ -432,7 +432,7 @@ static uint64_t take_names(size_t len, unsigned long *count)
 	return offset;
 }
 
-/* Lists a folder of so many names. */
+/* Lists a folder of that many names. */
 static uint64_t list(unsigned depth, unsigned long count)
 {
 	const uint32_t none[2] = { 0, 0 };

@@ -34,7 +34,7 @@ DAEMON = ["--socket-path", "SOCKET", "--shared-dir", "SHARE", "--sandbox", "none
 OPTIONS = ([], ["--cache=always", "--writeback"], ["--posix-acl", "--security-label"], ["--thread-pool-size=4"],
            ["--allow-direct-io", "--cache=never"], ["--no-readdirplus"])
 LENGTH = 1000
-# Longer files than of so many bytes can't be made, as by a FALLOCATE: the folders are on a real disk.
+# Longer files than of that many bytes can't be made, as by a FALLOCATE: the folders are on a real disk.
 LIMIT = "prlimit", f"--fsize={1 << 24}"
 INIT = requests.line("16+64", requests.init(flags2=15))
 # In what two replies may differ that virtiofsd's own fault explains.
@@ -87,7 +87,7 @@ class Daemon:
 
 
 def plain(client, request, answer):
-    """What of an answer counts. Bytes behind the reply, if there are any, are left as they are."""
+    """What of an answer counts. Bytes after the reply, if there are any, are left as they are."""
     parts = answer.split(" ")
     if not re.fullmatch(r"\d+", parts[0]) or len(parts) < 2 or parts[1] == "behind":
         return answer
@@ -207,7 +207,7 @@ def survive(session):
 
 
 def reply_to(daemon, line):
-    """What stands in a reply behind its header."""
+    """What is in a reply after its header."""
     return bytes.fromhex(daemon.ask(line).split(" ")[1])[16:]
 
 
@@ -260,7 +260,7 @@ def hostile(session):
 
 
 def over(what, workers, function, sessions):
-    """What a function makes of sessions, so many at a time, with progress."""
+    """What a function makes of sessions, that many at a time, with progress."""
     sessions = list(sessions)
     with concurrent.futures.ThreadPoolExecutor(workers) as pool:
         try:

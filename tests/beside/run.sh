@@ -12,8 +12,8 @@
 # libfuse, fuser and go-fuse each serve a socket that keeps messages apart, in place of /dev/fuse. libfuse does
 # so by itself, behind examples/c/check.c, which hands on what is whole, and over the layer here, as tools/libfuse.sh
 # builds it, if meson and ninja are there. libfuse is built with the
-# address sanitizer, with the bytes behind each message poisoned. The server here is the library vfs_door; a
-# page that can't be read begins behind each of its messages. virtiofsd is asked by vhost-user.
+# address sanitizer, with the bytes after each message poisoned. The server here is the library vfs_door; a
+# page that can't be read begins after each of its messages. virtiofsd is asked by vhost-user.
 #
 # The sessions are those of tests/beside/requests.py. With --count it makes M sessions more, which are
 # the same for each N of --seed, and shrinks what breaks a server to its smallest request. With --only it asks

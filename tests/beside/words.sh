@@ -1,6 +1,6 @@
 #!/usr/bin/env bash
 # Asks virtiofsd 1.13.2 and nizwarf-share the same, each started with the same words, and holds what comes against
-# tests/share/words.txt. What differs on purpose stands in words.py there.
+# tests/share/words.txt. What differs on purpose is in words.py there.
 #
 # Usage: tests/beside/words.sh [--write]
 # virtiofsd is Debian's, as tests/beside/virtiofsd.sh gets it. With --write what it answers is written to words.txt.

@@ -45,7 +45,7 @@ door=${library[0]}
 find_library
 library=("$door" "${library[@]}")
 
-# Compiles and links a source of here, with flags behind it.
+# Compiles and links a source of here, with flags after it.
 compile() {
     local source=$1
     shift

@@ -109,7 +109,7 @@ static inline void set_if(nizwarf_call *c, int set, uint32_t has, uint64_t *to, 
 	}
 }
 
-/* What the record says, which stands behind the header. */
+/* What the record says, which is after the header. */
 static inline void set_record(nizwarf_call *c, const uint8_t *r, uint32_t opcode)
 {
 	switch (opcode) {
@@ -232,7 +232,7 @@ static inline void set_record(nizwarf_call *c, const uint8_t *r, uint32_t opcode
 	}
 }
 
-/* The name at a place. Gives the place behind its 0. */
+/* The name at a place. Gives the place after its 0. */
 static inline size_t set_name(nizwarf_range *name, const uint8_t *request, size_t at)
 {
 	name->at = at;
@@ -257,7 +257,7 @@ static inline void set_extensions(nizwarf_call *c, const uint8_t *request, size_
 	}
 }
 
-/* What stands behind the record. */
+/* What is after the record. */
 static inline void set_tail(nizwarf_call *c, const uint8_t *request, size_t len, size_t at, uint32_t opcode)
 {
 	switch (opcode) {

@@ -29,7 +29,7 @@ static int is_error(const nizwarf_told *told, int error)
 	       u64(ours + 8) == unique;
 }
 
-/* A request that makes a name, with a security context, and a group in front of it or behind it. */
+/* A request that makes a name, with a security context, and a group in front of it or after it. */
 static void begin_maker(uint32_t opcode, int group_first)
 {
 	static const uint32_t group[] = { 16, 32, 1, 4242 }, context[] = { 30, 1, 5, 0 };
@@ -231,7 +231,7 @@ static void ask_bounded(int fits)
 	CHECK(fits || is_error(&told, ENOMEM));
 }
 
-/* What the largest payload of a session bounds, 4096 bytes: so many are asked for, and one more
+/* What the largest payload of a session bounds, 4096 bytes: that many are asked for, and one more
  * isn't. */
 static void limits(void)
 {
@@ -267,7 +267,7 @@ static void limits(void)
 	CHECK(nizwarf_new(&server, 4096, ROOM, NULL) == NIZWARF_OK);
 }
 
-/* A READ of 4096 bytes with this room is answered with so many bytes. */
+/* A READ of 4096 bytes with this room is answered with that many bytes. */
 static nizwarf_told read_count(size_t space, uint64_t count, int32_t code)
 {
 	const struct fuse_read_in read = { .size = 4096 };

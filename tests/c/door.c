@@ -263,7 +263,7 @@ static void agree(uint64_t options)
 	try_forms();
 }
 
-/* What a request behind names ends in, where groups were agreed on. */
+/* What a request after names ends in, where groups were agreed on. */
 static void add_extensions(void)
 {
 	static const uint32_t group[] = { 16, 32, 1, 4242 };

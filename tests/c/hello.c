@@ -30,7 +30,7 @@ static struct {
 	uint8_t body[8192];
 } reply;
 
-/* Asks with a record, and gives how many bytes of reply there are behind the header. */
+/* Asks with a record, and gives how many bytes of reply there are after the header. */
 static size_t ask(uint32_t opcode, uint64_t node, const void *record, size_t len)
 {
 	static uint64_t unique;

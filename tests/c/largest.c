@@ -43,7 +43,7 @@ static nizwarf_slot slot = NIZWARF_NONE;
 static nizwarf_server server = NIZWARF_NONE;
 static char name[NAME + 1];
 
-/* A request, with a record, in one piece; what is added stands behind it. */
+/* A request, with a record, in one piece; what is added is after it. */
 static void begin(uint32_t opcode, uint64_t node, const void *record, size_t len)
 {
 	static uint64_t unique;
@@ -65,7 +65,7 @@ static void add(const void *bytes, size_t len)
 	pieces[0].len = header->len;
 }
 
-/* So many bytes that are no 0. */
+/* That many bytes that are no 0. */
 static void fill(size_t len)
 {
 	CHECK(header->len + len <= sizeof(request));
@@ -402,7 +402,7 @@ static void long_attributes(void)
 	CHECK(serve((1 << 16) + 16) == 0 && reply.header.len == 16 + most * sizeof(name));
 }
 
-/* A directory of so many names, each as long as it may be, which are read at once. */
+/* A directory of that many names, each as long as it may be, which are read at once. */
 static void many_names(void)
 {
 	struct fuse_read_in read = { .size = WIDE };

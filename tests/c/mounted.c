@@ -237,7 +237,7 @@ static int is_error(ssize_t result, int error)
 	return result == -1 && errno == error;
 }
 
-/* Each wrong answer, and behind it one that is right. */
+/* Each wrong answer, and after it one that is right. */
 static void ask_wrong(void)
 {
 	const int too_long = is_spoilt ? EIO : ERANGE;

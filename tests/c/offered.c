@@ -284,7 +284,7 @@ static void unnamed_files(void)
 	CHECK(ask_cut(ALL, 50, request_len, &call, &told) == NIZWARF_DECODE_MESSAGE);
 }
 
-/* Answers a row by so many bytes of text: the error of the reply, 0 if it has these bytes after its header. */
+/* Answers a row by that many bytes of text: the error of the reply, 0 if it has these bytes after its header. */
 static int answered(size_t i, const void *text, size_t len)
 {
 	nizwarf_answer answer = NIZWARF_NO_ANSWER;

@@ -29,7 +29,7 @@ static size_t length;
 static nizwarf_slot slot = NIZWARF_NONE;
 static unsigned char space[(1 << 20) + 4096];
 
-/* A line in memory of each of some sizes is the beginning of the whole one, and nothing behind it changes. */
+/* A line in memory of each of some sizes is the beginning of the whole one, and nothing after it changes. */
 static void hold_line(size_t (*print)(const void *of, char *text, size_t size), const void *of)
 {
 	const size_t len = print(of, NULL, 0), sizes[] = { 0, 1, 2, len / 2, len, len + 1, len + 9 };
@@ -169,7 +169,7 @@ static int has_words(const unsigned char *request, size_t len, uint64_t options,
 }
 
 /* What is printed goes by each option that changes what a request's bytes mean: SETXATTR_EXT (bit 29) its record,
- * SECURITY_CTX (bit 32) and CREATE_SUPP_GROUP (bit 34) what stands behind a name. */
+ * SECURITY_CTX (bit 32) and CREATE_SUPP_GROUP (bit 34) what is after a name. */
 static void hold_options(void)
 {
 	static const uint32_t group[] = { 16, 32, 1, 4242 }, context[] = { 32, 1, 5, 0 };

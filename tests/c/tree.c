@@ -44,7 +44,7 @@ static struct {
 
 static uint8_t reply[1 << 16], large[8 << 20];
 
-/* Asks with a request in two pieces, of which the first has so many bytes, behind so many empty ones,
+/* Asks with a request in two pieces, of which the first has that many bytes, after that many empty ones,
  * and with two pieces of room. What is refused for want of memory, by the server or in the file system's
  * reply, is asked again, and the outcome told. */
 static int ask(nizwarf_server *server, void *request, size_t cut, size_t empty, size_t space, size_t *len)

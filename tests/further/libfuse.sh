@@ -1,6 +1,6 @@
 #!/usr/bin/env bash
 # libfuse's own tests, which judge file systems over the door: its examples of notices, POLL and IOCTL, as examples.c has
-# them, and its passthroughs, for which nizwarf-share stands here.
+# them, and its passthroughs, for which nizwarf-share is here.
 #
 # Usage: tests/further/libfuse.sh [--sanitizer NAME], as root
 # The tests are those of Debian's sid, by libfuse's own runner, clients and test_syscalls: tests/suites/get.sh unpacks and

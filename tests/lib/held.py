@@ -14,7 +14,7 @@ def hold(fact, what):
 
 
 def wait_for(fact, most=None):
-    """Whether it comes to be a fact, within SOON or so many seconds."""
+    """Whether it comes to be a fact, within SOON or that many seconds."""
     until = time.monotonic() + (most or SOON)
     while not fact() and time.monotonic() < until:
         time.sleep(0.01)

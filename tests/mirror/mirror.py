@@ -43,7 +43,7 @@ class Mirror:
         return rest
 
     def run(self, seed, count):
-        """Random sessions, until so many operations were asked."""
+        """Random sessions, until that many operations were asked."""
         asked, began, told = 0, time.monotonic(), time.monotonic()
         while asked < count and len(self.unknown) < MOST:
             chance = random.Random(f"{seed} {asked}")

@@ -122,7 +122,7 @@ class Library:
         self.of.nizwarf_end_at(ctypes.byref(self.server))
 
     def ask(self, opcode, node, body=b"", room=ROOM):
-        """What is answered to a request, behind its header; an error is raised."""
+        """What is answered to a request, after its header; an error is raised."""
         self.unique += 1
         message = struct.pack("<IIQQIIII", 40 + len(body), opcode, self.unique, node, 0, self.group, 1, 0) + body
         cut = 40 if self.unique % 3 else len(message)

@@ -118,7 +118,7 @@ works '-rw------- 7 8' 'chmod 600 a && chown 7:8 a && stat -c "%A %u %g" a'
 works '1577836800 946684800' 'touch -m -d "2020-01-01 00:00:00" a && touch -a -d "2000-01-01 00:00:00" a && TZ=UTC stat -c "%Y %X" a'
 works 'now' 'touch a; d=$(( $(date +%s) - $(stat -c %Y a) )); [ "$d" -ge -1 ] && [ "$d" -le 5 ] && echo now'
 
-# Bytes become zeros, up to behind the end, and have a place on the disk; a tmpfs that is shared has no call for it.
+# Bytes become zeros, up to beyond the end, and have a place on the disk; a tmpfs that is shared has no call for it.
 if [ -n "$shared" ] || ! fallocate --help 2>&1 | grep -q zero-range; then
     skipped 'zeros in place of bytes, of a shared folder or without the fallocate of util-linux'
 else

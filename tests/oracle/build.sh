@@ -8,7 +8,7 @@
 # --source, FOLDER has the four files. Where they are not those of 1.13.2 it says so, and goes on as long
 # as the places of its edits are there.
 #
-# In out/oracle it leaves the programs `raw` (the code as it stands), `mended` (without the faults that
+# In out/oracle it leaves the programs `raw` (the code as it is), `mended` (without the faults that
 # docs/DIFFERENCES.md lists) and `later` (entries given back, and a limit that is chosen), and in
 # out/oracle/fast what tools/measure/speed.sh links. It runs virtiofsd's own tests of its segments over the
 # crates that stand in, where the source has them, and holds the three programs against differences.txt.

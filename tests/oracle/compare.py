@@ -5,8 +5,8 @@ Usage: compare.py SEED COUNT JOBS ORACLE PROGRAM ..
 Each session goes to a program as it is cut, and with each request in one segment and one room:
 
     script sessions   to vfs_sessions: answers and calls
-    memory sessions   to vfs_demo: answers; and, where they are of a form that it reads, to vfs_sessions behind
-                      its line `refusals`: outcomes, whole rooms and the options that are agreed behind each
+    memory sessions   to vfs_demo: answers; and, where they are of a form that it reads, to vfs_sessions after
+                      its line `refusals`: outcomes, whole rooms and the options that are agreed after each
                       request
 
 and the oracle says what must come. PROGRAM .. are the paths of the two.
@@ -29,7 +29,7 @@ import opcodes
 # For each way of asking: the program, the sessions that it gets, and how the oracle is asked.
 WAYS = {"vfs_sessions": ("vfs_sessions", "script", "script"), "vfs_demo": ("vfs_demo", "memory", "memory"),
         "refusals": ("vfs_sessions", "memory", "rooms")}
-# Kinds with lines that are not read behind the line `refusals`, or more calls than are noted there.
+# Kinds with lines that are not read after the line `refusals`, or more calls than are noted there.
 NO_ROOMS = ("badline", "limits", "full")
 # How many sessions a task has, at most.
 SESSIONS = 48

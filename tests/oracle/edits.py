@@ -2,7 +2,7 @@
 """Puts virtiofsd's four files into a folder, as they are or edited.
 
 Usage: edits.py SOURCE OUT raw|mended|later [WRONG]
-SOURCE has fuse.rs, descriptor_utils.rs, filesystem.rs and server.rs, or these names with .txt behind,
+SOURCE has fuse.rs, descriptor_utils.rs, filesystem.rs and server.rs, or these names with .txt after,
 itself or in a folder src. Status 1, with a word, where a place that is to be edited is not there as often
 as it should be, and 2 where one of the files isn't. WRONG is the number of a wrong body in wrong-bodies.txt, counted from 1.
 
@@ -22,7 +22,7 @@ SUMS = {
     "server": "bf918315cec7d78fad1307da5fea5daa87a126af95be64eca2f383aa8aee7761",
 }
 
-# Each edit: the file, how often the place is there, the place, what stands there then.
+# Each edit: the file, how often the place is there, the place, what is there then.
 
 # What is needed to run the code at all.
 RAW = [
@@ -93,7 +93,7 @@ LATER = [
 ]
 
 EDITS = {"raw": RAW, "mended": RAW + MENDED, "later": RAW + MENDED + LATER}
-# What stands before the test module, in virtiofsd and in Debian's package of it.
+# What is before the test module, in virtiofsd and in Debian's package of it.
 TESTS = re.compile(r"^(// .*\n)?#\[cfg\((debian_)?test\)\]$", re.M)
 
 

@@ -1,5 +1,5 @@
 #!/usr/bin/env bash
-# Shows that no line of the repository is virtiofsd's: no line has twelve words in a row that stand in a
+# Shows that no line of the repository is virtiofsd's: no line has twelve words in a row that are in a
 # row in one of its four files.
 #
 # Usage: tests/oracle/own-words.sh [--source FOLDER] [FILE ..]

@@ -6,7 +6,7 @@
 # system of vfs_sessions and half over the files in memory of vfs_demo, and the sessions that kernels were
 # recorded to ask. Each session is asked as it is cut, and with each request in one segment and one room.
 # Compared are answers, calls with every argument, statuses, and over the files in memory whole rooms and
-# the options agreed on, which vfs_sessions shows behind its line `refusals`. It prints how many requests of each opcode came to each
+# the options agreed on, which vfs_sessions shows after its line `refusals`. It prints how many requests of each opcode came to each
 # outcome, and where something differs the smallest request that does; progress goes to standard error.
 # The same seed and count make the same sessions.
 #

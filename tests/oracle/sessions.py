@@ -7,7 +7,7 @@ are for the scripted file system of vfs_sessions, `memory` ones for the files in
 kinds take turns:
 
     valid        each opcode several times, as a kernel asks
-    mixed        the same with a truncation, another length, bytes behind it or other bytes here and there
+    mixed        the same with a truncation, another length, bytes after it or other bytes here and there
     truncated    each beginning of a message
     lengths      each `len` in the header of a message
     rooms        each size of the room for its reply
@@ -17,7 +17,7 @@ kinds take turns:
     transfers    READ and WRITE of few and many bytes, to the last offset
     entries      requests that are answered an entry, in rooms that it fits and in smaller ones
     limits       a first line that sets the server's limit, and requests about its size
-    hostile      bytes without sense, and headers that lead somewhere with bytes without sense behind them
+    hostile      bytes without sense, and headers that lead somewhere with bytes without sense after them
     mutated      requests that a kernel asked, with a byte, a number or a piece of them changed
     full         long runs of one opcode; in memory a thousand files and more
     told         scripted answers at their extremes: nodes, handles, errors, options, long and odd names of items
@@ -689,7 +689,7 @@ def session(seed, files, number, size=None):
 
 
 def numbers(count):
-    """The sessions that have so many requests: the number and the size of each."""
+    """The sessions that have that many requests: the number and the size of each."""
     found, number = [], 0
     while count > 0:
         size = min(size_of(number), count)

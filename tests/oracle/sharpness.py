@@ -27,7 +27,7 @@ place = threading.local()
 
 
 def write_sessions(seed, count, folder):
-    """The sessions over both file systems, cut and flat: one of each kind first, and the others behind
+    """The sessions over both file systems, cut and flat: one of each kind first, and the others after
     them. Answers the two folders."""
     for files in ("script", "memory"):
         for stage in ("first", "others"):

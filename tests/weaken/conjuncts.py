@@ -66,7 +66,7 @@ def end_of(text, start, end):
 
 
 def inside(text, start, end):
-    """What stands in brackets around all of it, or None."""
+    """What is in brackets around all of it, or None."""
     if start < end and text[start] == "(" and end_of(text, start, end) == end:
         return trimmed(text, start + 1, end - 1)
     return None

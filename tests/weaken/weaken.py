@@ -97,7 +97,7 @@ class Prover:
         self.below, self.static = graph()
 
     def prove(self, name):
-        """Proves a crate as it stands, and keeps what that proved as where others begin."""
+        """Proves a crate as it is, and keeps what that proved as where others begin."""
         if name not in self.below:
             stop(f"There is no crate {name}.")
         print(f"Proving {name} as it stands ..", file=sys.stderr)
@@ -154,7 +154,7 @@ def place_in(text, line, column):
 
 
 def term_at(text, start):
-    """From where to where a term goes that begins at a place: a whole one behind a sign, and else one argument."""
+    """From where to where a term goes that begins at a place: a whole one after a sign, and else one argument."""
     before = text[:start].rstrip()
     is_whole = before.endswith(("=", ";", ",", "(", "{", "[", ".", "→", "↦")) or re.search(r"\b(in|then|else)$", before)
     at, depth = start, 0
@@ -172,7 +172,7 @@ def term_at(text, start):
             break
         at += 1
     end = len(text[:at].rstrip())
-    # (in brackets, with a field behind them)
+    # (in brackets, with a field after them)
     field = re.match(r"\)(\.\w+)+", text[end:])
     return (start - 1, end + len(field[0])) if field and text[start - 1] == "(" else (start, end)
 

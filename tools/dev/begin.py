@@ -41,7 +41,7 @@ def expect(true, what):
 
 
 def quoted(path, name):
-    """A definition as it stands in a file."""
+    """A definition as it is in a file."""
     lines = crate(path).split("\n")
     found = [at for at, line in enumerate(lines) if re.match(rf"(abbrev |unfoldable )?pub (record )?{name}\b", line)]
     expect(len(found) == 1, f"{path} does not define {name} once")
@@ -52,7 +52,7 @@ def quoted(path, name):
 
 
 def rows_of(path, name):
-    """The rows of a definition by cases, with what stands before `=` and after it, on one line each."""
+    """The rows of a definition by cases, with what is before `=` and after it, on one line each."""
     text = re.search(rf"^( *)abbrev pub {name} :.*?(?=^$|\Z)", crate(path), re.M | re.S)
     expect(text, f"{path} does not define {name}")
     rows = re.findall(rf"^ *{name} ((?:\([^)]*\)|[^=(\n])+) =\s+(.*?)(?=^ *{name} |\Z)", text[0], re.M | re.S)
@@ -93,7 +93,7 @@ def stored():
 
 
 def one(found, begins, number=0):
-    """The stored request so many behind the comment that begins so."""
+    """The stored request that many after the comment that begins so."""
     those = [it for (comment, at), it in found.items() if comment.startswith(begins) and at == number]
     expect(len(those) == 1, f"crates/vfs_sessions/stdin has no one comment: {begins}")
     return those[0]
@@ -302,7 +302,7 @@ def packed(fields):
 
 
 def answers():
-    """Of each kind of answer, which bodies stand behind the header of a reply."""
+    """Of each kind of answer, which bodies stand after the header of a reply."""
     bodies = {given.strip("()").split()[0]: made for given, made in rows_of(REPLY, "body_of")}
     expect(any("init_out" in made for _, made in rows_of(REPLY, "reply_of")), f"{REPLY}: INIT's reply is another")
     kinds = {"Agreements": ["`fuse_init_out`"], "Data": []}

@@ -122,7 +122,7 @@ def check_place(fault, name, path, number):
 
 
 def check_path(fault, document, path, beside):
-    """Answers in which folders a part of a path is looked for behind this one. What is built isn't looked for."""
+    """Answers in which folders a part of a path is looked for after this one. What is built isn't looked for."""
     if path.startswith("out/"):
         return beside
     pattern = re.sub(r"\b(CRATE|NAME|my_library|my_tree)\b", "*", path).rstrip("/")

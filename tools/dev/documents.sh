@@ -4,9 +4,9 @@
 # Usage: tools/dev/documents.sh
 # It prints each fault with its file and line, and ends with their count. Status 0: there is none.
 #
-#   links               the file is there, and so is the heading behind a `#`
+#   links               the file is there, and so is the heading after a `#`
 #   `NAME` (`FILE:N`)   the definition of NAME begins in line N of the file
-#   `NAME`, `FILE`      the file defines NAME; several names may stand before it
+#   `NAME`, `FILE`      the file defines NAME; several names may be before it
 #   `NAME`: `CLAUSE`    in the README of a crate: it has such a clause
 #   files and folders   are there; a part of a path, as `Ask.antt`, in the folder or crate that was
 #                       named last in the same line, else in the crate of the page's first heading
@@ -19,7 +19,7 @@
 #   the reading order   of PROMISE.md: no file of the grammar, items 3 to 8, names a word of an earlier item; its
 #                       counts are those of tools/measure/statement.sh, of which each file is there; the key
 #                       has each sign that one of its files has
-#   the gate's time     stands in TESTING.md alone
+#   the gate's time     is in TESTING.md alone
 #   counts              of opcodes, calls of a file system, records, stored requests and hostile forms are those
 #                       of the sources; others that several pages say are the same on each
 #   what is trusted     README.md names each crate of the kit that crates.txt does

@@ -35,7 +35,7 @@ NAMES = next(it for it in sorted(glob.glob("crates/vfs_print/src/*.rt")) if "fn 
 
 
 def part(path, begin, end):
-    """What stands in a file between these two."""
+    """What is in a file between these two."""
     found = re.search(re.escape(begin) + "(.*?)" + end, read(path), re.S)
     if not found:
         faults.append(f"{path}: there is no {begin.strip()}")

@@ -99,7 +99,7 @@ def main():
     faults += [f"{PAGE}:{number}: {pattern}: none of these opcodes stands there" for pattern, number in patterns
                if not fnmatch.filter(every, pattern)]
     for opcode, paths in own.items():
-        said = re.search(rf"\b{opcode} (?:stands )?in (\d+)", read(PAGE))
+        said = re.search(rf"\b{opcode} (?:is )?in (\d+)", read(PAGE))
         if not said or int(said[1]) != len(paths):
             faults.append(f"{PAGE}: it does not say {opcode} in {len(paths)}")
     print(*faults, f"Files: {counts}; {len(faults)} faults", sep="\n")

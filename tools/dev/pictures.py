@@ -45,7 +45,7 @@ def escaped(words):
 
 
 def attributes(values):
-    """Attributes of an element; a number with a part behind the point has one digit there."""
+    """Attributes of an element; a number with a part after the point has one digit there."""
     shown = {name: f"{value:.1f}" if isinstance(value, float) else value
              for name, value in values.items()}
     return "".join(f' {name.replace("_", "-")}="{value}"' for name, value in shown.items())

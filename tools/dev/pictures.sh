@@ -1,5 +1,5 @@
 #!/usr/bin/env bash
-# Draws docs/pictures/*.svg out of what stands beside them.
+# Draws docs/pictures/*.svg out of what is beside them.
 #
 # Usage: tools/dev/pictures.sh [--check]
 # With --check it writes nothing, and names each picture that is not what it would draw. Status 0:
@@ -7,7 +7,7 @@
 #
 #   crates.svg   the crates as crates.txt has them, in the families of the table in
 #                docs/ARCHITECTURE.md: a line is left out where the crates between say it already
-#   lookup.svg   the steps of the table in docs/ARCHITECTURE.md: what stands in bold, the words up to
+#   lookup.svg   the steps of the table in docs/ARCHITECTURE.md: what is in bold, the words up to
 #                the first full stop, the first function, and the crates of all files
 #   ratios.svg   the ratios of docs/speed/ratios.tsv, with the names of docs/speed/classes.tsv
 #   end-to-end.svg  those of the table in docs/generated/end-to-end.md

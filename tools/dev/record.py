@@ -3,7 +3,7 @@
 
 Usage: tools/dev/record.py NAME | --check
 
-It prints, for the struct NAME, whose fields are unsigned numbers: its impl of ByteValued, which stands after it; its
+It prints, for the struct NAME, whose fields are unsigned numbers: its impl of ByteValued, which is after it; its
 decoder, its table and its layout, for the definitions in specs. `rt fmt` lays them out. What else names a record is in
 CONTRIBUTING.md. With --check it derives those of all records, and tells how many stand as they are derived; others
 have parts, arrays or signed fields, or are put in another order for speed.

@@ -41,7 +41,7 @@ in_turn() {
 }
 
 # Prints the same with what each message says below it, by the program vfs_decode: show LINES ANSWERS. An
-# empty line stands before each request, and what vfs_demo wrote behind its last answer ends it.
+# empty line is before each request, and what vfs_demo wrote after its last answer ends it.
 show() {
     in_turn "$1" "$2" | "$(path_of vfs_decode)" | sed 's/^[0-9]/\n&/'
     tail -n 1 "$2" | grep -Ev '^(ok|err) ' || true

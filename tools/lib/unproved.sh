@@ -10,7 +10,7 @@
 # `rt try` compiles a program without a proof, but with checks that make it a hundred times slower, and
 # does not keep it. So it is given the toolchain's folder with another clang, which keeps the module that
 # it compiles, and that is compiled again as that of a proved program is. Of a library it compiles the
-# tests, and what they call: those in the folder NAME beside this script stand behind its own sources then.
+# tests, and what they call: those in the folder NAME beside this script stand after its own sources then.
 set -euo pipefail
 . "$(dirname "$0")/usage.sh"
 . "$(dirname "$0")/program.sh"
@@ -37,7 +37,7 @@ kit=$(dirname "$(rt doc)")
 folder=$(mktemp -d)
 trap 'rm -rf "$folder"' EXIT
 
-# Links to all of a folder, but for what has one of the names behind it.
+# Links to all of a folder, but for what has one of the names after it.
 link_all() {
     local from=$1 to=$2 it
     shift 2

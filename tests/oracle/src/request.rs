@@ -135,7 +135,7 @@ impl Answer {
         }
     }
 
-    /// The outcome and the whole room, as `vfs_sessions` writes them behind its line `refusals`.
+    /// The outcome and the whole room, as `vfs_sessions` writes them after its line `refusals`.
     pub fn whole(&self) -> String {
         let outcome = match &self.outcome {
             Outcome::Ok(n) => format!("Ok({n})"),

@@ -4,7 +4,7 @@
 //!   which lines `answer ..` may tell what to answer;
 //! - `memory` answers as `vfs_demo` does, over files in memory;
 //! - `rooms` the same files, but for each request its outcome, its whole room and the options that are
-//!   agreed behind it, as `vfs_sessions` does behind its line `refusals`.
+//!   agreed after it, as `vfs_sessions` does after its line `refusals`.
 //!
 //! By itself it answers standard input. With two folders it answers each file of IN, by a server of its
 //! own, into a file of the same name in OUT. A bad line ends a session, with status 2 of the first form.
