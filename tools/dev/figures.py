@@ -39,7 +39,7 @@ ALL = ["crates/", "include/", "programs/", "bindings/", "examples/c/", "tests/be
 COMMIT = re.compile(r"\b(?=[0-9]*[a-f])(?=[a-f]*[0-9])[0-9a-f]{7,12}\b")
 COMMAND = re.compile(r"\b(?:tools|tests)/[\w./-]+\.(?:sh|py)\b")
 # Lines that change nothing: comments of C, Rust, Rattle and scripts, and imports.
-NOTHING = r"^[ \t]*((//|/\*|\*|--|#)([ /!].*)?|(pub )?use .*)$"
+NOTHING = r"^[ \t]*((//|/\*|\*|--|#)([ /!].*)?|((pub|ghost) )?use .*)$"
 
 
 def git(*words):
@@ -72,7 +72,8 @@ def begins_of(what, named):
 def changed_since(commit, seen={}):
     """The files that are not as they were, but for lines that change nothing."""
     if commit not in seen:
-        told = git("diff", "--numstat", "-z", "-M", "--ignore-blank-lines", f"-I{NOTHING}", commit, "--", *ALL).stdout
+        told = git("-c", "diff.renameLimit=9999", "diff", "--numstat", "-z", "-M", "--ignore-blank-lines",
+                   f"-I{NOTHING}", commit, "--", *ALL).stdout
         # (of what has another name: the counts, nothing, the old name and the new one)
         seen[commit] = [new or path for added, gone, path, new in re.findall(
             r"(\d+|-)\t(\d+|-)\t(?:([^\0]+)|\0[^\0]+\0([^\0]+))\0", told) if (added, gone) != ("0", "0")]

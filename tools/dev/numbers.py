@@ -246,9 +246,9 @@ for name in {**enum_with("OK"), **enum_with("ASKED")}:
         faults.append(f"packaging/man: no page tells the code NIZWARF_{name}")
 BARE = re.compile(r"\basks \d|\b(?:call|answer|opcode)\b (?:==|≡|=) [1-9]|\b(?:bit|bit_of) [\w.]+ \d|\.has \d"
                   r"|\b(?:n|number|kind) == [1-9]|^\w*(?:number|opcode) = \d")
-for crate in ("calls", "ask", "answer", "in_flight", "door"):
-    for file in sorted(os.listdir(f"crates/vfs_{crate}/specs")):
-        path = f"crates/vfs_{crate}/specs/{file}"
+for crate in ("vfs_calls", "vfs_ask", "vfs_answer", "vfs_in_flight", "vfs_door"):
+    for file in sorted(os.listdir(f"crates/{crate}/specs")):
+        path = f"crates/{crate}/specs/{file}"
         for at, line in enumerate(read(path).splitlines(), 1):
             if BARE.search(line.partition("--")[0]):
                 faults.append(f"{path}:{at}: a number that has a name in {CALLS}")
