@@ -8,7 +8,7 @@ use Rattle.vfs_files.specs.Calls.{Readdir, Failed, Data, Counts, IsAnswer, read_
 use Rattle.vfs_files.specs.Runs.{Event, Called, OpenedDirectory}
 use Rattle.vfs_messages.specs.Rooms.{PutsBehindHeader, Replies}
 use Rattle.vfs_grammar.specs.Listing.{Line, Stop, IsListing, AreWritten, Stops, answer_of, line_events, stop_events, line_bytes, line_len}
-use Rattle.vfs_grammar.specs.Reply.{reply_to}
+use Rattle.vfs_grammar.specs.Words.{reply_to}
 use Rattle.vfs_listings.specs.Reading.{Puts}
 use Rattle.vfs_listings.proofs.Filling.{moves_of, counts_of_listing}
 use Rattle.vfs_calls.specs.declared.call.CallData.{CallData}

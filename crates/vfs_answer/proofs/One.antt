@@ -7,10 +7,9 @@ use Rattle.vfs_files.specs.Calls.{Data, read_answer}
 use Rattle.vfs_files.specs.Values.{Item, name_of}
 use Rattle.vfs_files.specs.Runs.{Event}
 use Rattle.vfs_messages.specs.Rooms.{Replies}
-use Rattle.vfs_grammar.specs.Listing.{Fits, Line, Stop, End, At, Got, len_of, line_len, answer_of, AreWritten, Stops, verdict}
-use Rattle.vfs_grammar.specs.Forms.{Listing}
+use Rattle.vfs_grammar.specs.Listing.{Fits, Line, Stop, End, At, Got, len_of, line_len, answer_of, AreWritten, Stops, verdict, Listing}
 use Rattle.vfs_grammar.specs.Reply.{Echo, reply_of}
-use Rattle.vfs_grammar.specs.Turn.{IsRead}
+use Rattle.vfs_grammar.specs.Words.{IsRead}
 use Rattle.vfs_grammar.specs.declared.limits.Limits.{Limits}
 use Rattle.vfs_grammar.proofs.Listings.{length-listing}
 use Rattle.vfs_grammar.proofs.Rooms.{length-body_reply}

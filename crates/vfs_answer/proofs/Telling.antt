@@ -6,9 +6,10 @@ use Rattle.vfs_segments.specs.Written.{Written}
 use Rattle.vfs_files.specs.Calls.{Call, kind_of, Answer, Options, Kind, Quiet, Told, Untold, Data, Agreements, Entries, TimedAttributes, Openings, Creations, Capacities, Texts, TextsOrCounts, Offsets, Writes, Iterators, Faults}
 use Rattle.vfs_files.specs.Calls as call
 use Rattle.vfs_messages.specs.Rooms.{Replies, with_behind}
-use Rattle.vfs_grammar.specs.Forms.{Listing}
+use Rattle.vfs_grammar.specs.Listing.{Listing}
 use Rattle.vfs_grammar.specs.Options.{agreed, options_after}
-use Rattle.vfs_grammar.specs.Reply.{Reply, Echo, reply_to, reply_of}
+use Rattle.vfs_grammar.specs.Reply.{Reply, Echo, reply_of}
+use Rattle.vfs_grammar.specs.Words.{reply_to}
 use Rattle.vfs_grammar.specs.Room.{unseen}
 use Rattle.vfs_grammar.specs.Turn.{node_answered}
 use Rattle.vfs_grammar.specs.declared.limits.Limits.{Limits}

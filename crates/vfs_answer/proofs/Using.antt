@@ -17,7 +17,8 @@ use Rattle.vfs_messages.specs.Rooms.{Replies, with_behind}
 use Rattle.vfs_grammar.specs.Options.{agreed, options_after}
 use Rattle.vfs_grammar.specs.Reply.{Bytes, Echo, reply_of, fault_reply, body_reply}
 use Rattle.vfs_grammar.specs.Room.{unseen}
-use Rattle.vfs_grammar.specs.Turn.{counted, node_answered}
+use Rattle.vfs_grammar.specs.Turn.{node_answered}
+use Rattle.vfs_grammar.specs.Words.{counted}
 use Rattle.vfs_grammar.specs.declared.limits.Limits.{Limits}
 use Rattle.vfs_grammar.specs.declared.error.Error.TheVariants.{EncodeMessage}
 use Rattle.vfs_grammar.proofs.Rooms.{length-body_reply, put_outcome-full}

@@ -6,10 +6,9 @@ use Rattle.vfs_wire.specs.Records.{out_header}
 use Rattle.vfs_files.specs.Calls.{Data, IsAnswer, read_answer}
 use Rattle.vfs_files.specs.Runs.{Event}
 use Rattle.vfs_messages.specs.Rooms.{Replies}
-use Rattle.vfs_grammar.specs.Forms.{Listing}
+use Rattle.vfs_grammar.specs.Listing.{Listing}
 use Rattle.vfs_grammar.specs.Records.{size_of}
-use Rattle.vfs_grammar.specs.Reply.{reply_to}
-use Rattle.vfs_grammar.specs.Turn.{IsRead}
+use Rattle.vfs_grammar.specs.Words.{reply_to, IsRead}
 use Rattle.vfs_calls.specs.declared.call.CallData.{CallData}
 use Rattle.vfs_calls.specs.declared.call.has.TheConstants as has
 use Rattle.vfs_calls.specs.declared.data.AnswerData.{AnswerData}

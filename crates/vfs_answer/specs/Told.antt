@@ -5,12 +5,13 @@ use Rattle.vfs_segments.specs.Written.{Written}
 use Rattle.vfs_files.specs.Calls.{Call, Init, Kind, kind_of, Answer, IsAnswer, Data, Iterators, read_answer}
 use Rattle.vfs_files.specs.Runs.{Event}
 use Rattle.vfs_messages.specs.Rooms.{Replies, with_behind}
-use Rattle.vfs_grammar.specs.Forms.{Listing}
+use Rattle.vfs_grammar.specs.Listing.{Listing}
 use Rattle.vfs_grammar.specs.Options.{options_after}
 use Rattle.vfs_grammar.specs.Records.{size_of}
 use Rattle.vfs_grammar.specs.Reply.{Echo, reply_of}
 use Rattle.vfs_grammar.specs.Room.{unseen}
-use Rattle.vfs_grammar.specs.Turn.{IsRead, node_answered}
+use Rattle.vfs_grammar.specs.Turn.{node_answered}
+use Rattle.vfs_grammar.specs.Words.{IsRead}
 use Rattle.vfs_grammar.specs.declared.limits.Limits.{Limits}
 use Rattle.vfs_calls.specs.Shapes.{shape_of}
 use Rattle.vfs_calls.specs.declared.call.CallData.{CallData}

@@ -4,7 +4,7 @@ ghost use Rattle.std.specs.Prelude.{◌≡◌, ◌≢◌, ◌==◌, ◌<◌, ◌
 ghost use Rattle.vfs_segments.specs.Written.{Written};
 ghost use Rattle.vfs_files.specs.Answers.{Counts, Data, Entries, IsAnswer, Iterators, TimedAttributes, read_answer};
 ghost use Rattle.vfs_messages.specs.Rooms.{PutsBehindHeader, Replies};
-ghost use Rattle.vfs_grammar.specs.Reply.{reply_to};
+ghost use Rattle.vfs_grammar.specs.Words.{reply_to};
 ghost use Rattle.vfs_grammar.specs.Limits.{AreLimits};
 ghost use Rattle.vfs_grammar.specs.declared.limits.Limits.{Limits};
 ghost use Rattle.vfs_answer.specs.Kinds.{kind_told};

@@ -4,7 +4,7 @@ ghost use Rattle.std.specs.Prelude.{◌≡◌, ◌<◌, ◌≤◌, ◌-◌, ◌^
 ghost use Rattle.vfs_flags.specs.Flags.{known_fs_options};
 ghost use Rattle.vfs_files.specs.Calls.{Getattr, Init, Lookup};
 ghost use Rattle.vfs_files.specs.declared.entry.Context.{Context};
-ghost use Rattle.vfs_grammar.specs.Forms.{Listing};
+ghost use Rattle.vfs_grammar.specs.Listing.{Listing};
 ghost use Rattle.vfs_grammar.specs.Limits.{AreLimits};
 ghost use Rattle.vfs_grammar.specs.Options.{agreed};
 ghost use Rattle.vfs_grammar.specs.Reply.{Bytes, Echo, fault_reply};

@@ -11,7 +11,8 @@ use Rattle.vfs_wire.specs.Fields.{value_of}
 use Rattle.vfs_wire.specs.declared.extensions.ExtHeader.{ExtHeader}
 use Rattle.vfs_files.specs.Values.{ExtensionValues}
 use Rattle.vfs_files.specs.Places.{cut_at}
-use Rattle.vfs_grammar.specs.Extensions.{error_or, name_and_value, context_in, security_context_in, group_in, Block, block_size, block_in, cut_on, cut_of_most, cut_of, has_option, reads_extensions, no_extensions, Received, nothing_received, with_context, with_group, receive_kind, receive, receive_all, received_at_end, extensions_of, extensions_in}
+use Rattle.vfs_grammar.specs.Extensions.{error_or, name_and_value, context_in, security_context_in, group_in, Block, block_in, cut_on, cut_of_most, cut_of, has_option, no_extensions, Received, receive_kind, receive_all, received_at_end, extensions_in}
+use Rattle.vfs_grammar.specs.Words.{block_size, reads_extensions, nothing_received, with_context, with_group, receive, extensions_of}
 use Rattle.vfs_grammar.specs.FormParts.{value_behind}
 use Rattle.vfs_grammar.specs.Records.{record_of}
 use Rattle.vfs_grammar.specs.declared.error.Error.{Error}

@@ -10,7 +10,8 @@ use Rattle.vfs_wire.specs.declared.headers.InHeader.{InHeader}
 use Rattle.vfs_files.specs.Values.{name_of, first_name, ExtensionValues}
 use Rattle.vfs_files.specs.Places.{name_to, cut_at}
 use Rattle.vfs_grammar.specs.Extensions.{error_or, extensions_in}
-use Rattle.vfs_grammar.specs.Forms.{tail_of, name_in, two_names_in, value_in, extended_in, link_in_tail}
+use Rattle.vfs_grammar.specs.Forms.{tail_of, two_names_in, value_in, extended_in, link_in_tail}
+use Rattle.vfs_grammar.specs.Words.{name_in}
 use Rattle.vfs_grammar.specs.FormParts.{name_or_refusal, both_or_refusal, second_or_refusal, sized_or_refusal, extended_or_refusal, behind_name, link_or_refusal}
 use Rattle.vfs_grammar.specs.Records.{size_of}
 use Rattle.vfs_grammar.specs.declared.error.Error.{Error}

@@ -15,9 +15,11 @@ use Rattle.vfs_wire_more.specs.declared.names.MknodIn.{MknodIn}
 use Rattle.vfs_files.specs.Calls.{Call}
 use Rattle.vfs_files.specs.Calls as call
 use Rattle.vfs_files.specs.Values.{context_of, ExtensionValues}
-use Rattle.vfs_grammar.specs.Ask.{ask_opcode, form_of, has_flag}
+use Rattle.vfs_grammar.specs.Ask.{form_of, has_flag}
+use Rattle.vfs_grammar.specs.Words.{ask_opcode}
 use Rattle.vfs_grammar.specs.Extensions.{error_or, extensions_in}
-use Rattle.vfs_grammar.specs.Forms.{Ask, Ends, Asks, Lists, Listing, WithMemory, refused_or, tail_of}
+use Rattle.vfs_grammar.specs.Forms.{Ask, Ends, Asks, Lists, WithMemory, refused_or, tail_of}
+use Rattle.vfs_grammar.specs.Listing.{Listing}
 use Rattle.vfs_grammar.specs.Records.{record_of, size_of}
 use Rattle.vfs_grammar.specs.Reply.{Echo, echo_of}
 use Rattle.vfs_grammar.specs.declared.error.Error.{Error}

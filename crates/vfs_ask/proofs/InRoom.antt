@@ -4,7 +4,7 @@ use Rattle.vfs_flags.specs.declared.opcode.Opcode.{Opcode}
 use Rattle.vfs_flags.specs.declared.opcode.Opcode.TheVariants as opcode
 use Rattle.vfs_segments.specs.Written.{Written}
 use Rattle.vfs_wire.specs.declared.headers.InHeader.{InHeader}
-use Rattle.vfs_grammar.specs.Ask.{ask_opcode}
+use Rattle.vfs_grammar.specs.Words.{ask_opcode}
 use Rattle.vfs_grammar.specs.declared.limits.Limits.{Limits}
 use Rattle.vfs_grammar.specs.declared.error.Error.{Error}
 use Rattle.vfs_calls.specs.declared.call.CallData.{CallData}

@@ -6,10 +6,12 @@ use Rattle.vfs_files.specs.Calls.{Call, Readdir, Answer, Failed, Handed, Plain, 
 use Rattle.vfs_files.specs.Answers.{Kind, Quiet, Told, Untold, Data, Agreements, Entries, TimedAttributes, Openings, Creations, Capacities, Texts, TextsOrCounts, Offsets, Writes, Iterators, Faults}
 use Rattle.vfs_files.specs.Runs.{Event, Called, OpenedDirectory, IsRun}
 use Rattle.vfs_files.specs.declared.entry.Context.{Context}
-use Rattle.vfs_grammar.specs.Forms.{Ask, Ends, Asks, Lists, WithMemory, Listing}
+use Rattle.vfs_grammar.specs.Forms.{Ask, Ends, Asks, Lists, WithMemory}
+use Rattle.vfs_grammar.specs.Listing.{Listing}
 use Rattle.vfs_grammar.specs.Reply.{Reply, reply_of}
 use Rattle.vfs_grammar.specs.Room.{unseen}
-use Rattle.vfs_grammar.specs.Turn.{node_answered, IsRead}
+use Rattle.vfs_grammar.specs.Turn.{node_answered}
+use Rattle.vfs_grammar.specs.Words.{IsRead}
 use Rattle.vfs_grammar.specs.Witnesses.{FollowsFor}
 use Rattle.vfs_grammar.specs.declared.limits.Limits.{Limits}
 use Rattle.vfs_grammar.specs.declared.error.Error.{Error}

@@ -19,9 +19,11 @@ use Rattle.vfs_wire_more.specs.declared.names.MknodIn.{MknodIn}
 use Rattle.vfs_files.specs.Calls.{Call, Readdir}
 use Rattle.vfs_files.specs.Calls as call
 use Rattle.vfs_files.specs.Values.{context_of, ExtensionValues}
-use Rattle.vfs_grammar.specs.Ask.{form_of, ask_opcode, has_flag, if_set}
+use Rattle.vfs_grammar.specs.Ask.{form_of, has_flag, if_set}
+use Rattle.vfs_grammar.specs.Words.{ask_opcode, name_in, behind}
 use Rattle.vfs_grammar.specs.Extensions.{extensions_in}
-use Rattle.vfs_grammar.specs.Forms.{Ask, Ends, Asks, Lists, WithMemory, Listing, Without, Record, refused_or, within, tail_of, name_in, two_names_in, value_in, extended_in, link_in_tail, pairs_in, pairs_of, space_behind_header, Layout, layout_size, layout_record, behind, Form, NoTail, NameTail, TwoNames, NameAndValue, NameAndExtensions, LinkAndExtensions, Pairs, WithRest, IntoRoom, Directories, Versions, Silent, NotServed, ask_form}
+use Rattle.vfs_grammar.specs.Forms.{Ask, Ends, Asks, Lists, WithMemory, Without, Record, refused_or, within, tail_of, two_names_in, value_in, extended_in, link_in_tail, pairs_in, pairs_of, space_behind_header, Layout, layout_size, layout_record, Form, NoTail, NameTail, TwoNames, NameAndValue, NameAndExtensions, LinkAndExtensions, Pairs, WithRest, IntoRoom, Directories, Versions, Silent, NotServed, ask_form}
+use Rattle.vfs_grammar.specs.Listing.{Listing}
 use Rattle.vfs_grammar.specs.Reply.{Echo, echo_of}
 use Rattle.vfs_grammar.specs.Records.{record_of, size_of}
 use Rattle.vfs_grammar.specs.declared.limits.Limits.{Limits}

@@ -8,7 +8,8 @@ use Rattle.vfs_wire.specs.Fields.{value_of, bytes_of, little}
 use Rattle.vfs_wire.specs.Records.{in_header, init_out}
 use Rattle.vfs_wire.specs.declared.headers.InHeader.{InHeader}
 use Rattle.vfs_segments.specs.Written.{Written}
-use Rattle.vfs_grammar.specs.Ask.{ask, ask_header, ask_number, form_of}
+use Rattle.vfs_grammar.specs.Ask.{ask, ask_number, form_of}
+use Rattle.vfs_grammar.specs.Words.{ask_header}
 use Rattle.vfs_grammar.specs.Forms.{Ask, Ends, Asks, Lists, WithMemory, Form, ask_form, refused_or, faulted}
 use Rattle.vfs_grammar.specs.Limits.{max_len}
 use Rattle.vfs_grammar.specs.Records.{size_of}

@@ -11,9 +11,11 @@ use Rattle.vfs_wire_more.specs.declared.locks.InterruptIn.{InterruptIn}
 use Rattle.vfs_files.specs.Calls.{Call, Init, Lookup, Symlink, Mknod, Mkdir, Unlink, Rmdir, Rename, Link, Read, Write, Setxattr, Getxattr, Removexattr, Readdir, Create, BatchForget}
 use Rattle.vfs_messages.specs.Rooms.{Replies}
 use Rattle.vfs_grammar.specs.Ask.{ask}
-use Rattle.vfs_grammar.specs.Forms.{Ask, Ends, Asks, Lists, WithMemory, Listing, pairs_of}
+use Rattle.vfs_grammar.specs.Forms.{Ask, Ends, Asks, Lists, WithMemory, pairs_of}
+use Rattle.vfs_grammar.specs.Listing.{Listing}
 use Rattle.vfs_grammar.specs.Limits.{max_len}
-use Rattle.vfs_grammar.specs.Records.{size_of, record_of, pair_size}
+use Rattle.vfs_grammar.specs.Records.{size_of, record_of}
+use Rattle.vfs_grammar.specs.Words.{pair_size}
 use Rattle.vfs_grammar.specs.Options.{options_offered}
 use Rattle.vfs_grammar.specs.Reply.{Reply, Refusal, Echo, echo_of}
 use Rattle.vfs_grammar.specs.declared.limits.Limits.{Limits}

@@ -4,7 +4,7 @@ use Rattle.vfs_flags.specs.Flags.{fs_options_bits}
 use Rattle.vfs_flags.specs.declared.opcode.Opcode.{Opcode}
 use Rattle.vfs_wire.specs.declared.headers.InHeader.{InHeader}
 use Rattle.vfs_segments.specs.Written.{Written}
-use Rattle.vfs_grammar.specs.Ask.{ask_header, ask_opcode}
+use Rattle.vfs_grammar.specs.Words.{ask_header, ask_opcode}
 use Rattle.vfs_grammar.specs.Forms.{Ask, Ends, Asks, Lists, WithMemory}
 use Rattle.vfs_calls.specs.Shapes.{shape_of}
 use Rattle.vfs_calls.specs.declared.call.CallData.{CallData}

@@ -4,7 +4,7 @@ use Rattle.vfs_flags.specs.Numbers.{opcode_of}
 use Rattle.vfs_wire.specs.Records.{in_header}
 use Rattle.vfs_segments.specs.Lengths.{lengths_from}
 use Rattle.vfs_segments.specs.Unread.{Unread}
-use Rattle.vfs_grammar.specs.Ask.{header_of}
+use Rattle.vfs_grammar.specs.Memory.{header_of}
 use Rattle.vfs_grammar.specs.Records.{size_of}
 use Rattle.vfs_grammar.specs.declared.error.Error.TheVariants.{OutOfMemory}
 use Rattle.vfs_grammar.specs.declared.limits.Limits.{Limits}

@@ -6,7 +6,8 @@ use Rattle.vfs_wire.specs.Records.{batch_forget_in, in_header, out_header}
 use Rattle.vfs_wire_more.specs.Records.{write_in, create_in, link_in, mkdir_in, mknod_in, rename_in, rename2_in, getxattr_in}
 use Rattle.vfs_grammar.specs.Ask.{setxattr_layout}
 use Rattle.vfs_grammar.specs.Forms.{layout_size}
-use Rattle.vfs_grammar.specs.Records.{size_of, pair_size}
+use Rattle.vfs_grammar.specs.Records.{size_of}
+use Rattle.vfs_grammar.specs.Words.{pair_size}
 use Rattle.vfs_calls.specs.declared.call.CallData.{CallData}
 use Rattle.vfs_calls.specs.declared.call.Range.{Range}
 use Rattle.vfs_ask.specs.declared.parts.Parts.{Parts}

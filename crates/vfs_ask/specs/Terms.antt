@@ -7,7 +7,7 @@ use Rattle.vfs_wire.specs.Records.{in_header}
 use Rattle.vfs_wire.specs.declared.headers.InHeader.{InHeader}
 use Rattle.vfs_segments.specs.Unread.{Unread}
 use Rattle.vfs_segments.specs.Written.{Written}
-use Rattle.vfs_grammar.specs.Ask.{ask_header, ask_opcode}
+use Rattle.vfs_grammar.specs.Words.{ask_header, ask_opcode}
 use Rattle.vfs_grammar.specs.Forms.{Ask}
 use Rattle.vfs_grammar.specs.Records.{record_of, size_of}
 use Rattle.vfs_server.specs.MemoryByPieces.{MayWantBehind}

@@ -8,7 +8,8 @@ ghost use Rattle.vfs_files.specs.Calls as any;
 ghost use Rattle.vfs_files.specs.Values.{context_of, name_text};
 ghost use Rattle.vfs_messages.specs.Parts.{TailIsCut};
 ghost use Rattle.vfs_calls.specs.Shapes.{nothing, shape_of};
-ghost use Rattle.vfs_grammar.specs.Ask.{ask_opcode, has_flag, if_set};
+ghost use Rattle.vfs_grammar.specs.Ask.{has_flag, if_set};
+ghost use Rattle.vfs_grammar.specs.Words.{ask_opcode};
 ghost use Rattle.vfs_grammar.specs.declared.limits.Limits.{Limits as AnyLimits};
 ghost use Rattle.vfs_ask.specs.Noting.{IsNoted};
 

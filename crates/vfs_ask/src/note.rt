@@ -3,7 +3,7 @@
 ghost use Rattle.std.specs.Prelude.{◌≡◌, length};
 ghost use Rattle.vfs_flags.specs.Flags.{fs_options_bits};
 ghost use Rattle.vfs_flags.specs.Numbers.{opcode_of};
-ghost use Rattle.vfs_grammar.specs.Ask.{ask_header};
+ghost use Rattle.vfs_grammar.specs.Words.{ask_header};
 ghost use Rattle.vfs_grammar.specs.Limits.{AreLimits};
 ghost use Rattle.vfs_server.specs.MemoryByPieces.{MayWantBehind};
 ghost use Rattle.vfs_calls.specs.Shapes.{nothing};

@@ -2,7 +2,7 @@
 
 ghost use Rattle.std.specs.Prelude.{◌≡◌, ◌⊎◌, ◌++◌, [], ◌∷◌, length};
 ghost use Rattle.vfs_flags.specs.Flags.{fs_options_bits, security_ctx};
-ghost use Rattle.vfs_grammar.specs.Ask.{header_of};
+ghost use Rattle.vfs_grammar.specs.Memory.{header_of};
 ghost use Rattle.vfs_grammar.specs.Reply.{Refusal};
 ghost use Rattle.vfs_grammar.specs.Samples.{eight, header_9, lookup_of_a, request_for_data};
 ghost use Rattle.vfs_grammar.specs.declared.error.Error.{Error};

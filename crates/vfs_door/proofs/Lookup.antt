@@ -14,7 +14,8 @@ use Rattle.vfs_grammar.specs.Ask.{ask}
 use Rattle.vfs_grammar.specs.Forms.{Ask, Asks as asks_call, WithMemory}
 use Rattle.vfs_grammar.specs.Limits.{AreLimits}
 use Rattle.vfs_grammar.specs.Reply.{Echo, echo_of, reply_of, body_reply}
-use Rattle.vfs_grammar.specs.Room.{IsReplied, put_outcome}
+use Rattle.vfs_grammar.specs.Room.{IsReplied}
+use Rattle.vfs_grammar.specs.Words.{put_outcome}
 use Rattle.vfs_grammar.specs.Samples.{lookup_of_a}
 use Rattle.vfs_grammar.specs.declared.error.Error.{Error}
 use Rattle.vfs_grammar.specs.declared.limits.Limits.{Limits}

@@ -5,7 +5,7 @@ use Rattle.vfs_segments.specs.Written.{Written}
 use Rattle.vfs_files.specs.Calls.{Answer, Failed, Text, Texts}
 use Rattle.vfs_messages.specs.Rooms.{with_behind}
 use Rattle.vfs_grammar.specs.Reply.{body_reply}
-use Rattle.vfs_grammar.specs.Room.{put_outcome}
+use Rattle.vfs_grammar.specs.Words.{put_outcome}
 use Rattle.vfs_grammar.specs.declared.limits.Limits.{Limits}
 use Rattle.vfs_grammar.proofs.Rooms.{length-body_reply}
 use Rattle.vfs_calls.specs.declared.data.AnswerData.{AnswerData}

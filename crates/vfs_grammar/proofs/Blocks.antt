@@ -4,7 +4,8 @@ use Rattle.std.specs.Prelude.{nat_lt}
 use Rattle.vfs_wire.specs.Fields.{value_of}
 use Rattle.vfs_wire.specs.Records.{ext_header}
 use Rattle.vfs_files.specs.Values.{ExtensionValues}
-use Rattle.vfs_grammar.specs.Extensions.{Block, Cut, Received, block_in, block_size, cut_on, cut_of_most, cut_of, error_or, receive, received_at_end, extensions_of}
+use Rattle.vfs_grammar.specs.Extensions.{Block, Cut, Received, block_in, cut_on, cut_of_most, cut_of, error_or, received_at_end}
+use Rattle.vfs_grammar.specs.Words.{block_size, receive, extensions_of}
 use Rattle.vfs_grammar.specs.declared.error.Error.{Error}
 use Rattle.vfs_grammar.specs.declared.error.Error.TheVariants.{DecodeMessage, InvalidHeaderLength}
 

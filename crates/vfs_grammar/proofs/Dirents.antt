@@ -4,7 +4,8 @@ use Rattle.std.proofs.lemmas.List.{length-replicate}
 use Rattle.vfs_wire.specs.FieldLaws.{length-little}
 use Rattle.vfs_files.specs.Values.{Item}
 use Rattle.vfs_files.specs.declared.entry.Entry.{Entry}
-use Rattle.vfs_grammar.specs.Listing.{dirent_len, entry_len, record_len, dirent_bytes, entry_bytes, record_bytes}
+use Rattle.vfs_grammar.specs.Listing.{dirent_len, entry_len, record_len, dirent_bytes, entry_bytes}
+use Rattle.vfs_grammar.specs.Words.{record_bytes}
 
 pub length-dirent_bytes : (i : Item) → length (dirent_bytes i) ≡ dirent_len (length i.name)
 unfolding dirent_bytes

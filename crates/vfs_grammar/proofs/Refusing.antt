@@ -8,7 +8,8 @@ use Rattle.vfs_flags.specs.declared.ext_type.ExtType.TheVariants.{SecCtx, SupGro
 use Rattle.vfs_wire.specs.Fields.{Table, lone_number, value_of}
 use Rattle.vfs_wire.specs.Records.{ext_header, secctx, supp_groups}
 use Rattle.vfs_files.specs.Values.{ExtensionValues, first_name}
-use Rattle.vfs_grammar.specs.Extensions.{error_or, name_and_value, context_in, security_context_in, group_in, Block, block_size, block_in, Cut, cut_on, cut_of_most, cut_of, has_option, reads_extensions, Received, nothing_received, with_context, with_group, receive_kind, receive, receive_all, received_at_end, extensions_in}
+use Rattle.vfs_grammar.specs.Extensions.{error_or, name_and_value, context_in, security_context_in, group_in, Block, block_in, Cut, cut_on, cut_of_most, cut_of, has_option, Received, receive_kind, receive_all, received_at_end, extensions_in}
+use Rattle.vfs_grammar.specs.Words.{block_size, reads_extensions, nothing_received, with_context, with_group, receive}
 use Rattle.vfs_grammar.specs.FormParts.{value_behind, behind_name, extended_or_refusal, link_or_refusal}
 use Rattle.vfs_grammar.specs.Forms.{extended_in, link_in_tail}
 use Rattle.vfs_grammar.specs.Records.{size_of, record_of}

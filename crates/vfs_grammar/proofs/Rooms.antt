@@ -5,8 +5,8 @@ use Rattle.vfs_wire.specs.Fields.{bytes_of}
 use Rattle.vfs_wire.specs.FieldLaws.{length-little}
 use Rattle.vfs_wire.specs.Records.{out_header}
 use Rattle.vfs_wire.specs.declared.headers.OutHeader.{OutHeader}
-use Rattle.vfs_grammar.specs.Room.{put_outcome, put_room}
-use Rattle.vfs_grammar.specs.Reply.{body_reply, fault_reply, fault_number}
+use Rattle.vfs_grammar.specs.Words.{put_outcome, put_room, fault_number}
+use Rattle.vfs_grammar.specs.Reply.{body_reply, fault_reply}
 use Rattle.vfs_grammar.specs.declared.error.Error.TheVariants.{EncodeMessage}
 
 -- the header of a reply has 16 bytes

@@ -5,7 +5,7 @@ use Rattle.vfs_flags.specs.Flags.{known_setattr_valid, known_setxattr_flags, set
 use Rattle.vfs_flags.specs.declared.constants.TheConstants.{FATTR_FH, GETATTR_FH, FSYNC_FDATASYNC, OPEN_KILL_SUIDGID, READ_LOCKOWNER, RELEASE_FLUSH, RELEASE_FLOCK_UNLOCK, WRITE_CACHE, WRITE_KILL_PRIV, WRITE_LOCKOWNER, RENAME_FLAGS}
 use Rattle.vfs_flags.specs.declared.opcode.Opcode.{Opcode}
 use Rattle.vfs_flags.specs.declared.opcode.Opcode.TheVariants.{Lookup, Forget, Getattr, Setattr, Readlink, Symlink, Mknod, Mkdir, Unlink, Rmdir, Rename, Link, Open, Read, Write, Statfs, Release, Fsync, Setxattr, Getxattr, Listxattr, Removexattr, Flush, Init, Opendir, Readdir, Releasedir, Fsyncdir, Getlk, Setlk, Setlkw, Access, Create, Interrupt, Bmap, Destroy, Ioctl, Poll, NotifyReply, BatchForget, Fallocate, Readdirplus, Rename2, Lseek, CopyFileRange, SetupMapping, RemoveMapping, Syncfs, TmpFile}
-use Rattle.vfs_wire.specs.Fields.{table, value_of}
+use Rattle.vfs_wire.specs.Fields.{table}
 use Rattle.vfs_wire.specs.Records.{in_header, getattr_in, setattr_in, forget_in, forget_one, batch_forget_in}
 use Rattle.vfs_wire_more.specs.Records.{open_in, release_in, flush_in, fsync_in, read_in, write_in, access_in, create_in, link_in, mkdir_in, mknod_in, rename_in, rename2_in, lseek_in, copyfilerange_in, fallocate_in, getxattr_in, setxattr_in}
 use Rattle.vfs_wire_more.specs.declared.files.ReadIn.{ReadIn}
@@ -15,7 +15,8 @@ use Rattle.vfs_files.specs.Values.{context_of}
 use Rattle.vfs_files.specs.declared.entry.Context.{Context}
 use Rattle.vfs_grammar.specs.Limits.{max_len}
 use Rattle.vfs_grammar.specs.Records.{size_of, record_of}
-use Rattle.vfs_grammar.specs.Forms.{Ask, Listing, refused_or, faulted, within, Layout, no_record, Record, never, Form, NoTail, NameTail, TwoNames, NameAndValue, NameAndExtensions, LinkAndExtensions, Pairs, WithRest, IntoRoom, Directories, Versions, Silent, NotServed, ask_form}
+use Rattle.vfs_grammar.specs.Listing.{Listing}
+use Rattle.vfs_grammar.specs.Forms.{Ask, refused_or, faulted, within, Layout, no_record, Record, never, Form, NoTail, NameTail, TwoNames, NameAndValue, NameAndExtensions, LinkAndExtensions, Pairs, WithRest, IntoRoom, Directories, Versions, Silent, NotServed, ask_form}
 use Rattle.vfs_grammar.specs.declared.limits.Limits.{Limits}
 use Rattle.vfs_files.specs.Calls as call
 
@@ -32,12 +33,8 @@ if_set flags flag n = if bit_and flags flag == 0 then None else Some n
 abbrev pub setxattr_layout : (options : ℕ) → Layout SetxattrIn
 setxattr_layout options =
     if bit_and options setxattr_ext == 0
-    then Record (table (4 ∷ 4 ∷ []) (λ r. r.size ∷ r.flags ∷ []) (λ xs. record {
-      size = slice_index xs 0;
-      flags = slice_index xs 1;
-      setxattr_flags = 0;
-      padding = 0;
-    }))
+    then Record (table (4 ∷ 4 ∷ []) (λ r. r.size ∷ r.flags ∷ []) (λ xs.
+    record { size = slice_index xs 0; flags = slice_index xs 1; setxattr_flags = 0; padding = 0 }))
     else Record setxattr_in
 
 -- whether a directory is asked for more bytes than the limit, or than the whole room has, its
@@ -153,25 +150,14 @@ module _ (limits : Limits) (options room_len : ℕ) (h : InHeader) where
   form_of TmpFile = NoTail no_record never (λ r. call.Tmpfile)
 
 module _ (limits : Limits) (options room_len : ℕ) where
-  -- what the bytes behind a header ask, by its opcode
-  abbrev pub ask_opcode : Opcode → InHeader → (rest : List ℕ) → Ask
-  ask_opcode opcode h rest = ask_form h rest (form_of limits options room_len h opcode)
-
-  -- the same, of a number that may be no opcode
+  -- what the bytes behind a header ask, by its opcode; a number that is none is ENOSYS
   abbrev pub ask_number : Option Opcode → InHeader → (rest : List ℕ) → Ask
   ask_number None h rest = faulted enosys h
-  ask_number (Some opcode) h rest = ask_opcode opcode h rest
+  ask_number (Some opcode) h rest = ask_form h rest (form_of limits options room_len h opcode)
 
-  -- what a request with this header asks: a `len` above `max_len` is ENOMEM, whatever the opcode
-  abbrev pub ask_header : InHeader → (rest : List ℕ) → Ask
-  ask_header h rest =
-      within (nat_lt (max_len limits) h.len) h (ask_number (opcode_of h.opcode) h rest)
-
-  -- what these bytes ask, under these limits and agreed options, with a room of this length
+  -- What these bytes ask, under these limits and agreed options, with a room of this length: a `len`
+  -- above `max_len` is ENOMEM, whatever the opcode.
   abbrev pub ask : (bytes : List ℕ) → Ask
-  ask bytes =
-      refused_or (record_of in_header bytes) (λ h. ask_header h (drop (size_of in_header) bytes))
-
--- the header that a request begins with; bytes that are not there count 0
-abbrev pub header_of : (request : List ℕ) → InHeader
-header_of request = value_of in_header request
+  ask bytes = refused_or (record_of in_header bytes) (λ h.
+      within (nat_lt (max_len limits) h.len) h
+      (ask_number (opcode_of h.opcode) h (drop (size_of in_header) bytes)))

@@ -1,13 +1,16 @@
 -- The books of lookups and forgets. A file system counts how often it answered an entry of a node,
 -- and a client gives these counts back by forgets. Four sums are kept of a node: two of the events
 -- that happened, and two of the bytes that came and went.
-use Rattle.std.specs.Prelude.{ℕ, zero, suc, ◌==◌, if◌then◌else◌, List, [], ◌∷◌, take, drop, sum_by, count_by, Option, Some, Result, Ok, Err, ◌≡◌, ◌≢◌, ◌≤◌, ◌+◌, ◌++◌}
+use Rattle.std.specs.Prelude.{ℕ, ◌==◌, if◌then◌else◌, List, [], ◌∷◌, take, drop, sum_by, count_by, Option, Some, Result, Ok, Err, ◌≡◌, ◌≢◌, ◌≤◌, ◌+◌, ◌++◌}
 use Rattle.vfs_flags.specs.Numbers.{opcode_of}
 use Rattle.vfs_flags.specs.declared.opcode.Opcode.{Opcode}
 use Rattle.vfs_files.specs.Calls.{Call, Lookup, Symlink, Mknod, Mkdir, Link, Create, Forget, BatchForget, Answer, Found, Created}
 use Rattle.vfs_files.specs.Runs.{Event, Called}
-use Rattle.vfs_grammar.specs.Nodes.{u32_at, u64_at, nodes_in}
-use Rattle.vfs_grammar.specs.Records.{in_header_size, out_header_size, pair_size, pairs_place}
+use Rattle.vfs_wire.specs.Fields.{number, value_of}
+use Rattle.vfs_wire.specs.Records.{in_header, out_header, entry_out, forget_in, batch_forget_in}
+use Rattle.vfs_grammar.specs.Forms.{pairs_of}
+use Rattle.vfs_grammar.specs.Nodes.{nodes_in}
+use Rattle.vfs_grammar.specs.Records.{size_of}
 use Rattle.vfs_grammar.specs.Turn.{Turn, events_in}
 use Rattle.vfs_grammar.specs.declared.error.Error.{Error}
 use Rattle.vfs_flags.specs.declared.opcode.Opcode.TheVariants as opcode
@@ -64,35 +67,40 @@ sent n events = sum_by (sent_by n) events
 
 -- ---- bytes
 
--- the opcode that a request's bytes have, which stands in place 4
+-- the opcode that a request's bytes have
 abbrev pub opcode_in : (request : List ℕ) → Option Opcode
-opcode_in request = opcode_of (u32_at 4 request)
+opcode_in request = opcode_of (value_of in_header request).opcode
+
+-- the node of the entry behind the header of a reply
+abbrev pub node_behind : (reply : List ℕ) → ℕ
+node_behind reply = (value_of entry_out (drop (size_of out_header) reply)).nodeid
 
 -- the nodes of the entries behind the header of a reply, by its request's opcode
 abbrev pub nodes_behind : Option Opcode → (reply : List ℕ) → List ℕ
-nodes_behind (Some opcode.Lookup) reply = u64_at out_header_size reply ∷ []
-nodes_behind (Some opcode.Symlink) reply = u64_at out_header_size reply ∷ []
-nodes_behind (Some opcode.Mknod) reply = u64_at out_header_size reply ∷ []
-nodes_behind (Some opcode.Mkdir) reply = u64_at out_header_size reply ∷ []
-nodes_behind (Some opcode.Link) reply = u64_at out_header_size reply ∷ []
-nodes_behind (Some opcode.Create) reply = u64_at out_header_size reply ∷ []
-nodes_behind (Some opcode.Readdirplus) reply = nodes_in (drop out_header_size reply)
+nodes_behind (Some opcode.Lookup) reply = node_behind reply ∷ []
+nodes_behind (Some opcode.Symlink) reply = node_behind reply ∷ []
+nodes_behind (Some opcode.Mknod) reply = node_behind reply ∷ []
+nodes_behind (Some opcode.Mkdir) reply = node_behind reply ∷ []
+nodes_behind (Some opcode.Link) reply = node_behind reply ∷ []
+nodes_behind (Some opcode.Create) reply = node_behind reply ∷ []
+nodes_behind (Some opcode.Readdirplus) reply = nodes_in (drop (size_of out_header) reply)
 nodes_behind _ reply = []
 
--- the nodes that a reply delivers: none where its header says an error, in place 4
+-- the nodes that a reply delivers: none where its header says an error, in the four bytes from place
+-- 4 on
 abbrev pub delivered_nodes : Option Opcode → (reply : List ℕ) → List ℕ
-delivered_nodes opcode reply = if u32_at 4 reply == 0 then nodes_behind opcode reply else []
+delivered_nodes opcode reply =
+    if number 4 (drop 4 reply) == 0 then nodes_behind opcode reply else []
 
--- so many pairs of a node and a count, that bytes begin with
-abbrev pub pairs_at : (count : ℕ) → (bytes : List ℕ) → List (ℕ × ℕ)
-pairs_at zero bytes = []
-pairs_at (suc count) bytes = (u64_at 0 bytes, u64_at 8 bytes) ∷ pairs_at count (drop pair_size bytes)
-
--- what a request's bytes give back, by its opcode, as pairs of a node and a count; the node that a
--- request is for stands in place 16
+-- what a request's bytes give back, by its opcode, as pairs of a node and a count
 abbrev pub forgets_in : Option Opcode → (request : List ℕ) → List (ℕ × ℕ)
-forgets_in (Some opcode.Forget) request = (u64_at 16 request, u64_at in_header_size request) ∷ []
-forgets_in (Some opcode.BatchForget) request = pairs_at (u32_at in_header_size request) (drop pairs_place request)
+forgets_in (Some opcode.Forget) request = (
+  (value_of in_header request).nodeid,
+  (value_of forget_in (drop (size_of in_header) request)).nlookup,
+) ∷ []
+forgets_in (Some opcode.BatchForget) request =
+    pairs_of (value_of batch_forget_in (drop (size_of in_header) request)).count
+    (drop (size_of in_header + size_of batch_forget_in) request)
 forgets_in _ request = []
 
 -- how often a node stands in the reply at the front of this room, as long as the outcome says:
@@ -118,27 +126,16 @@ delivered n t = delivered_by n (opcode_in t.request) t.outcome t.room_after
 abbrev pub accepted : (n : ℕ) → Turn → ℕ
 accepted n t = accepted_by n t.request t.outcome
 
--- the books of a node balance over turns
-abbrev pub AreBalanced : (n : ℕ) → List Turn → Type 0
-AreBalanced n turns =
-    answered n (events_in turns) + sum_by (accepted n) turns
-    ≡ sum_by (delivered n) turns + sent n (events_in turns)
-
--- after each turn the client has given back no more of a node than was delivered to it by these
--- turns
-abbrev pub GivesBackWithin : (n : ℕ) → List Turn → Type 0
-GivesBackWithin n turns =
-    (k : ℕ) → sum_by (accepted n) (take k turns) ≤ sum_by (delivered n) (take k turns)
-
--- after each event no more of a node was sent back than was answered in these events
-abbrev pub NeverBelow : (n : ℕ) → List Event → Type 0
-NeverBelow n events = (k : ℕ) → sent n (take k events) ≤ answered n (take k events)
-
 -- The books of every node but 0 are kept over turns: they balance; and over any of these turns that
--- follow one another, as those from one INIT to the next, a client that gives back no more than was
--- delivered to it by them drives no count below zero, not even in the middle of a request.
+-- follow one another, as those from one INIT to the next, a client that after each turn has given
+-- back no more than was delivered to it by them drives no count below zero, not even in the middle
+-- of a request: after each event no more was sent back than was answered in these events.
 pub record KeepsBooks (turns : List Turn) : Type 0 where
-  pub balanced : (n : ℕ) → n ≢ 0 → AreBalanced n turns
+  pub balanced :
+      (n : ℕ) → n ≢ 0
+      → answered n (events_in turns) + sum_by (accepted n) turns
+      ≡ sum_by (delivered n) turns + sent n (events_in turns)
   pub never_below :
-      (before some after : List Turn) → turns ≡ before ++ (some ++ after)
-      → (n : ℕ) → n ≢ 0 → GivesBackWithin n some → NeverBelow n (events_in some)
+      (before some after : List Turn) → turns ≡ before ++ (some ++ after) → (n : ℕ) → n ≢ 0
+      → ((k : ℕ) → sum_by (accepted n) (take k some) ≤ sum_by (delivered n) (take k some))
+      → (k : ℕ) → sent n (take k (events_in some)) ≤ answered n (take k (events_in some))

@@ -6,12 +6,12 @@ use Rattle.vfs_files.specs.Calls.{Failed, Readdir}
 use Rattle.vfs_files.specs.Values.{Item}
 use Rattle.vfs_files.specs.Runs.{Event, Called, OpenedDirectory, Taken}
 use Rattle.vfs_files.specs.declared.entry.Context.{Context}
-use Rattle.vfs_grammar.specs.Listing.{Line, End, At, IsGot, line_events, stop_events, line_len, line_bytes}
-use Rattle.vfs_grammar.specs.Forms.{Listing}
-use Rattle.vfs_grammar.specs.Records.{dirent_size, entry_out_size}
+use Rattle.vfs_wire.specs.Records.{dirent, entry_out}
+use Rattle.vfs_grammar.specs.Listing.{Listing, Line, End, At, IsGot, IsDirectory, line_events, stop_events, line_len, line_bytes}
+use Rattle.vfs_grammar.specs.Records.{size_of}
 use Rattle.vfs_grammar.specs.Reply.{fault_reply, body_reply}
 use Rattle.vfs_grammar.specs.Room.{IsPutOpen}
-use Rattle.vfs_grammar.specs.Turn.{Turn, IsRead}
+use Rattle.vfs_grammar.specs.Turn.{Turn}
 
 -- the items that were taken, in order, and none where the iterator answered its end
 abbrev pub takings : List Event → List (Option Item)
@@ -22,8 +22,8 @@ takings (Taken item ∷ events) = item ∷ takings events
 
 -- how long a record is at least: for READDIR without an entry, for READDIRPLUS with one
 abbrev pub least_record : (plus : Bool) → ℕ
-least_record false = dirent_size
-least_record true = entry_out_size + dirent_size
+least_record false = size_of dirent
+least_record true = size_of entry_out + size_of dirent
 
 -- nothing here cuts a reading short: no call failed, and no item has a name of 2 ^ 32 bytes or more
 abbrev pub GoesOn : Event → Type 0
@@ -72,7 +72,7 @@ listing_reply (Err fault) records unique = fault_reply fault unique
 pub record StopsForACause (l : Listing) (unique : ℕ) (t : Turn) : Type 0 where
   pub records : List ℕ
   pub answer : Result ℕ (Option ℕ)
-  pub stops : IsRead l t.events records answer
+  pub stops : IsDirectory l t.events records answer
   pub replied : IsPutOpen (listing_reply answer records unique) t.room t.outcome t.room_after
 
 -- A directory came back whole: the records of all items that were taken but of a last one whose

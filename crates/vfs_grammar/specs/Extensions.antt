@@ -21,15 +21,13 @@ error_or (Ok part) next = next part
 -- a name, which runs through the first 0, and the `size` bytes behind it; more is ignored
 abbrev pub name_and_value : (size : ℕ) → (bytes : List ℕ) → Result (List ℕ × List ℕ) Error
 name_and_value size [] = Err MissingParameter
-name_and_value size (b ∷ bytes) =
-    error_or (ok_or (first_name (b ∷ bytes)) DecodeMessage) (λ cut.
+name_and_value size (b ∷ bytes) = error_or (ok_or (first_name (b ∷ bytes)) DecodeMessage) (λ cut.
     if nat_lt (length cut.1) size then Err DecodeMessage else Ok (cut.0, take size cut.1))
 
 -- the name and the value of the context that bytes begin with: behind a record with the size of the
 -- value, which isn't 0
 abbrev pub context_in : (bytes : List ℕ) → Result (List ℕ × List ℕ) Error
-context_in bytes =
-    error_or (record_of secctx bytes) (λ r.
+context_in bytes = error_or (record_of secctx bytes) (λ r.
     if r.size == 0 then Err DecodeMessage
     else name_and_value r.size (drop (size_of secctx) bytes))
 
@@ -43,8 +41,7 @@ security_context_in nr body =
 
 -- the group in the body of a block of groups, of which there is exactly one; more is ignored
 abbrev pub group_in : (body : List ℕ) → Result ℕ Error
-group_in body =
-    error_or (record_of supp_groups body) (λ r.
+group_in body = error_or (record_of supp_groups body) (λ r.
     if r.nr_groups == 1 then record_of (lone_number 4) (drop (size_of supp_groups) body)
     else Err DecodeMessage)
 
@@ -55,20 +52,14 @@ pub record Block : Type 0 where
   pub ext_type : ℕ
   pub body : List ℕ
 
--- the bytes that the header says that its block has, itself among them
-abbrev pub block_size : (bytes : List ℕ) → ℕ
-block_size bytes = (value_of ext_header bytes).size
-
 -- the block that bytes begin with: a header and a body, as long together as the header says
 abbrev pub block_in : (bytes : List ℕ) → Result Block Error
-block_in bytes =
-    error_or (record_of ext_header bytes) (λ r.
+block_in bytes = error_or (record_of ext_header bytes) (λ r.
     if nat_lt r.size (size_of ext_header) then Err InvalidHeaderLength
     else if nat_lt (length bytes) r.size then Err DecodeMessage
     else Ok (record {
       ext_type = r.ext_type;
-      body =
-          take (r.size - size_of ext_header) (drop (size_of ext_header) bytes);
+      body = take (r.size - size_of ext_header) (drop (size_of ext_header) bytes);
     }))
 
 -- what bytes are: blocks, one behind the other, and the error of what is left then, which begins
@@ -82,12 +73,14 @@ abbrev pub cut_on : Result Block Error → (others : Cut) → Cut
 cut_on (Err error) others = record { blocks = []; error = Some error }
 cut_on (Ok block) others = record { blocks = block ∷ others.blocks; error = others.error }
 
--- the same, with at most so many blocks: the number of bytes is always enough
+-- the same, with at most so many blocks: the number of bytes is always enough. A header's size
+-- counts the header too.
 abbrev pub cut_of_most : (most : ℕ) → (bytes : List ℕ) → Cut
 cut_of_most zero bytes = record { blocks = []; error = None }
 cut_of_most (suc most) [] = record { blocks = []; error = None }
 cut_of_most (suc most) (b ∷ bytes) =
-    cut_on (block_in (b ∷ bytes)) (cut_of_most most (drop (block_size (b ∷ bytes)) (b ∷ bytes)))
+    cut_on (block_in (b ∷ bytes))
+    (cut_of_most most (drop (value_of ext_header (b ∷ bytes)).size (b ∷ bytes)))
 
 -- what bytes are
 unfoldable pub cut_of : (bytes : List ℕ) → Cut
@@ -99,10 +92,6 @@ cut_of bytes = cut_of_most (length bytes) bytes
 abbrev pub has_option : (options option : ℕ) → Bool
 has_option options option = bit_and options option == option
 
--- extensions are read, since there is an option for one of them
-abbrev pub reads_extensions : (options : ℕ) → Bool
-reads_extensions options = has_option options security_ctx || has_option options create_supp_group
-
 -- no extension
 abbrev pub no_extensions : ExtensionValues
 no_extensions = record { context = None; group = None }
@@ -112,20 +101,6 @@ pub record Received : Type 0 where
   pub has_contexts : Bool
   pub values : ExtensionValues
 
--- nothing
-abbrev pub nothing_received : Received
-nothing_received = record { has_contexts = false; values = no_extensions }
-
--- with a block of contexts
-abbrev pub with_context : Received → Option (List ℕ × List ℕ) → Received
-with_context received context =
-    record { has_contexts = true; values = record received.values { context = context } }
-
--- with a block of groups
-abbrev pub with_group : Received → (group : ℕ) → Received
-with_group received group =
-    record received { values = record received.values { group = Some group } }
-
 -- What is received with a block of this kind. One that wasn't agreed on, or a second of a kind,
 -- is refused, and so is an unknown kind.
 abbrev pub receive_kind :
@@ -133,21 +108,20 @@ abbrev pub receive_kind :
 receive_kind options received None body = Err DecodeMessage
 receive_kind options received (Some (SecCtx nr)) body =
     if not (has_option options security_ctx) || received.has_contexts then Err DecodeMessage
-    else error_or (security_context_in nr body) (λ context. Ok (with_context received context))
+    else error_or (security_context_in nr body) (λ context.
+    Ok (record { has_contexts = true; values = record received.values { context = context } }))
 receive_kind options received (Some SupGroups) body =
     if not (has_option options create_supp_group) || is_some received.values.group
-    then Err DecodeMessage else error_or (group_in body) (λ group. Ok (with_group received group))
-
--- what is received with one more block
-abbrev pub receive : (options : ℕ) → Received → Block → Result Received Error
-receive options received block =
-    receive_kind options received (ext_type_of block.ext_type) block.body
+    then Err DecodeMessage
+    else error_or (group_in body) (λ group.
+    Ok (record received { values = record received.values { group = Some group } }))
 
 -- what is received with these blocks, or the error of the first bad one
 abbrev pub receive_all : (options : ℕ) → Received → List Block → Result Received Error
 receive_all options received [] = Ok received
 receive_all options received (block ∷ blocks) =
-    error_or (receive options received block) (λ more. receive_all options more blocks)
+    error_or (receive_kind options received (ext_type_of block.ext_type) block.body) (λ more.
+    receive_all options more blocks)
 
 -- the values, if nothing is left behind the blocks and, where contexts were agreed on, a block of
 -- contexts came, of none too
@@ -157,22 +131,14 @@ received_at_end options None received =
     if has_option options security_ctx && not received.has_contexts then Err MissingExtension
     else Ok received.values
 
--- the extensions that a cut says, where so much was received before
-abbrev pub extensions_of : (options : ℕ) → Received → Cut → Result ExtensionValues Error
-extensions_of options received cut =
-    error_or (receive_all options received cut.blocks) (received_at_end options cut.error)
-
 -- The extensions that bytes are: the error of the first bad block, or else of what is left behind
 -- the blocks; or that no block of contexts came, though they were agreed on; or their values. Where
 -- neither kind is agreed on nothing is read.
 unfoldable pub extensions_in : (options : ℕ) → (bytes : List ℕ) → Result ExtensionValues Error
 extensions_in options bytes =
-    if reads_extensions options then extensions_of options nothing_received (cut_of bytes)
+    if has_option options security_ctx || has_option options create_supp_group
+    then error_or
+    (receive_all options (record { has_contexts = false; values = no_extensions })
+    (cut_of bytes).blocks)
+    (received_at_end options (cut_of bytes).error)
     else Ok no_extensions
-
--- the extensions behind the first `skip` bytes, which must be there where extensions are read
-abbrev pub extensions_after :
-    (options skip : ℕ) → (bytes : List ℕ) → Result ExtensionValues Error
-extensions_after options skip bytes =
-    if nat_lt (length bytes) skip && reads_extensions options then Err DecodeMessage
-    else extensions_in options (drop skip bytes)

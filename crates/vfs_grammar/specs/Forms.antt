@@ -9,26 +9,14 @@ use Rattle.vfs_wire.specs.declared.init.InitInCompat.{InitInCompat}
 use Rattle.vfs_wire.specs.declared.headers.InHeader.{InHeader}
 use Rattle.vfs_files.specs.Calls.{Call}
 use Rattle.vfs_files.specs.Values.{ExtensionValues, name_of, first_name}
-use Rattle.vfs_files.specs.declared.entry.Context.{Context}
 use Rattle.vfs_grammar.specs.Extensions.{error_or, extensions_in}
+use Rattle.vfs_grammar.specs.Listing.{Listing}
 use Rattle.vfs_grammar.specs.Options.{options_offered}
 use Rattle.vfs_grammar.specs.Records.{size_of, record_of}
 use Rattle.vfs_grammar.specs.Reply.{Reply, Refusal, Bytes, NoReply, Echo, echo_of, fault_reply, body_reply, version_out}
 use Rattle.vfs_grammar.specs.declared.error.Error.{Error}
 use Rattle.vfs_grammar.specs.declared.error.Error.TheVariants.{DecodeMessage, EncodeMessage, MissingParameter, InvalidCString, InvalidHeaderLength, InvalidXattrSize}
 use Rattle.vfs_files.specs.Calls as call
-
--- A directory that is to be read for this caller from this offset on, where `plus` with an
--- `EntryOut` in front of each record; at most `size` bytes of records, into this space, which is
--- the room less a header.
-pub record Listing : Type 0 where
-  pub plus : Bool
-  pub ctx : Context
-  pub parent : ℕ
-  pub handle : ℕ
-  pub size : ℕ
-  pub offset : ℕ
-  pub space : ℕ
 
 -- What a request asks: to be ended without a call, by this coming back; a call, or that a directory
 -- be read, with what is kept of the request for its reply; or one of these, where there is memory
@@ -39,21 +27,13 @@ pub data Ask : Type 0 where
   Lists : (echo : Echo) (listing : Listing) → Ask
   WithMemory : (rest : Ask) → Ask
 
--- a request that is refused with an error
-abbrev pub refused : Error → Ask
-refused error = Ends (Refusal error)
-
 -- a request that is answered by the fault of this number, without a call
 abbrev pub faulted : (number : ℕ) → InHeader → Ask
 faulted number h = Ends (Bytes (fault_reply (Some number) h.unique))
 
--- a request that nothing comes back of, without a call
-abbrev pub silent : Ask
-silent = Ends NoReply
-
 -- a part of a request that is at fault refuses it; otherwise the next part says what it asks
 abbrev pub refused_or : {A : Type 0} → Result A Error → (next : A → Ask) → Ask
-refused_or (Err error) next = refused error
+refused_or (Err error) next = Ends (Refusal error)
 refused_or (Ok part) next = next part
 
 -- what is above a limit is answered by the fault ENOMEM
@@ -68,21 +48,15 @@ tail_of h size behind =
     else if nat_lt (length behind) (h.len - (size_of in_header + size)) then Err DecodeMessage
     else Ok (take (h.len - (size_of in_header + size)) behind)
 
--- the name that a tail is
-abbrev pub name_in : (tail : List ℕ) → Result (List ℕ) Error
-name_in tail = ok_or (name_of tail) InvalidCString
-
 -- the two names that a tail is: the first ends at its first 0, and the second is the rest
 abbrev pub two_names_in : (tail : List ℕ) → Result (List ℕ × List ℕ) Error
-two_names_in tail =
-    error_or (ok_or (first_name tail) MissingParameter) (λ part.
+two_names_in tail = error_or (ok_or (first_name tail) MissingParameter) (λ part.
     error_or (ok_or (name_of part.1) InvalidCString) (λ second. Ok (part.0, second)))
 
 -- the name and the value that a tail is: the name ends at its first 0, and the value is the rest,
 -- of this size
 abbrev pub value_in : (size : ℕ) → (tail : List ℕ) → Result (List ℕ × List ℕ) Error
-value_in size tail =
-    error_or (ok_or (first_name tail) MissingParameter) (λ part.
+value_in size tail = error_or (ok_or (first_name tail) MissingParameter) (λ part.
     if length part.1 == size then Ok part else Err (InvalidXattrSize (size, length part.1)))
 
 -- The name and the extensions that bytes are: the name ends at its first 0, and the extensions are
@@ -98,8 +72,7 @@ extended_in options (b ∷ bytes) =
 -- and the extensions are the rest
 abbrev pub link_in_tail : (options : ℕ) → (tail : List ℕ)
     → Result (List ℕ × List ℕ × ExtensionValues) Error
-link_in_tail options tail =
-    error_or (ok_or (first_name tail) MissingParameter) (λ part.
+link_in_tail options tail = error_or (ok_or (first_name tail) MissingParameter) (λ part.
     error_or (extended_in options part.1) (λ text. Ok (part.0, text.0, text.1)))
 
 -- so many pairs of a node and a count
@@ -158,10 +131,6 @@ abbrev pub layout_record : {R : Type 0} → Layout R → (rest : List ℕ) → R
 layout_record (Without r) rest = Ok r
 layout_record (Record t) rest = record_of t rest
 
--- what follows the record
-abbrev pub behind : {R : Type 0} → Layout R → (rest : List ℕ) → List ℕ
-behind layout rest = drop (layout_size layout) rest
-
 -- where there is no limit, no record asks for more than it
 abbrev pub never : {R : Type 0} → R → Bool
 never r = false
@@ -195,27 +164,11 @@ pub data Form : Type 1 where
   Silent : Form
   NotServed : Form
 
--- What is said of a request by what it may want memory for, which is the one table of this: for
--- nothing; for its tail; for its tail, and for a context among the extensions that these options
--- have read; or for its pairs.
-module _ (nothing : Type 0) (tail : (R : Type 0) → Layout R → Type 0)
-    (context : (R : Type 0) → Layout R → (options : ℕ) → Type 0)
-    (pairs : (R : Type 0) → Layout R → (R → Bool) → (R → ℕ) → Type 0) where
-  abbrev pub by_memory : Form → Type 0
-  by_memory (NameTail layout above call) = tail _ layout
-  by_memory (TwoNames layout call) = tail _ layout
-  by_memory (NameAndValue layout size call) = tail _ layout
-  by_memory (NameAndExtensions layout options call) = context _ layout options
-  by_memory (LinkAndExtensions layout options call) = context _ layout options
-  by_memory (Pairs layout above count call) = pairs _ layout above count
-  by_memory _ = nothing
-
 module _ (h : InHeader) (rest : List ℕ) where
   -- what a request asks whose tail follows its record, which may want memory for the tail
   abbrev pub with_tail : {R : Type 0} → Layout R → (next : R → (tail : List ℕ) → Ask) → Ask
-  with_tail layout next =
-      refused_or (layout_record layout rest) (λ r.
-      refused_or (tail_of h (layout_size layout) (behind layout rest)) (λ tail.
+  with_tail layout next = refused_or (layout_record layout rest) (λ r.
+      refused_or (tail_of h (layout_size layout) (drop (layout_size layout) rest)) (λ tail.
       WithMemory (next r tail)))
 
   -- What a request of each form asks, by the bytes behind its header: in which order it is refused,
@@ -224,7 +177,8 @@ module _ (h : InHeader) (rest : List ℕ) where
   ask_form (NoTail layout above call) =
       refused_or (layout_record layout rest) (λ r. within (above r) h (Asks (echo_of h) (call r)))
   ask_form (NameTail layout above call) = with_tail layout (λ r tail.
-      within (above r) h (refused_or (name_in tail) (λ name. Asks (echo_of h) (call r name))))
+      within (above r) h
+      (refused_or (ok_or (name_of tail) InvalidCString) (λ name. Asks (echo_of h) (call r name))))
   ask_form (TwoNames layout call) = with_tail layout (λ r tail.
       refused_or (two_names_in tail) (λ names. Asks (echo_of h) (call r names.0 names.1)))
   ask_form (NameAndValue layout size call) = with_tail layout (λ r tail.
@@ -236,20 +190,17 @@ module _ (h : InHeader) (rest : List ℕ) where
       Asks (echo_of h) (call r part.0 part.1 part.2)))
   ask_form (Pairs layout above count call) =
       refused_or (layout_record layout rest) (λ r. within (above r) h
-      (refused_or (pairs_in (count r) (behind layout rest)) (λ pairs.
+      (refused_or (pairs_in (count r) (drop (layout_size layout) rest)) (λ pairs.
       WithMemory (Asks (echo_of h) (call r pairs)))))
-  ask_form (WithRest layout call) =
-      refused_or (layout_record layout rest) (λ r.
-      Asks (echo_of h) (call r (behind layout rest)))
-  ask_form (IntoRoom layout room_len call) =
-      refused_or (layout_record layout rest) (λ r.
+  ask_form (WithRest layout call) = refused_or (layout_record layout rest) (λ r.
+      Asks (echo_of h) (call r (drop (layout_size layout) rest)))
+  ask_form (IntoRoom layout room_len call) = refused_or (layout_record layout rest) (λ r.
       refused_or (space_behind_header room_len) (λ for_data. Asks (echo_of h) (call r for_data)))
   ask_form (Directories layout above room_len listing) =
       refused_or (layout_record layout rest) (λ r. within (above r) h
       (refused_or (space_behind_header room_len) (λ for_records.
       Lists (echo_of h) (listing r for_records))))
-  ask_form Versions =
-      refused_or (record_of init_in_compat rest) (λ r.
+  ask_form Versions = refused_or (record_of init_in_compat rest) (λ r.
       refused_or (second_flags r.flags (drop (size_of init_in_compat) rest)) (ask_version h r))
-  ask_form Silent = silent
+  ask_form Silent = Ends NoReply
   ask_form NotServed = faulted enosys h

@@ -6,6 +6,7 @@ pub mod FormParts
 pub mod Forms
 pub mod Limits
 pub mod Listing
+pub mod Memory
 pub mod Nodes
 pub mod Options
 pub mod Records
@@ -14,3 +15,4 @@ pub mod Room
 pub mod Samples
 pub mod Turn
 pub mod Witnesses
+pub mod Words

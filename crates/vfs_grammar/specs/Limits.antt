@@ -3,13 +3,9 @@ use Rattle.std.specs.Prelude.{◌≤◌, ◌+◌, ◌-◌, ◌/◌, ℕ}
 use Rattle.vfs_flags.specs.declared.constants.TheConstants.{LEAST_MAX_BUFFER, GREATEST_MAX_BUFFER, DEFAULT_MAX_BUFFER}
 use Rattle.vfs_grammar.specs.declared.limits.Limits.{Limits}
 
--- the bytes that a request may have before its payload
-abbrev pub before_payload : ℕ
-before_payload = 4096
-
--- the largest `len` of a request: the largest payload, and what may stand before it
+-- the largest `len` of a request: the largest payload, and the 4096 bytes that may stand before it
 abbrev pub max_len : Limits → ℕ
-max_len limits = limits.max_buffer + before_payload
+max_len limits = limits.max_buffer + 4096
 
 -- how many pages the largest payload takes
 abbrev pub max_pages : Limits → ℕ

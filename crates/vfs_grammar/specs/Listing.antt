@@ -13,49 +13,48 @@ use Rattle.std.specs.Int.{next_multiple_of}
 use Rattle.vfs_flags.specs.Numbers.{eoverflow}
 use Rattle.vfs_wire.specs.Fields.{bytes_of}
 use Rattle.vfs_wire.specs.Records.{attr, entry_out, dirent}
-use Rattle.vfs_wire.specs.declared.listings.Dirent.{Dirent}
 use Rattle.vfs_files.specs.Answers.{FitsEntry}
-use Rattle.vfs_grammar.specs.Records.{dirent_size, entry_out_size}
+use Rattle.vfs_grammar.specs.Records.{size_of}
+
+-- A directory that is to be read for this caller from this offset on, where `plus` with an
+-- `EntryOut` in front of each record; at most `size` bytes of records, into this space, which is
+-- the room less a header.
+pub record Listing : Type 0 where
+  pub plus : Bool
+  pub ctx : Context
+  pub parent : ℕ
+  pub handle : ℕ
+  pub size : ℕ
+  pub offset : ℕ
+  pub space : ℕ
 
 -- ---- the record of an item
 
 -- how long the record of an item with a name of this length is, without an entry: a `Dirent`
 -- and the name, rounded up to a multiple of 8
 abbrev pub dirent_len : ℕ → ℕ
-dirent_len n = next_multiple_of (dirent_size + n) 8
+dirent_len n = next_multiple_of (size_of dirent + n) 8
 
 -- how long the `EntryOut` of an entry is, where there is one
 abbrev pub entry_len : Option Entry → ℕ
 entry_len None = 0
-entry_len (Some entry) = entry_out_size
+entry_len (Some entry) = size_of entry_out
 
 -- how long a record is
 abbrev pub record_len : Option Entry → Item → ℕ
 record_len entry i = entry_len entry + dirent_len (length i.name)
 
--- the `Dirent` of an item
-abbrev pub dirent_of : Item → Dirent
-dirent_of i = record { ino = i.ino; off = i.offset; namelen = length i.name; type_ = i.type_ }
-
 -- the bytes of a record without an entry: the `Dirent`, the name, and zeros to a multiple of 8
 unfoldable pub dirent_bytes : Item → List ℕ
 dirent_bytes i =
-    bytes_of dirent (dirent_of i)
-    ++ (i.name ++ replicate (dirent_len (length i.name) - (dirent_size + length i.name)) 0)
+    bytes_of dirent
+    (record { ino = i.ino; off = i.offset; namelen = length i.name; type_ = i.type_ })
+    ++ (i.name ++ replicate (dirent_len (length i.name) - (size_of dirent + length i.name)) 0)
 
 -- the bytes of the `EntryOut` of an entry, where there is one
 abbrev pub entry_bytes : Option Entry → List ℕ
 entry_bytes None = []
 entry_bytes (Some entry) = bytes_of entry_out (entry_out_of entry)
-
--- the bytes of a record
-abbrev pub record_bytes : Option Entry → Item → List ℕ
-record_bytes entry i = entry_bytes entry ++ dirent_bytes i
-
--- each number of an entry, where there is one, is within its width in the record
-abbrev pub FitsOption : Option Entry → Type 0
-FitsOption None = Unit {0}
-FitsOption (Some entry) = FitsEntry entry
 
 -- what becomes of a record: it is put whole; it is too long for what may still be put; or it fails
 pub data Verdict : Type 0 where
@@ -94,27 +93,17 @@ is_dot name = bytes_eq name (codes ".") || bytes_eq name (codes "..")
 -- twelve low bits are permissions.
 abbrev pub dot_out : Item → EntryOut
 dot_out i = record (entry_out.made (replicate 22 0)) {
-  attr = record (attr.made (replicate 16 0)) {
-    ino = i.ino;
-    mode = (i.type_ * 2 ^ 12) % 2 ^ 32;
-  };
+  attr = record (attr.made (replicate 16 0)) { ino = i.ino; mode = (i.type_ * 2 ^ 12) % 2 ^ 32 };
 }
 
--- an entry, or the fault of its lookup
-abbrev pub IsLookedUp : Got → Type 0
-IsLookedUp (Ok None) = ⊥
-IsLookedUp _ = Unit {0}
-
--- the entry that `.` and `..` get
-abbrev pub IsDotEntry : Item → Got → Type 0
-IsDotEntry i (Ok (Some entry)) = entry_out_of entry ≡ dot_out i
-IsDotEntry i _ = ⊥
-
--- what an item gets, by whether entries are wanted and whether it is `.` or `..`
+-- What an item gets, by whether entries are wanted and whether it is `.` or `..`: these get an
+-- entry of their own, and every other item that of its lookup, or its fault.
 abbrev pub Gets : (plus dot : Bool) → Item → Got → Type 0
 Gets false dot i got = got ≡ Ok None
-Gets true true i got = IsDotEntry i got
-Gets true false i got = IsLookedUp got
+Gets true true i (Ok (Some entry)) = entry_out_of entry ≡ dot_out i
+Gets true true i _ = ⊥
+Gets true false i (Ok None) = ⊥
+Gets true false i _ = Unit {0}
 
 -- a line has what its item gets
 abbrev pub IsGot : (plus : Bool) → Line → Type 0
@@ -122,8 +111,8 @@ IsGot plus l = Gets plus (is_dot l.item.name) l.item l.got
 
 -- each number of the entry that was got, if one was, is within its width in the record
 abbrev pub FitsGot : Got → Type 0
-FitsGot (Ok entry) = FitsOption entry
-FitsGot (Err fault) = Unit {0}
+FitsGot (Ok (Some entry)) = FitsEntry entry
+FitsGot _ = Unit {0}
 
 -- ---- events
 
@@ -133,21 +122,15 @@ given_back ctx None = []
 given_back ctx (Some node) = Called (Forget ctx node 1) Done ∷ []
 
 module _ (ctx : Context) (parent : ℕ) where
-  -- the lookup that gave this
-  abbrev pub lookup_of : (name : List ℕ) → Got → List Event
-  lookup_of name (Ok (Some entry)) = Called (Lookup ctx parent name) (Found entry) ∷ []
-  lookup_of name (Ok None) = []
-  lookup_of name (Err fault) = Called (Lookup ctx parent name) (Failed fault) ∷ []
-
-  -- an item is looked up where entries are wanted, but for `.` and `..`
-  abbrev pub lookups : (plus dot : Bool) → Line → List Event
-  lookups false dot l = []
-  lookups true true l = []
-  lookups true false l = lookup_of l.item.name l.got
+  -- the lookup that gave this, where entries are wanted: of every name but `.` and `..`
+  abbrev pub lookup_got : (plus dot : Bool) → (name : List ℕ) → Got → List Event
+  lookup_got true false name (Ok (Some entry)) = Called (Lookup ctx parent name) (Found entry) ∷ []
+  lookup_got true false name (Err fault) = Called (Lookup ctx parent name) (Failed fault) ∷ []
+  lookup_got _ _ name got = []
 
   -- the events of a line: its item is taken, and looked up
   abbrev pub line_events : (plus : Bool) → Line → List Event
-  line_events plus l = Taken (Some l.item) ∷ lookups plus (is_dot l.item.name) l
+  line_events plus l = Taken (Some l.item) ∷ lookup_got plus (is_dot l.item.name) l.item.name l.got
 
   -- the events of a stop: an entry that was not written is given back, whatever its node is, and
   -- that of `.` or `..` too
@@ -168,7 +151,7 @@ line_len l = len_of l.got l.item
 
 -- the bytes of the record of an item that got this
 abbrev pub bytes_got : Got → Item → List ℕ
-bytes_got (Ok entry) i = record_bytes entry i
+bytes_got (Ok entry) i = entry_bytes entry ++ dirent_bytes i
 bytes_got (Err fault) i = []
 
 -- the bytes of the record of a line
@@ -207,8 +190,7 @@ Stops plus size space written (At l) =
 -- are. But where it failed, READDIR answers the fault, and READDIRPLUS too where nothing was
 -- written.
 abbrev pub answer_at : (plus : Bool) (written : ℕ) → Verdict → Result ℕ (Option ℕ)
-answer_at plus written (Fails fault) =
-    if plus && nat_lt 0 written then Ok written else Err fault
+answer_at plus written (Fails fault) = if plus && nat_lt 0 written then Ok written else Err fault
 answer_at plus written _ = Ok written
 
 -- what is answered at a stop behind so many bytes of records
@@ -247,10 +229,10 @@ pub record IsOpened (plus : Bool) (call : Call) (ctx : Context) (parent size spa
   pub events_are : events ≡ OpenedDirectory call ∷ takings
   pub listing : IsListing plus ctx parent size space takings records result
 
--- a whole READDIR or, where `plus`, READDIRPLUS: its events, the records, and the answer
-abbrev pub IsDirectory :
-    (plus : Bool) (ctx : Context) (parent handle size offset space : ℕ)
-    → List Event → List ℕ → Result ℕ (Option ℕ) → Type 0
-IsDirectory plus ctx parent handle size offset space events records result =
-    IsUnopened (Readdir ctx parent handle size offset) events records result
-    ⊎ IsOpened plus (Readdir ctx parent handle size offset) ctx parent size space events records result
+-- a whole READDIR or, where `plus`, READDIRPLUS: its events, the records, and how many bytes these
+-- have, or a fault in their place
+abbrev pub IsDirectory : Listing → List Event → (records : List ℕ) → Result ℕ (Option ℕ) → Type 0
+IsDirectory l events records result =
+    IsUnopened (Readdir l.ctx l.parent l.handle l.size l.offset) events records result
+    ⊎ IsOpened l.plus (Readdir l.ctx l.parent l.handle l.size l.offset) l.ctx l.parent l.size l.space
+    events records result

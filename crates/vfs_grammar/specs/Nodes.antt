@@ -1,21 +1,14 @@
 -- The nodes in a directory's records with entries, read from their bytes alone.
 use Rattle.std.specs.Prelude.{ℕ, zero, suc, ◌+◌, List, [], ◌∷◌, length, drop, nat_le, if◌then◌else◌}
-use Rattle.vfs_wire.specs.Fields.{number}
+use Rattle.vfs_wire.specs.Fields.{value_of}
+use Rattle.vfs_wire.specs.Records.{direntplus, entry_out}
 use Rattle.vfs_grammar.specs.Listing.{dirent_len}
-use Rattle.vfs_grammar.specs.Records.{entry_out_size, namelen_place}
-
--- the number of the four bytes from this place on
-abbrev pub u32_at : ℕ → List ℕ → ℕ
-u32_at place bytes = number 4 (drop place bytes)
-
--- the number of the eight bytes from this place on
-abbrev pub u64_at : ℕ → List ℕ → ℕ
-u64_at place bytes = number 8 (drop place bytes)
+use Rattle.vfs_grammar.specs.Records.{size_of}
 
 -- how long the record with an entry is that the bytes begin with: an `EntryOut`, and a `Dirent` with
 -- its name, whose length stands in the `Dirent`
 abbrev pub len_at_front : List ℕ → ℕ
-len_at_front bytes = entry_out_size + dirent_len (u32_at namelen_place bytes)
+len_at_front bytes = size_of entry_out + dirent_len (value_of direntplus bytes).dirent.namelen
 
 -- the nodes of the records that the bytes begin with, one after another, at most so many. They end
 -- where no whole record follows
@@ -23,7 +16,7 @@ abbrev pub nodes_of : (most : ℕ) → List ℕ → List ℕ
 nodes_of zero bytes = []
 nodes_of (suc most) bytes =
     if nat_le (len_at_front bytes) (length bytes)
-    then u64_at 0 bytes ∷ nodes_of most (drop (len_at_front bytes) bytes)
+    then (value_of entry_out bytes).nodeid ∷ nodes_of most (drop (len_at_front bytes) bytes)
     else []
 
 -- the nodes of all records that the bytes begin with

@@ -1,6 +1,5 @@
 -- What comes back to the client, and the bytes of replies.
 use Rattle.std.specs.Prelude.{ℕ, pos, ◌+◌, ◌-ℤ◌, ◌/◌, ◌%◌, ◌^◌, List, [], ◌++◌, length, Option, unwrap_or, replicate}
-use Rattle.std.specs.declared.time.Duration.{Duration}
 use Rattle.vfs_flags.specs.Numbers.{eio}
 use Rattle.vfs_flags.specs.declared.constants.TheConstants.{KERNEL_VERSION, KERNEL_MINOR_VERSION}
 use Rattle.vfs_wire.specs.Fields.{bytes_of}
@@ -8,11 +7,7 @@ use Rattle.vfs_wire.specs.Records.{out_header, init_out, attr_out, entry_out, ks
 use Rattle.vfs_wire_more.specs.Records.{open_out, write_out, lseek_out, getxattr_out}
 use Rattle.vfs_wire.specs.declared.headers.InHeader.{InHeader}
 use Rattle.vfs_wire.specs.declared.init.InitOut.{InitOut}
-use Rattle.vfs_wire.specs.declared.attributes.Attr.{Attr}
-use Rattle.vfs_wire.specs.declared.attributes.AttrOut.{AttrOut}
 use Rattle.vfs_wire_more.specs.declared.files.OpenOut.{OpenOut}
-use Rattle.vfs_wire_more.specs.declared.files.WriteOut.{WriteOut}
-use Rattle.vfs_wire_more.specs.declared.xattrs.GetxattrOut.{GetxattrOut}
 use Rattle.vfs_files.specs.Answers.{Kind, Quiet, Untold, Data, Agreements, Answer, Done, Failed, Found, Put, Attributes, Opened, Created, Statistics, Text, Count, Offset, Wrote}
 use Rattle.vfs_files.specs.Values.{context_of, entry_out_of, whole_seconds, nanoseconds_beyond}
 use Rattle.vfs_files.specs.declared.entry.Context.{Context}
@@ -40,18 +35,11 @@ pub record Echo : Type 0 where
 abbrev pub echo_of : InHeader → Echo
 echo_of h = record { unique = h.unique; max_readahead = 0; ctx = context_of h }
 
--- the number of a fault: that of EIO where it has none
-abbrev pub fault_number : Option ℕ → ℕ
-fault_number fault = unwrap_or fault eio
-
--- a reply that says a fault: the header alone, with the negated number
+-- a reply that says a fault: the header alone, with the negated number, that of EIO where it has none
 abbrev pub fault_reply : (fault : Option ℕ) → (unique : ℕ) → List ℕ
 fault_reply fault unique =
-    bytes_of out_header (record {
-      len = size_of out_header;
-      error = pos 0 -ℤ pos (fault_number fault);
-      unique = unique;
-    })
+    bytes_of out_header
+    (record { len = size_of out_header; error = pos 0 -ℤ pos (unwrap_or fault eio); unique = unique })
 
 -- a reply with a body behind its header
 abbrev pub body_reply : (body : List ℕ) → (unique : ℕ) → List ℕ
@@ -60,34 +48,15 @@ body_reply body unique =
     (record { len = size_of out_header + length body; error = pos 0; unique = unique })
     ++ body
 
--- the attributes of a node and how long they hold, as GETATTR replies them
-abbrev pub attr_out_of : Attr → (timeout : Duration) → AttrOut
-attr_out_of attr timeout = record {
-  attr_valid = whole_seconds timeout;
-  attr_valid_nsec = nanoseconds_beyond timeout;
-  dummy = 0;
-  attr = attr;
-}
-
 -- what was opened, as OPEN, OPENDIR and CREATE reply it: handle 0 where there is none
 abbrev pub open_out_of : (handle : Option ℕ) → (opening : ℕ) → OpenOut
 open_out_of handle opening = record { fh = unwrap_or handle 0; open_flags = opening; padding = 0 }
 
--- how many bytes extended attributes have, as GETXATTR and LISTXATTR reply it
-abbrev pub getxattr_out_of : (length : ℕ) → GetxattrOut
-getxattr_out_of length = record { size = length; padding = 0 }
-
--- how many bytes were written, as WRITE and COPY_FILE_RANGE reply it
-abbrev pub write_out_of : (count : ℕ) → WriteOut
-write_out_of count = record { size = count; padding = 0 }
-
 -- what INIT replies to a client of a newer major version: the version that the server speaks, and
 -- zeros
 abbrev pub version_out : InitOut
-version_out = record (init_out.made (replicate 18 0)) {
-  major = KERNEL_VERSION;
-  minor = KERNEL_MINOR_VERSION;
-}
+version_out =
+    record (init_out.made (replicate 18 0)) { major = KERNEL_VERSION; minor = KERNEL_MINOR_VERSION }
 
 -- What INIT replies, of the version, the limits, the client's read-ahead and the agreed options.
 -- Requests in the background are bounded by what the field holds, and the threshold is three
@@ -110,15 +79,20 @@ abbrev pub body_of : Answer → List ℕ
 body_of Done = []
 body_of (Put bytes) = bytes
 body_of (Found entry) = bytes_of entry_out (entry_out_of entry)
-body_of (Attributes attr timeout) = bytes_of attr_out (attr_out_of attr timeout)
+body_of (Attributes attr timeout) = bytes_of attr_out (record {
+  attr_valid = whole_seconds timeout;
+  attr_valid_nsec = nanoseconds_beyond timeout;
+  dummy = 0;
+  attr = attr;
+})
 body_of (Opened handle opening) = bytes_of open_out (open_out_of handle opening)
 body_of (Created entry handle opening) =
     bytes_of entry_out (entry_out_of entry) ++ bytes_of open_out (open_out_of handle opening)
 body_of (Statistics statistics) = bytes_of kstatfs (kstatfs_of statistics)
 body_of (Text bytes) = bytes
-body_of (Count length) = bytes_of getxattr_out (getxattr_out_of length)
+body_of (Count length) = bytes_of getxattr_out (record { size = length; padding = 0 })
 body_of (Offset offset) = bytes_of lseek_out (record { offset = offset })
-body_of (Wrote count) = bytes_of write_out (write_out_of count)
+body_of (Wrote count) = bytes_of write_out (record { size = count; padding = 0 })
 body_of _ = []
 
 -- the reply to an answer: that of its fault, or a header and this body
@@ -126,17 +100,14 @@ abbrev pub answer_reply : (body : List ℕ) → (unique : ℕ) → Answer → Li
 answer_reply body unique (Failed fault) = fault_reply fault unique
 answer_reply body unique _ = body_reply body unique
 
--- What comes back of a call of this kind, but INIT, with this answer: nothing of one that answers
--- nothing, and where one was done of which only a fault is told; of READ and of a directory the
--- reply, a fault too, behind which the room is open; and else the reply.
-abbrev pub reply_to : (unique : ℕ) → Kind → Answer → Reply
-reply_to unique Quiet answer = NoReply
-reply_to unique Untold Done = NoReply
-reply_to unique (Data size) answer = OpenBehind (answer_reply (body_of answer) unique answer)
-reply_to unique _ answer = Bytes (answer_reply (body_of answer) unique answer)
-
--- What comes back of a call of this kind with this answer, where these are the options after it.
+-- What comes back of a call of this kind with this answer, where these are the options after it:
+-- nothing of one that answers nothing, and where one was done of which only a fault is told; of READ
+-- and of a directory the reply, a fault too, behind which the room is open; and else the reply.
 abbrev pub reply_of : Limits → Echo → (options : ℕ) → Kind → Answer → Reply
 reply_of limits echo options Agreements answer = Bytes (answer_reply
     (bytes_of init_out (init_out_of limits echo.max_readahead options)) echo.unique answer)
-reply_of limits echo options kind answer = reply_to echo.unique kind answer
+reply_of limits echo options Quiet answer = NoReply
+reply_of limits echo options Untold Done = NoReply
+reply_of limits echo options (Data size) answer =
+    OpenBehind (answer_reply (body_of answer) echo.unique answer)
+reply_of limits echo options _ answer = Bytes (answer_reply (body_of answer) echo.unique answer)

@@ -4,23 +4,18 @@ use Rattle.vfs_grammar.specs.Reply.{Reply, Refusal, NoReply, Bytes, OpenBehind}
 use Rattle.vfs_grammar.specs.declared.error.Error.{Error}
 use Rattle.vfs_grammar.specs.declared.error.Error.TheVariants.{EncodeMessage}
 
--- the outcome of a reply that fits is its length, that of another is EncodeMessage
-abbrev pub put_outcome : (reply room : List ℕ) → Result ℕ Error
-put_outcome reply room =
-    if nat_le (length reply) (length room) then Ok (length reply) else Err EncodeMessage
-
--- the room afterwards: the reply and the old bytes behind it, or as much of the reply as there is
--- room for
-abbrev pub put_room : (reply room : List ℕ) → List ℕ
-put_room reply room =
-    if nat_le (length reply) (length room) then reply ++ drop (length reply) room
-    else take (length room) reply
-
--- the reply was put into the room
+-- The reply was put into the room. One that fits stands there, before the old bytes behind it, and
+-- the outcome is its length; of another there is as much as the room has, and the outcome is
+-- EncodeMessage.
 pub record IsPut (reply room : List ℕ) (outcome : Result ℕ Error) (room_after : List ℕ)
     : Type 0 where
-  pub says : outcome ≡ put_outcome reply room
-  pub leaves : room_after ≡ put_room reply room
+  pub says :
+      outcome
+      ≡ (if nat_le (length reply) (length room) then Ok (length reply) else Err EncodeMessage)
+  pub leaves :
+      room_after
+      ≡ (if nat_le (length reply) (length room) then reply ++ drop (length reply) room
+      else take (length room) reply)
 
 -- the reply stands at the beginning of the room, which it fits; the bytes behind it are any
 pub record IsPutOpen (reply room : List ℕ) (outcome : Result ℕ Error) (room_after : List ℕ)

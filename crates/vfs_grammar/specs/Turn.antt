@@ -3,7 +3,7 @@ use Rattle.std.specs.Prelude.{◌≡◌, ◌⊎◌, ◌==◌, if◌then◌else�
 use Rattle.vfs_files.specs.Calls.{Answer, Found, Created, Kind, Entries, Creations, Data, kind_of, read_answer, IsAnswer}
 use Rattle.vfs_files.specs.Runs.{Event, Called}
 use Rattle.vfs_grammar.specs.Listing.{IsDirectory, given_back}
-use Rattle.vfs_grammar.specs.Forms.{Listing, Ask, Ends, Asks, Lists, WithMemory}
+use Rattle.vfs_grammar.specs.Forms.{Ask, Ends, Asks, Lists, WithMemory}
 use Rattle.vfs_grammar.specs.Ask.{ask}
 use Rattle.vfs_grammar.specs.Options.{options_after}
 use Rattle.vfs_grammar.specs.Reply.{Refusal, reply_of}
@@ -12,20 +12,12 @@ use Rattle.vfs_grammar.specs.declared.limits.Limits.{Limits}
 use Rattle.vfs_grammar.specs.declared.error.Error.{Error}
 use Rattle.vfs_grammar.specs.declared.error.Error.TheVariants.{OutOfMemory}
 
--- a directory was read in these events: its records, and how many bytes these have, or a fault in
--- their place
-abbrev pub IsRead : Listing → List Event → (records : List ℕ) → Result ℕ (Option ℕ) → Type 0
-IsRead l events records answer =
-    IsDirectory l.plus l.ctx l.parent l.handle l.size l.offset l.space events records answer
-
--- a node whose lookups are counted: any but 0
-abbrev pub counted : (node : ℕ) → Option ℕ
-counted node = if node == 0 then None else Some node
-
--- the node of the entry in an answer of this kind, where there is one and its lookups are counted
+-- the node of the entry in an answer of this kind, where there is one and its lookups are counted,
+-- as those of every node but 0 are
 abbrev pub node_answered : Kind → Answer → Option ℕ
-node_answered Entries (Found entry) = counted entry.inode
-node_answered Creations (Created entry handle opening) = counted entry.inode
+node_answered Entries (Found entry) = if entry.inode == 0 then None else Some entry.inode
+node_answered Creations (Created entry handle opening) =
+    if entry.inode == 0 then None else Some entry.inode
 node_answered _ _ = None
 
 -- a request with what is seen of it from outside
@@ -53,7 +45,7 @@ Follows t limits options (Asks echo call) after =
     × IsReplied (reply_of limits echo after (kind_of call) answer) t.room t.outcome t.room_after
     × (after ≡ options_after call answer options)
 Follows t limits options (Lists echo l) after =
-    (records : List ℕ) × (answer : Result ℕ (Option ℕ)) × IsRead l t.events records answer
+    (records : List ℕ) × (answer : Result ℕ (Option ℕ)) × IsDirectory l t.events records answer
     × IsAnswer (Data l.size) (read_answer answer records)
     × IsReplied (reply_of limits echo after (Data l.size) (read_answer answer records)) t.room
     t.outcome t.room_after

@@ -4,23 +4,23 @@ use Rattle.std.proofs.Common.{inl, inr}
 use Rattle.vfs_files.specs.Calls.{Call, Answer, Data, kind_of, read_answer, IsAnswer}
 use Rattle.vfs_files.specs.Runs.{Called}
 use Rattle.vfs_files.specs.declared.entry.Context.{Context}
-use Rattle.vfs_grammar.specs.Listing.{given_back}
-use Rattle.vfs_grammar.specs.Forms.{Listing, Ask, Ends, Asks, Lists, WithMemory}
+use Rattle.vfs_grammar.specs.Listing.{Listing, IsDirectory, given_back}
+use Rattle.vfs_grammar.specs.Forms.{Ask, Ends, Asks, Lists, WithMemory}
 use Rattle.vfs_grammar.specs.Ask.{ask}
 use Rattle.vfs_grammar.specs.Options.{options_after}
 use Rattle.vfs_grammar.specs.Reply.{Reply, Refusal, reply_of}
 use Rattle.vfs_grammar.specs.Room.{IsReplied, unseen}
-use Rattle.vfs_grammar.specs.Turn.{Turn, IsRead, Follows, node_answered}
+use Rattle.vfs_grammar.specs.Turn.{Turn, Follows, node_answered}
 use Rattle.vfs_grammar.specs.declared.limits.Limits.{Limits}
 use Rattle.vfs_grammar.specs.declared.error.Error.TheVariants.{OutOfMemory}
 
--- Who tells what happened at a request: how long the room was, as `space`; that the file
--- system wasn't called; that it was called, so, with this answer, and that one lookup of a node, if
+-- Who tells what happened at a request: how long the room was; that the file system
+-- wasn't called; that it was called, so, with this answer, and that one lookup of a node, if
 -- there is one, was then given back for this caller; that a directory was read, with these records
 -- and this answer; and that this came back to the client; and that there was no memory for a copy,
 -- and no call.
 pub record Witness : Type 1 where
-  pub space : ℕ
+  pub room_len : ℕ
   pub no_call : Type 0
   pub called : Call → Answer → Context → (back : Option ℕ) → Type 0
   pub listed : Listing → (records : List ℕ) → Result ℕ (Option ℕ) → Type 0
@@ -33,7 +33,7 @@ FollowsFor w limits options (Ends reply) after = w.no_call × w.replied reply ×
 FollowsFor w limits options (Asks echo call) after =
     (answer : Answer)
     × w.called call answer echo.ctx
-    (unseen w.space (reply_of limits echo after (kind_of call) answer)
+    (unseen w.room_len (reply_of limits echo after (kind_of call) answer)
     (node_answered (kind_of call) answer))
     × IsAnswer (kind_of call) answer
     × w.replied (reply_of limits echo after (kind_of call) answer)
@@ -50,10 +50,10 @@ FollowsFor w limits options (WithMemory rest) after =
 -- what a turn tells: by its events, its outcome and its room
 abbrev pub turn_tells : Turn → Witness
 turn_tells t = record {
-  space = length t.room;
+  room_len = length t.room;
   no_call = t.events ≡ [];
   called = λ call answer ctx back. t.events ≡ Called call answer ∷ given_back ctx back;
-  listed = λ listing records answer. IsRead listing t.events records answer;
+  listed = λ listing records answer. IsDirectory listing t.events records answer;
   replied = λ reply. IsReplied reply t.room t.outcome t.room_after;
   no_memory = t.events ≡ [];
 }

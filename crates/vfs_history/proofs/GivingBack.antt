@@ -4,7 +4,8 @@ use Rattle.std.proofs.lemmas.List.{take_all}
 use Rattle.std.proofs.lemmas.List.Sums.{sum_by-cons}
 use Rattle.vfs_flags.specs.Numbers.{opcode_of}
 use Rattle.vfs_wire.specs.Fields.{number}
-use Rattle.vfs_grammar.specs.Books.{opcode_in, delivered, delivered_by, accepted, accepted_by, GivesBackWithin}
+use Rattle.vfs_grammar.specs.Books.{opcode_in, delivered, delivered_by, accepted, accepted_by}
+use Rattle.vfs_grammar.specs.Words.{GivesBackWithin}
 use Rattle.vfs_grammar.specs.Samples.{lookup_of_a, reply_of_node_5}
 use Rattle.vfs_grammar.specs.Turn.{Turn}
 use Rattle.vfs_grammar.specs.declared.error.Error.{Error}

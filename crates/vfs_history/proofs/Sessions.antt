@@ -6,10 +6,11 @@ use Rattle.vfs_files.specs.Values.{Item}
 use Rattle.vfs_files.specs.Calls.{Call, Handed}
 use Rattle.vfs_files.specs.Runs.{Event, Called, OpenedDirectory, Taken, IsRun}
 use Rattle.vfs_files.specs.declared.entry.Context.{Context}
-use Rattle.vfs_grammar.specs.Forms.{Listing, Ask, Ends, Asks, Lists, WithMemory}
+use Rattle.vfs_grammar.specs.Forms.{Ask, Ends, Asks, Lists, WithMemory}
+use Rattle.vfs_grammar.specs.Listing.{Listing, given_back}
 use Rattle.vfs_grammar.specs.Ask.{ask}
-use Rattle.vfs_grammar.specs.Listing.{given_back}
-use Rattle.vfs_grammar.specs.Turn.{Turn, AreTurns, Follows, IsRead, events_in}
+use Rattle.vfs_grammar.specs.Turn.{Turn, AreTurns, Follows, events_in}
+use Rattle.vfs_grammar.specs.Words.{IsRead}
 use Rattle.vfs_grammar.specs.declared.limits.Limits.{Limits}
 use Rattle.vfs_server.specs.Step.{ServerState}
 use Rattle.vfs_server.specs.Session.{AreServed}

@@ -5,7 +5,8 @@ use Rattle.vfs_files.specs.Values.{Item}
 use Rattle.vfs_files.specs.Calls.{Call, Handed}
 use Rattle.vfs_files.specs.Runs.{IsRun}
 use Rattle.vfs_grammar.specs.Turn.{Turn, events_in}
-use Rattle.vfs_grammar.specs.Books.{KeepsBooks, NeverBelow}
+use Rattle.vfs_grammar.specs.Books.{KeepsBooks}
+use Rattle.vfs_grammar.specs.Words.{NeverBelow}
 use Rattle.vfs_grammar.specs.declared.error.Error.{Error}
 use Rattle.vfs_grammar.specs.Samples.{four, eight, reply_of_node_5}
 use Rattle.vfs_server.specs.Step.{ServerState}

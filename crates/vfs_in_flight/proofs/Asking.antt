@@ -8,8 +8,10 @@ use Rattle.vfs_wire.specs.Fields.{value_of}
 use Rattle.vfs_wire.specs.Records.{in_header}
 use Rattle.vfs_wire.specs.declared.headers.InHeader.{InHeader}
 use Rattle.vfs_files.specs.Calls.{Iterators, kind_of}
-use Rattle.vfs_grammar.specs.Ask.{ask, ask_header, ask_number, form_of}
-use Rattle.vfs_grammar.specs.Forms.{Ask, Ends, Asks, Lists, WithMemory, Form, Directories, Layout, Listing, ask_form, refused, refused_or, faulted, within, space_behind_header, layout_record}
+use Rattle.vfs_grammar.specs.Ask.{ask, ask_number, form_of}
+use Rattle.vfs_grammar.specs.Words.{ask_header, refused}
+use Rattle.vfs_grammar.specs.Forms.{Ask, Ends, Asks, Lists, WithMemory, Form, Directories, Layout, ask_form, refused_or, faulted, within, space_behind_header, layout_record}
+use Rattle.vfs_grammar.specs.Listing.{Listing}
 use Rattle.vfs_grammar.specs.Reply.{echo_of}
 use Rattle.vfs_grammar.specs.Limits.{max_len}
 use Rattle.vfs_grammar.specs.Records.{size_of}

@@ -6,11 +6,12 @@ use Rattle.vfs_files.specs.Calls.{Answer, kind_of}
 use Rattle.vfs_files.specs.Runs.{Event, Called}
 use Rattle.vfs_messages.specs.Rooms.{with_behind}
 use Rattle.vfs_grammar.specs.Ask.{ask}
-use Rattle.vfs_grammar.specs.Forms.{Ask, Ends, Asks, Lists, WithMemory, Listing}
-use Rattle.vfs_grammar.specs.Listing.{given_back}
+use Rattle.vfs_grammar.specs.Forms.{Ask, Ends, Asks, Lists, WithMemory}
+use Rattle.vfs_grammar.specs.Listing.{Listing, given_back}
 use Rattle.vfs_grammar.specs.Reply.{reply_of}
 use Rattle.vfs_grammar.specs.Room.{unseen}
-use Rattle.vfs_grammar.specs.Turn.{IsTurn, IsRead, node_answered}
+use Rattle.vfs_grammar.specs.Turn.{IsTurn, node_answered}
+use Rattle.vfs_grammar.specs.Words.{IsRead}
 use Rattle.vfs_grammar.specs.declared.limits.Limits.{Limits}
 use Rattle.vfs_grammar.specs.declared.error.Error.{Error}
 use Rattle.vfs_calls.specs.declared.call.CallData.{CallData}

@@ -13,9 +13,12 @@ use Rattle.vfs_files.specs.Calls.{Call}
 use Rattle.vfs_files.specs.Values.{name_of, first_name}
 use Rattle.vfs_grammar.specs.Limits.{max_len}
 use Rattle.vfs_grammar.specs.Records.{size_of, record_of}
-use Rattle.vfs_grammar.specs.Ask.{form_of, ask_number, ask_header, ask, header_of}
+use Rattle.vfs_grammar.specs.Ask.{form_of, ask_number, ask}
+use Rattle.vfs_grammar.specs.Words.{ask_header, refused, silent}
+use Rattle.vfs_grammar.specs.Memory.{header_of}
 use Rattle.vfs_grammar.specs.FormParts.{second_or_refusal, both_or_refusal, sized_or_refusal, name_or_refusal, flags2_in}
-use Rattle.vfs_grammar.specs.Forms.{Listing, Ask, Ends, Asks, Lists, WithMemory, refused, silent, within, refused_or, tail_of, pairs_of, pairs_in, second_flags, ask_version, Layout, Without, Record, layout_record, Form, NoTail, NameTail, TwoNames, NameAndValue, NameAndExtensions, LinkAndExtensions, Pairs, WithRest, IntoRoom, Directories, Versions, Silent, NotServed, space_behind_header, ask_form, extended_in, link_in_tail}
+use Rattle.vfs_grammar.specs.Forms.{Ask, Ends, Asks, Lists, WithMemory, within, refused_or, tail_of, pairs_of, pairs_in, second_flags, ask_version, Layout, Without, Record, layout_record, Form, NoTail, NameTail, TwoNames, NameAndValue, NameAndExtensions, LinkAndExtensions, Pairs, WithRest, IntoRoom, Directories, Versions, Silent, NotServed, space_behind_header, ask_form, extended_in, link_in_tail}
+use Rattle.vfs_grammar.specs.Listing.{Listing}
 use Rattle.vfs_laws.specs.Turns.{unique_of}
 use Rattle.vfs_grammar.specs.Books.{opcode_in}
 use Rattle.vfs_grammar.specs.Reply.{Bytes, Echo, fault_reply, body_reply, version_out}

@@ -8,7 +8,8 @@ use Rattle.vfs_files.specs.Runs.{Event, Called}
 use Rattle.vfs_grammar.specs.Listing.{given_back}
 use Rattle.vfs_grammar.specs.Reply.{Reply}
 use Rattle.vfs_grammar.specs.Room.{unseen}
-use Rattle.vfs_grammar.specs.Turn.{counted, node_answered}
+use Rattle.vfs_grammar.specs.Turn.{node_answered}
+use Rattle.vfs_grammar.specs.Words.{counted}
 use Rattle.vfs_grammar.specs.Books.{times, forgotten, entry_node, answered_nodes, forgets_of, answered, sent}
 use Rattle.vfs_laws.proofs.ListedNodes.{no_node}
 use Rattle.vfs_laws.proofs.Replying.{LastOnly, one_event}

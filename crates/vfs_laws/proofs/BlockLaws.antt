@@ -7,7 +7,8 @@ use Rattle.vfs_wire.specs.Fields.{value_of, bytes_of}
 use Rattle.vfs_wire.specs.FieldLaws.{value_of-bytes_of-then, value_of-take, length-bytes_of}
 use Rattle.vfs_wire.specs.Records.{ext_header}
 use Rattle.vfs_wire.specs.declared.extensions.ExtHeader.{ExtHeader}
-use Rattle.vfs_grammar.specs.Extensions.{Block, block_in, block_size, error_or}
+use Rattle.vfs_grammar.specs.Extensions.{Block, block_in, error_or}
+use Rattle.vfs_grammar.specs.Words.{block_size}
 use Rattle.vfs_laws.specs.Extensions.{IsBlock, block_bytes}
 use Rattle.vfs_grammar.specs.declared.error.Error.{Error}
 use Rattle.vfs_grammar.specs.declared.error.Error.TheVariants.{DecodeMessage, InvalidHeaderLength}

@@ -11,7 +11,8 @@ use Rattle.vfs_wire.specs.declared.init.InitOut.{InitOut}
 use Rattle.vfs_files.specs.Answers.{Kind, Quiet, Told, Untold, Data, Agreements, Entries, TimedAttributes, Openings, Creations, Capacities, Texts, TextsOrCounts, Offsets, Writes, Iterators, Faults, IsAnswer, Answer, Done, Failed, Options, Found, Put, Attributes, Opened, Created, Statistics, Text, Count, Offset, Wrote}
 use Rattle.vfs_files.specs.Values.{entry_out_of}
 use Rattle.vfs_files.specs.declared.entry.Entry.{Entry}
-use Rattle.vfs_grammar.specs.Reply.{Reply, NoReply, Bytes, OpenBehind, Echo, body_of, answer_reply, reply_of, fault_reply, fault_number, body_reply, attr_out_of, init_out_of, open_out_of, getxattr_out_of, write_out_of}
+use Rattle.vfs_grammar.specs.Reply.{Reply, NoReply, Bytes, OpenBehind, Echo, body_of, answer_reply, reply_of, fault_reply, body_reply, init_out_of, open_out_of}
+use Rattle.vfs_grammar.specs.Words.{fault_number, attr_out_of, getxattr_out_of, write_out_of}
 use Rattle.vfs_grammar.specs.Records.{size_of}
 use Rattle.vfs_grammar.specs.declared.limits.Limits.{Limits}
 use Rattle.vfs_grammar.proofs.Rooms.{length-header, length-fault_reply, length-body_reply}

@@ -8,10 +8,10 @@ use Rattle.vfs_wire.specs.Fields.{number}
 use Rattle.vfs_files.specs.Calls.{Call, Found}
 use Rattle.vfs_files.specs.Runs.{Called}
 use Rattle.vfs_files.specs.declared.entry.Entry.{Entry}
-use Rattle.vfs_grammar.specs.Nodes.{u64_at}
+use Rattle.vfs_grammar.specs.Words.{u64_at, GivesBackWithin}
 use Rattle.vfs_grammar.specs.Turn.{Turn}
 use Rattle.vfs_grammar.specs.declared.error.Error.{Error}
-use Rattle.vfs_grammar.specs.Books.{times, opcode_in, nodes_behind, delivered, delivered_by, accepted, accepted_by, answered, sent, GivesBackWithin}
+use Rattle.vfs_grammar.specs.Books.{times, opcode_in, nodes_behind, delivered, delivered_by, accepted, accepted_by, answered, sent}
 use Rattle.vfs_grammar.specs.Samples.{reply_of_node_5, batch_of_two}
 
 -- the books of a node balance over one turn

@@ -7,7 +7,8 @@ use Rattle.vfs_wire.specs.Fields.{bytes_of}
 use Rattle.vfs_wire.specs.Records.{out_header, init_out}
 use Rattle.vfs_wire.specs.declared.headers.InHeader.{InHeader}
 use Rattle.vfs_files.specs.Calls.{Kind, Answer, IsAnswer, Data, kind_of, read_answer}
-use Rattle.vfs_grammar.specs.Ask.{form_of, ask, header_of}
+use Rattle.vfs_grammar.specs.Ask.{form_of, ask}
+use Rattle.vfs_grammar.specs.Memory.{header_of}
 use Rattle.vfs_grammar.specs.Forms.{Ask}
 use Rattle.vfs_laws.specs.Turns.{unique_of, CarriesData, IsCutOff, CutsOff, cut_turn_tells, LacksRoomForHeader}
 use Rattle.vfs_grammar.specs.Books.{opcode_in}

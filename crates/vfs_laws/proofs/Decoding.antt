@@ -13,10 +13,10 @@ use Rattle.vfs_wire.specs.FieldLaws.{length-little, number-little}
 use Rattle.vfs_wire.specs.Records.{out_header}
 use Rattle.vfs_wire.specs.declared.headers.OutHeader.{OutHeader}
 use Rattle.vfs_grammar.specs.Forms.{pairs_of}
-use Rattle.vfs_grammar.specs.Reply.{body_reply, fault_reply, fault_number}
+use Rattle.vfs_grammar.specs.Reply.{body_reply, fault_reply}
+use Rattle.vfs_grammar.specs.Words.{fault_number, u32_at, u64_at, pairs_at}
 use Rattle.vfs_grammar.proofs.Rooms.{length-header}
-use Rattle.vfs_grammar.specs.Nodes.{u32_at, u64_at}
-use Rattle.vfs_grammar.specs.Books.{nodes_behind, delivered_nodes, pairs_at}
+use Rattle.vfs_grammar.specs.Books.{nodes_behind, delivered_nodes}
 
 -- ---- headers
 

@@ -2,13 +2,14 @@
 use Rattle.std.proofs.Common.{◌≡◌, ℕ, List, length, Option, Result, Ok, Err, sym, ◌∙◌, inl, inr, arith, subst}
 use Rattle.vfs_files.specs.Calls.{Data, read_answer}
 use Rattle.vfs_grammar.specs.Directories.{IsWhole, listing_reply, StopsForACause, ComesWhole, TakesFew}
-use Rattle.vfs_grammar.specs.Listing.{IsListing}
+use Rattle.vfs_grammar.specs.Listing.{IsListing, Listing}
 use Rattle.vfs_laws.proofs.Takings.{listing_whole, takings_bounded}
 use Rattle.vfs_grammar.specs.Ask.{ask}
-use Rattle.vfs_grammar.specs.Forms.{Listing, Lists}
-use Rattle.vfs_grammar.specs.Reply.{Echo, reply_to}
+use Rattle.vfs_grammar.specs.Forms.{Lists}
+use Rattle.vfs_grammar.specs.Reply.{Echo}
+use Rattle.vfs_grammar.specs.Words.{reply_to, IsRead}
 use Rattle.vfs_grammar.specs.Room.{IsReplied, IsPutOpen}
-use Rattle.vfs_grammar.specs.Turn.{Turn, Follows, IsRead, IsTurn}
+use Rattle.vfs_grammar.specs.Turn.{Turn, Follows, IsTurn}
 use Rattle.vfs_grammar.specs.declared.limits.Limits.{Limits}
 use Rattle.vfs_grammar.specs.declared.error.Error.{Error}
 

@@ -6,11 +6,12 @@ use Rattle.vfs_files.specs.Calls.{Call, Readdir, Answer, Failed}
 use Rattle.vfs_files.specs.Values.{Item}
 use Rattle.vfs_files.specs.Runs.{Event, Called, OpenedDirectory, Taken}
 use Rattle.vfs_grammar.specs.Directories.{takings, IsWhole, listing_reply}
-use Rattle.vfs_grammar.specs.Listing.{IsDirectory}
+use Rattle.vfs_grammar.specs.Listing.{Listing}
+use Rattle.vfs_grammar.specs.Words.{IsDirectoryOf}
 use Rattle.vfs_grammar.specs.Samples.{file_a, nobody, reply_of_one_file, refused_reply, request_for_data}
 use Rattle.vfs_laws.proofs.Lines.{one_file, refused_is}
 use Rattle.vfs_grammar.specs.Ask.{ask}
-use Rattle.vfs_grammar.specs.Forms.{Ask, Listing, Lists}
+use Rattle.vfs_grammar.specs.Forms.{Ask, Lists}
 use Rattle.vfs_grammar.specs.Limits.{default_limits}
 use Rattle.vfs_grammar.specs.Reply.{Echo, body_reply}
 use Rattle.vfs_grammar.specs.Room.{IsPutOpen}
@@ -73,13 +74,13 @@ module _ (room : List ℕ) (outcome : Result ℕ Error) (room_after : List ℕ) 
   -- the reply of one that was refused
   pub refusal_replied : (records : List ℕ) (answer : Result ℕ (Option ℕ)) (events : List Event)
       → events ≡ Called (Readdir nobody 1 0 64 0) (Failed (Some 13)) ∷ []
-      → IsDirectory false nobody 1 0 64 0 64 events records answer
+      → IsDirectoryOf false nobody 1 0 64 0 64 events records answer
       → IsPutOpen (listing_reply answer records 9) room outcome room_after
       → (outcome ≡ Ok 16) × (take 16 room_after ≡ refused_reply)
   unfolding little
   refusal_replied records answer events are read replied =
       let is = (refused_is false nobody 1 0 64 0 64 records answer
-      (subst (λ (es : List Event). IsDirectory false nobody 1 0 64 0 64 es records answer) are read)).1 in
+      (subst (λ (es : List Event). IsDirectoryOf false nobody 1 0 64 0 64 es records answer) are read)).1 in
       let put = subst (λ (a : Result ℕ (Option ℕ)). IsPutOpen (listing_reply a records 9) room outcome room_after) is replied in
       (put.says, put.begins)
 

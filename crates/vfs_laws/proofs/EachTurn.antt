@@ -14,16 +14,17 @@ use Rattle.vfs_wire.specs.declared.headers.OutHeader.{OutHeader}
 use Rattle.vfs_files.specs.Calls.{Call, Kind, Init, Destroy, Readdir, Answer, Failed, Options, Data, Iterators, kind_of, read_answer, IsAnswer, IsFault}
 use Rattle.vfs_files.specs.Runs.{Event, Called}
 use Rattle.vfs_files.specs.declared.entry.Context.{Context}
-use Rattle.vfs_grammar.specs.Listing.{given_back}
+use Rattle.vfs_grammar.specs.Listing.{given_back, Listing}
 use Rattle.vfs_grammar.specs.Limits.{max_len}
 use Rattle.vfs_grammar.specs.Records.{size_of}
 use Rattle.vfs_grammar.specs.Ask.{form_of, ask, ask_number}
-use Rattle.vfs_grammar.specs.Forms.{Listing, Ask, Ends, Asks, Lists, WithMemory, refused, Form, NoTail, NameTail, TwoNames, NameAndValue, NameAndExtensions, LinkAndExtensions, Pairs, WithRest, IntoRoom, Directories, Versions, Silent, NotServed, Layout, refused_or, layout_record, layout_size, tail_of, behind, ask_form}
+use Rattle.vfs_grammar.specs.Forms.{Ask, Ends, Asks, Lists, WithMemory, Form, NoTail, NameTail, TwoNames, NameAndValue, NameAndExtensions, LinkAndExtensions, Pairs, WithRest, IntoRoom, Directories, Versions, Silent, NotServed, Layout, refused_or, layout_record, layout_size, tail_of, ask_form}
+use Rattle.vfs_grammar.specs.Words.{behind, refused, IsRead}
 use Rattle.vfs_laws.specs.Turns.{TailIsWhole, HasWhole, unique_of, BeginsWithHeader, WantsMemory, WantsMemoryBehind}
 use Rattle.vfs_grammar.specs.Options.{AreAgreed, agreed, options_after}
 use Rattle.vfs_grammar.specs.Reply.{Reply, Echo, echo_of, Refusal, NoReply, Bytes, OpenBehind, fault_reply, body_reply, reply_of, version_out}
 use Rattle.vfs_grammar.specs.Room.{IsReplied, unseen}
-use Rattle.vfs_grammar.specs.Turn.{Turn, Follows, IsRead, IsTurn, node_answered}
+use Rattle.vfs_grammar.specs.Turn.{Turn, Follows, IsTurn, node_answered}
 use Rattle.vfs_grammar.specs.Witnesses.{IsTurnWithMemory, turn_with_memory_tells, FollowsFor}
 use Rattle.vfs_grammar.specs.declared.limits.Limits.{Limits}
 use Rattle.vfs_grammar.specs.declared.error.Error.{Error}

@@ -2,7 +2,8 @@
 use Rattle.std.proofs.Common.{◌≡◌, ◌+◌, ℕ, List, [], ◌∷◌, ◌++◌, Some, None, Ok, Err, refl}
 use Rattle.vfs_flags.specs.Flags.{security_ctx, create_supp_group}
 use Rattle.vfs_wire.specs.Fields.{number}
-use Rattle.vfs_grammar.specs.Extensions.{cut_of, extensions_in, extensions_after, no_extensions, security_context_in, group_in}
+use Rattle.vfs_grammar.specs.Extensions.{cut_of, extensions_in, no_extensions, security_context_in, group_in}
+use Rattle.vfs_grammar.specs.Words.{extensions_after}
 use Rattle.vfs_grammar.specs.declared.error.Error.TheVariants.{DecodeMessage, InvalidHeaderLength, MissingExtension, MissingParameter}
 
 -- four bytes of a number below 256

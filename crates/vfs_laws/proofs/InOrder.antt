@@ -7,7 +7,8 @@ use Rattle.std.proofs.lemmas.List.Sums.{sum_by-cons, sum_by-take-le}
 use Rattle.vfs_files.specs.Runs.{Event}
 use Rattle.vfs_grammar.specs.Turn.{Turn, IsTurn, AreTurns, events_in}
 use Rattle.vfs_grammar.specs.declared.limits.Limits.{Limits}
-use Rattle.vfs_grammar.specs.Books.{sent_by, answered, sent, delivered, accepted, AreBalanced, GivesBackWithin, NeverBelow, KeepsBooks}
+use Rattle.vfs_grammar.specs.Books.{sent_by, answered, sent, delivered, accepted, KeepsBooks}
+use Rattle.vfs_grammar.specs.Words.{AreBalanced, GivesBackWithin, NeverBelow}
 use Rattle.vfs_laws.proofs.OneTurn.{turn_books, turn_last}
 use Rattle.vfs_laws.proofs.Replying.{LastOnly}
 use Rattle.vfs_laws.proofs.Sums.{answered-append, sent-append}

@@ -7,7 +7,8 @@ use Rattle.vfs_wire.specs.Fields.{Table, value_of}
 use Rattle.vfs_wire.specs.Records.{batch_forget_in}
 use Rattle.vfs_wire.specs.declared.entries.BatchForgetIn.{BatchForgetIn}
 use Rattle.vfs_wire.specs.declared.headers.InHeader.{InHeader}
-use Rattle.vfs_grammar.specs.Ask.{form_of, header_of}
+use Rattle.vfs_grammar.specs.Ask.{form_of}
+use Rattle.vfs_grammar.specs.Memory.{header_of}
 use Rattle.vfs_grammar.specs.Forms.{Layout, Without, Record, tail_of, pairs_of, Form, NoTail, NameTail, TwoNames, NameAndValue, NameAndExtensions, LinkAndExtensions, Pairs, WithRest, IntoRoom, Directories, Versions, Silent, NotServed}
 use Rattle.vfs_laws.specs.Turns.{TailIsWhole, PairsAreWhole, HasWhole, behind_header, count_of_pairs, WantsMemory, WantsMemoryBehind}
 use Rattle.vfs_grammar.specs.Books.{opcode_in}

@@ -12,7 +12,8 @@ use Rattle.vfs_files.specs.Runs.{Event, Called, Taken}
 use Rattle.vfs_files.specs.declared.entry.Context.{Context}
 use Rattle.vfs_files.specs.declared.entry.Entry.{Entry}
 use Rattle.vfs_grammar.specs.Directories.{GoesOn, EndsWhole, EndsFull, IsWhole}
-use Rattle.vfs_grammar.specs.Listing.{Got, Line, Stop, End, At, Gets, IsGot, IsDotEntry, is_dot, dot_out, lookups, lookup_of, line_events, stop_events, given_back, node_got, line_bytes, line_len, bytes_got, len_of, answer_at, answer_of, AreWritten, Stops, IsListing, IsDirectory, verdict, Fails, Fits, dirent_bytes, record_bytes, record_len}
+use Rattle.vfs_grammar.specs.Listing.{Got, Line, Stop, End, At, Gets, IsGot, is_dot, dot_out, line_events, stop_events, given_back, node_got, line_bytes, line_len, bytes_got, len_of, answer_at, answer_of, AreWritten, Stops, IsListing, verdict, Fails, Fits, dirent_bytes, record_len}
+use Rattle.vfs_grammar.specs.Words.{IsDotEntry, lookups, lookup_of, record_bytes, IsDirectoryOf}
 use Rattle.vfs_grammar.proofs.Dirents.{length-record_bytes}
 use Rattle.vfs_grammar.specs.Samples.{file_a, root_dot, record_of_a, record_of_dot, entry_of_dot}
 
@@ -269,7 +270,7 @@ dot_back_goes_on ctx parent n =
 
 -- a fault of `readdir`
 pub refused_is : (plus : Bool) (ctx : Context) (parent handle size offset room : ℕ) (body : List ℕ) (result : Result ℕ (Option ℕ))
-    → IsDirectory plus ctx parent handle size offset room
+    → IsDirectoryOf plus ctx parent handle size offset room
     (Called (Readdir ctx parent handle size offset) (Failed (Some 13)) ∷ []) body result
     → (body ≡ []) × (result ≡ Err (Some 13))
 refused_is plus ctx parent handle size offset room body result (inl u) =

@@ -11,11 +11,12 @@ use Rattle.vfs_files.specs.Values.{Item}
 use Rattle.vfs_files.specs.Calls.{Call, Readdir, Data, read_answer}
 use Rattle.vfs_files.specs.Runs.{Event, OpenedDirectory, Taken}
 use Rattle.vfs_laws.specs.Listings.{node_of_line}
-use Rattle.vfs_grammar.specs.Listing.{Got, Line, Stop, End, At, Gets, IsGot, is_dot, lookups, line_events, stop_events, given_back, line_len, line_bytes, AreWritten, Stops, answer_at, answer_of, IsListing, IsUnopened, IsOpened, IsDirectory, node_got, verdict, Fails, Verdict, Fits, Full}
+use Rattle.vfs_grammar.specs.Listing.{Got, Line, Stop, End, At, Gets, IsGot, is_dot, line_events, stop_events, given_back, line_len, line_bytes, AreWritten, Stops, answer_at, answer_of, IsListing, IsUnopened, IsOpened, node_got, verdict, Fails, Verdict, Fits, Full}
+use Rattle.vfs_grammar.specs.Words.{lookups, reply_to, IsDirectoryOf}
 use Rattle.vfs_laws.proofs.Takings.{lines_least}
 use Rattle.vfs_laws.proofs.Nodes.{nodes_in-listing}
 use Rattle.vfs_grammar.specs.Nodes.{nodes_in}
-use Rattle.vfs_grammar.specs.Reply.{reply_to, body_of, fault_reply, body_reply}
+use Rattle.vfs_grammar.specs.Reply.{body_of, fault_reply, body_reply}
 use Rattle.vfs_grammar.specs.Room.{IsReplied}
 use Rattle.vfs_grammar.specs.Turn.{Turn}
 use Rattle.vfs_grammar.proofs.Rooms.{length-fault_reply, length-body_reply}
@@ -212,7 +213,7 @@ pub record ListsFor (plus : Bool) (opcode : Option Opcode) : Type 0 where
 module _ (n : ℕ) (some : n ≢ 0) (t : Turn) (plus : Bool) (ctx : Context) (parent handle size offset room : ℕ) where
   -- of the events of a READDIR or READDIRPLUS only the last gives back anything
   pub directory_last : (body : List ℕ) (result : Result ℕ (Option ℕ))
-      → IsDirectory plus ctx parent handle size offset room t.events body result → LastOnly n t.events
+      → IsDirectoryOf plus ctx parent handle size offset room t.events body result → LastOnly n t.events
   directory_last body result (inl u) = record { front = []; last = t.events; are = refl; none = refl; short = omega (arith, ap length u.events_are) }
   directory_last body result (inr o) =
       let l = listing_last ctx parent n some plus size room o.takings body result (Readdir ctx parent handle size offset) o.listing in
@@ -251,7 +252,7 @@ module _ (n : ℕ) (some : n ≢ 0) (t : Turn) (plus : Bool) (ctx : Context) (pa
 
   -- the books of a READDIR or READDIRPLUS
   pub directory_books : (unique : ℕ) (body : List ℕ) (result : Result ℕ (Option ℕ)) → ListsFor plus (opcode_in t.request)
-      → IsDirectory plus ctx parent handle size offset room t.events body result
+      → IsDirectoryOf plus ctx parent handle size offset room t.events body result
       → FaultFits (said_as (body_of (read_answer result body)) (read_answer result body)) → IsReplied (reply_to unique (Data size) (read_answer result body)) t.room t.outcome t.room_after → Balances n t
   directory_books unique body result lists (inl u) small p = unopened_books unique body result u small p
   directory_books unique body result lists (inr o) small p = opened_books unique body result lists o small p

@@ -12,9 +12,10 @@ use Rattle.vfs_files.specs.Values.{entry_out_of, Item}
 use Rattle.vfs_files.specs.Runs.{Event}
 use Rattle.vfs_files.specs.declared.entry.Context.{Context}
 use Rattle.vfs_files.specs.declared.entry.Entry.{Entry}
-use Rattle.vfs_grammar.specs.Listing.{Got, Line, Gets, FitsGot, is_dot, line_len, line_bytes, bytes_got, AreWritten, IsListing, verdict, Fails, Fits, Full, dirent_len, record_len, record_bytes, dirent_bytes, entry_bytes}
+use Rattle.vfs_grammar.specs.Listing.{Got, Line, Gets, FitsGot, is_dot, line_len, line_bytes, bytes_got, AreWritten, IsListing, verdict, Fails, Fits, Full, dirent_len, record_len, dirent_bytes, entry_bytes}
+use Rattle.vfs_grammar.specs.Words.{record_bytes, u32_at, u64_at}
 use Rattle.vfs_grammar.proofs.Listings.{length-lines}
-use Rattle.vfs_grammar.specs.Nodes.{u32_at, u64_at, nodes_of, nodes_in}
+use Rattle.vfs_grammar.specs.Nodes.{nodes_of, nodes_in}
 use Rattle.vfs_grammar.proofs.Dirents.{length-record_bytes, length-entry_bytes}
 use Rattle.vfs_laws.specs.Listings.{node_of_line, rows_bytes, IsRow}
 use Rattle.vfs_laws.proofs.Takings.{lines_least}

@@ -6,7 +6,8 @@ use Rattle.vfs_wire.specs.Fields.{value_of}
 use Rattle.vfs_wire.specs.FieldLaws.{value_of-take}
 use Rattle.vfs_wire.specs.Records.{ext_header}
 use Rattle.vfs_wire.specs.declared.extensions.ExtHeader.{ExtHeader}
-use Rattle.vfs_grammar.specs.Extensions.{Block, Cut, block_in, block_size, cut_on, cut_of_most, cut_of, error_or}
+use Rattle.vfs_grammar.specs.Extensions.{Block, Cut, block_in, cut_on, cut_of_most, cut_of, error_or}
+use Rattle.vfs_grammar.specs.Words.{block_size}
 use Rattle.vfs_laws.specs.Extensions.{IsBlock, IsCut, error_of, error_left}
 use Rattle.vfs_grammar.specs.declared.error.Error.{Error}
 use Rattle.vfs_grammar.specs.declared.error.Error.TheVariants.{DecodeMessage, InvalidHeaderLength}

@@ -16,7 +16,7 @@ use Rattle.vfs_grammar.specs.declared.error.Error.{Error}
 use Rattle.vfs_grammar.specs.declared.error.Error.TheVariants.{EncodeMessage, OutOfMemory}
 use Rattle.vfs_grammar.proofs.Rooms.{length-fault_reply, length-body_reply}
 use Rattle.vfs_laws.proofs.Unseen.{unseen-whole, unseen-unfit}
-use Rattle.vfs_grammar.specs.Nodes.{u64_at}
+use Rattle.vfs_grammar.specs.Words.{u64_at}
 use Rattle.vfs_grammar.specs.Books.{times, forgotten, opcode_in, answered_nodes, forgets_of, delivered_nodes, answered_by, sent_by, answered, sent}
 use Rattle.vfs_laws.proofs.Backs.{back_answered, nodes_back, call_last}
 use Rattle.vfs_laws.proofs.Decoding.{delivered_nodes-fault, delivered_nodes-body, u64_at-body}

@@ -19,13 +19,15 @@ use Rattle.vfs_files.specs.Values.{entry_out_of}
 use Rattle.vfs_files.specs.Runs.{Event, Called}
 use Rattle.vfs_files.specs.declared.entry.Entry.{Entry}
 use Rattle.vfs_grammar.specs.Ask.{ask}
-use Rattle.vfs_grammar.specs.Forms.{Listing, Ask, Ends, Asks, Lists, WithMemory}
+use Rattle.vfs_grammar.specs.Forms.{Ask, Ends, Asks, Lists, WithMemory}
+use Rattle.vfs_grammar.specs.Listing.{Listing}
 use Rattle.vfs_laws.specs.Turns.{AnswersWhole, body_in}
 use Rattle.vfs_grammar.specs.Limits.{AreLimits, max_pages}
 use Rattle.vfs_grammar.specs.Options.{agreed, options_after}
-use Rattle.vfs_grammar.specs.Reply.{Bytes, OpenBehind, Echo, reply_of, body_of, body_reply, init_out_of, attr_out_of, open_out_of, getxattr_out_of, write_out_of}
+use Rattle.vfs_grammar.specs.Reply.{Bytes, OpenBehind, Echo, reply_of, body_of, body_reply, init_out_of, open_out_of}
+use Rattle.vfs_grammar.specs.Words.{attr_out_of, getxattr_out_of, write_out_of, IsRead}
 use Rattle.vfs_grammar.specs.Room.{IsReplied}
-use Rattle.vfs_grammar.specs.Turn.{Turn, Follows, IsRead}
+use Rattle.vfs_grammar.specs.Turn.{Turn, Follows}
 use Rattle.vfs_grammar.specs.declared.limits.Limits.{Limits}
 use Rattle.vfs_grammar.specs.declared.error.Error.{Error}
 use Rattle.vfs_grammar.specs.declared.error.Error.TheVariants.{EncodeMessage}

@@ -8,7 +8,8 @@ use Rattle.vfs_files.specs.declared.entry.Entry.{Entry}
 use Rattle.vfs_files.specs.Values.{entry_out_of}
 use Rattle.vfs_files.specs.Answers.{Kind, Quiet, Untold, Agreements, Entries, Creations, Answer, Done, Failed, Found, Created, IsAnswer, IsFault, FitsEntry}
 use Rattle.vfs_files.specs.Calls.{Call, Lookup, Symlink, Mknod, Mkdir, Link, Create, Forget, BatchForget, Destroy, kind_of}
-use Rattle.vfs_grammar.specs.Reply.{Echo, body_of, init_out_of, fault_number, open_out_of}
+use Rattle.vfs_grammar.specs.Reply.{Echo, body_of, init_out_of, open_out_of}
+use Rattle.vfs_grammar.specs.Words.{fault_number}
 use Rattle.vfs_grammar.specs.declared.limits.Limits.{Limits}
 use Rattle.vfs_grammar.specs.Books.{entry_node, answered_nodes, forgets_of}
 

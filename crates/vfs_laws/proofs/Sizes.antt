@@ -13,12 +13,14 @@ use Rattle.vfs_files.specs.Calls as call
 use Rattle.vfs_files.specs.Calls.{Answer, Failed, Put, Data, IsAnswer, read_answer}
 use Rattle.vfs_files.specs.Values.{context_of}
 use Rattle.vfs_files.specs.declared.entry.Context.{Context}
-use Rattle.vfs_grammar.specs.Ask.{ask, ask_number, lists_too_much, listing_of, header_of}
-use Rattle.vfs_grammar.specs.Forms.{Ask, Asks, Lists, WithMemory, faulted, refused, refused_or, within, pairs_in, Record, Directories, ask_form}
+use Rattle.vfs_grammar.specs.Ask.{ask, ask_number, lists_too_much, listing_of}
+use Rattle.vfs_grammar.specs.Memory.{header_of}
+use Rattle.vfs_grammar.specs.Forms.{Ask, Asks, Lists, WithMemory, faulted, refused_or, within, pairs_in, Record, Directories, ask_form}
+use Rattle.vfs_grammar.specs.Words.{refused, reply_to}
 use Rattle.vfs_grammar.specs.Books.{opcode_in}
 use Rattle.vfs_laws.specs.Turns.{behind_header, count_of_pairs, CarriesData, size_asked}
 use Rattle.vfs_grammar.specs.Limits.{max_len}
-use Rattle.vfs_grammar.specs.Reply.{Echo, echo_of, fault_reply, body_reply, reply_to}
+use Rattle.vfs_grammar.specs.Reply.{Echo, echo_of, fault_reply, body_reply}
 use Rattle.vfs_grammar.specs.Room.{IsReplied}
 use Rattle.vfs_grammar.specs.Turn.{Turn, Follows, IsTurn}
 use Rattle.vfs_grammar.specs.declared.limits.Limits.{Limits}

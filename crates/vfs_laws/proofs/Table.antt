@@ -16,8 +16,9 @@ use Rattle.vfs_wire.specs.declared.init.InitInCompat.{InitInCompat}
 use Rattle.vfs_files.specs.Calls.{Call}
 use Rattle.vfs_files.specs.Calls as call
 use Rattle.vfs_files.specs.Values.{ExtensionValues}
-use Rattle.vfs_grammar.specs.Ask.{form_of, ask_number, ask_header, ask}
-use Rattle.vfs_grammar.specs.Forms.{Ask, Ends, Asks, Lists, WithMemory, refused, faulted, silent, refused_or, within, tail_of, name_in, two_names_in, value_in, extended_in, link_in_tail, pairs_of, pairs_in, space_behind_header, second_flags, ask_version, Layout, layout_size, layout_record, behind, Form, NoTail, NameTail, TwoNames, NameAndValue, NameAndExtensions, LinkAndExtensions, Pairs, WithRest, IntoRoom, Directories, Versions, Silent, NotServed, ask_form}
+use Rattle.vfs_grammar.specs.Ask.{form_of, ask_number, ask}
+use Rattle.vfs_grammar.specs.Words.{ask_header, refused, silent, name_in, u32_at, u64_at, pairs_at, behind}
+use Rattle.vfs_grammar.specs.Forms.{Ask, Ends, Asks, Lists, WithMemory, faulted, refused_or, within, tail_of, two_names_in, value_in, extended_in, link_in_tail, pairs_of, pairs_in, space_behind_header, second_flags, ask_version, Layout, layout_size, layout_record, Form, NoTail, NameTail, TwoNames, NameAndValue, NameAndExtensions, LinkAndExtensions, Pairs, WithRest, IntoRoom, Directories, Versions, Silent, NotServed, ask_form}
 use Rattle.vfs_grammar.specs.Limits.{max_len}
 use Rattle.vfs_grammar.specs.Records.{size_of, record_of}
 use Rattle.vfs_grammar.specs.Reply.{Reply, Refusal, NoReply, Bytes, OpenBehind, Echo, echo_of, body_reply, version_out}
@@ -26,8 +27,7 @@ use Rattle.vfs_grammar.specs.declared.error.Error.{Error}
 use Rattle.vfs_grammar.specs.declared.error.Error.TheVariants.{DecodeMessage}
 use Rattle.vfs_grammar.proofs.Refusing.{either}
 use Rattle.vfs_grammar.proofs.Rooms.{length-fault_reply, length-body_reply}
-use Rattle.vfs_grammar.specs.Nodes.{u32_at, u64_at}
-use Rattle.vfs_grammar.specs.Books.{opcode_in, nodes_behind, delivered_nodes, pairs_at, forgets_of, forgets_in}
+use Rattle.vfs_grammar.specs.Books.{opcode_in, nodes_behind, delivered_nodes, forgets_of, forgets_in}
 use Rattle.vfs_laws.proofs.Decoding.{delivered_nodes-fault, delivered_nodes-body, pairs_of-pairs_at}
 use Rattle.vfs_laws.proofs.ListedNodes.{ListsFor}
 use Rattle.vfs_laws.proofs.Saying.{has_entry}

@@ -12,7 +12,8 @@ use Rattle.vfs_files.specs.Runs.{Event, Called, OpenedDirectory, Taken}
 use Rattle.vfs_files.specs.declared.entry.Context.{Context}
 use Rattle.vfs_files.specs.declared.entry.Entry.{Entry}
 use Rattle.vfs_grammar.specs.Directories.{takings, least_record, GoesOn, IsWhole}
-use Rattle.vfs_grammar.specs.Listing.{Fits, Full, Fails, record_len, Got, Line, Stop, End, At, Gets, is_dot, lookup_of, lookups, line_events, given_back, node_got, stop_events, Stops, len_of, line_len, line_bytes, AreWritten, answer_at, answer_of, IsListing, IsGot, verdict}
+use Rattle.vfs_grammar.specs.Listing.{Fits, Full, Fails, record_len, Got, Line, Stop, End, At, Gets, is_dot, line_events, given_back, node_got, stop_events, Stops, len_of, line_len, line_bytes, AreWritten, answer_at, answer_of, IsListing, IsGot, verdict}
+use Rattle.vfs_grammar.specs.Words.{lookup_of, lookups}
 use Rattle.vfs_grammar.proofs.Listings.{length-lines, lines_within}
 
 -- ---- how many are taken

@@ -16,7 +16,8 @@ use Rattle.vfs_wire.specs.declared.extensions.SuppGroups.{SuppGroups}
 use Rattle.vfs_files.specs.Values.{first_name, ExtensionValues}
 use Rattle.vfs_files.specs.Places.{cut_at}
 use Rattle.vfs_grammar.specs.Records.{size_of, record_of}
-use Rattle.vfs_grammar.specs.Extensions.{Block, Received, error_or, name_and_value, context_in, security_context_in, group_in, has_option, reads_extensions, nothing_received, with_context, with_group, receive, cut_of, extensions_of, extensions_in, extensions_after}
+use Rattle.vfs_grammar.specs.Extensions.{Block, Received, error_or, name_and_value, context_in, security_context_in, group_in, has_option, cut_of, extensions_in}
+use Rattle.vfs_grammar.specs.Words.{reads_extensions, nothing_received, with_context, with_group, receive, extensions_of, extensions_after}
 use Rattle.vfs_grammar.specs.FormParts.{value_behind}
 use Rattle.vfs_laws.specs.Extensions.{context_bytes, context_block, group_bytes, group_block, blocks_of, FitsContext, MayFitContext, MayFitGroup, FitExtensions, IsBlock}
 use Rattle.vfs_grammar.specs.declared.error.Error.{Error}

@@ -4,7 +4,8 @@ use Rattle.std.specs.List.{flat_map}
 use Rattle.vfs_files.specs.Calls.{FitsEntry}
 use Rattle.vfs_files.specs.Values.{Item}
 use Rattle.vfs_files.specs.declared.entry.Entry.{Entry}
-use Rattle.vfs_grammar.specs.Listing.{Line, node_got, record_bytes}
+use Rattle.vfs_grammar.specs.Listing.{Line, node_got}
+use Rattle.vfs_grammar.specs.Words.{record_bytes}
 
 -- the node of the entry that a line got, or 0 where it got none
 abbrev pub node_of_line : Line → ℕ

@@ -9,8 +9,10 @@ use Rattle.vfs_wire_more.specs.Records.{read_in}
 use Rattle.vfs_files.specs.Calls.{Call, Readdir, Answer}
 use Rattle.vfs_files.specs.Runs.{Called}
 use Rattle.vfs_grammar.specs.Records.{size_of}
-use Rattle.vfs_grammar.specs.Ask.{header_of, form_of}
-use Rattle.vfs_grammar.specs.Forms.{tail_of, pairs_in, Layout, layout_size, layout_record, behind, Form, by_memory}
+use Rattle.vfs_grammar.specs.Ask.{form_of}
+use Rattle.vfs_grammar.specs.Memory.{header_of, by_memory}
+use Rattle.vfs_grammar.specs.Forms.{tail_of, pairs_in, Layout, layout_size, layout_record, Form}
+use Rattle.vfs_grammar.specs.Words.{behind}
 use Rattle.vfs_grammar.specs.Books.{opcode_in}
 use Rattle.vfs_grammar.specs.Limits.{max_len}
 use Rattle.vfs_grammar.specs.Reply.{Reply, Bytes}
@@ -54,18 +56,18 @@ HasWhole h rest form =
     (λ R layout above count. PairsAreWhole rest layout above count) form
 
 -- memory is wanted behind this header, by the form of its opcode
-abbrev pub WantsMemoryBehind : Limits → (options space : ℕ) → Option Opcode → InHeader → List ℕ → Type 0
-WantsMemoryBehind limits options space None h rest = ⊥
-WantsMemoryBehind limits options space (Some opcode) h rest =
-    HasWhole h rest (form_of limits options space h opcode)
+abbrev pub WantsMemoryBehind : Limits → (options room_len : ℕ) → Option Opcode → InHeader → List ℕ → Type 0
+WantsMemoryBehind limits options room_len None h rest = ⊥
+WantsMemoryBehind limits options room_len (Some opcode) h rest =
+    HasWhole h rest (form_of limits options room_len h opcode)
 
 -- a request for which memory may be wanted: its header is whole, its `len` in the limit, and it
 -- is of a form with a tail or pairs, which are whole
-pub record WantsMemory (limits : Limits) (options space : ℕ) (request : List ℕ) : Type 0 where
+pub record WantsMemory (limits : Limits) (options room_len : ℕ) (request : List ℕ) : Type 0 where
   pub header : size_of in_header ≤ length request
   pub in_limit : (header_of request).len ≤ max_len limits
   pub form :
-      WantsMemoryBehind limits options space (opcode_of (header_of request).opcode) (header_of request)
+      WantsMemoryBehind limits options room_len (opcode_of (header_of request).opcode) (header_of request)
       (drop (size_of in_header) request)
 
 -- what stands behind the header of a request

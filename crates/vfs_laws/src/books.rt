@@ -1,7 +1,8 @@
 //! What holds of the books of lookups and forgets.
 
 ghost use Rattle.std.specs.Prelude.{◌≡◌, ◌≢◌, ◌+◌, ℕ, List, sum_by};
-ghost use Rattle.vfs_grammar.specs.Books.{answered, sent, delivered, accepted, GivesBackWithin, NeverBelow, KeepsBooks};
+ghost use Rattle.vfs_grammar.specs.Books.{answered, sent, delivered, accepted, KeepsBooks};
+ghost use Rattle.vfs_grammar.specs.Words.{GivesBackWithin, NeverBelow};
 ghost use Rattle.vfs_grammar.specs.Turn.{AreTurns, events_in, Turn, IsTurn};
 ghost use Rattle.vfs_grammar.specs.declared.limits.Limits.{Limits};
 

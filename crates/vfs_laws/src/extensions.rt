@@ -4,7 +4,8 @@
 ghost use Rattle.std.specs.Prelude.{◌≡◌, ◌<◌, ◌^◌, ◌++◌, ℕ, List, length, IsTrue, IsFalse, is_some, Ok, Some, None};
 ghost use Rattle.vfs_flags.specs.Flags.{security_ctx, create_supp_group};
 ghost use Rattle.vfs_files.specs.Values.{ExtensionValues};
-ghost use Rattle.vfs_grammar.specs.Extensions.{Block, cut_of, has_option, extensions_after};
+ghost use Rattle.vfs_grammar.specs.Extensions.{Block, cut_of, has_option};
+ghost use Rattle.vfs_grammar.specs.Words.{extensions_after};
 ghost use Rattle.vfs_laws.specs.Extensions.{blocks_of, group_block, FitExtensions, IsCut, error_left};
 
 /// What is found in extensions as they are written is what was written, whatever names stand in

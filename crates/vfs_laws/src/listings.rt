@@ -7,7 +7,8 @@ ghost use Rattle.vfs_files.specs.Runs.{Event};
 ghost use Rattle.vfs_files.specs.declared.entry.Context.{Context};
 ghost use Rattle.vfs_files.specs.declared.entry.Entry.{Entry};
 ghost use Rattle.vfs_grammar.specs.Directories.{takings, least_record, GoesOn, IsWhole};
-ghost use Rattle.vfs_grammar.specs.Listing.{IsListing, record_bytes, record_len};
+ghost use Rattle.vfs_grammar.specs.Listing.{IsListing, record_len};
+ghost use Rattle.vfs_grammar.specs.Words.{record_bytes};
 ghost use Rattle.vfs_grammar.specs.Nodes.{nodes_in};
 ghost use Rattle.vfs_laws.specs.Listings.{IsRow, rows_bytes, node_of_line};
 

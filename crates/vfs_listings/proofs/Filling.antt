@@ -11,7 +11,8 @@ use Rattle.vfs_files.specs.Runs.{Event, Taken}
 use Rattle.vfs_files.specs.RunLaws.{Ran, ran_is_run, ran_on, ran_nothing, ran_taking, ran_call}
 use Rattle.vfs_files.specs.declared.entry.Context.{Context}
 use Rattle.vfs_files.specs.declared.entry.Entry.{Entry}
-use Rattle.vfs_grammar.specs.Listing.{Verdict, Fits, Full, Fails, record_bytes, record_len, FitsOption, Got, Line, End, At, Gets, IsListing, IsGot, FitsGot, is_dot, lookup_of, lookups, line_events, given_back, node_got, line_len, line_bytes, len_of, bytes_got, AreWritten, answer_at, verdict}
+use Rattle.vfs_grammar.specs.Listing.{Verdict, Fits, Full, Fails, record_len, Got, Line, End, At, Gets, IsListing, IsGot, FitsGot, is_dot, line_events, given_back, node_got, line_len, line_bytes, len_of, bytes_got, AreWritten, answer_at, verdict}
+use Rattle.vfs_grammar.specs.Words.{record_bytes, FitsOption, lookup_of, lookups}
 use Rattle.vfs_listings.specs.Reading.{Adds, cut_by, AddsGot, Puts, LooksUpName, LooksUp, GivesBack, AddsLine, ReadsItems}
 use Rattle.vfs_grammar.proofs.Listings.{fits_within, length-bytes_got, length-listing, listing_within}
 use Rattle.vfs_listings.specs.ReadingLaws.{puts_nothing}

@@ -11,7 +11,8 @@ use Rattle.vfs_segments.specs.Written.{Written, wrote}
 use Rattle.vfs_files.specs.Values.{entry_out_of, Item}
 use Rattle.vfs_files.specs.declared.entry.Entry.{Entry}
 use Rattle.vfs_listings.specs.Reading.{PutsBeginning, Adds}
-use Rattle.vfs_grammar.specs.Listing.{verdict, dirent_len, dirent_of, dirent_bytes, record_len, record_bytes, FitsOption}
+use Rattle.vfs_grammar.specs.Listing.{verdict, dirent_len, dirent_bytes, record_len}
+use Rattle.vfs_grammar.specs.Words.{dirent_of, record_bytes, FitsOption}
 use Rattle.vfs_grammar.proofs.Dirents.{length-record_bytes}
 
 -- two writes are one

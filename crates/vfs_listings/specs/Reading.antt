@@ -6,7 +6,8 @@ use Rattle.vfs_files.specs.declared.entry.Entry.{Entry}
 use Rattle.vfs_files.specs.Calls.{Call, Lookup, Forget, Readdir, directory_answer, Handed, Plain, Failed, Found, Done}
 use Rattle.vfs_files.specs.Runs.{Event, IsRun}
 use Rattle.vfs_files.specs.declared.entry.Context.{Context}
-use Rattle.vfs_grammar.specs.Listing.{record_len, record_bytes, FitsOption, Verdict, Fits, Full, Fails, At, End, Stop, line_bytes, Got, node_got, IsDotEntry, is_dot, line_len, IsListing, IsDirectory, verdict}
+use Rattle.vfs_grammar.specs.Listing.{record_len, Verdict, Fits, Full, Fails, At, End, Stop, line_bytes, Got, node_got, is_dot, line_len, IsListing, verdict}
+use Rattle.vfs_grammar.specs.Words.{record_bytes, FitsOption, IsDotEntry, IsDirectoryOf}
 
 -- as much of these bytes was put as there is room for, and that is all of them exactly where the
 -- answer is Ok
@@ -138,6 +139,6 @@ module _ {S I : Type 0}
       pub beyond : List ℕ
       pub is_run : IsRun allows gives None old events new
       pub directory :
-          IsDirectory plus ctx parent handle size offset (length writer.left) events body
+          IsDirectoryOf plus ctx parent handle size offset (length writer.left) events body
           result
       pub puts : Puts writer (body ++ beyond) writer_after

@@ -5,7 +5,8 @@ ghost use Rattle.std.specs.Prelude.{◌≡◌, ◌+◌, ◌-◌, ◌<◌, ◌≤
 ghost use Rattle.std.specs.Int.{next_multiple_of};
 ghost use Rattle.vfs_files.specs.Answers.{FitsEntry};
 ghost use Rattle.vfs_files.specs.Values.{item};
-ghost use Rattle.vfs_grammar.specs.Listing.{verdict, dirent_len, dirent_of, dirent_bytes, record_bytes};
+ghost use Rattle.vfs_grammar.specs.Listing.{verdict, dirent_len, dirent_bytes};
+ghost use Rattle.vfs_grammar.specs.Words.{dirent_of, record_bytes};
 ghost use Rattle.vfs_listings.specs.Reading.{PutsBeginning, Adds};
 
 use std::io;

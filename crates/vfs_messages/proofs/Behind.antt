@@ -7,7 +7,8 @@ use Rattle.vfs_wire.specs.declared.headers.OutHeader.{OutHeader}
 use Rattle.vfs_segments.specs.SegmentLaws.{with_bytes_at-append}
 use Rattle.vfs_segments.specs.Written.{Written, whole, held_filled}
 use Rattle.vfs_files.specs.Answers.{IsFault, IsAnswer, Counts, Data, read_answer}
-use Rattle.vfs_grammar.specs.Reply.{OpenBehind, reply_to, body_reply, fault_reply}
+use Rattle.vfs_grammar.specs.Reply.{OpenBehind, body_reply, fault_reply}
+use Rattle.vfs_grammar.specs.Words.{reply_to}
 use Rattle.vfs_messages.specs.Rooms.{data_header, Replies, PutsBehindHeader}
 use Rattle.vfs_grammar.proofs.Rooms.{length-header, length-body_reply, length-fault_reply}
 

@@ -5,7 +5,8 @@ use Rattle.std.proofs.lemmas.Bool.{le-ltb}
 use Rattle.std.proofs.lemmas.List.{take_all}
 use Rattle.vfs_files.specs.Values.{ExtensionValues, extension_values_of}
 use Rattle.vfs_files.specs.declared.extensions.Extensions.{Extensions}
-use Rattle.vfs_grammar.specs.Extensions.{Block, Received, block_in, cut_of, receive, received_at_end, extensions_of, extensions_in, extensions_after, reads_extensions, no_extensions, nothing_received}
+use Rattle.vfs_grammar.specs.Extensions.{Block, Received, block_in, cut_of, received_at_end, extensions_in, no_extensions}
+use Rattle.vfs_grammar.specs.Words.{receive, extensions_of, extensions_after, reads_extensions, nothing_received}
 use Rattle.vfs_grammar.specs.declared.error.Error.{Error}
 use Rattle.vfs_grammar.specs.declared.error.Error.TheVariants.{OutOfMemory}
 use Rattle.vfs_grammar.proofs.Blocks.{extensions_of-end, extensions_of-fault, extensions_of-block}

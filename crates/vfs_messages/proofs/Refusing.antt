@@ -4,7 +4,8 @@ use Rattle.std.specs.Prelude.{IsFalse}
 use Rattle.vfs_flags.specs.Flags.{security_ctx}
 use Rattle.vfs_files.specs.Values.{extension_values_of}
 use Rattle.vfs_files.specs.declared.extensions.Extensions.{Extensions}
-use Rattle.vfs_grammar.specs.Extensions.{has_option, reads_extensions, extensions_after}
+use Rattle.vfs_grammar.specs.Extensions.{has_option}
+use Rattle.vfs_grammar.specs.Words.{reads_extensions, extensions_after}
 use Rattle.vfs_grammar.specs.declared.error.Error.{Error}
 use Rattle.vfs_grammar.specs.declared.error.Error.TheVariants.{OutOfMemory}
 use Rattle.vfs_grammar.proofs.Refusing.{MayRefuse, IsRefused, tested, of_extensions}

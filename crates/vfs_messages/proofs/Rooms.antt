@@ -6,7 +6,7 @@ use Rattle.vfs_wire.specs.Fields.{Table, Fit}
 use Rattle.vfs_wire.specs.FieldLaws.{length-bytes_of}
 use Rattle.vfs_segments.specs.Written.{Written, whole, wrote, Leaves}
 use Rattle.vfs_segments.specs.WrittenLaws.{wrote_both}
-use Rattle.vfs_grammar.specs.Room.{put_outcome, put_room}
+use Rattle.vfs_grammar.specs.Words.{put_outcome, put_room}
 use Rattle.vfs_grammar.specs.Reply.{Reply, Refusal, NoReply, Bytes, OpenBehind}
 use Rattle.vfs_grammar.proofs.Rooms.{put_outcome-fits, put_room-fits}
 use Rattle.vfs_grammar.specs.declared.error.Error.{Error}

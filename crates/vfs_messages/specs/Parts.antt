@@ -10,7 +10,8 @@ use Rattle.vfs_files.specs.Values.{context_values, ExtensionValues, extension_va
 use Rattle.vfs_files.specs.declared.extensions.Extensions.{Extensions}
 use Rattle.vfs_grammar.specs.declared.error.Error.{Error}
 use Rattle.vfs_grammar.specs.declared.error.Error.TheVariants.{OutOfMemory}
-use Rattle.vfs_grammar.specs.Extensions.{context_in, block_size, block_in, has_option, Received}
+use Rattle.vfs_grammar.specs.Extensions.{context_in, block_in, has_option, Received}
+use Rattle.vfs_grammar.specs.Words.{block_size}
 use Rattle.vfs_grammar.specs.Forms.{Layout, Without, Record, extended_in}
 use Rattle.vfs_grammar.specs.Records.{size_of}
 use Rattle.vfs_messages.specs.declared.extensions.Found.{Found}

@@ -5,7 +5,8 @@ use Rattle.vfs_wire.specs.Records.{out_header}
 use Rattle.vfs_wire.specs.declared.headers.OutHeader.{OutHeader}
 use Rattle.vfs_segments.specs.Written.{Written, Leaves, Moves, held_over}
 use Rattle.vfs_grammar.specs.Records.{size_of}
-use Rattle.vfs_grammar.specs.Reply.{fault_number, Reply, Refusal, NoReply, Bytes, OpenBehind}
+use Rattle.vfs_grammar.specs.Reply.{Reply, Refusal, NoReply, Bytes, OpenBehind}
+use Rattle.vfs_grammar.specs.Words.{fault_number}
 use Rattle.vfs_grammar.specs.declared.error.Error.{Error}
 use Rattle.vfs_grammar.specs.Room.{IsReplied}
 

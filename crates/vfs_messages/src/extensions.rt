@@ -9,7 +9,8 @@ ghost use Rattle.vfs_flags.specs.Flags.{fs_options_bits, security_ctx};
 ghost use Rattle.vfs_flags.specs.Numbers.{ext_type_of};
 ghost use Rattle.vfs_files.specs.Values.{context_values, extension_values_of, name_text};
 ghost use Rattle.vfs_messages.specs.Parts.{GivesValue, GivesBlock, IsContext, HoldsContext, MayHoldContext, found_values};
-ghost use Rattle.vfs_grammar.specs.Extensions.{has_option, name_and_value, context_in, security_context_in, group_in, receive, receive_kind, received_at_end, cut_of, nothing_received, reads_extensions, extensions_of, extensions_after};
+ghost use Rattle.vfs_grammar.specs.Extensions.{has_option, name_and_value, context_in, security_context_in, group_in, receive_kind, received_at_end, cut_of};
+ghost use Rattle.vfs_grammar.specs.Words.{receive, nothing_received, reads_extensions, extensions_of, extensions_after};
 ghost use Rattle.vfs_grammar.specs.Records.{record_of, size_of};
 
 use bitflags::Flags;

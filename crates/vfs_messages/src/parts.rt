@@ -6,7 +6,8 @@ ghost use Rattle.vfs_files.specs.Values.{context_of};
 ghost use Rattle.vfs_segments.specs.declared.record.TheConstants.{LARGEST_RECORD};
 ghost use Rattle.vfs_segments.specs.Lengths.{lengths_from};
 ghost use Rattle.vfs_grammar.specs.Ask.{setxattr_layout};
-ghost use Rattle.vfs_grammar.specs.Forms.{tail_of, name_in, pairs_in, two_names_in, value_in, extended_in, link_in_tail, layout_record, layout_size};
+ghost use Rattle.vfs_grammar.specs.Forms.{tail_of, pairs_in, two_names_in, value_in, extended_in, link_in_tail, layout_record, layout_size};
+ghost use Rattle.vfs_grammar.specs.Words.{name_in};
 ghost use Rattle.vfs_grammar.specs.Records.{record_of, size_of};
 ghost use Rattle.vfs_messages.specs.Parts.{MayHoldContext, TailIsCut, pieces_behind, GivesTail, GivesPart, GivesPartAs, extended_values, link_values, GivesPairs};
 

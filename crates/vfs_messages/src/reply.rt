@@ -15,7 +15,8 @@ ghost use Rattle.std.specs.Option.{option_copied};
 ghost use Rattle.vfs_files.specs.Answers.{IsFault, IsAnswer, FitsText, KeepsTextShort, Counts, Data, Told, Untold, Entries, TimedAttributes, Openings, Creations, Capacities, Texts, TextsOrCounts, Offsets, Writes, Faults, Failed, done_answer, entry_answer, attr_answer, opened_answer, created_answer, statistics_answer, text_answer, getxattr_answer, listxattr_answer, offset_answer, written_answer, read_answer};
 ghost use Rattle.vfs_grammar.specs.Records.{size_of};
 ghost use Rattle.vfs_messages.specs.Rooms.{bytes_of_option, bytes_or_none, size_of_option, data_header, Replies, PutsBehindHeader};
-ghost use Rattle.vfs_grammar.specs.Reply.{Bytes, fault_reply, fault_number, body_reply, reply_to, attr_out_of, open_out_of, getxattr_out_of};
+ghost use Rattle.vfs_grammar.specs.Reply.{Bytes, fault_reply, body_reply, open_out_of};
+ghost use Rattle.vfs_grammar.specs.Words.{fault_number, reply_to, attr_out_of, getxattr_out_of};
 ghost use Rattle.vfs_grammar.specs.Forms.{space_behind_header};
 
 use bitflags::Flags;

@@ -8,7 +8,8 @@ ghost use Rattle.vfs_segments.specs.declared.record.TheConstants.{LARGEST_RECORD
 ghost use Rattle.vfs_segments.specs.Lengths.{lengths_from, lie_together};
 ghost use Rattle.vfs_grammar.specs.Ask.{has_flag, if_set, setxattr_layout};
 ghost use Rattle.vfs_messages.specs.Parts.{GivesValue, MayHoldContext, TailIsCut, pieces_behind, GivesTail, GivesPart, GivesPartAs, GivesExtended, extended_values, link_values, GivesPairs};
-ghost use Rattle.vfs_grammar.specs.Forms.{tail_of, name_in, pairs_in, pairs_of, two_names_in, value_in, extended_in, link_in_tail, layout_record, layout_size};
+ghost use Rattle.vfs_grammar.specs.Forms.{tail_of, pairs_in, pairs_of, two_names_in, value_in, extended_in, link_in_tail, layout_record, layout_size};
+ghost use Rattle.vfs_grammar.specs.Words.{name_in};
 ghost use Rattle.vfs_grammar.specs.FormParts.{second_or_refusal, sized_or_refusal, link_or_refusal};
 ghost use Rattle.vfs_grammar.specs.Records.{record_of, size_of};
 

@@ -11,9 +11,9 @@ use Rattle.vfs_files.specs.Runs.{Event, IsRun}
 use Rattle.vfs_listings.specs.Reading.{Puts}
 use Rattle.vfs_listings.proofs.Filling.{moves_of, counts_of_listing}
 use Rattle.vfs_grammar.specs.Ask.{lists_too_much}
-use Rattle.vfs_grammar.specs.Forms.{Listing}
+use Rattle.vfs_grammar.specs.Listing.{Listing}
 use Rattle.vfs_messages.specs.Rooms.{PutsBehindHeader}
-use Rattle.vfs_grammar.specs.Turn.{IsRead}
+use Rattle.vfs_grammar.specs.Words.{IsRead}
 use Rattle.vfs_grammar.specs.declared.limits.Limits.{Limits}
 
 -- data were put, and nothing beyond them

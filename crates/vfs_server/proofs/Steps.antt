@@ -8,10 +8,12 @@ use Rattle.vfs_files.specs.Values.{Item}
 use Rattle.vfs_files.specs.Calls.{Call, Answer, Handed, Data, kind_of, read_answer}
 use Rattle.vfs_files.specs.Runs.{Event, Called, IsRun}
 use Rattle.vfs_files.specs.declared.entry.Context.{Context}
-use Rattle.vfs_grammar.specs.Listing.{given_back}
+use Rattle.vfs_grammar.specs.Listing.{given_back, Listing}
 use Rattle.vfs_grammar.specs.Records.{record_of, size_of}
-use Rattle.vfs_grammar.specs.Forms.{Listing, Ask, Ends, Asks, Lists, WithMemory, refused, refused_or}
-use Rattle.vfs_grammar.specs.Ask.{ask, ask_header, header_of}
+use Rattle.vfs_grammar.specs.Forms.{Ask, Ends, Asks, Lists, WithMemory, refused_or}
+use Rattle.vfs_grammar.specs.Words.{refused, ask_header}
+use Rattle.vfs_grammar.specs.Ask.{ask}
+use Rattle.vfs_grammar.specs.Memory.{header_of}
 use Rattle.vfs_grammar.specs.Directories.{StopsForACause, ComesWhole, TakesFew}
 use Rattle.vfs_grammar.specs.Reply.{Echo, Reply, Refusal, NoReply, Bytes, OpenBehind, reply_of}
 use Rattle.vfs_grammar.specs.Room.{IsReplied, unseen}

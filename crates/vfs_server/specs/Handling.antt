@@ -5,13 +5,14 @@ use Rattle.vfs_segments.specs.Written.{Written, Moves}
 use Rattle.vfs_files.specs.Values.{Item}
 use Rattle.vfs_files.specs.Calls.{Call, Handed, Plain, Counts, read_answer}
 use Rattle.vfs_files.specs.Runs.{Event, IsRun}
-use Rattle.vfs_grammar.specs.Forms.{Listing, Ask}
-use Rattle.vfs_grammar.specs.Ask.{ask_opcode, form_of}
+use Rattle.vfs_grammar.specs.Forms.{Ask}
+use Rattle.vfs_grammar.specs.Listing.{Listing}
+use Rattle.vfs_grammar.specs.Ask.{form_of}
+use Rattle.vfs_grammar.specs.Words.{ask_opcode, IsRead}
 use Rattle.vfs_messages.specs.Rooms.{Replies}
 use Rattle.vfs_messages.specs.declared.parts.Request.{Request}
 use Rattle.vfs_server.specs.Delivery.{CallsAndGivesBack}
 use Rattle.vfs_grammar.specs.Witnesses.{Witness, FollowsFor}
-use Rattle.vfs_grammar.specs.Turn.{IsRead}
 use Rattle.vfs_grammar.specs.declared.error.Error.{Error}
 use Rattle.vfs_server.specs.MemoryByPieces.{MayWantFor}
 use Rattle.vfs_server.specs.State.{ServerState}
@@ -31,7 +32,7 @@ module _ {S I : Type 0} (allows : S → Call → Handed I → S → Type 0)
   abbrev pub server_tells : (wanted : Type 0) → (old : ServerState S) → (writer : Written)
       → Result ℕ Error → (writer_after : Written) → (new : ServerState S) → Witness
   server_tells wanted old writer outcome writer_after new = record {
-    space = length writer.left;
+    room_len = length writer.left;
     no_call = new.fs ≡ old.fs;
     called = λ call answer ctx back. CallsAndGivesBack allows call answer ctx back old.fs new.fs;
     listed = λ listing records answer. Reads listing old.fs records answer new.fs;

@@ -8,9 +8,10 @@ use Rattle.vfs_wire.specs.Records.{in_header}
 use Rattle.vfs_wire.specs.declared.headers.InHeader.{InHeader}
 use Rattle.vfs_segments.specs.Lengths.{lengths_from}
 use Rattle.vfs_segments.specs.Unread.{Unread, are_together}
-use Rattle.vfs_grammar.specs.Ask.{form_of, header_of}
+use Rattle.vfs_grammar.specs.Ask.{form_of}
+use Rattle.vfs_grammar.specs.Memory.{header_of, by_memory}
 use Rattle.vfs_grammar.specs.Extensions.{has_option}
-use Rattle.vfs_grammar.specs.Forms.{Form, Layout, layout_size, by_memory}
+use Rattle.vfs_grammar.specs.Forms.{Form, Layout, layout_size}
 use Rattle.vfs_grammar.specs.Records.{size_of}
 use Rattle.vfs_grammar.specs.declared.limits.Limits.{Limits}
 use Rattle.vfs_server.specs.MemoryByPieces.{MayWantBehind}

@@ -4,7 +4,8 @@ use Rattle.std.specs.Prelude.{◌⊎◌, ℕ, List, Option, Some, None}
 use Rattle.vfs_flags.specs.declared.opcode.Opcode.{Opcode}
 use Rattle.vfs_wire.specs.declared.headers.InHeader.{InHeader}
 use Rattle.vfs_grammar.specs.Ask.{form_of}
-use Rattle.vfs_grammar.specs.Forms.{Form, layout_size, by_memory}
+use Rattle.vfs_grammar.specs.Forms.{Form, layout_size}
+use Rattle.vfs_grammar.specs.Memory.{by_memory}
 use Rattle.vfs_grammar.specs.declared.limits.Limits.{Limits}
 use Rattle.vfs_messages.specs.Parts.{MayHoldContext, TailIsCut, pieces_behind}
 
@@ -17,9 +18,9 @@ MayWantFor h pieces form =
     TailIsCut h (layout_size layout) (pieces_behind layout pieces) ⊎ MayHoldContext options)
     (λ R layout above count. Unit {0}) form
 
--- the same by the opcode, where `space` is the length of the room
-abbrev pub MayWantBehind : Limits → (options space : ℕ) → Option Opcode → InHeader
+-- the same by the opcode
+abbrev pub MayWantBehind : Limits → (options room_len : ℕ) → Option Opcode → InHeader
     → (pieces : List ℕ) → Type 0
-MayWantBehind limits options space None h pieces = ⊥
-MayWantBehind limits options space (Some opcode) h pieces =
-    MayWantFor h pieces (form_of limits options space h opcode)
+MayWantBehind limits options room_len None h pieces = ⊥
+MayWantBehind limits options room_len (Some opcode) h pieces =
+    MayWantFor h pieces (form_of limits options room_len h opcode)

@@ -5,7 +5,8 @@ use Rattle.vfs_files.specs.Values.{Item}
 use Rattle.vfs_files.specs.Calls.{Call, Handed}
 use Rattle.vfs_files.specs.Runs.{Event, IsRun}
 use Rattle.vfs_files.specs.Migrations.{MigrationCall, MigrationAnswer}
-use Rattle.vfs_grammar.specs.Forms.{Listing, Lists}
+use Rattle.vfs_grammar.specs.Forms.{Lists}
+use Rattle.vfs_grammar.specs.Listing.{Listing}
 use Rattle.vfs_grammar.specs.Ask.{ask}
 use Rattle.vfs_grammar.specs.Directories.{StopsForACause, ComesWhole, TakesFew}
 use Rattle.vfs_grammar.specs.Reply.{Echo}

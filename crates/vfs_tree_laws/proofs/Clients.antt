@@ -5,7 +5,8 @@ use Rattle.vfs_files.specs.Calls.{Call, Readdir, Answer, kind_of}
 use Rattle.vfs_files.specs.Runs.{Event, Called}
 use Rattle.vfs_files.specs.declared.entry.Context.{Context}
 use Rattle.vfs_grammar.specs.Forms.{Ask, Ends, Asks, Lists, WithMemory}
-use Rattle.vfs_grammar.specs.Listing.{Line, Stop, End, At, Got, IsDirectory, IsUnopened, IsOpened, given_back, node_got, lookup_of, lookups, line_events, stop_events, is_dot}
+use Rattle.vfs_grammar.specs.Listing.{Line, Stop, End, At, Got, IsUnopened, IsOpened, given_back, node_got, line_events, stop_events, is_dot}
+use Rattle.vfs_grammar.specs.Words.{lookup_of, lookups, IsDirectoryOf}
 use Rattle.vfs_grammar.specs.Ask.{ask}
 use Rattle.vfs_grammar.specs.Reply.{Reply, reply_of}
 use Rattle.vfs_grammar.specs.Room.{unseen}
@@ -122,7 +123,7 @@ module _ (ctx : Context) (parent : ℕ) where
 
 directory_goes_on : (plus : Bool) (ctx : Context) (parent handle size offset space : ℕ)
     (events : List Event) (body : List ℕ) (result : Result ℕ (Option ℕ))
-    → IsDirectory plus ctx parent handle size offset space events body result
+    → IsDirectoryOf plus ctx parent handle size offset space events body result
     → list_any takes_all events ≡ false
 directory_goes_on plus ctx parent handle size offset space events body result read =
     ⊎_elim

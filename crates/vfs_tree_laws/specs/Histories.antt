@@ -2,7 +2,8 @@
 -- to it between them.
 use Rattle.std.specs.Prelude.{◌≡◌, ◌≢◌, ◌<◌, ℕ, ◌+◌, Bool, List, [], ◌∷◌, IsSome, sum_by}
 use Rattle.vfs_files.specs.Listing.{GivesFirst}
-use Rattle.vfs_grammar.specs.Books.{accepted, delivered, GivesBackWithin, KeepsBooks}
+use Rattle.vfs_grammar.specs.Books.{accepted, delivered, KeepsBooks}
+use Rattle.vfs_grammar.specs.Words.{GivesBackWithin}
 use Rattle.vfs_grammar.specs.Turn.{Turn}
 use Rattle.vfs_server.specs.Step.{ServerState}
 use Rattle.vfs_history.specs.History.{Moment, Handled, Changed, turns_in, IsHistory}

@@ -4,7 +4,8 @@ use Rattle.std.specs.List.{list_any}
 use Rattle.vfs_files.specs.Values.{Item}
 use Rattle.vfs_files.specs.Calls.{Init, Destroy}
 use Rattle.vfs_files.specs.Runs.{Event, Called, IsRun}
-use Rattle.vfs_grammar.specs.Books.{answered, sent, accepted, delivered, GivesBackWithin, NeverBelow}
+use Rattle.vfs_grammar.specs.Books.{answered, sent, accepted, delivered}
+use Rattle.vfs_grammar.specs.Words.{GivesBackWithin, NeverBelow}
 use Rattle.vfs_grammar.specs.Turn.{Turn}
 use Rattle.vfs_tree_laws.specs.Laws.{IsTree, lookups_of, names_of}
 use Rattle.vfs_files.specs.Listing.{GivesFirst}

@@ -10,7 +10,8 @@ use Rattle.vfs_files.specs.Calls.{Destroy, Lookup, entry_answer}
 use Rattle.vfs_files.specs.declared.entry.Context.{Context}
 use Rattle.vfs_files.specs.declared.entry.Entry.{Entry}
 use Rattle.vfs_grammar.specs.Ask.{ask}
-use Rattle.vfs_grammar.specs.Books.{accepted, delivered, GivesBackWithin}
+use Rattle.vfs_grammar.specs.Books.{accepted, delivered}
+use Rattle.vfs_grammar.specs.Words.{GivesBackWithin}
 use Rattle.vfs_grammar.specs.Forms.{Ask, Asks, within}
 use Rattle.vfs_grammar.specs.Limits.{max_len}
 use Rattle.vfs_grammar.specs.Reply.{echo_of}

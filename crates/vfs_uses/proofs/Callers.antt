@@ -14,7 +14,8 @@ use Rattle.vfs_files.specs.Answers.{Answer, Handed, Plain, Capacities}
 use Rattle.vfs_files.specs.Calls.{Call, Statfs, default_answer}
 use Rattle.vfs_files.specs.Runs.{Event, Called, OpenedDirectory, Taken, IsRun}
 use Rattle.vfs_grammar.specs.Ask.{ask}
-use Rattle.vfs_grammar.specs.Forms.{Ask, Asks, within, faulted, refused}
+use Rattle.vfs_grammar.specs.Forms.{Ask, Asks, within, faulted}
+use Rattle.vfs_grammar.specs.Words.{refused}
 use Rattle.vfs_grammar.specs.Limits.{max_len}
 use Rattle.vfs_grammar.specs.Reply.{Echo, echo_of, fault_reply, reply_of}
 use Rattle.vfs_grammar.specs.Room.{IsReplied, IsPut}

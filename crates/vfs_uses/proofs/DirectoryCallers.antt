@@ -11,13 +11,14 @@ use Rattle.vfs_files.specs.Values.{Item}
 use Rattle.vfs_files.specs.Calls.{Call, Failed, Handed}
 use Rattle.vfs_files.specs.Runs.{Event, Called, Taken}
 use Rattle.vfs_grammar.specs.Directories.{EndsWhole, EndsFull, GoesOn, CameWhole, listing_reply}
-use Rattle.vfs_grammar.specs.Listing.{Line, line_bytes}
+use Rattle.vfs_grammar.specs.Listing.{Line, line_bytes, Listing}
 use Rattle.vfs_grammar.specs.Ask.{ask}
-use Rattle.vfs_grammar.specs.Forms.{Ask, Lists, Listing, within}
+use Rattle.vfs_grammar.specs.Forms.{Ask, Lists, within}
 use Rattle.vfs_grammar.specs.Limits.{max_len}
 use Rattle.vfs_grammar.specs.Reply.{Echo, echo_of, body_reply}
 use Rattle.vfs_grammar.specs.Room.{IsPutOpen}
-use Rattle.vfs_grammar.specs.Turn.{Turn, IsRead}
+use Rattle.vfs_grammar.specs.Turn.{Turn}
+use Rattle.vfs_grammar.specs.Words.{IsRead}
 use Rattle.vfs_grammar.specs.declared.limits.Limits.{Limits}
 use Rattle.vfs_grammar.specs.declared.error.Error.{Error}
 use Rattle.vfs_server.specs.Step.{ServerState, ReadsDirectories, turn_over}

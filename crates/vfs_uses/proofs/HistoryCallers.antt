@@ -18,14 +18,15 @@ use Rattle.vfs_files.specs.Listing.{GivesFirst}
 use Rattle.vfs_files.specs.Runs.{Event, Called, IsRun}
 use Rattle.vfs_files.specs.declared.entry.Entry.{Entry}
 use Rattle.vfs_grammar.specs.Ask.{ask}
-use Rattle.vfs_grammar.specs.Books.{opcode_in, answered, sent, accepted, accepted_by, forgotten, delivered, delivered_by, times, GivesBackWithin, KeepsBooks}
+use Rattle.vfs_grammar.specs.Books.{opcode_in, answered, sent, accepted, accepted_by, forgotten, delivered, delivered_by, times, KeepsBooks}
+use Rattle.vfs_grammar.specs.Words.{GivesBackWithin, counted}
 use Rattle.vfs_grammar.specs.Forms.{Ask, Asks, WithMemory, within}
 use Rattle.vfs_grammar.specs.Limits.{max_len}
 use Rattle.vfs_grammar.specs.Listing.{given_back}
 use Rattle.vfs_grammar.specs.Reply.{Echo, Reply, Bytes, echo_of, body_reply, reply_of}
 use Rattle.vfs_grammar.specs.Room.{IsReplied, IsPut, unseen}
 use Rattle.vfs_grammar.specs.Samples.{lookup_of_a}
-use Rattle.vfs_grammar.specs.Turn.{Turn, Follows, counted, node_answered, events_in}
+use Rattle.vfs_grammar.specs.Turn.{Turn, Follows, node_answered, events_in}
 use Rattle.vfs_grammar.specs.declared.limits.Limits.{Limits}
 use Rattle.vfs_grammar.specs.declared.error.Error.{Error}
 use Rattle.vfs_grammar.specs.declared.error.Error.TheVariants.{OutOfMemory}

@@ -7,7 +7,8 @@ use Rattle.vfs_files.specs.Values.{Item}
 use Rattle.vfs_files.specs.Answers.{Plain, Answer, Handed}
 use Rattle.vfs_files.specs.Calls.{Call, default_answer}
 use Rattle.vfs_grammar.specs.Ask.{ask}
-use Rattle.vfs_grammar.specs.Forms.{Ask, refused}
+use Rattle.vfs_grammar.specs.Forms.{Ask}
+use Rattle.vfs_grammar.specs.Words.{refused}
 use Rattle.vfs_grammar.specs.Turn.{Turn, Follows}
 use Rattle.vfs_grammar.specs.declared.error.Error.{Error}
 use Rattle.vfs_grammar.specs.declared.error.Error.TheVariants.{DecodeMessage}

@@ -13,7 +13,8 @@ use Rattle.vfs_files.specs.Answers as answers
 use Rattle.vfs_files.specs.Calls.{Call, Init, Lookup, Forget, default_answer}
 use Rattle.vfs_files.specs.declared.entry.Context.{Context}
 use Rattle.vfs_files.specs.Runs.{Event, Called, OpenedDirectory, Taken, IsRun}
-use Rattle.vfs_grammar.specs.Books.{accepted, delivered, accepted_by, delivered_by, opcode_in, GivesBackWithin, KeepsBooks}
+use Rattle.vfs_grammar.specs.Books.{accepted, delivered, accepted_by, delivered_by, opcode_in, KeepsBooks}
+use Rattle.vfs_grammar.specs.Words.{GivesBackWithin}
 use Rattle.vfs_grammar.specs.Turn.{events_in, Turn, IsTurn, Follows}
 use Rattle.vfs_grammar.specs.Ask.{ask}
 use Rattle.vfs_grammar.specs.Forms.{Ask, Asks, WithMemory, within}

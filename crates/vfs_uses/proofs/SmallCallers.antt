@@ -11,7 +11,8 @@ use Rattle.vfs_files.specs.declared.entry.Entry.{Entry}
 use Rattle.vfs_files.specs.Runs.{Taken}
 use Rattle.vfs_files.specs.declared.entry.Context.{Context}
 use Rattle.vfs_grammar.proofs.Dirents.{length-record_bytes}
-use Rattle.vfs_grammar.specs.Listing.{record_len, record_bytes, Verdict, Fails, Got, Line, Stop, End, At, line_events, stop_events, line_bytes, line_len, bytes_got, len_of, answer_at, answer_of, AreWritten, Stops, verdict}
+use Rattle.vfs_grammar.specs.Listing.{record_len, Verdict, Fails, Got, Line, Stop, End, At, line_events, stop_events, line_bytes, line_len, bytes_got, len_of, answer_at, answer_of, AreWritten, Stops, verdict}
+use Rattle.vfs_grammar.specs.Words.{record_bytes}
 use Rattle.vfs_grammar.proofs.Listings.{fits_within}
 use Rattle.vfs_grammar.specs.Samples.{file_a}
 use Rattle.vfs_listings.specs.Reading.{Adds, cut_by, cut_short, ReadsItems}

@@ -2,7 +2,8 @@
 -- history of that and of a FORGET.
 use Rattle.std.specs.Prelude.{◌≡◌, ◌≢◌, ℕ, List, [], ◌∷◌, ◌++◌, replicate}
 use Rattle.vfs_files.specs.Listing.{GivesFirst}
-use Rattle.vfs_grammar.specs.Books.{answered, sent, delivered, accepted, KeepsBooks, NeverBelow}
+use Rattle.vfs_grammar.specs.Books.{answered, sent, delivered, accepted, KeepsBooks}
+use Rattle.vfs_grammar.specs.Words.{NeverBelow}
 use Rattle.vfs_grammar.specs.Samples.{four, eight}
 use Rattle.vfs_grammar.specs.Turn.{Turn, events_in}
 use Rattle.vfs_server.specs.Step.{ServerState}

@@ -10,7 +10,8 @@ use Rattle.vfs_files.specs.Values.{Item}
 use Rattle.vfs_files.specs.Calls.{Call, Readdir, Failed, Handed}
 use Rattle.vfs_files.specs.Runs.{Event, Called, OpenedDirectory, Taken, IsRun}
 use Rattle.vfs_grammar.specs.Directories.{takings}
-use Rattle.vfs_grammar.specs.Books.{answered, sent, NeverBelow}
+use Rattle.vfs_grammar.specs.Books.{answered, sent}
+use Rattle.vfs_grammar.specs.Words.{NeverBelow}
 use Rattle.vfs_grammar.specs.declared.error.Error.{Error}
 
 -- request 9, STATFS of node 1: a header alone, of 40 bytes

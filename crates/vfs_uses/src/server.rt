@@ -10,7 +10,7 @@ ghost use Rattle.vfs_segments.specs.Segments.{contents, flat_bytes};
 ghost use Rattle.vfs_segments.specs.Unread.{are_together};
 ghost use Rattle.vfs_segments.specs.Written.{whole};
 ghost use Rattle.vfs_files.specs.declared.migration.MigrateError.TheVariants.{Unsupported};
-ghost use Rattle.vfs_grammar.specs.Ask.{header_of};
+ghost use Rattle.vfs_grammar.specs.Memory.{header_of};
 ghost use Rattle.vfs_grammar.specs.Samples.{not_served_reply};
 ghost use Rattle.vfs_grammar.specs.declared.error.Error.TheVariants.{EncodeMessage, OutOfMemory};
 ghost use Rattle.vfs_uses.specs.Requests.{statfs_reply, no_memory_reply, IsWithoutTail, ReadsOneRecord};

@@ -1,8 +1,9 @@
 //! Small callers of the laws of the books.
 
 ghost use Rattle.std.specs.Prelude.{◌≡◌, ◌≢◌, ◌≤◌, ◌+◌, ◌++◌, ℕ, List, [], ◌∷◌, Some, Ok, sum_by};
-ghost use Rattle.vfs_grammar.specs.Books.{answered, sent, delivered, accepted, opcode_in, GivesBackWithin, NeverBelow};
-ghost use Rattle.vfs_grammar.specs.Records.{size_of, in_header_size, out_header_size, entry_out_size, dirent_size, pair_size, pairs_place, namelen_place};
+ghost use Rattle.vfs_grammar.specs.Books.{answered, sent, delivered, accepted, opcode_in};
+ghost use Rattle.vfs_grammar.specs.Words.{GivesBackWithin, NeverBelow, in_header_size, out_header_size, entry_out_size, dirent_size, pair_size, pairs_place, namelen_place};
+ghost use Rattle.vfs_grammar.specs.Records.{size_of};
 ghost use Rattle.vfs_wire.specs.Records.{batch_forget_in, entry_out, forget_one, in_header, out_header, dirent};
 ghost use Rattle.vfs_grammar.specs.Turn.{AreTurns, events_in, Turn, IsTurn};
 ghost use Rattle.vfs_grammar.specs.Samples.{reply_of_node_5, batch_of_two};

@@ -1,7 +1,7 @@
 //! Small callers of the laws of extensions.
 
 ghost use Rattle.std.specs.Prelude.{◌≡◌, ◌++◌, [], ◌∷◌, Ok};
-ghost use Rattle.vfs_grammar.specs.Extensions.{extensions_after};
+ghost use Rattle.vfs_grammar.specs.Words.{extensions_after};
 ghost use Rattle.vfs_grammar.specs.Samples.{context_and_group, context_and_group_blocks};
 ghost use Rattle.vfs_laws.specs.Extensions.{blocks_of};
 

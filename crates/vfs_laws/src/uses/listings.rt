@@ -7,7 +7,8 @@ ghost use Rattle.vfs_files.specs.Runs.{Event, Called, Taken};
 ghost use Rattle.vfs_files.specs.declared.entry.Context.{Context};
 ghost use Rattle.vfs_files.specs.declared.entry.Entry.{Entry};
 ghost use Rattle.vfs_grammar.specs.Directories.{takings};
-ghost use Rattle.vfs_grammar.specs.Listing.{IsListing, IsDirectory, record_bytes};
+ghost use Rattle.vfs_grammar.specs.Listing.{IsListing};
+ghost use Rattle.vfs_grammar.specs.Words.{record_bytes, IsDirectoryOf};
 ghost use Rattle.vfs_grammar.specs.Nodes.{nodes_in};
 ghost use Rattle.vfs_grammar.specs.Samples.{record_of_dot, record_of_a, entry_of_dot, root_dot, file_a};
 
@@ -65,7 +66,7 @@ fn a_dot_that_does_not_fit()
 fn a_directory_that_is_refused()
     ensures { (plus : Bool) (ctx : Context) (parent handle size offset space : ℕ) (body : List ℕ)
         (result : Outcome ℕ (Option ℕ)) →
-        IsDirectory plus ctx parent handle size offset space
+        IsDirectoryOf plus ctx parent handle size offset space
         (Called (Readdir ctx parent handle size offset) (Failed (Some 13)) ∷ []) body result →
         (body ≡ []) × (result ≡ Err (Some 13)) }
 {}

@@ -7,10 +7,10 @@ ghost use Rattle.vfs_files.specs.Answers.{Entries, Creations, IsAnswer, entry_an
 ghost use Rattle.vfs_files.specs.Calls.{Call, Plain};
 ghost use Rattle.vfs_files.specs.Values.{context_of};
 ghost use Rattle.vfs_listings.specs.Reading.{GivesBackNode};
-ghost use Rattle.vfs_grammar.specs.Reply.{reply_to};
+ghost use Rattle.vfs_grammar.specs.Words.{reply_to, counted};
 ghost use Rattle.vfs_messages.specs.Rooms.{Replies};
 ghost use Rattle.vfs_grammar.specs.Room.{unseen};
-ghost use Rattle.vfs_grammar.specs.Turn.{counted, node_answered};
+ghost use Rattle.vfs_grammar.specs.Turn.{node_answered};
 ghost use Rattle.vfs_server.specs.Delivery.{CallsAndGivesBack};
 
 use vfs_files::{Entry, FileSystem, Number};

@@ -4,7 +4,7 @@ ghost use Rattle.std.specs.Prelude.{◌≡◌, length};
 ghost use Rattle.vfs_flags.specs.Numbers.{opcode_of};
 ghost use Rattle.vfs_files.specs.Calls.{Destroy};
 ghost use Rattle.vfs_files.specs.Answers.{Plain, Done};
-ghost use Rattle.vfs_grammar.specs.Ask.{ask_header};
+ghost use Rattle.vfs_grammar.specs.Words.{ask_header};
 ghost use Rattle.vfs_server.specs.Handling.{Handles, Serves};
 ghost use Rattle.vfs_server.specs.MemoryByPieces.{MayWantBehind};
 

@@ -3,7 +3,7 @@ use Rattle.std.proofs.lemmas.List.{drop-drop, take_all}
 use Rattle.vfs_wire.specs.Records.{ext_header}
 use Rattle.vfs_wire.specs.Fields.{value_of}
 use Rattle.vfs_wire.specs.declared.extensions.ExtHeader.{ExtHeader}
-use Rattle.vfs_grammar.specs.Extensions.{block_size}
+use Rattle.vfs_grammar.specs.Words.{block_size}
 use Rattle.vfs_ask.proofs.Blocks.{Left, all_left, next, skipped, stands_here}
 use Rattle.vfs_ask.proofs.contexts.context_place.Goals as goal
 use Rattle.vfs_ask.proofs.contexts.context_place.Goals.{then-size-lt-SIZE-via-then-size-lt-SIZE, then-size-lt-SIZE-via-else-size-lt-SIZE+then-left-size}

@@ -1,7 +1,8 @@
 use Rattle.std.proofs.Common.{◌≡◌, ◌≢◌, ℕ, pos, List, Option, Result, inl, inr, subst}
 use Rattle.vfs_files.specs.Runs.{Event}
-use Rattle.vfs_grammar.specs.Forms.{Ask, Listing}
-use Rattle.vfs_grammar.specs.Turn.{IsRead}
+use Rattle.vfs_grammar.specs.Forms.{Ask}
+use Rattle.vfs_grammar.specs.Listing.{Listing}
+use Rattle.vfs_grammar.specs.Words.{IsRead}
 use Rattle.vfs_calls.specs.declared.data.AnswerData.{AnswerData}
 use Rattle.vfs_calls.specs.declared.data.ItemData.{ItemData}
 use Rattle.vfs_answer.specs.Listing.{IsOfferedBy}

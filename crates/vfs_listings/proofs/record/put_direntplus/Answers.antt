@@ -1,6 +1,6 @@
 use Rattle.std.proofs.Common.{◌∙◌, Some, arith, ap, length}
 use Rattle.vfs_files.specs.Values.{item}
-use Rattle.vfs_grammar.specs.Listing.{record_bytes}
+use Rattle.vfs_grammar.specs.Words.{record_bytes}
 use Rattle.vfs_grammar.proofs.Dirents.{length-record_bytes}
 use Rattle.vfs_listings.proofs.Putting.{puts_by, direntplus_parts}
 use Rattle.vfs_listings.proofs.record.put_direntplus.Goals as goal

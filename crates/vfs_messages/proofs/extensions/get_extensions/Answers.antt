@@ -1,7 +1,7 @@
 use Rattle.std.proofs.Common.{◌≡◌, true, false, Ok, ap, sym, ◌∙◌}
 use Rattle.vfs_files.specs.Values.{ExtensionValues}
 use Rattle.vfs_flags.specs.Flags.{fs_options_bits}
-use Rattle.vfs_grammar.specs.Extensions.{reads_extensions}
+use Rattle.vfs_grammar.specs.Words.{reads_extensions}
 use Rattle.vfs_messages.proofs.Blocks.{extensions_after-unread, gives-after}
 use Rattle.vfs_messages.proofs.Refusing.{never_memory}
 use Rattle.vfs_messages.proofs.extensions.get_extensions.Goals as goal

@@ -1,6 +1,7 @@
 use Rattle.std.proofs.Common.{◌≡◌, length}
 use Rattle.vfs_flags.specs.Flags.{fs_options_bits}
-use Rattle.vfs_grammar.specs.Extensions.{cut_of, extensions_of, nothing_received}
+use Rattle.vfs_grammar.specs.Extensions.{cut_of}
+use Rattle.vfs_grammar.specs.Words.{extensions_of, nothing_received}
 use Rattle.vfs_messages.specs.Parts.{found_values}
 use Rattle.vfs_messages.proofs.extensions.read_blocks.Given as goal
 

@@ -1,7 +1,8 @@
 use Rattle.std.proofs.Common.{◌≡◌, ◌∙◌, ℕ, List, None, arith, ap, codes, length, refl}
 use Rattle.vfs_segments.specs.Written.{wrote}
 use Rattle.vfs_wire.specs.Fields.{little}
-use Rattle.vfs_grammar.specs.Listing.{dirent_bytes, record_bytes}
+use Rattle.vfs_grammar.specs.Listing.{dirent_bytes}
+use Rattle.vfs_grammar.specs.Words.{record_bytes}
 use Rattle.vfs_grammar.specs.Samples.{record_of_dot}
 use Rattle.vfs_uses.proofs.SmallCallers.{put_whole}
 use Rattle.vfs_uses.proofs.listings.add_dot.Goals as goal

@@ -3,7 +3,7 @@ use Rattle.std.proofs.lemmas.List.Elements.{All-nil, All-cons}
 use Rattle.std.specs.List.{All}
 use Rattle.vfs_laws.specs.Listings.{IsRow}
 use Rattle.vfs_grammar.specs.Nodes.{nodes_in}
-use Rattle.vfs_grammar.specs.Listing.{record_bytes}
+use Rattle.vfs_grammar.specs.Words.{record_bytes}
 use Rattle.vfs_grammar.specs.Samples.{file_a, root_dot}
 use Rattle.vfs_laws.proofs.uses.listings.nodes_of_two_records.Goals as goal
 

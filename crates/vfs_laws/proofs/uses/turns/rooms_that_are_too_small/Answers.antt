@@ -5,11 +5,12 @@ use Rattle.vfs_files.specs.Calls.{Call, Lookup, Read, Answer, Entries, Found}
 use Rattle.vfs_files.specs.Runs.{Event, Called}
 use Rattle.vfs_files.specs.declared.entry.Context.{Context}
 use Rattle.vfs_grammar.specs.Ask.{ask}
-use Rattle.vfs_grammar.specs.Forms.{Ask, Asks, WithMemory, refused}
+use Rattle.vfs_grammar.specs.Forms.{Ask, Asks, WithMemory}
+use Rattle.vfs_grammar.specs.Words.{refused, reply_to}
 use Rattle.vfs_grammar.specs.Books.{opcode_in}
 use Rattle.vfs_laws.specs.Turns.{CarriesData, cut_turn_tells, CutsOff}
 use Rattle.vfs_grammar.specs.Limits.{default_limits}
-use Rattle.vfs_grammar.specs.Reply.{Reply, Echo, Bytes, reply_to}
+use Rattle.vfs_grammar.specs.Reply.{Reply, Echo, Bytes}
 use Rattle.vfs_grammar.specs.Turn.{Turn}
 use Rattle.vfs_grammar.specs.Witnesses.{FollowsFor}
 use Rattle.vfs_grammar.specs.Samples.{request_for_data, node_5, node_5_reply}

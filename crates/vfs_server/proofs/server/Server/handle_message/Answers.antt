@@ -1,6 +1,6 @@
 use Rattle.std.proofs.Common.{length}
 use Rattle.vfs_flags.specs.Numbers.{opcode_of}
-use Rattle.vfs_grammar.specs.Ask.{header_of}
+use Rattle.vfs_grammar.specs.Memory.{header_of}
 use Rattle.vfs_server.proofs.Memory.{none_wanted}
 use Rattle.vfs_server.proofs.Steps.{step_of_hold, read_by_step}
 use Rattle.vfs_server.proofs.server.Server.handle_message.Goals as goal
