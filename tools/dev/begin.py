@@ -260,7 +260,7 @@ def begin():
                                             (BOOKS, ["KeepsBooks"]))]
     return f"""# To begin with
 
-The five definitions of [the promise](PROMISE.md), and a turn for each case of `Follows`, byte by byte; [key](PROMISE.md#key). Words at the left of a turn are fields of `Turn` and names in `Follows`. Made from the sources by `tools/dev/begin.py`.
+The five definitions of [the promise](PROMISE.md), and a turn for each case of `Follows`, byte by byte; [key](PROMISE.md#key). At the left are fields of `Turn` and names in `Follows`.
 
 `Server::handle_session` ensures `IsSession`:
 
@@ -282,7 +282,7 @@ The four sums of a node balance:
 
 {readdir(found)}
 
-[All opcodes](generated/protocol.md) are one table.
+[All opcodes](generated/protocol.md).
 """
 
 

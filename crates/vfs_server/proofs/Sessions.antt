@@ -15,14 +15,15 @@ use Rattle.vfs_server.specs.Memory.{WantsNoMemory}
 use Rattle.vfs_server.specs.Step.{ServerState, IsStep, turn_over}
 use Rattle.vfs_grammar.specs.Books.{KeepsBooks}
 use Rattle.vfs_grammar.proofs.Turns.{events_in-push}
-use Rattle.vfs_server.specs.Session.{IsServed, AreServed, IsSession}
+use Rattle.vfs_server.specs.Session.{AreServed}
+use Rattle.vfs_server.specs.Sparing.{IsServedSparingly, AreServedSparingly, IsSparing}
 
 module _ (limits : Limits) where
   -- requests in order go on by one more
   served_push : (options : ℕ) (rs : List Unread) (ws : List Written) (ts : List Turn) (ns : List Written) (mid : ℕ) (r : Unread) (w : Written) (t : Turn) (n : Written) (after : ℕ)
-      → AreServed limits options rs ws ts ns mid → IsServed limits mid r w t n after
-      → AreServed limits options (rs ++ r ∷ []) (ws ++ w ∷ []) (ts ++ t ∷ []) (ns ++ n ∷ []) after
-  served_push options [] [] [] [] mid r w t n after are one = (after, subst (λ (o : ℕ). IsServed limits o r w t n after) are one, refl)
+      → AreServedSparingly limits options rs ws ts ns mid → IsServedSparingly limits mid r w t n after
+      → AreServedSparingly limits options (rs ++ r ∷ []) (ws ++ w ∷ []) (ts ++ t ∷ []) (ns ++ n ∷ []) after
+  served_push options [] [] [] [] mid r w t n after are one = (after, subst (λ (o : ℕ). IsServedSparingly limits o r w t n after) are one, refl)
   served_push options (a ∷ rs) (b ∷ ws) (c ∷ ts) (d ∷ ns) mid r w t n after are one = (are.0, are.1, served_push are.0 rs ws ts ns mid r w t n after are.2 one)
   served_push options [] [] [] (d ∷ ns) mid r w t n after are one = absurd are
   served_push options [] [] (c ∷ ts) ns mid r w t n after are one = absurd are
@@ -43,31 +44,51 @@ module _ (limits : Limits) where
   turns_of_served options (a ∷ rs) (b ∷ ws) [] ns after are = absurd are
   turns_of_served options (a ∷ rs) (b ∷ ws) (c ∷ ts) [] after are = absurd are
 
+  -- requests that were served sparingly were served
+  served_plainly : (options : ℕ) (rs : List Unread) (ws : List Written) (ts : List Turn) (ns : List Written) (after : ℕ)
+      → AreServedSparingly limits options rs ws ts ns after → AreServed limits options rs ws ts ns after
+  served_plainly options [] [] [] [] after are = are
+  served_plainly options (a ∷ rs) (b ∷ ws) (c ∷ ts) (d ∷ ns) after are = (are.0, are.1.served, served_plainly are.0 rs ws ts ns after are.2)
+  served_plainly options [] [] [] (d ∷ ns) after are = absurd are
+  served_plainly options [] [] (c ∷ ts) ns after are = absurd are
+  served_plainly options [] (b ∷ ws) ts ns after are = absurd are
+  served_plainly options (a ∷ rs) [] ts ns after are = absurd are
+  served_plainly options (a ∷ rs) (b ∷ ws) [] ns after are = absurd are
+  served_plainly options (a ∷ rs) (b ∷ ws) (c ∷ ts) [] after are = absurd are
+
 module _ {S I : Type 0} (allows : S → Call → Handed I → S → Type 0) (gives : I → Option Item → I → Type 0) (join : RunsJoin allows gives) (keep : (limits : Limits) (options after : ℕ) (turns : List Turn) → AreTurns limits options turns after → KeepsBooks turns) (old : ServerState S) where
   -- nothing was asked yet
-  pub session_none : IsSession allows gives old [] [] [] [] old
-  session_none = record { turns = []; is_run = refl; served = refl; outcomes_are = refl; books = keep old.limits old.options old.options [] refl; same_limits = refl }
+  pub session_none : IsSparing allows gives old [] [] [] [] old
+  session_none = record {
+    session = record { turns = []; is_run = refl; served = refl; outcomes_are = refl; books = keep old.limits old.options old.options [] refl; same_limits = refl };
+    sparing = refl;
+  }
 
   -- a session goes on by one step, which wants no more memory than it may, and leaves no hold
   pub session_push : (readers : List Unread) (writers : List Written) (outcomes : List (Result ℕ Error)) (afters : List Written) (mid : ServerState S) (reader : Unread) (writer : Written) (outcome : Result ℕ Error) (after : Written) (new : ServerState S)
-      → IsSession allows gives old readers writers outcomes afters mid
+      → IsSparing allows gives old readers writers outcomes afters mid
       → IsStep allows gives mid reader.left writer outcome after new
       → (WantsNoMemory mid.limits mid.options (length writer.left) reader → outcome ≢ Err OutOfMemory) → after.held ≡ 0
-      → IsSession allows gives old (readers ++ reader ∷ []) (writers ++ writer ∷ []) (outcomes ++ outcome ∷ []) (afters ++ after ∷ []) new
-  session_push readers writers outcomes afters mid reader writer outcome after new s k memory held =
+      → IsSparing allows gives old (readers ++ reader ∷ []) (writers ++ writer ∷ []) (outcomes ++ outcome ∷ []) (afters ++ after ∷ []) new
+  session_push readers writers outcomes afters mid reader writer outcome after new before k memory held =
+      let s = before.session in
       let t : Turn = turn_over reader.left writer k.events outcome k.room_after in
-      let one : IsServed mid.limits mid.options reader writer t after new.options =
-      record { request = refl; room = refl; turn = k.turn; memory = memory; leaves = k.leaves; hold_given_up = held } in
-      let more = served_push old.limits old.options readers writers s.turns afters mid.options reader writer t after new.options s.served
-      (subst (λ (p : Limits). IsServed p mid.options reader writer t after new.options) s.same_limits one) in
+      let one : IsServedSparingly mid.limits mid.options reader writer t after new.options =
+      record { served = record { request = refl; room = refl; turn = k.turn; leaves = k.leaves; hold_given_up = held }; memory = memory } in
+      let more = served_push old.limits old.options readers writers s.turns afters mid.options reader writer t after new.options before.sparing
+      (subst (λ (p : Limits). IsServedSparingly p mid.options reader writer t after new.options) s.same_limits one) in
+      let served = served_plainly old.limits old.options (readers ++ reader ∷ []) (writers ++ writer ∷ []) (s.turns ++ t ∷ []) (afters ++ after ∷ []) new.options more in
       record {
-        turns = s.turns ++ t ∷ [];
-        is_run = subst (λ (es : List Event). IsRun allows gives None old.fs es new.fs) (sym (events_in-push s.turns t))
-            (join None old.fs mid.fs new.fs (events_in s.turns) k.events s.is_run k.is_run);
-        served = more;
-        outcomes_are = map-append (λ (t : Turn). t.outcome) s.turns (t ∷ []) ∙ ap (λ xs. xs ++ outcome ∷ []) s.outcomes_are;
-        books = keep old.limits old.options new.options (s.turns ++ t ∷ []) (turns_of_served old.limits old.options (readers ++ reader ∷ []) (writers ++ writer ∷ []) (s.turns ++ t ∷ []) (afters ++ after ∷ []) new.options more);
-        same_limits = k.same_limits ∙ s.same_limits;
+        session = record {
+          turns = s.turns ++ t ∷ [];
+          is_run = subst (λ (es : List Event). IsRun allows gives None old.fs es new.fs) (sym (events_in-push s.turns t))
+              (join None old.fs mid.fs new.fs (events_in s.turns) k.events s.is_run k.is_run);
+          served = served;
+          outcomes_are = map-append (λ (t : Turn). t.outcome) s.turns (t ∷ []) ∙ ap (λ xs. xs ++ outcome ∷ []) s.outcomes_are;
+          books = keep old.limits old.options new.options (s.turns ++ t ∷ []) (turns_of_served old.limits old.options (readers ++ reader ∷ []) (writers ++ writer ∷ []) (s.turns ++ t ∷ []) (afters ++ after ∷ []) new.options served);
+          same_limits = k.same_limits ∙ s.same_limits;
+        };
+        sparing = more;
       }
 
 -- what stands at a place that two lists have in common from there on
@@ -85,10 +106,10 @@ module _ {S I : Type 0} (allows : S → Call → Handed I → S → Type 0) (giv
   -- a session goes on by the step at the next place of the lists
   pub session_more : (readers : List Unread) (reader : Unread) (writers before : List Written) (outcomes : List (Result ℕ Error)) (i : ℕ) (mid : ServerState S) (d : Written) (outcome : Result ℕ Error) (after : Written) (new : ServerState S)
       → i < length writers → i < length before → i < length outcomes → drop i writers ≡ drop i before
-      → IsSession allows gives old readers (take i before) (take i outcomes) (take i writers) mid
+      → IsSparing allows gives old readers (take i before) (take i outcomes) (take i writers) mid
       → IsStep allows gives mid reader.left (get_or writers i d) outcome after new
       → (WantsNoMemory mid.limits mid.options (length (get_or writers i d).left) reader → outcome ≢ Err OutOfMemory) → after.held ≡ 0
-      → IsSession allows gives old (readers ++ reader ∷ []) (take (i + 1) before) (take (i + 1) (set outcomes i outcome)) (take (i + 1) (set writers i after)) new
+      → IsSparing allows gives old (readers ++ reader ∷ []) (take (i + 1) before) (take (i + 1) (set outcomes i outcome)) (take (i + 1) (set writers i after)) new
   session_more readers reader writers before outcomes i mid d outcome after new a b c e s k memory held =
       let same : get_or before i d ≡ get_or writers i d = sym (same_at writers before i d e) in
       rw (take_more before i d b, take_more_set outcomes i outcome c, take_more_set writers i after a, same)

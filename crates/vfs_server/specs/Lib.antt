@@ -7,5 +7,6 @@ pub mod Lending
 pub mod Memory
 pub mod Step
 pub mod Session
+pub mod Sparing
 pub mod ServeErrors
 pub mod Served

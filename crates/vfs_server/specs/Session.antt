@@ -1,5 +1,5 @@
 -- Requests in order, over one run of the file system.
-use Rattle.std.specs.Prelude.{◌≡◌, ◌≢◌, length, ℕ, List, [], ◌∷◌, Option, None, Result, Err, map}
+use Rattle.std.specs.Prelude.{◌≡◌, ℕ, List, [], ◌∷◌, Option, None, Result, map}
 use Rattle.vfs_segments.specs.Unread.{Unread}
 use Rattle.vfs_segments.specs.Written.{Written, Leaves}
 use Rattle.vfs_files.specs.Values.{Item}
@@ -8,21 +8,17 @@ use Rattle.vfs_files.specs.Runs.{IsRun}
 use Rattle.vfs_grammar.specs.Turn.{Turn, IsTurn, events_in}
 use Rattle.vfs_grammar.specs.declared.limits.Limits.{Limits}
 use Rattle.vfs_grammar.specs.declared.error.Error.{Error}
-use Rattle.vfs_grammar.specs.declared.error.Error.TheVariants.{OutOfMemory}
 use Rattle.vfs_grammar.specs.Books.{KeepsBooks}
-use Rattle.vfs_server.specs.Memory.{WantsNoMemory}
 use Rattle.vfs_server.specs.State.{ServerState}
 
 -- A request was served, by this turn, with these options before it and after it: the turn is of the
--- bytes that its reader has left and of the room that its writer has left. A request that wants no
--- memory isn't refused for want of it. The writer is left as the turn says, and holds nothing.
+-- bytes that its reader has left and of the room that its writer has left. The writer is left as the
+-- turn says, and holds nothing.
 pub record IsServed (limits : Limits) (options : ℕ) (reader : Unread) (writer : Written) (t : Turn)
     (writer_after : Written) (after : ℕ) : Type 0 where
   pub request : t.request ≡ reader.left
   pub room : t.room ≡ writer.left
   pub turn : IsTurn limits options t after
-  pub memory :
-      WantsNoMemory limits options (length writer.left) reader → t.outcome ≢ Err OutOfMemory
   pub leaves : Leaves writer t.room_after writer_after
   pub hold_given_up : writer_after.held ≡ 0
 

@@ -15,6 +15,7 @@ ghost use Rattle.vfs_grammar.specs.declared.error.Error.{Error};
 ghost use Rattle.vfs_server.specs.Lending.{LendsFs};
 ghost use Rattle.vfs_server.specs.Memory.{MayWant, WantsNoMemory};
 ghost use Rattle.vfs_server.specs.Session.{IsSession};
+ghost use Rattle.vfs_server.specs.Sparing.{IsSparing};
 ghost use Rattle.vfs_server.specs.Step.{IsStep, ReadsDirectories};
 
 use crate::handlers::Session;
@@ -202,9 +203,9 @@ impl<F: FileSystem> Server<F> {
 
     /// Handles requests in order, each by [`handle_message`](Server::handle_message): the k-th from
     /// the k-th reader, with the k-th writer, and its outcome goes to the k-th place of `outcomes`.
-    /// An outcome of one request never ends the list. It takes no memory of its own. A request that
-    /// wants no memory, under the options before it, isn't refused for want of it, and no writer
-    /// holds anything afterwards.
+    /// An outcome of one request never ends the list, and no writer holds anything afterwards. It takes
+    /// no memory of its own: a request that wants none, under the options before it, isn't refused for
+    /// want of it.
     ///
     /// For each node number but 0 the books balance over the session: entries answered and forgets
     /// accepted are entries delivered and forgets sent. No entry is lost: one whose reply doesn't fit
@@ -219,6 +220,10 @@ impl<F: FileSystem> Server<F> {
         requires writers { length writers.old ≡ vec_len readers }
         requires outcomes { length outcomes.old ≡ vec_len readers }
         ensures session { IsSession F.allows F.DirIter.gives
+            self.old readers.entry.items writers.old outcomes.new writers.new self.new }
+
+        // The same session, and no memory is taken for a request that wants none.
+        ensures memory { IsSparing F.allows F.DirIter.gives
             self.old readers.entry.items writers.old outcomes.new writers.new self.new }
     {
         runs_join::<F>();

@@ -28,7 +28,8 @@ use Rattle.vfs_grammar.specs.declared.error.Error.TheVariants.{OutOfMemory}
 use Rattle.vfs_grammar.proofs.Keeping.{never_below_over}
 use Rattle.vfs_uses.proofs.Callers.{Seen, AreDefault, seen_put, turn-statfs, run_is_default}
 use Rattle.vfs_server.specs.Memory.{WantsNoMemory}
-use Rattle.vfs_server.specs.Session.{IsServed, AreServed, IsSession}
+use Rattle.vfs_server.specs.Session.{AreServed, IsSession}
+use Rattle.vfs_server.specs.Sparing.{IsServedSparingly, AreServedSparingly, IsSparing}
 use Rattle.vfs_server.specs.Step.{ServerState}
 use Rattle.vfs_uses.specs.Requests.{init_request, init_reply, lookup_request, lookup_reply, statfs_request, statfs_reply, in_one_segment, AreRooms, SendsThreeBack}
 use Rattle.vfs_uses.specs.declared.server.session.TheConstants.{FORGET}
@@ -51,7 +52,7 @@ default_right (Taken item ∷ xs) ys h = default_right xs ys h
 -- the requests of a session that are left behind some of it
 pub record Rest (limits : Limits) (options : ℕ) (readers : List Unread) (writers : List Written) (outcomes : List (Result ℕ Error)) (news : List Written) (after : ℕ) : Type 0 where
   pub turns : List Turn
-  pub served : AreServed limits options readers writers turns news after
+  pub served : AreServedSparingly limits options readers writers turns news after
   pub answered : map (λ t. t.outcome) turns ≡ outcomes
   pub events : AreDefault (events_in turns)
 
@@ -62,7 +63,7 @@ record First (limits : Limits) (options : ℕ) (reader : Unread) (readers : List
   mid : ℕ
   outs : List (Result ℕ Error)
   others : List Written
-  one : IsServed limits options reader writer t new mid
+  one : IsServedSparingly limits options reader writer t new mid
   events : AreDefault t.events
   outcomes_are : outcomes ≡ t.outcome ∷ outs
   news_are : news ≡ new ∷ others
@@ -70,7 +71,7 @@ record First (limits : Limits) (options : ℕ) (reader : Unread) (readers : List
 
 module _ (limits : Limits) where
   first_of : (options : ℕ) (reader : Unread) (readers : List Unread) (writer : Written) (writers : List Written) (outcomes : List (Result ℕ Error)) (after : ℕ) (turns : List Turn) (news : List Written)
-      → AreServed limits options (reader ∷ readers) (writer ∷ writers) turns news after → map (λ t. t.outcome) turns ≡ outcomes → AreDefault (events_in turns)
+      → AreServedSparingly limits options (reader ∷ readers) (writer ∷ writers) turns news after → map (λ t. t.outcome) turns ≡ outcomes → AreDefault (events_in turns)
       → First limits options reader readers writer writers outcomes news after
   first_of options reader readers writer writers outcomes after [] news s a e = absurd s
   first_of options reader readers writer writers outcomes after (t ∷ ts) [] s a e = absurd s
@@ -93,7 +94,7 @@ module _ (limits : Limits) where
 
   -- behind the last request nothing is left
   last_of : (options : ℕ) (outcomes : List (Result ℕ Error)) (after : ℕ) (turns : List Turn) (news : List Written)
-      → AreServed limits options [] [] turns news after → map (λ t. t.outcome) turns ≡ outcomes
+      → AreServedSparingly limits options [] [] turns news after → map (λ t. t.outcome) turns ≡ outcomes
       → (outcomes ≡ []) × (news ≡ []) × (after ≡ options)
   last_of options outcomes after [] [] s a = (sym a, refl, s)
   last_of options outcomes after [] (n ∷ ns) s a = absurd s
@@ -175,31 +176,32 @@ begun (u ∷ v ∷ w ∷ []) outcomes news after rooms r =
     let b = in_one_segment lookup_request in
     let c = in_one_segment statfs_request in
     let k = first limits_of_new 0 a (b ∷ c ∷ []) u (v ∷ w ∷ []) outcomes news after r in
-    let i = turn-init k.t k.mid k.one.turn k.one.request (ap length k.one.room ∙ rooms.1) k.events in
+    let i = turn-init k.t k.mid k.one.served.turn k.one.served.request (ap length k.one.served.room ∙ rooms.1) k.events in
     let l = first limits_of_new 9 b (c ∷ []) v (w ∷ []) k.outs k.others after (subst (λ (o : ℕ). Rest limits_of_new o (b ∷ c ∷ []) (v ∷ w ∷ []) k.outs k.others after) i.options k.rest) in
-    let j = turn-lookup l.t l.mid l.one.turn l.one.request (ap length l.one.room ∙ rooms.2.1) l.events (l.one.memory (lookup_wants_none (length v.left))) in
+    let j = turn-lookup l.t l.mid l.one.served.turn l.one.served.request (ap length l.one.served.room ∙ rooms.2.1) l.events (l.one.memory (lookup_wants_none (length v.left))) in
     let m = first limits_of_new 9 c [] w [] l.outs l.others after (subst (λ (o : ℕ). Rest limits_of_new o (c ∷ []) (w ∷ []) l.outs l.others after) j.options l.rest) in
-    let s = turn-statfs limits_of_new 9 m.t m.mid m.one.turn m.one.request (ap length m.one.room ∙ rooms.2.2.1) m.events in
+    let s = turn-statfs limits_of_new 9 m.t m.mid m.one.served.turn m.one.served.request (ap length m.one.served.room ∙ rooms.2.2.1) m.events in
     let e = last_of limits_of_new m.mid m.outs after m.rest.turns m.others m.rest.served m.rest.answered in
     let news_are : news ≡ k.new ∷ l.new ∷ m.new ∷ [] = cc (k.news_are, l.news_are, m.news_are, e.1) in
-    let first_room = left_is u k.new k.t.room_after init_reply k.one.leaves rooms.0 i.room_is in
-    let second_room = left_is v l.new l.t.room_after lookup_reply l.one.leaves rooms.2.0 j.room_is in
-    let third_room = left_is w m.new m.t.room_after statfs_reply m.one.leaves rooms.2.2.0 s.room_is in
+    let first_room = left_is u k.new k.t.room_after init_reply k.one.served.leaves rooms.0 i.room_is in
+    let second_room = left_is v l.new l.t.room_after lookup_reply l.one.served.leaves rooms.2.0 j.room_is in
+    let third_room = left_is w m.new m.t.room_after statfs_reply m.one.served.leaves rooms.2.2.0 s.room_is in
     record {
       outcomes_are = cc (k.outcomes_are, l.outcomes_are, m.outcomes_are, e.0, i.outcome_is, j.outcome_is, s.outcome_is);
       rooms = rw news_are (cc (first_room, second_room, third_room));
-      held = rw news_are (cc (k.one.hold_given_up, l.one.hold_given_up, m.one.hold_given_up));
-      segments = rw news_are (cc (k.one.leaves.same_segments, l.one.leaves.same_segments, m.one.leaves.same_segments));
+      held = rw news_are (cc (k.one.served.hold_given_up, l.one.served.hold_given_up, m.one.served.hold_given_up));
+      segments = rw news_are (cc (k.one.served.leaves.same_segments, l.one.served.leaves.same_segments, m.one.served.leaves.same_segments));
       options = cc (e.2, s.options);
     }
 
 module _ {S I : Type 0} (allows : S → Call → Handed I → S → Type 0) (gives : I → Option Item → I → Type 0) (default : (s t : S) (c : Call) (a : Answer) → allows s c (Plain a) t → a ≡ default_answer c) where
   pub session-begun : (old new : ServerState S) (writers : List Written) (outcomes : List (Result ℕ Error)) (news : List Written)
-      → IsSession allows gives old (map in_one_segment (init_request ∷ lookup_request ∷ statfs_request ∷ [])) writers outcomes news new
+      → IsSparing allows gives old (map in_one_segment (init_request ∷ lookup_request ∷ statfs_request ∷ [])) writers outcomes news new
       → old.limits ≡ limits_of_new → old.options ≡ 0 → AreRooms (80 ∷ 16 ∷ 96 ∷ []) writers → Begun writers outcomes news new.options
-  session-begun old new writers outcomes news s limits options rooms =
-      let P : Limits → ℕ → Type 0 = λ l o. AreServed l o (map in_one_segment (init_request ∷ lookup_request ∷ statfs_request ∷ [])) writers s.turns news new.options in
-      let served : P limits_of_new 0 = subst (λ o. P limits_of_new o) options (subst (λ l. P l old.options) limits s.served) in
+  session-begun old new writers outcomes news sparing limits options rooms =
+      let s = sparing.session in
+      let P : Limits → ℕ → Type 0 = λ l o. AreServedSparingly l o (map in_one_segment (init_request ∷ lookup_request ∷ statfs_request ∷ [])) writers s.turns news new.options in
+      let served : P limits_of_new 0 = subst (λ o. P limits_of_new o) options (subst (λ l. P l old.options) limits sparing.sparing) in
       begun writers outcomes news new.options rooms
       (record { turns = s.turns; served = served; answered = s.outcomes_are; events = run_is_default allows gives default None old.fs new.fs (events_in s.turns) s.is_run })
 

@@ -1,11 +1,11 @@
-use Rattle.std.proofs.Common.{refl, arith, length, ◌<◌}
+use Rattle.std.proofs.Common.{◌≡◌, refl, arith, length, take, ◌<◌}
 use Rattle.std.proofs.lemmas.Grind.{common_steps}
 use Rattle.std.specs.Vec.Iter.{into_iter_items}
 use Rattle.vfs_server.proofs.Sessions.{session_none, session_more, same_after, passed_on, below_all}
 use Rattle.vfs_server.proofs.server.Server.handle_session.Goals as goal
 
 pub loop-reader-init : goal.loop-reader-init
-loop-reader-init g c = record { count = refl; parts = c.into_iter-reader-iterator.ensures.into_iter_gives.0; rest = refl; session = session_none g.F.FileSystem.allows g.F.DirIter.DirectoryIterator.gives c.runs_join.ensures c.turns_keep_books.ensures c.args.self.now }
+loop-reader-init g c = record { count = refl; parts = c.into_iter-reader-iterator.ensures.into_iter_gives.0; rest = refl; sparing = session_none g.F.FileSystem.allows g.F.DirIter.DirectoryIterator.gives c.runs_join.ensures c.turns_keep_books.ensures c.args.self.now }
 
 pub loop-reader-preserved : goal.loop-reader-preserved
 loop-reader-preserved g c =
@@ -21,8 +21,14 @@ loop-reader-preserved g c =
       count = grind (arith, common_steps);
       parts = parts;
       rest = same_after c.loop-reader.writers before c.loop-reader.at c.handle_message.new.w i.rest;
-      session = session_more g.F.FileSystem.allows g.F.DirIter.DirectoryIterator.gives c.runs_join.ensures c.turns_keep_books.ensures c.args.self.now c.loop-reader.yielded c.in-Some.reader c.loop-reader.writers before c.loop-reader.outcomes c.loop-reader.at c.loop-reader.self c.index-writers-at.result c.handle_message.result c.handle_message.new.w c.handle_message.new.self a b o i.rest i.session c.handle_message.ensures.step c.handle_message.ensures.memory c.handle_message.ensures.hold_given_up;
+      sparing = session_more g.F.FileSystem.allows g.F.DirIter.DirectoryIterator.gives c.runs_join.ensures c.turns_keep_books.ensures c.args.self.now c.loop-reader.yielded c.in-Some.reader c.loop-reader.writers before c.loop-reader.outcomes c.loop-reader.at c.loop-reader.self c.index-writers-at.result c.handle_message.result c.handle_message.new.w c.handle_message.new.self a b o i.rest i.sparing c.handle_message.ensures.step c.handle_message.ensures.memory c.handle_message.ensures.hold_given_up;
     }
 
 pub returns : goal.returns
-returns c = grind (arith, common_steps)
+returns c d =
+    let readers : d.loop-reader.yielded ≡ d.args.readers.items = grind (arith, common_steps) in
+    let before : take d.loop-reader.at d.args.writers.now ≡ d.args.writers.now = grind (arith, common_steps) in
+    let outcomes : take d.loop-reader.at d.loop-reader.outcomes ≡ d.loop-reader.outcomes = grind (arith, common_steps) in
+    let writers : take d.loop-reader.at d.loop-reader.writers ≡ d.loop-reader.writers = grind (arith, common_steps) in
+    let sparing = rw (readers, before, outcomes, writers) at d.loop-reader.invariant.sparing in
+    record { session = sparing.session; memory = sparing }

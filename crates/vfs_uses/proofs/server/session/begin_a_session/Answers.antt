@@ -8,7 +8,7 @@ pub returns : goal.returns
 returns c =
     let limits : c.new-server.result.limits ≡ limits_of_new = rw c.new-server.ensures refl in
     let options : c.new-server.result.options ≡ 0 = rw c.new-server.ensures refl in
-    let session = rw c.requires.requests at c.handle_session.ensures.session in
+    let session = rw c.requires.requests at c.handle_session.ensures.memory in
     let seen =
     session-begun _ _ (λ s t call answer allowed. let e : Plain answer ≡ Plain (default_answer call) = allowed in cc)
     c.new-server.result c.handle_session.new.self c.args.writers.now c.handle_session.new.outcomes c.handle_session.new.writers session limits options c.requires.room in
@@ -18,5 +18,5 @@ returns c =
       held = seen.held;
       segments = seen.segments;
       options = seen.options;
-      limits = session.same_limits ∙ limits;
+      limits = session.session.same_limits ∙ limits;
     }
