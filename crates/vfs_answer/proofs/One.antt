@@ -64,12 +64,12 @@ by_read i name named one a l plain large room events records answer (inr r) take
 pub one_listed : (i : ItemData) (name : List ℕ) → name_of i.name.now ≡ Some name → length name ≡ 1
     → (limits : Limits) (echo : Echo) (l : Listing) (options : ℕ) (a : AnswerData) (old new : Written) (came : Answered)
     → l.plus ≡ false → 32 ≤ l.size → 32 ≤ l.space → a.error ≡ pos 0 → ListingIsAnswered limits echo l options a (i ∷ []) old came new
-    → (came.taken ≡ 1) × (came.outcome ≡ Ok 48)
+    → (came.taken ≡ 1) × (came.given ≡ 0) × (came.outcome ≡ Ok 48)
 one_listed i name named one limits echo l options a old new came plain large room none h =
     let r = by_read i name named one a l plain large room h.events h.records h.answer h.read came.taken none h.offered in
     let replied : Replies (reply_of limits echo came.options (Data l.size) (read_answer (Ok 32) h.records)) old came.outcome new =
     subst (λ (x : Result ℕ (Option ℕ)). Replies (reply_of limits echo came.options (Data l.size) (read_answer x h.records)) old came.outcome new) r.1 h.replied in
-    (r.0, replied.says.says ∙ ap Ok (length-body_reply h.records echo.unique ∙ ap (λ n. 16 + n) r.2))
+    (r.0, h.none_given, replied.says.says ∙ ap Ok (length-body_reply h.records echo.unique ∙ ap (λ n. 16 + n) r.2))
 
 -- where a listing is answered, it is so
 pub listed_so : (result : Option Answered) (space : ℕ) (l : Listing) (P Q : Answered → Type 0) → 16 ≤ space → l.size < 2 ^ 32 - 16

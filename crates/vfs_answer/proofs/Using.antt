@@ -62,10 +62,10 @@ refused_by a text room _ five h = let e = h.0 in cc
 
 pub refused : (limits : Limits) (echo : Echo) (ctx : Context) (node : ℕ) (handle : Option ℕ) (options : ℕ) (a : AnswerData) (text : List ℕ) (old new : Written) (came : Answered)
     → a.error ≡ pos 5 → CallIsAnswered limits echo (Getattr ctx node handle) options a text old came new
-    → Replies (Bytes (fault_reply (Some 5) echo.unique)) old came.outcome new × (came.options ≡ options) × (came.given ≡ 0)
+    → Replies (Bytes (fault_reply (Some 5) echo.unique)) old came.outcome new × (came.options ≡ options) × (came.given ≡ 0) × (came.taken ≡ 0)
 refused limits echo ctx node handle options a text old new came five h =
     let is = refused_by a text old.left h.answer five h.said in
-    (subst (λ (x : Answer). Replies (reply_of limits echo came.options TimedAttributes x) old came.outcome new) is h.replied, h.options_are, h.given_is)
+    (subst (λ (x : Answer). Replies (reply_of limits echo came.options TimedAttributes x) old came.outcome new) is h.replied, h.options_are, h.given_is, h.none_taken)
 
 -- ---- an entry without room
 

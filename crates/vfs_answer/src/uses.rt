@@ -1,14 +1,15 @@
 //! Answers of calls.
 
-ghost use Rattle.std.specs.Prelude.{◌≡◌, ◌<◌, ◌≤◌, ◌-◌, ◌^◌, ℕ, List, Option, length, drop, bit_and, false, Some, Ok, Err, MatchOption};
+ghost use Rattle.std.specs.Prelude.{◌≡◌, ◌<◌, ◌≤◌, ◌-◌, ◌^◌, ◌++◌, ℕ, List, Option, length, drop, bit_and, false, Some, Ok, Err, MatchOption};
 ghost use Rattle.vfs_flags.specs.Flags.{known_fs_options};
-ghost use Rattle.vfs_files.specs.Calls.{Getattr, Init, Lookup};
+ghost use Rattle.vfs_files.specs.Calls.{Getattr, Init, Lookup, Read};
 ghost use Rattle.vfs_files.specs.declared.entry.Context.{Context};
 ghost use Rattle.vfs_grammar.specs.Listing.{Listing};
 ghost use Rattle.vfs_grammar.specs.Limits.{AreLimits};
 ghost use Rattle.vfs_grammar.specs.Options.{agreed};
 ghost use Rattle.vfs_grammar.specs.Reply.{Bytes, Echo, fault_reply};
 ghost use Rattle.vfs_messages.specs.Rooms.{Replies};
+ghost use Rattle.vfs_segments.specs.Written.{whole};
 ghost use Rattle.vfs_calls.specs.declared.data.AnswerData.{AnswerData};
 ghost use Rattle.vfs_answer.specs.Told.{ListingIsAnswered, TellsCall, TellsEcho, TellsListing};
 
@@ -26,7 +27,7 @@ fn refuse_getattr(limits: Limits, call: &CallData, w: &mut Writer) -> Option<Ans
         TellsEcho call.now echo → TellsCall call.now (Getattr ctx node handle) →
         MatchOption result ⊥ (λ came.
         Replies (Bytes (fault_reply (Some 5) echo.unique)) w.old came.outcome w.new
-        × (came.options ≡ call.now.options) × (came.given ≡ 0)) }
+        × (came.options ≡ call.now.options) × (came.given ≡ 0) × (came.taken ≡ 0)) }
 {
     let refusal = AnswerData {
         error: 5,
@@ -75,6 +76,21 @@ fn agree(limits: Limits, call: &CallData, want: u64, w: &mut Writer) -> Option<A
     answer(limits, call, &wanted, &[], &[], w)
 }
 
+/// Answers a READ whose data stand in the room already, behind the place of the header: they stay, whatever is said of
+/// them.
+fn read_data(limits: Limits, call: &CallData, said: &AnswerData, w: &mut Writer) -> Option<Answered>
+    requires limits { AreLimits limits }
+    requires room { length w.old.left ≡ call.now.room }
+    requires header { 16 ≤ length w.old.left }
+    ensures { (echo : Echo) (ctx : Context) (node handle space size offset flags : ℕ) (owner : Option ℕ) →
+        TellsEcho call.now echo →
+        TellsCall call.now (Read ctx node handle space size offset owner flags) →
+        MatchOption result ⊥ (λ came. (header : List ℕ)
+        × (whole w.new ≡ w.old.passed ++ (header ++ drop 16 w.old.left))) }
+{
+    answer(limits, call, said, &[], &[], w)
+}
+
 /// Answers a READDIR or READDIRPLUS of these items, and hands back those that are not in the reply:
 /// of a READDIRPLUS their lookups are to be given back.
 fn list_and_rest<'a>(
@@ -110,7 +126,8 @@ fn list_one(limits: Limits, call: &CallData, w: &mut Writer) -> Option<Answered>
     requires short { call.now.size < 2 ^ 32 - 16 }
     ensures { (echo : Echo) (listing : Listing) →
         TellsEcho call.now echo → TellsListing call.now listing → listing.plus ≡ false →
-        MatchOption result ⊥ (λ came. (came.taken ≡ 1) × (came.outcome ≡ Ok 48)) }
+        MatchOption result ⊥ (λ came.
+        (came.taken ≡ 1) × (came.given ≡ 0) × (came.outcome ≡ Ok 48)) }
 {
     let opened = AnswerData {
         error: 0,
