@@ -1,6 +1,7 @@
 -- What is told of some requests.
-use Rattle.std.specs.Prelude.{◌≡◌, ◌++◌, ℕ, List, [], ◌∷◌}
-use Rattle.vfs_grammar.specs.Samples.{eight, four, header_9, lookup_of_a, zeros}
+use Rattle.std.specs.Prelude.{◌≡◌, ◌≤◌, ◌+◌, ◌++◌, ℕ, List, [], ◌∷◌}
+use Rattle.vfs_grammar.specs.Samples.{batch_of_two, eight, four, header_9, lookup_of_a, zeros}
+use Rattle.vfs_grammar.specs.Forms.{pairs_of}
 use Rattle.vfs_calls.specs.Shapes.{nothing}
 use Rattle.vfs_calls.specs.declared.call.CallData.{CallData}
 use Rattle.vfs_calls.specs.declared.call.number.TheConstants as number
@@ -72,3 +73,11 @@ pub record HasContext (asked : Asked) (told : CallData) : Type 0 where
 -- request 9: an INIT of the major version 8
 abbrev pub later_init : List ℕ
 later_init = header_9 56 26 ++ (eight 8 ++ zeros 8)
+
+-- a BATCH_FORGET of node 5 by 1 and of node 7 by 3: the pairs lie in 32 bytes of the request
+pub record ForgetsTwo (asked : Asked) (told : CallData) : Type 0 where
+  pub is_call : asked ≡ Call
+  pub number : told.call ≡ number.BATCH_FORGET
+  pub size : told.data.len ≡ 32
+  pub within : told.data.at + told.data.len ≤ 80
+  pub pairs : pairs_of 2 (bytes_in batch_of_two told.data) ≡ (5, 1) ∷ (7, 3) ∷ []

@@ -4,13 +4,13 @@ ghost use Rattle.std.specs.Prelude.{◌≡◌, ◌⊎◌, ◌++◌, [], ◌∷�
 ghost use Rattle.vfs_flags.specs.Flags.{fs_options_bits, security_ctx};
 ghost use Rattle.vfs_grammar.specs.Memory.{header_of};
 ghost use Rattle.vfs_grammar.specs.Reply.{Refusal};
-ghost use Rattle.vfs_grammar.specs.Samples.{eight, header_9, lookup_of_a, request_for_data};
+ghost use Rattle.vfs_grammar.specs.Samples.{batch_of_two, eight, header_9, lookup_of_a, request_for_data};
 ghost use Rattle.vfs_grammar.specs.declared.error.Error.{Error};
 ghost use Rattle.vfs_calls.specs.Shapes.{nothing};
 ghost use Rattle.vfs_ask.specs.Asked.{IsFinished};
-ghost use Rattle.vfs_ask.specs.declared.checked.Checked.TheVariants.{Refused};
+ghost use Rattle.vfs_ask.specs.declared.checked.Checked.TheVariants.{Finished, Refused};
 ghost use Rattle.vfs_ask.specs.Memory.{LacksNoMemory};
-ghost use Rattle.vfs_ask.specs.Uses.{HasContext, LooksUpA, later_init, mkdir_with_context, ReadsThree, RenamesAToB, rename_of_a_to_b};
+ghost use Rattle.vfs_ask.specs.Uses.{ForgetsTwo, HasContext, LooksUpA, later_init, mkdir_with_context, ReadsThree, RenamesAToB, rename_of_a_to_b};
 
 use crate::asked::{Asked, ask};
 use crate::checked::{Checked, check, check_as};
@@ -194,7 +194,7 @@ fn look_up_a_as(
     ask_as(number::LOOKUP, alloc, LIMITS, options, r, room, w, call)
 }
 
-/// A header alone, checked as a GETATTR, is refused.
+/// A header alone, checked as a GETATTR, is refused, and no call is told.
 fn check_getattr_as(
     alloc: Global,
     options: FsOptions,
@@ -203,12 +203,14 @@ fn check_getattr_as(
     call: &mut CallData,
 ) -> Checked
     requires { r.left ≡ header_9 40 51 }
-    ensures { result ≡ Refused Error.DecodeMessage }
+    ensures result { result ≡ Refused Error.DecodeMessage }
+    ensures no_call { call.new ≡ nothing }
 {
     check_as(number::GETATTR, alloc, LIMITS, options, r, room, call)
 }
 
-/// An INIT of the major version 8 is told ours, in 80 bytes: with one byte less of room it is refused.
+/// An INIT of the major version 8 is told ours, in 80 bytes: with one byte less of room it is refused, and no call
+/// is told.
 fn check_later_init(
     alloc: Global,
     options: FsOptions,
@@ -216,7 +218,40 @@ fn check_later_init(
     call: &mut CallData,
 ) -> Checked
     requires { r.left ≡ later_init }
-    ensures { result ≡ Refused Error.EncodeMessage }
+    ensures result { result ≡ Refused Error.EncodeMessage }
+    ensures no_call { call.new ≡ nothing }
 {
     check(alloc, LIMITS, options, r, 79, call)
+}
+
+/// An INTERRUPT of request 7 that is checked is finished, and tells that number and no call.
+fn check_interrupt_of_seven(
+    alloc: Global,
+    options: FsOptions,
+    r: Reader<'_>,
+    room: usize,
+    call: &mut CallData,
+) -> Checked
+    requires { r.left ≡ header_9 48 36 ++ eight 7 }
+    ensures result { result ≡ Finished 7 }
+    ensures no_call { call.new ≡ nothing }
+{
+    check(alloc, LIMITS, options, r, room, call)
+}
+
+/// A BATCH_FORGET of two pairs tells where they lie: in 32 bytes of the request, which spell them; or there was no
+/// memory for them.
+fn forget_two(
+    alloc: Global,
+    options: FsOptions,
+    r: Reader<'_>,
+    w: &mut Writer,
+    call: &mut CallData,
+) -> Asked
+    requires { r.left ≡ batch_of_two }
+    ensures { ForgetsTwo result call.new
+        ⊎ IsFinished (Refusal Error.OutOfMemory) 0 w.old result w.new call.new }
+{
+    let room = w.available_bytes();
+    ask(alloc, LIMITS, options, r, room, w, call)
 }

@@ -2,6 +2,10 @@ use Rattle.vfs_flags.specs.Numbers.{opcode_of}
 use Rattle.vfs_wire.specs.Fields.{little, number}
 use Rattle.vfs_ask.proofs.uses.check_later_init.Goals as goal
 
-pub returns : goal.returns
+pub returns-clause-result : goal.returns-clause-result
 unfolding little number opcode_of
-returns c = (rw (c.requires) at c.check.ensures).0
+returns-clause-result c = (rw (c.requires) at c.check.ensures).0
+
+pub returns-clause-no_call : goal.returns-clause-no_call
+unfolding little number opcode_of
+returns-clause-no_call c = (rw (c.requires) at c.check.ensures).1
