@@ -1,6 +1,6 @@
-//! What clients open: by requests, or by themselves.
+//! What clients open, by requests or by themselves, and what they close.
 
-ghost use Rattle.std.specs.Prelude.{◌≡◌, codes, None, Some, Err, MatchResult};
+ghost use Rattle.std.specs.Prelude.{◌≡◌, codes, None, Some, Ok, Err, MatchResult};
 ghost use Rattle.vfs_flags.specs.Flags.{fs_options_bits, open_options_bits};
 ghost use Rattle.vfs_files.specs.Answers.{Options, init_answer};
 ghost use Rattle.vfs_tree_uses.specs.Trees.{file_tree, later, of_client, small_tree, tree_of, wide, empty_file, hollow_file, written_later};
@@ -102,4 +102,41 @@ fn directory_opened(tree: &mut TreeFs) -> Result<(Option<u64>, OpenOptions), Fau
     ensures same { tree.new ≡ tree.old }
 {
     tree.opendir(root(), 1, 0)
+}
+
+/// FSYNC, of whatever node: there is nothing to be brought anywhere, and nothing changes.
+fn synced(tree: &mut TreeFs, inode: u64, datasync: bool, handle: u64) -> Result<(), Fault>
+    ensures answer { result ≡ Ok tt }
+    ensures same { tree.new ≡ tree.old }
+{
+    tree.fsync(root(), inode, datasync, handle)
+}
+
+/// FSYNCDIR, likewise.
+fn directory_synced(
+    tree: &mut TreeFs,
+    inode: u64,
+    datasync: bool,
+    handle: u64,
+) -> Result<(), Fault>
+    ensures answer { result ≡ Ok tt }
+    ensures same { tree.new ≡ tree.old }
+{
+    tree.fsyncdir(root(), inode, datasync, handle)
+}
+
+/// RELEASE, of whatever node: no handle was given out, so nothing changes; a lookup of it stays held.
+fn closed(tree: &mut TreeFs, inode: u64, handle: u64, flush: bool) -> Result<(), Fault>
+    ensures answer { result ≡ Ok tt }
+    ensures same { tree.new ≡ tree.old }
+{
+    tree.release(root(), inode, 0, handle, flush, false, None)
+}
+
+/// RELEASEDIR, likewise.
+fn directory_closed(tree: &mut TreeFs, inode: u64, handle: u64) -> Result<(), Fault>
+    ensures answer { result ≡ Ok tt }
+    ensures same { tree.new ≡ tree.old }
+{
+    tree.releasedir(root(), inode, 0, handle)
 }
