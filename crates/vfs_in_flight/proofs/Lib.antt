@@ -3,3 +3,4 @@ pub mod Asking
 pub mod OneTurn
 pub mod Telling
 pub mod Made
+pub mod Running

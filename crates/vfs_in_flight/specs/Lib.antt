@@ -2,3 +2,4 @@ pub mod Flight
 pub mod OneTurn
 pub mod ToldCall
 pub mod Made
+pub mod Running

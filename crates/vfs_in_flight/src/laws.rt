@@ -10,7 +10,10 @@ ghost use Rattle.vfs_grammar.specs.declared.limits.Limits.{Limits};
 ghost use Rattle.vfs_in_flight.specs.Flight.{Waiting, Moment, turns_answered, AreInFlight, AreAskedInTime};
 ghost use Rattle.vfs_in_flight.specs.Made.{NoCountIsBelow};
 ghost use Rattle.vfs_in_flight.specs.OneTurn.{AreOneTurn, AreFinishedTurns};
+ghost use Rattle.vfs_in_flight.specs.Running.{AloneRun, FlightsRun};
 ghost use Rattle.vfs_in_flight.specs.ToldCall.{ToldIsCall};
+
+use vfs_files::FileSystem;
 
 /// What is told of a call determines it: the numbers, and the bytes of the request in the ranges
 /// that are told. No two calls are told by the same data.
@@ -47,6 +50,14 @@ pub fn turns_in_flight_keep_books()
 /// kernel's are, the file system was sent no more forgets of that node than it had answered entries of it.
 pub fn no_count_falls_below_zero_in_flight()
     ensures { NoCountIsBelow }
+{}
+
+/// However requests are interleaved, their calls are a run of the file system, in the order in which they are made, as
+/// those of one caller are: so what each call keeps, a flight keeps. An item that is taken of a directory changes
+/// nothing, and is of the reading of its own request. If no request is beside another, all is one run.
+pub fn calls_in_flight_are_a_run<F: FileSystem>()
+    ensures flights { FlightsRun F.allows F.DirIter.gives }
+    ensures alone { AloneRun F.allows F.DirIter.gives }
 {}
 
 /// If each request is asked under the options of then, and INIT and DESTROY are alone in flight, the turns

@@ -1,12 +1,14 @@
 //! What a transport knows of requests in flight, by the laws alone.
 
-ghost use Rattle.std.specs.Prelude.{◌≡◌, ◌≢◌, ◌≤◌, ◌+◌, ℕ, List, Option, [], ◌∷◌, length, IfSome};
+ghost use Rattle.std.specs.declared.option.Option.TheVariants.{None};
+ghost use Rattle.std.specs.Prelude.{◌≡◌, ◌≢◌, ◌≤◌, ◌+◌, ℕ, Bool, List, Option, [], ◌∷◌, length, true, IfSome};
 ghost use Rattle.vfs_flags.specs.Flags.{fs_options_bits};
 ghost use Rattle.vfs_messages.specs.Rooms.{with_behind};
 ghost use Rattle.vfs_files.specs.Calls.{Call, Read};
+ghost use Rattle.vfs_files.specs.Values.{Item};
 ghost use Rattle.vfs_files.specs.declared.entry.Context.{Context};
 ghost use Rattle.vfs_grammar.specs.Limits.{AreLimits};
-ghost use Rattle.vfs_files.specs.Runs.{Event};
+ghost use Rattle.vfs_files.specs.Runs.{Event, IsRun, OpenedDirectory, Taken};
 ghost use Rattle.vfs_grammar.specs.Books.{KeepsBooks, answered, delivered, sent};
 ghost use Rattle.vfs_grammar.specs.Turn.{AreTurns, Turn};
 ghost use Rattle.vfs_grammar.specs.declared.limits.Limits.{Limits};
@@ -14,11 +16,12 @@ ghost use Rattle.vfs_grammar.specs.Reply.{Echo};
 ghost use Rattle.vfs_calls.specs.declared.call.CallData.{CallData};
 ghost use Rattle.vfs_ask.specs.Asked.{IsEnough, IsTold};
 ghost use Rattle.vfs_in_flight.specs.Flight.{Waiting, IsTurnOf};
-ghost use Rattle.vfs_in_flight.specs.Made.{given_back_by};
+ghost use Rattle.vfs_in_flight.specs.Made.{Answered as IsAnswered, Asked as IsAsked, Point, Seen as IsSeen, events_seen, ForgetsWhatItWasTold, given_back_by};
 ghost use Rattle.vfs_in_flight.specs.OneTurn.{IsAnsweredTurn, IsFinishedTurn};
+ghost use Rattle.vfs_in_flight.specs.Running.{AreMade, EachCallKeeps};
 
 use crate::laws::{
-    a_finished_request_is_one_turn, asked_and_answered_is_one_turn,
+    a_finished_request_is_one_turn, asked_and_answered_is_one_turn, calls_in_flight_are_a_run,
     no_count_falls_below_zero_in_flight, turns_in_flight_are_in_order, turns_in_flight_keep_books,
     what_is_told_is_the_call,
 };
@@ -26,6 +29,7 @@ use std::alloc::Global;
 use vfs_answer::{Answered, answer};
 use vfs_ask::{Asked, ask};
 use vfs_calls::{AnswerData, CallData, ItemData};
+use vfs_files::FileSystem;
 use vfs_flags::FsOptions;
 use vfs_grammar::{Limits, Result};
 use vfs_segments::{Reader, Writer};
@@ -100,6 +104,31 @@ fn crossing_calls_keep_counts()
         sent n (e ∷ d ∷ []) ≤ answered n (e ∷ d ∷ []) }
 {
     no_count_falls_below_zero_in_flight();
+}
+
+/// What each call of a file system keeps, it has after all calls of requests in flight, wherever they are made; and of a
+/// client that gave back no more of a node than was delivered to it, no more was sent back than was answered.
+fn what_calls_keep_flights_keep<F: FileSystem>()
+    ensures { (limits : Limits) (old new : F) (points : List Point) (keeps : F → Bool) (n : ℕ) →
+        EachCallKeeps F.allows keeps → keeps old ≡ true →
+        AreMade F.allows F.DirIter.gives limits [] old points new → n ≢ 0 →
+        ForgetsWhatItWasTold n points →
+        (keeps new ≡ true) × (sent n (events_seen points) ≤ answered n (events_seen points)) }
+{
+    calls_in_flight_are_a_run::<F>();
+    no_count_falls_below_zero_in_flight();
+}
+
+/// A directory is read for a request that is alone: what is taken is of the directory that was opened.
+fn a_reading_alone_is_a_run<F: FileSystem>()
+    ensures { (limits : Limits) (w : Waiting) (t : Turn) (after : ℕ) (call : Call) (item : Option Item)
+        (old new : F) →
+        AreMade F.allows F.DirIter.gives limits [] old
+        (IsAsked w ∷ IsSeen (OpenedDirectory call) ∷ IsSeen (Taken item) ∷ IsAnswered t after ∷ [])
+        new →
+        IsRun F.allows F.DirIter.gives None old (OpenedDirectory call ∷ Taken item ∷ []) new }
+{
+    calls_in_flight_are_a_run::<F>();
 }
 
 /// A request is asked and answered, and then another one: turns in order.
