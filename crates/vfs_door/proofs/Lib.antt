@@ -7,3 +7,4 @@ mod LookupChecked
 mod Printing
 mod OfferedAsks
 mod Pieces
+mod Ending

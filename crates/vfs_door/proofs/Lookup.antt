@@ -160,7 +160,7 @@ Came options answer before outcome after =
     Replies (reply_of limits echo options Entries answer) before outcome after
 
 -- the first bytes of the room that came back
-first_of : (before after : Written) (count : ℕ) (bytes room_after : List ℕ)
+pub first_of : (before after : Written) (count : ℕ) (bytes room_after : List ℕ)
     → AreFirst count before after bytes → whole after ≡ before.passed ++ room_after
     → bytes ≡ take count room_after
 first_of before after count bytes room_after is kept =

@@ -7,3 +7,4 @@ pub mod Answering
 pub mod Uses
 pub mod Checking
 pub mod Further
+pub mod UsesRest

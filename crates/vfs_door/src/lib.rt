@@ -25,6 +25,7 @@ mod rest;
 mod uses;
 mod uses_further;
 mod uses_notices;
+mod uses_rest;
 mod uses_text;
 
 ghost use Rattle.std.specs.Prelude.{◌≡◌, ◌≢◌, ◌≤◌, ◌++◌, ℕ, [], length, take, drop, min, MatchOption};
