@@ -1,11 +1,9 @@
 -- Requests that are finished at their ask or are not asked; and what is told of INIT, DESTROY and directories.
-use Rattle.std.proofs.Common.{◌≡◌, ◌≢◌, ◌⊎◌, ◌≤◌, ◌^◌, ◌∙◌, ℕ, ℤ, pos, List, [], ◌∷◌, ◌++◌, length, take, Option, Some, None, MatchOption, IfSome, Result, Ok, Err, refl, ap, sym, subst, inl, inr, arith}
+use Rattle.std.proofs.Common.{◌≡◌, ◌≢◌, ◌⊎◌, ◌≤◌, ◌^◌, ◌∙◌, ℕ, ℤ, pos, List, [], length, take, Option, Some, None, MatchOption, IfSome, Result, Ok, Err, refl, ap, sym, subst, inl, inr, arith}
 use Rattle.std.specs.Prelude.{⊤, bit_and}
 use Rattle.vfs_flags.specs.Flags.{known_fs_options}
 use Rattle.vfs_flags.specs.Numbers.{opcode_of}
 use Rattle.vfs_wire.specs.Fields.{little, number}
-use Rattle.vfs_segments.specs.Lengths.{lengths_from}
-use Rattle.vfs_segments.specs.Unread.{Unread}
 use Rattle.vfs_segments.specs.Written.{Written}
 use Rattle.vfs_files.specs.Calls.{Call, Init, Destroy, kind_of, Iterators}
 use Rattle.vfs_grammar.specs.Ask.{ask}
@@ -16,8 +14,8 @@ use Rattle.vfs_grammar.specs.Samples.{nobody, not_served_reply}
 use Rattle.vfs_grammar.specs.declared.error.Error.{Error}
 use Rattle.vfs_grammar.specs.declared.error.Error.TheVariants as error
 use Rattle.vfs_grammar.specs.declared.limits.Limits.{Limits}
-use Rattle.vfs_messages.specs.Rooms.{Replies, Writes}
-use Rattle.vfs_calls.specs.Shapes.{nothing, shape_of}
+use Rattle.vfs_messages.specs.Rooms.{Writes}
+use Rattle.vfs_calls.specs.Shapes.{nothing}
 use Rattle.vfs_calls.specs.declared.call.CallData.{CallData}
 use Rattle.vfs_calls.specs.declared.data.AnswerData.{AnswerData}
 use Rattle.vfs_calls.specs.declared.data.ItemData.{ItemData}
@@ -28,13 +26,12 @@ use Rattle.vfs_ask.specs.Checked.{Judges}
 use Rattle.vfs_ask.specs.Memory.{MayWant}
 use Rattle.vfs_ask.specs.declared.asked.Asked.{Asked}
 use Rattle.vfs_ask.specs.declared.asked.Asked.TheVariants as asked
-use Rattle.vfs_ask.specs.declared.checked.Checked.{Checked}
 use Rattle.vfs_ask.specs.declared.checked.Checked.TheVariants as checked
 use Rattle.vfs_answer.proofs.Using.{agrees, in_room}
 use Rattle.vfs_answer.specs.Told.{CallIsAnswered, IsShort, TellsCall, TellsEcho}
 use Rattle.vfs_answer.specs.declared.answered.Answered.{Answered}
 use Rattle.vfs_rooms.specs.Codes.{ok, no_memory, too_long, is_asked, number_of, length_of}
-use Rattle.vfs_door.specs.Answering.{AnswersIn, AnswersOrNot, IsPassedOn}
+use Rattle.vfs_door.specs.Answering.{AnswersOrNot, IsPassedOn}
 use Rattle.vfs_door.specs.Asking.{AsksOrNot, IsPassedOn as IsAskedOn}
 use Rattle.vfs_door.specs.Checking.{Checks, checked_code, interrupts_of}
 use Rattle.vfs_door.specs.Kept.{put_of}

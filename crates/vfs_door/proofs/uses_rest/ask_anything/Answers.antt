@@ -1,8 +1,8 @@
-use Rattle.std.proofs.Common.{◌≡◌, ◌⊎◌, inl, inr, rules}
+use Rattle.std.proofs.Common.{◌≡◌, rules}
 use Rattle.vfs_flags.specs.Numbers.{opcode_of}
 use Rattle.vfs_segments.specs.Segments.{segments_of}
 use Rattle.vfs_ask.specs.Memory.{MayWant}
-use Rattle.vfs_rooms.specs.Codes.{no_memory, ok, too_long}
+use Rattle.vfs_rooms.specs.Codes.{no_memory, too_long}
 use Rattle.vfs_door.specs.Asking.{unread_in}
 use Rattle.vfs_door.proofs.Ending.{no_call_without, not_served, too_long_together}
 use Rattle.vfs_door.proofs.Lookup.{are_limits, limits}
