@@ -47,7 +47,7 @@ module _ (P : Ask → Type 0) (h : InHeader) (rest : List ℕ) (refusal : (e : E
       part (layout_record layout rest) _ (λ r is. limit (above r) _
       (part (space_behind_header space) _ (λ n fits. p r n fits)))
 
-room_for_records : (space n : ℕ) (short : Bool) → nat_lt space 16 ≡ short
+pub room_for_records : (space n : ℕ) (short : Bool) → nat_lt space 16 ≡ short
     → (if short then Err EncodeMessage else Ok (space - 16)) ≡ Ok n → (16 ≤ space) × (n ≡ space - 16)
 room_for_records space n true short is = absurd cc
 room_for_records space n false short is = (grind (arith, nat_tests, short), cc)

@@ -4,3 +4,5 @@ pub mod OneTurn
 pub mod Telling
 pub mod Made
 pub mod Running
+pub mod Table
+pub mod Servable

@@ -3,3 +3,4 @@ pub mod OneTurn
 pub mod ToldCall
 pub mod Made
 pub mod Running
+pub mod Table

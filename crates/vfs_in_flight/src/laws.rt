@@ -11,7 +11,7 @@ ghost use Rattle.vfs_in_flight.specs.Flight.{Waiting, Moment, turns_answered, Ar
 ghost use Rattle.vfs_in_flight.specs.Made.{NoCountIsBelow};
 ghost use Rattle.vfs_in_flight.specs.OneTurn.{AreOneTurn, AreFinishedTurns};
 ghost use Rattle.vfs_in_flight.specs.Running.{AloneRun, FlightsRun};
-ghost use Rattle.vfs_in_flight.specs.ToldCall.{ToldIsCall};
+ghost use Rattle.vfs_in_flight.specs.ToldCall.{TableIsCall, TableSays, ToldIsCall};
 
 use vfs_files::FileSystem;
 
@@ -19,6 +19,13 @@ use vfs_files::FileSystem;
 /// that are told. No two calls are told by the same data.
 pub fn what_is_told_is_the_call()
     ensures { ToldIsCall }
+{}
+
+/// The table of calls as data: data are told of a call if and only if they are those of its row. So no two calls have
+/// rows with the same data.
+pub fn the_table_says_what_is_told()
+    ensures says { TableSays }
+    ensures one { TableIsCall }
 {}
 
 /// A request that was asked for its call, and whose call was answered, is one turn of the grammar, under the
