@@ -9,7 +9,7 @@
 # version runs with what is built and what is packed: tests/c/version-0.2. All names that the libraries define begin with
 # `nizwarf_`, and none that C calls takes 64 KiB of stack.
 # Records and numbers of crates are those of the kernel's header, the machine's and the newest that Debian has, by
-# tests/c/kernel.py.
+# tests/c/kernel.py, and the door's those of nizwarf.h, by tests/c/data.py.
 # Last, tools/package.sh packs the libraries, and the examples are built by pkg-config against what is installed of
 # that, shared and static, and do the same.
 #
@@ -134,8 +134,9 @@ if [ -n "$other_names" ]; then
     exit 1
 fi
 "$here/tools/dev/stack.py" --most 65535 "${library[@]:0:2}"
-part "the records and numbers of crates against the kernel's header"
+part "the records and numbers of crates against the kernel's header and nizwarf.h"
 "$here/tests/c/kernel.py"
+"$here/tests/c/data.py"
 
 [ -z "$quick" ] || exit 0
 
