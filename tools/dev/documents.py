@@ -260,7 +260,7 @@ for path in (line.split(":")[0] for line in reached):
 COUNTS = re.compile(r"(\d+) definitions,? (?:of )?([\d,]+) lines")
 # What is told as so much more than the session, and begins with these.
 BESIDE = {"the clause `memory`": ["vfs_server/Sparing.IsSparing"],
-          "the door": ["vfs_door/Asking.AsksOrNot", "vfs_door/Answering.AnswersOrNot", "vfs_door/Kept.HoldsAnswer"]}
+          "the door": ["vfs_door/Turns.IsAskedOrNot", "vfs_door/Turns.IsAnsweredOrNot", "vfs_door/Kept.HoldsAnswer"]}
 further = []
 for what, starts in BESIDE.items():
     *files, ends = subprocess.run(["tools/measure/statement.sh", "--files", "vfs_server/Session.IsSession", *starts],

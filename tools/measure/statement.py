@@ -1,6 +1,9 @@
 """Counts what a statement stands on, for statement.sh, which says how."""
 import collections, glob, re, sys
 
+sys.path.append("tools/lib")
+from records import COPIED, ZEROS
+
 USE = re.compile(r"^\s*(?:pub )?use Rattle\.([\w.]+?)(?:\.\{([^}]*)\}|( as (\w+))?)$")
 TOP = re.compile(r"^( *)(?:abbrev |unfoldable |opaque )*pub (record |data )?([\w-]+)")
 WORD = re.compile(r"\w+(?:-\w+)*")
@@ -103,8 +106,13 @@ def is_decoder(it):
 
 def is_held(specs, it):
     """Whether tests/c/kernel.py holds a definition against the kernel's headers: the table of a record, that of opcodes,
-    an error number, or an option that the header of 7.38 has."""
+    an error number, or an option that the header of 7.38 has. Or tests/c/data.py against nizwarf.h too: the codes, a copy
+    of a record by the names of its fields, or a record of zeros."""
     text = specs.of[it[0]][it[1]].text
+    if it[0] == "vfs_rooms.specs.Codes":
+        return it[1] == "number_of" or bool(re.match(r"abbrev pub \w+ : ℤ\n\w+ = pos \d+$", text.strip()))
+    if it[0].startswith("vfs_calls"):
+        return bool(re.match(COPIED, text.strip()) or re.match(ZEROS, text.strip()))
     if it[0].startswith("vfs_wire"):
         return bool(re.match(r"abbrev pub \w+ : Table \w+\n", text))
     if it[0] == "vfs_flags.specs.Flags":
@@ -145,7 +153,7 @@ def main():
           f" {len(by) - len(all_reached)} types of the code")
     length = lambda those: sum(len(at(it).lines) for it in those)
     if held:
-        print(f"not counted: {len(held)} tables and numbers of {length(held)} lines, held against the kernel's headers, and"
+        print(f"not counted: {len(held)} tables and numbers of {length(held)} lines, held against headers, and"
               f" {len(followed)} decoders of {length(followed)}, which a law gives")
 
 

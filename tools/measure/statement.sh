@@ -11,8 +11,10 @@
 #
 # Lines are those of definitions, without comments and empty lines. Types of the code, as records and enums of
 # the protocol, are counted apart. So are the tables of records, opcodes, error numbers and single options, since the
-# gate compiles them against the kernel's headers (tests/c/kernel.py), and the decoders of records, made_..: how a
-# record is made of its fields follows of how it is split into them, by the law decoding_is_the_inverse of vfs_wire.
+# gate compiles them against the kernel's headers (tests/c/kernel.py); of the door the numbers of codes, copies of
+# records by the names of their fields, and records of zeros, which it compiles against nizwarf.h too (tests/c/data.py);
+# and the decoders of records, made_..: how a record is made of its fields follows of how it is split into them, by
+# the law decoding_is_the_inverse of vfs_wire.
 set -eu
 . "$(dirname "$0")/../lib/usage.sh"
 need python3 "Install it: apt-get install python3."

@@ -8,3 +8,4 @@ mod Printing
 mod OfferedAsks
 mod Pieces
 mod Ending
+mod Turns

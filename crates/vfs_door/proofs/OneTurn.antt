@@ -59,7 +59,7 @@ room_told q o n room (WithMemory rest) before after call (inl t) = room_told q o
 room_told q o n room (WithMemory rest) before after call (inr t) = absurd t.1
 
 -- a directory has all its room
-listing_behind : (limits : Limits) (call : CallData) (a : AnswerData) (items : List ItemData)
+pub listing_behind : (limits : Limits) (call : CallData) (a : AnswerData) (items : List ItemData)
     (old new : Written) (came : Answered) (behind : List ℕ) (only : Bool) → (call.answer == 3) ≡ only
     → length old.left ≡ (if only then min call.room 16 else call.room)
     → length old.left + length behind ≡ call.room

@@ -8,3 +8,4 @@ pub mod Uses
 pub mod Checking
 pub mod Further
 pub mod UsesRest
+pub mod Turns

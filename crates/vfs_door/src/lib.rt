@@ -40,6 +40,7 @@ ghost use Rattle.vfs_door.specs.Asking.{AsksOrNot, unread_in};
 ghost use Rattle.vfs_door.specs.Kept.{Holds, HoldsAnswer, HoldsFor, TellsOrNot};
 ghost use Rattle.vfs_door.specs.Session.{limits_of, options_of};
 ghost use Rattle.vfs_door.specs.Shown.{shown_in};
+ghost use Rattle.vfs_door.specs.Turns.{IsAnsweredOrNot, IsAskedOrNot};
 ghost use Rattle.vfs_door.specs.declared.memory.Memory.{Memory};
 
 use crate::answer::{answer_call, entry_of};
@@ -126,6 +127,12 @@ pub extern "C" fn nizwarf_ask_at(
     ensures wrong { (AreLimits (limits_of session.now) → ⊥) →
         (result ≡ wrong_size) × (handle.new.value ≡ handle.old.value)
         × (call.new ≡ call.old) × (told.new ≡ told.old) }
+    ensures promise { AreLimits (limits_of session.now) →
+        IsAskedOrNot (limits_of session.now) (options_of session.now)
+        (flat_bytes (segments_of request.now)) room
+        result call.new told.old told.new (shown_in handle.new.value) }
+
+    // The same over writers.
     ensures asked { AreLimits (limits_of session.now) →
         AsksOrNot (limits_of session.now) (options_of session.now)
         (flat_bytes (segments_of request.now)) room
@@ -252,11 +259,39 @@ pub extern "C" fn nizwarf_answer_at(
 ) -> i32
     ensures wrong { (AreLimits (limits_of session.now) → ⊥) →
         (result ≡ wrong_size) × (handle.new.value ≡ handle.old.value) × (told.new ≡ told.old) }
+    ensures promise { AreLimits (limits_of session.now) →
+        IsAnsweredOrNot (limits_of session.now) call.now answer.now text.now items.now
+        result told.old told.new (shown_in handle.new.value) }
+
+    // The same over writers, and by the data alone, of whatever request they are.
     ensures answered { AreLimits (limits_of session.now) →
         AnswersOrNot (limits_of session.now) call.now answer.now text.now items.now
         result told.old told.new (shown_in handle.new.value) }
 
     // A slot with which the call was asked has memory for its answer, and has it for others still.
+    ensures memory { HoldsAnswer call.now handle.old.value → result ≢ no_memory }
+    ensures keeps { (n : ℕ) → Holds n handle.old.value → Holds n handle.new.value }
+{
+    answer_in_slot(alloc, handle, session, call, answer, text, items, told)
+}
+
+// The same, but for what follows from it.
+#[inline(always)]
+fn answer_in_slot(
+    alloc: Global,
+    handle: &mut Handle,
+    session: &SessionData,
+    call: &CallData,
+    answer: &AnswerData,
+    text: &[u8],
+    items: &[ItemData<'_>],
+    told: &mut ToldData,
+) -> i32
+    ensures wrong { (AreLimits (limits_of session.now) → ⊥) →
+        (result ≡ wrong_size) × (handle.new.value ≡ handle.old.value) × (told.new ≡ told.old) }
+    ensures answered { AreLimits (limits_of session.now) →
+        AnswersOrNot (limits_of session.now) call.now answer.now text.now items.now
+        result told.old told.new (shown_in handle.new.value) }
     ensures memory { HoldsAnswer call.now handle.old.value → result ≢ no_memory }
     ensures keeps { (n : ℕ) → Holds n handle.old.value → Holds n handle.new.value }
 {
