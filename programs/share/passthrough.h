@@ -27,6 +27,13 @@ enum passthrough_cache {
 	CACHE_METADATA,
 };
 
+enum migration_mode {
+	/* By paths below the folder. */
+	MIGRATES_BY_PATHS,
+	/* By handles of their file system. */
+	MIGRATES_BY_HANDLES,
+};
+
 /* A time that isn't said. */
 #define AS_CACHE_SAYS UINT64_MAX
 
@@ -59,6 +66,10 @@ struct passthrough_options {
 	 * with it (fuse_backing_start). */
 	bool passthrough;
 	int backing;
+	/* How another server finds the files of a machine that migrates to it, and what it does of those that aren't
+	 * found. With `verifies` a path must lead to the very file of before. */
+	enum migration_mode migration_mode;
+	bool verifies, loses_files;
 	/* Where what others change is told, for passthrough_watch(); NULL: nowhere. */
 	transport_notices *notices;
 	/* What would change something is EROFS. */
@@ -105,6 +116,8 @@ int passthrough_begin(void *user, unsigned worker);
 void passthrough_finish(void *user, unsigned worker);
 void passthrough_parted(void *user);
 void passthrough_recall(void *user);
+int passthrough_save(void *user, transport_state *to);
+int passthrough_load(void *user, transport_state *from);
 int32_t passthrough_serve(void *user, unsigned worker, const nizwarf_segment *request, size_t segments,
 			  const nizwarf_room *room, size_t rooms, size_t *len);
 

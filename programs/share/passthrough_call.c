@@ -298,12 +298,12 @@ static void tell_open(const struct call *call, bool is_directory, int fd, const 
 		answer->open_flags |= FOPEN_NOFLUSH;
 }
 
-/* Answers an open file, which has the descriptor then, and the open of `backing`: 0, or an error. (Who guesses its
+/* Answers an open file of a node, which has the descriptor then, and the open of `backing`: 0, or an error. (Who guesses its
  * number may have released it by then.) */
-static int add_file(const struct call *call, int fd, int flags, struct backing *backing)
+static int add_file(const struct call *call, uint64_t node, int fd, int flags, struct backing *backing)
 {
 	tell_open(call, flags & O_DIRECTORY, fd, backing);
-	call->answer->handle = file_add(&call->all->nodes, fd, flags, backing);
+	call->answer->handle = file_add(&call->all->nodes, node, fd, flags, backing);
 	if (call->answer->handle)
 		return 0;
 	backing_put(backing);
@@ -336,7 +336,7 @@ static int open_file(const struct call *call)
 	if (!is_directory && !error)
 		error = backing_take(call, call->asked->node, fd, &backing);
 	if (!error)
-		error = add_file(call, fd, flags, backing);
+		error = add_file(call, call->asked->node, fd, flags, backing);
 	if (error)
 		fd_let_go(nodes, fd);
 	return error;
@@ -425,7 +425,7 @@ static int tell_new(const struct call *call, const char *name, int fd, int path,
 		return error;
 	error = backing_take(call, entry->node, fd, &backing);
 	if (!error)
-		error = add_file(call, fd, flags_of(call), backing);
+		error = add_file(call, entry->node, fd, flags_of(call), backing);
 	if (error)
 		node_forget(nodes, entry->node, 1);
 	return error;
@@ -661,8 +661,7 @@ static int make_with_node(struct call *call)
 	return error;
 }
 
-/* The options that are wanted of those that are offered. */
-static uint64_t wanted(const struct passthrough *all)
+uint64_t wanted(const struct passthrough *all)
 {
 	const struct passthrough_options *options = &all->options;
 	uint64_t wants = FUSE_ASYNC_READ | FUSE_BIG_WRITES | FUSE_ATOMIC_O_TRUNC | FUSE_AUTO_INVAL_DATA |

@@ -77,6 +77,8 @@ struct call {
 	nizwarf_answer *answer;
 };
 
+/* The options that are wanted of those that a client offers. */
+uint64_t wanted(const struct passthrough *all);
 /* Makes a call: 0, or an error. */
 int make_call(struct call *call);
 

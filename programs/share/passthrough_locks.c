@@ -499,6 +499,34 @@ static struct holder *take_any(struct locks *all)
 	return h;
 }
 
+/* Whether an owner has locks. Those of fcntl(2) it may have given up, each by itself. */
+static bool has_locks(const struct locks *all, const struct holder *h)
+{
+	struct flock any = { .l_type = F_WRLCK, .l_whence = SEEK_SET };
+	int fd;
+	bool is_free;
+
+	if (h->is_flock)
+		return true;
+	fd = open_again(all->nodes, h->fd, O_RDONLY | O_NONBLOCK | O_NOCTTY);
+	is_free = fd >= 0 && !fcntl(fd, F_OFD_GETLK, &any) && any.l_type == F_UNLCK;
+	if (fd >= 0)
+		close(fd);
+	return !is_free;
+}
+
+bool locks_are_held(struct locks *all)
+{
+	bool are_held = false;
+
+	pthread_mutex_lock(&all->lock);
+	for (unsigned i = 0; i < CHAINS; i++)
+		for (struct holder *h = all->chains[i]; h && !are_held; h = h->next)
+			are_held = has_locks(all, h);
+	pthread_mutex_unlock(&all->lock);
+	return are_held;
+}
+
 void locks_forget_all(struct locks *all)
 {
 	struct holder *h;

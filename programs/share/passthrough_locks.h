@@ -26,6 +26,8 @@ void locks_close(struct locks *all, const nizwarf_call *asked);
 void locks_interrupt(struct locks *all, uint64_t unique);
 /* Whoever waits for a lock waits no longer, or soon. */
 void locks_recall(struct locks *all);
+/* Whether a client holds some, while it asks for nothing. */
+bool locks_are_held(struct locks *all);
 /* Of a client that has gone, or begins anew: it has no locks, and waits for none. */
 void locks_forget_all(struct locks *all);
 

@@ -103,6 +103,87 @@ static void take(struct table *table, const struct counted *thing)
 	table->count--;
 }
 
+/* The number of the next thing behind a place; 0: there is none. */
+static uint64_t next_in(struct table *table, uint32_t *place)
+{
+	const struct counted *thing = NULL;
+	uint64_t number = 0;
+
+	pthread_rwlock_rdlock(&table->lock);
+	while (!thing && ++*place < table->used)
+		thing = thing_in(table, *place);
+	if (thing)
+		number = thing->number;
+	pthread_rwlock_unlock(&table->lock);
+	return number;
+}
+
+/* No slot is used again up to settle(), and those that are behind the last thing are none. */
+static void begin_placing(struct table *table)
+{
+	pthread_rwlock_wrlock(&table->lock);
+	while (table->used > 1 && !thing_in(table, table->used - 1))
+		table->used--;
+	table->first_free = NO_SLOT;
+	table->most_uses = 0;
+	pthread_rwlock_unlock(&table->lock);
+}
+
+/* Gives a thing its number, under the lock: 0, or an error. */
+static int place_in(struct table *table, struct counted *thing, uint64_t number)
+{
+	const uint32_t at = (uint32_t)number, uses = (uint32_t)(number >> 32);
+	size_t size = table->size ? table->size : FIRST_SLOTS;
+
+	while (size <= at)
+		size *= 2;
+	if (size > table->size) {
+		uint64_t *more = size > UINT32_MAX / 2 ? NULL : realloc(table->slots, size * sizeof(*more));
+
+		if (!more)
+			return ENOMEM;
+		table->slots = more;
+		table->size = (uint32_t)size;
+	}
+	for (; table->used <= at; table->used++)
+		table->slots[table->used] = 1;
+	if (thing_in(table, at))
+		return EEXIST;
+	table->slots[at] = (uintptr_t)thing;
+	table->count++;
+	table->most_uses = uses > table->most_uses ? uses : table->most_uses;
+	thing->number = number;
+	return 0;
+}
+
+/* Nothing gets this number. */
+static void lose_in(struct table *table, uint64_t number)
+{
+	const uint32_t uses = (uint32_t)(number >> 32);
+
+	pthread_rwlock_wrlock(&table->lock);
+	table->most_uses = uses > table->most_uses ? uses : table->most_uses;
+	pthread_rwlock_unlock(&table->lock);
+}
+
+/* Has the slots used again that are free, by numbers that the other server gave to nothing. */
+static void settle(struct table *table)
+{
+	uint64_t uses;
+
+	pthread_rwlock_wrlock(&table->lock);
+	table->first_free = NO_SLOT;
+	for (uint32_t at = table->used; --at > 0;) {
+		if (thing_in(table, at))
+			continue;
+		uses = table->slots[at] >> 32;
+		uses = uses > table->most_uses ? uses : (uint32_t)(table->most_uses + 1);
+		table->slots[at] = uses << 32 | (uint64_t)table->first_free << 1 | 1;
+		table->first_free = at;
+	}
+	pthread_rwlock_unlock(&table->lock);
+}
+
 /* ---- descriptors */
 
 int fd_reserve(struct nodes *all, unsigned count)
@@ -331,6 +412,18 @@ static void grow_chains(struct nodes *all)
 	free(old);
 }
 
+/* Puts a node into its chain, under the lock. */
+static void enchain(struct nodes *all, struct node *node)
+{
+	struct node **chain;
+
+	if (all->nodes.count > all->chain_count)
+		grow_chains(all);
+	chain = chain_of(all, node->on->device, node->inode);
+	node->next = *chain;
+	*chain = node;
+}
+
 /* Adds a lookup of a known node, under the lock: its number; 0: it isn't known. */
 static uint64_t add_to_known(const struct nodes *all, const struct statx *seen,
 			     const struct file_handle *handle)
@@ -359,17 +452,12 @@ static uint64_t find_known(struct nodes *all, const struct statx *seen, const st
 static uint64_t add_lookup(struct nodes *all, const struct statx *seen, const struct file_handle *handle,
 			   struct node **made)
 {
-	struct node **chain;
 	uint64_t number;
 
 	pthread_rwlock_wrlock(&all->nodes.lock);
 	number = add_to_known(all, seen, handle);
 	if (!number && (handle || !is_by_handle(all, seen)) && add(&all->nodes, &(*made)->counted)) {
-		if (all->nodes.count > all->chain_count)
-			grow_chains(all);
-		chain = chain_of(all, (*made)->on->device, (*made)->inode);
-		(*made)->next = *chain;
-		*chain = *made;
+		enchain(all, *made);
 		number = (*made)->counted.number;
 		if ((*made)->watched)
 			watch_name((*made)->watched, number);
@@ -414,7 +502,7 @@ static uint64_t add_made(struct nodes *all, const struct statx *seen, struct nod
 static size_t name_size(const struct nodes *all, const struct found *found, const struct host_mount *on,
 			const struct statx *seen)
 {
-	return found->node && all->named_mount && on->id == all->named_mount &&
+	return found->node && found->name && all->named_mount && on->id == all->named_mount &&
 			       (S_ISREG(seen->stx_mode) || S_ISDIR(seen->stx_mode)) ?
 		       strlen(found->name) + 1 :
 		       0;
@@ -504,14 +592,22 @@ int open_by_name(struct nodes *all, struct node *node, int flags)
 	return -1;
 }
 
-int node_enter(struct nodes *all, const struct found *found, int fd, const struct statx *seen,
-	       uint64_t *number, bool *is_new)
+/* The handle of a file, if that is wanted and there is one; or NULL. */
+static struct file_handle *handle_wanted(struct nodes *all, int fd, const struct statx *seen,
+					 union handle_room *room)
 {
 	/* (what has no name is not found by its handle) */
 	const bool by_handle =
 		seen->stx_nlink && (atomic_load(&all->kept) > all->handles_from || some_handle(all, seen));
+
+	return by_handle && handle_by(fd, room) ? &room->handle : NULL;
+}
+
+int node_enter(struct nodes *all, const struct found *found, int fd, const struct statx *seen,
+	       uint64_t *number, bool *is_new)
+{
 	union handle_room room;
-	struct file_handle *handle = by_handle && handle_by(fd, &room) ? &room.handle : NULL;
+	struct file_handle *handle = handle_wanted(all, fd, seen, &room);
 	struct node *made;
 	int error;
 
@@ -531,6 +627,36 @@ int node_enter(struct nodes *all, const struct found *found, int fd, const struc
 		*is_new = true;
 	free_node(made);
 	return *number ? 0 : ENOMEM;
+}
+
+int node_restore(struct nodes *all, int fd, const struct statx *seen, uint64_t number, uint64_t lookups,
+		 bool is_apart)
+{
+	const struct node *root = (struct node *)thing_of(&all->nodes, ROOT_NODE);
+	const struct found somewhere = { root->counted.fd, root, NULL };
+	struct file_handle *handle;
+	union handle_room room;
+	struct node *made;
+	int error = (uint32_t)number > all->most_nodes ? ENFILE : node_reserve(all);
+
+	if (error) {
+		close(fd);
+		return error;
+	}
+	handle = handle_wanted(all, fd, seen, &room);
+	error = make(all, &somewhere, fd, seen, handle, &made);
+	if (error)
+		return error;
+	atomic_store(&made->lookups, lookups);
+	made->is_apart = is_apart;
+	pthread_rwlock_wrlock(&all->nodes.lock);
+	error = known(all, seen, handle) ? EEXIST : place_in(&all->nodes, &made->counted, number);
+	if (!error)
+		enchain(all, made);
+	pthread_rwlock_unlock(&all->nodes.lock);
+	if (error)
+		free_node(made);
+	return error;
 }
 
 /* Takes a node from its chain and its number, under the lock. */
@@ -609,6 +735,50 @@ void nodes_forget_all(struct nodes *all)
 	}
 }
 
+void nodes_empty(struct nodes *all)
+{
+	nodes_forget_all(all);
+	begin_placing(&all->nodes);
+	begin_placing(&all->files);
+}
+
+void nodes_settle(struct nodes *all)
+{
+	settle(&all->nodes);
+	settle(&all->files);
+}
+
+void node_lose(struct nodes *all, uint64_t number)
+{
+	lose_in(&all->nodes, number);
+}
+
+void file_lose(struct nodes *all, uint64_t number)
+{
+	lose_in(&all->files, number);
+}
+
+uint64_t node_found_in(const struct node *node, const char **name)
+{
+	*name = node->directory ? name_in(node) : NULL;
+	return node->directory;
+}
+
+struct file_handle *node_handle(const struct node *node)
+{
+	return handle_in(node);
+}
+
+uint64_t node_next(struct nodes *all, uint32_t *place)
+{
+	return next_in(&all->nodes, place);
+}
+
+uint64_t file_next(struct nodes *all, uint32_t *place)
+{
+	return next_in(&all->files, place);
+}
+
 /* How many descriptors may be kept, if so many are for others. Where that leaves few, it is a quarter. */
 static unsigned most_to_keep(unsigned others)
 {
@@ -663,21 +833,32 @@ void nodes_end(struct nodes *all)
 
 /* ---- open files */
 
-uint64_t file_add(struct nodes *all, int fd, int flags, struct backing *backing)
+static struct open_file *new_file(struct nodes *all, uint64_t node, int fd, int flags,
+				  struct backing *backing)
 {
 	struct open_file *file = calloc(1, sizeof(*file));
+
+	if (!file)
+		return NULL;
+	atomic_init(&file->counted.users, 1);
+	file->of = all;
+	file->node = node;
+	file->counted.fd = fd;
+	file->is_directory = flags & O_DIRECTORY;
+	file->at_end = flags & O_APPEND;
+	atomic_init(&file->is_direct, flags & O_DIRECT);
+	file->backing = backing;
+	pthread_mutex_init(&file->lock, NULL);
+	pthread_rwlock_init(&file->writing, NULL);
+	return file;
+}
+
+uint64_t file_add(struct nodes *all, uint64_t node, int fd, int flags, struct backing *backing)
+{
+	struct open_file *file = new_file(all, node, fd, flags, backing);
 	uint64_t number = 0;
 
 	if (file) {
-		atomic_init(&file->counted.users, 1);
-		file->of = all;
-		file->counted.fd = fd;
-		file->is_directory = flags & O_DIRECTORY;
-		file->at_end = flags & O_APPEND;
-		atomic_init(&file->is_direct, flags & O_DIRECT);
-		file->backing = backing;
-		pthread_mutex_init(&file->lock, NULL);
-		pthread_rwlock_init(&file->writing, NULL);
 		pthread_rwlock_wrlock(&all->files.lock);
 		/* (behind the lock a client that guesses the number may have released it) */
 		if (add(&all->files, &file->counted))
@@ -687,6 +868,23 @@ uint64_t file_add(struct nodes *all, int fd, int flags, struct backing *backing)
 	if (!number)
 		free(file);
 	return number;
+}
+
+int file_restore(struct nodes *all, uint64_t node, int fd, int flags, uint64_t number)
+{
+	struct open_file *file = NULL;
+	int error = (uint32_t)number > all->most_kept ? EMFILE : 0;
+
+	if (!error && !(file = new_file(all, node, fd, flags, NULL)))
+		error = ENOMEM;
+	if (!error) {
+		pthread_rwlock_wrlock(&all->files.lock);
+		error = place_in(&all->files, &file->counted, number);
+		pthread_rwlock_unlock(&all->files.lock);
+	}
+	if (error)
+		free(file);
+	return error;
 }
 
 struct open_file *file_get(struct nodes *all, uint64_t number)

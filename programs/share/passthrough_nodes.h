@@ -43,6 +43,8 @@ struct table {
 	pthread_rwlock_t lock;
 	uint64_t *slots;
 	uint32_t size, used, first_free, count;
+	/* How many times a number of another server's was used at most, while things get such. */
+	uint32_t most_uses;
 };
 
 /* A device of the host in one of its mounts: it is there as long as a node of it is. `users` reaches 0 under
@@ -94,6 +96,8 @@ struct open_file {
 	/* And O_DIRECT, up to when something is written that this doesn't take. */
 	atomic_bool is_direct;
 	pthread_rwlock_t writing;
+	/* The node that it was opened of. */
+	uint64_t node;
 	/* NULL: the client was not told that it may have the file by itself. */
 	struct backing *backing;
 	/* Of a directory: what was read and not told yet, and the offset of that. */
@@ -133,7 +137,7 @@ struct nodes {
 	struct host_mount *mounts;
 };
 
-/* A directory in which a file is found, with its node if that is known, and the name. */
+/* A directory in which a file is found, with its node if that is known, and the name; NULL: it isn't known. */
 struct found {
 	int directory;
 	const struct node *node;
@@ -213,14 +217,37 @@ int open_by_name(struct nodes *all, struct node *node, int flags);
 /* Opens what a descriptor is of anew, with these flags; the descriptor, or -1 with errno. */
 int open_again(const struct nodes *all, int fd, int flags);
 
-/* The number of a new open file, which has the descriptor from then on, for which one was reserved, and which
+/* The number of a new open file of a node, which has the descriptor from then on, for which one was reserved, and which
  * was opened with these flags, and an open of `backing`, if there is one; 0: there is no memory, and both stay the caller's. */
-uint64_t file_add(struct nodes *all, int fd, int flags, struct backing *backing);
+uint64_t file_add(struct nodes *all, uint64_t node, int fd, int flags, struct backing *backing);
 /* Takes an open file in hand, or NULL. */
 struct open_file *file_get(struct nodes *all, uint64_t number);
 void file_put(struct open_file *file);
 /* 0, or EBADF where there is none. */
 int file_release(struct nodes *all, uint64_t number);
+
+/* The number of the next node, or open file, behind a place, which begins as 0; 0: there is none. */
+uint64_t node_next(struct nodes *all, uint32_t *place);
+uint64_t file_next(struct nodes *all, uint32_t *place);
+
+/* The directory in which a node was found first, and the name; 0: it isn't known. */
+uint64_t node_found_in(const struct node *node, const char **name);
+/* The handle of a node that is held by one; or NULL. */
+struct file_handle *node_handle(const struct node *node);
+
+/* Lets go of all nodes but the root, and of all open files. Up to nodes_settle no number is used again, so that nodes and
+ * open files have those that they had in another server. */
+void nodes_empty(struct nodes *all);
+void nodes_settle(struct nodes *all);
+/* Enters a node by its number, with so many lookups: of a file that was opened with O_PATH, by a descriptor that is the
+ * node's then, or closed. 0, or an error: EEXIST, if the number or the file is another node's. */
+int node_restore(struct nodes *all, int fd, const struct statx *seen, uint64_t number, uint64_t lookups,
+		 bool is_apart);
+/* The same of an open file of a node, opened with these flags, for whose descriptor one was reserved. */
+int file_restore(struct nodes *all, uint64_t node, int fd, int flags, uint64_t number);
+/* A node of this number can't be entered, or an open file: it is none's, also from nodes_settle on. */
+void node_lose(struct nodes *all, uint64_t number);
+void file_lose(struct nodes *all, uint64_t number);
 
 /* How many nodes and open files there are, the root among them. */
 void nodes_count(struct nodes *all, uint32_t *nodes, uint32_t *files);

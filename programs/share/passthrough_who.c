@@ -145,7 +145,9 @@ static int limit(uint64_t *left, const struct passthrough_options *options)
 	struct __user_cap_header_struct header = { _LINUX_CAPABILITY_VERSION_3, 0 };
 	struct __user_cap_data_struct had[2];
 	/* (by this one handles are opened, of any file of the file system) */
-	uint64_t mask = options->file_handles == HANDLES_NEVER ? 0 : UINT64_C(1) << CAP_DAC_READ_SEARCH;
+	const bool opens_handles =
+		options->file_handles != HANDLES_NEVER || options->migration_mode == MIGRATES_BY_HANDLES;
+	uint64_t mask = opens_handles ? UINT64_C(1) << CAP_DAC_READ_SEARCH : 0;
 
 	for (size_t i = 0; i < sizeof(kept) / sizeof(*kept); i++)
 		mask |= UINT64_C(1) << kept[i];

@@ -246,6 +246,8 @@ static transport by = { .program = "nizwarf-share",
 			.end = passthrough_finish,
 			.parted = passthrough_parted,
 			.recall = passthrough_recall,
+			.save = passthrough_save,
+			.load = passthrough_load,
 			.has_spare = 1,
 			.left = remove_socket,
 			.serve = passthrough_serve };
@@ -324,6 +326,8 @@ static int limit_backing(void *user)
 static int limit(struct passthrough *all)
 {
 	const bool mounts = words.mount_point && words.sandbox == SANDBOX_NONE;
+	const bool opens_handles = words.files.file_handles != HANDLES_NEVER ||
+				   words.files.migration_mode == MIGRATES_BY_HANDLES;
 
 	/* (to unmount takes more than the files do, and each worker limits itself) */
 	if ((!mounts && passthrough_limit(&words.files)) || prctl(PR_SET_NO_NEW_PRIVS, 1, 0, 0, 0))
@@ -332,8 +336,8 @@ static int limit(struct passthrough *all)
 		return failed("--watch");
 	return sandbox_filter((enum calls_filter)words.filter,
 			      (mounts ? MAY_UNMOUNT : 0) | (words.files.notices ? MAY_WATCH : 0) |
-				      (words.files.file_handles != HANDLES_NEVER ? MAY_OPEN_HANDLES : 0) |
-				      (by.ring ? MAY_USE_RINGS : 0));
+				      (is_mount() ? 0 : MAY_TELL_HANDLES) |
+				      (opens_handles ? MAY_OPEN_HANDLES : 0) | (by.ring ? MAY_USE_RINGS : 0));
 }
 
 /* Mounts, from within the sandbox if there is one. */

@@ -402,7 +402,7 @@ static const char *const calls[] = {
 	"writev",
 };
 
-/* And to hold files by handles. By a handle that is made up any file of the file system is opened. */
+/* And to hold files by handles, or tell the handles alone. By one that is made up any file of the file system is opened. */
 static const char *const handle_calls[] = { "name_to_handle_at", "open_by_handle_at" };
 
 /* And to use rings that are there. (By a ring that it made it would call what it likes.) */
@@ -499,6 +499,8 @@ int sandbox_filter(enum calls_filter filter, unsigned may)
 	error = let(rules, calls, sizeof(calls) / sizeof(*calls));
 	if (!error && may & MAY_OPEN_HANDLES)
 		error = let(rules, handle_calls, sizeof(handle_calls) / sizeof(*handle_calls));
+	if (!error && may & MAY_TELL_HANDLES)
+		error = let(rules, handle_calls, 1);
 	if (!error && may & MAY_USE_RINGS)
 		error = let_rings(rules);
 	/* (others of ioctl would let it type at a terminal) */

@@ -50,8 +50,8 @@ void sandbox_ready(void);
 int sandbox_enter(enum sandbox sandbox, const char *folder, int *root, int *proc, bool *no_devices);
 
 /* What a process may besides serving: unmount, open files by handles, watch files, use rings that there are, which take
- * requests alone (uring.h). */
-enum { MAY_UNMOUNT = 1, MAY_OPEN_HANDLES = 2, MAY_WATCH = 4, MAY_USE_RINGS = 8 };
+ * requests alone (uring.h), tell the handles of files. */
+enum { MAY_UNMOUNT = 1, MAY_OPEN_HANDLES = 2, MAY_WATCH = 4, MAY_USE_RINGS = 8, MAY_TELL_HANDLES = 16 };
 
 /* Ends the process, or does what else is said, at a system call that serving doesn't make. -1: it failed, and said
  * why. */

@@ -278,7 +278,10 @@ enum word {
 	SOCKET_GROUP,
 	TAG,
 	SYSLOG,
-	MIGRATION,
+	MIGRATION_MODE,
+	MIGRATION_ON_ERROR,
+	VERIFY_HANDLES,
+	CONFIRM_PATHS,
 	CACHE,
 	ALLOW_MMAP,
 	ALLOW_DIRECT_IO,
@@ -325,10 +328,10 @@ static const struct option known_words[] = {
 	{ "socket-group", required_argument, NULL, SOCKET_GROUP },
 	{ "tag", required_argument, NULL, TAG },
 	{ "syslog", no_argument, NULL, SYSLOG },
-	{ "migration-mode", required_argument, NULL, MIGRATION },
-	{ "migration-on-error", required_argument, NULL, MIGRATION },
-	{ "migration-verify-handles", no_argument, NULL, MIGRATION },
-	{ "migration-confirm-paths", no_argument, NULL, MIGRATION },
+	{ "migration-mode", required_argument, NULL, MIGRATION_MODE },
+	{ "migration-on-error", required_argument, NULL, MIGRATION_ON_ERROR },
+	{ "migration-verify-handles", no_argument, NULL, VERIFY_HANDLES },
+	{ "migration-confirm-paths", no_argument, NULL, CONFIRM_PATHS },
 	{ "cache", required_argument, NULL, CACHE },
 	{ "allow-mmap", no_argument, NULL, ALLOW_MMAP },
 	{ "allow-direct-io", no_argument, NULL, ALLOW_DIRECT_IO },
@@ -372,7 +375,7 @@ static const struct option known_words[] = {
 static _Noreturn void print(int word)
 {
 	if (word == PRINT)
-		puts("{\n  \"type\": \"fs\",\n  \"features\": [\n    \"separate-options\"\n  ]\n}");
+		puts("{\n  \"type\": \"fs\",\n  \"features\": [\n    \"migrate-precopy\",\n    \"separate-options\"\n  ]\n}");
 	else if (word == VERSION)
 		printf("nizwarf-share %d.%d.%d, FUSE 7.38, %s libseccomp\n", NIZWARF_VERSION_MAJOR,
 		       NIZWARF_VERSION_MINOR, NIZWARF_VERSION_PATCH, has_filter ? "with" : "without");
@@ -422,6 +425,8 @@ static bool take_plain(int word)
 		bool is;
 	} known[] = {
 		{ &words.logs, SYSLOG, true },
+		{ &words.files.verifies, VERIFY_HANDLES, true },
+		{ &words.confirms, CONFIRM_PATHS, true },
 		{ &words.files.allow_mmap, ALLOW_MMAP, true },
 		{ &words.files.allow_direct, ALLOW_DIRECT_IO, true },
 		{ &words.files.writeback, WRITEBACK, true },
@@ -456,11 +461,20 @@ static void take_served(int word)
 	static const char *const caches[] = { "never", "auto", "always", "metadata", NULL };
 	static const char *const filters[] = { "none", "kill", "trap", "log", NULL };
 	static const char *const handles[] = { "never", "prefer", "mandatory", "fallback", NULL };
+	static const char *const modes[] = { "find-paths", "file-handles", NULL };
+	static const char *const on_errors[] = { "abort", "guest-error", NULL };
 	int which;
 
+	words.migrates |= word >= MIGRATION_MODE && word <= CONFIRM_PATHS;
 	if (take_plain(word))
 		return;
 	switch (word) {
+	case MIGRATION_MODE:
+		words.files.migration_mode = (enum migration_mode)one_of("--migration-mode", optarg, modes);
+		break;
+	case MIGRATION_ON_ERROR:
+		words.files.loses_files = one_of("--migration-on-error", optarg, on_errors) == 1;
+		break;
 	case CACHE:
 		words.files.cache = (enum passthrough_cache)one_of("--cache", optarg, caches);
 		break;
@@ -627,6 +641,17 @@ static void hold_mount_together(void)
 		refuse("--allow-direct-io is of a machine", "");
 }
 
+/* The same of words by which a machine migrates. */
+static void hold_migration_together(void)
+{
+	if (words.migrates && is_mount())
+		refuse("--migration-* are of a machine", "");
+	if (words.files.migration_mode == MIGRATES_BY_HANDLES && (words.files.verifies || words.confirms))
+		refuse("--migration-mode=file-handles wants no --migration-verify-handles and no "
+		       "--migration-confirm-paths: a handle is the file's own",
+		       "");
+}
+
 /* Refuses words that can't be together. */
 static void hold_together(void)
 {
@@ -658,6 +683,7 @@ static void hold_together(void)
 		refuse("--translate-uid and --translate-gid go with no --posix-acl, whose lists have ids too",
 		       "");
 	hold_mount_together();
+	hold_migration_together();
 	if (words.filter > FILTER_NONE && !has_filter)
 		refuse("--seccomp: it was built without libseccomp", "");
 }
@@ -697,10 +723,6 @@ static void take_given(int count, char **given)
 		if (found == '?' || found == ':' ||
 		    (i >= 0 && strcspn(word, "=") != strlen(known_words[i].name) + 2))
 			refuse_word(found, word);
-		if (found == MIGRATION)
-			refuse("a machine that has this share can't migrate: unmount it there first, or have "
-			       "virtiofsd serve it, in place of ",
-			       word);
 		take_word(found);
 	}
 	if (!words.folder && optind < count)

@@ -15,6 +15,8 @@ struct share_words {
 	int fd, sandbox, filter;
 	struct id_map uids, gids;
 	bool says_more, is_off, daemonizes, traces, watches, logs;
+	/* A word of --migration-*; --migration-confirm-paths. */
+	bool migrates, confirms;
 	/* --tag, which shows nowhere. */
 	const char *tag;
 	/* Requests of a mount come by io_uring where Linux offers it. */

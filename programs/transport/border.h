@@ -32,6 +32,8 @@ enum {
 	VHOST_USER_RANGE,
 	VHOST_FILE_RANGE,
 	VHOST_OVERLAP,
+	VHOST_WRONG_LOG,
+	VHOST_WRONG_TRANSFER,
 	VHOST_REFUSALS
 };
 
@@ -46,11 +48,19 @@ struct vhost_region {
 	uint64_t guest, size, user, offset;
 };
 
-/* A message. What is not its request's is 0. `descriptors` came with it, `number` are features or a number of the
- * queue, the rings are where they are in the front end. */
+/* Where what is written to the guest's memory is marked: so many bytes of a file. */
+struct vhost_log {
+	uint64_t size, offset;
+};
+
+/* A message. What is not its request's is 0. `descriptors` came with it, `number` are features, a number of the queue,
+ * of its rings 1 if what is written there is marked in the log, or of a state 0 if it is saved and 1 if it is loaded. The
+ * rings are where they are in the front end, and `ring_log` is where the used one is in the guest. */
 struct vhost_message {
 	uint32_t request, wants_reply, queue, descriptors;
-	uint64_t number, ring_descriptors, ring_used, ring_available, regions;
+	uint64_t number, ring_descriptors, ring_used, ring_available, ring_log;
+	struct vhost_log log;
+	uint64_t regions;
 	struct vhost_region region[VHOST_REGIONS];
 };
 
@@ -75,8 +85,8 @@ uint32_t nizwarf_vhost_user_at(const struct vhost_region *region, size_t regions
 #define BORDER_HOLDS(fact) _Static_assert(fact, #fact)
 BORDER_HOLDS(sizeof(struct vhost_offer) == 24);
 BORDER_HOLDS(sizeof(struct vhost_region) == 32 && offsetof(struct vhost_region, user) == 16);
-BORDER_HOLDS(sizeof(struct vhost_message) == 312 && offsetof(struct vhost_message, number) == 16 &&
-	     offsetof(struct vhost_message, regions) == 48);
+BORDER_HOLDS(sizeof(struct vhost_message) == 336 && offsetof(struct vhost_message, number) == 16 &&
+	     offsetof(struct vhost_message, log) == 56 && offsetof(struct vhost_message, regions) == 72);
 BORDER_HOLDS(sizeof(struct vhost_place) == 16);
 
 #endif

@@ -47,6 +47,9 @@ struct fuse_rings;
 struct fuse_ring_calls;
 extern const struct fuse_ring_calls fuse_ring;
 
+/* What a machine's client knows, while it goes to another server, or comes from one. */
+typedef struct transport_state transport_state;
+
 /* Flags of INIT that older headers lack. */
 #define TRANSPORT_ALLOW_IDMAP (UINT64_C(1) << 40)
 /* The transports take this one themselves: it is told to no `serve`. */
@@ -96,6 +99,10 @@ typedef struct {
 	/* May be NULL: then nothing of a virtual machine is kept (transport_keep). What is kept is to be completed now,
 	 * since the machine pauses, or its memory changes. */
 	void (*recall)(void *user);
+	/* May be NULL: then a machine doesn't migrate. With no request in flight one puts what the client knows
+	 * (transport_put_state), and the other gets that (transport_get_state), in place of what it has. 0, or -1: it
+	 * failed, and said why. */
+	int (*save)(void *user, transport_state *to), (*load)(void *user, transport_state *from);
 	/* A request that doesn't come back, though its front end has gone, holds up no other one: a worker
 	 * begins in place of its own, with a number of its own below TRANSPORT_MOST_WORKERS. */
 	int has_spare;
@@ -120,6 +127,12 @@ transport_later *transport_keep(void);
 /* Completes a request that was kept, by these bytes, or refuses it by this code if it isn't NIZWARF_OK. If its client
  * has gone, nothing is sent. */
 void transport_complete(transport_later *later, int32_t code, const void *reply, size_t len);
+
+/* Puts bytes of a state: 0, or -1. Gets up to so many: how many came, which are fewer at the end alone, or -1. Whether it
+ * is still wanted: 0, or -1. With -1 the front end has gone, or a signal came, or errno says why. */
+int transport_put_state(transport_state *to, const void *bytes, size_t len);
+ssize_t transport_get_state(transport_state *from, void *bytes, size_t len);
+int transport_wants_state(transport_state *of);
 
 /* Takes the flags that are withheld out of a request, whose bytes are the transport's own. One without
  * flags stays as it is: it is no INIT, or too short. */

@@ -38,6 +38,9 @@ static char from_guest;
 #define TO_GUEST() ((void)0)
 #endif
 
+/* How many bytes of memory a bit of the log is of. */
+enum { LOG_PAGE = 4096 };
+
 struct guest *vhost_guest;
 /* Is held by who changes which one it is, or its users. */
 static pthread_mutex_t guests = PTHREAD_MUTEX_INITIALIZER;
@@ -86,6 +89,74 @@ static void tell(int event)
 
 	if (write(event, &one, sizeof(one)) < 0)
 		failed("eventfd");
+}
+
+/* ---- what is written, by workers: it is marked behind the writing, since who reads the marks takes them away first */
+
+/* Marks bytes of the guest by their address there. What is past the end of the log is none of its memory. */
+static void mark(const struct log *log, uint64_t address, uint64_t len)
+{
+	uint64_t page = address / LOG_PAGE, left;
+
+	if (!len)
+		return;
+	for (left = (address % LOG_PAGE + len - 1) / LOG_PAGE + 1; left && page / 8 < log->size;
+	     left--, page++)
+		__atomic_fetch_or(&log->at[page / 8], (unsigned char)(1u << page % 8), __ATOMIC_SEQ_CST);
+}
+
+/* Marks bytes where they are mapped. */
+static void mark_at(const struct guest *g, const void *at, size_t len)
+{
+	const uintptr_t from = (uintptr_t)at;
+
+	if (!g->logs || !g->log.at)
+		return;
+	for (size_t i = 0; i < g->regions; i++) {
+		const uintptr_t begin = (uintptr_t)g->region[i].at;
+
+		if (from >= begin && from - begin < g->shared[i].size) {
+			mark(&g->log, g->shared[i].address + (from - begin), len);
+			return;
+		}
+	}
+}
+
+static void mark_rooms(const struct guest *g, const nizwarf_room *room, size_t rooms)
+{
+	if (g->logs)
+		for (size_t i = 0; i < rooms; i++)
+			mark_at(g, room[i].at, room[i].len);
+}
+
+/* Marks bytes of a used ring. */
+static void mark_used(const struct guest *g, const struct queue *q, const void *at, size_t len)
+{
+	const uint64_t offset = (uint64_t)((const char *)at - (const char *)q->used);
+
+	if (!q->has_log_address)
+		mark_at(g, at, len);
+	else if (g->logs && g->log.at && q->log_address <= UINT64_MAX - offset)
+		mark(&g->log, q->log_address + offset, len);
+}
+
+/* Marks what gave the last chain back. */
+static void mark_given(const struct guest *g, const struct queue *q)
+{
+	const uint32_t slot = nizwarf_ring_slot_at((uint16_t)(q->done - 1), q->size);
+
+	mark_used(g, q, &q->used->ring[slot], sizeof(q->used->ring[slot]));
+	mark_used(g, q, &q->used->idx, sizeof(q->used->idx));
+}
+
+/* Tells the front end that something was marked, if it wants to be told. It can have this wait, as call_guest(). */
+static void tell_log(const struct guest *g)
+{
+	const uint64_t one = 1;
+
+	if (g->logs && g->log.event >= 0 && write(g->log.event, &one, sizeof(one)) < 0 && errno != EAGAIN &&
+	    errno != EINTR)
+		failed("a log's event is none");
 }
 
 /* ---- chains, by workers */
@@ -268,16 +339,18 @@ static int32_t count_waiting(const struct queue *q)
 
 /* The same, after a guest that goes by indices was told to kick for the next chain to come. (It writes its index, and
  * then looks at this one: one of both sees what the other did.) */
-static int32_t await_kick(struct queue *q)
+static int32_t await_kick(const struct guest *g, struct queue *q)
 {
 	if (!q->has_events)
 		return 0;
 	__atomic_store_n((uint16_t *)(q->used->ring + q->size), q->next, __ATOMIC_SEQ_CST);
+	if (g->logs)
+		mark_used(g, q, q->used->ring + q->size, sizeof(q->next));
 	return count_waiting(q);
 }
 
 /* Takes the number of the next chain; -1: none waits. A queue that says what can't be is left. */
-static int take_head(struct queue *q)
+static int take_head(const struct guest *g, struct queue *q)
 {
 	int32_t waiting;
 	uint16_t head;
@@ -286,7 +359,7 @@ static int take_head(struct queue *q)
 		return -1;
 	waiting = count_waiting(q);
 	if (!waiting)
-		waiting = await_kick(q);
+		waiting = await_kick(g, q);
 	if (!waiting)
 		return -1;
 	FROM_GUEST();
@@ -298,7 +371,7 @@ static int take_head(struct queue *q)
 	}
 	q->next++;
 	/* This one may take long, and another worker may be free. */
-	if (by->workers > 1 && (await_kick(q) || waiting > 1))
+	if (by->workers > 1 && (await_kick(g, q) || waiting > 1))
 		queue_look(q);
 	return head;
 }
@@ -321,7 +394,7 @@ static int wants_call(struct queue *q)
 }
 
 /* Gives a chain back to the guest. Answers whether it wants to be told. */
-static int complete(struct queue *q, uint16_t head, uint32_t len)
+static int complete(const struct guest *g, struct queue *q, uint16_t head, uint32_t len)
 {
 	if (!q->available)
 		return 0;
@@ -330,6 +403,8 @@ static int complete(struct queue *q, uint16_t head, uint32_t len)
 	TO_GUEST();
 	/* (the guest sets its flag or its index, and then looks at the number: one of both sees what the other did) */
 	__atomic_store_n(&q->used->idx, q->done, __ATOMIC_SEQ_CST);
+	if (g->logs)
+		mark_given(g, q);
 	return wants_call(q);
 }
 
@@ -383,9 +458,11 @@ static int serve_late(struct guest *g, struct queue *q)
 		put += part;
 	}
 	outcomes[late->code >= 0 && late->code < OUTCOMES ? late->code : 0]++;
+	mark_rooms(g, late->kept.room, late->kept.rooms);
 	pthread_mutex_lock(&q->lock);
-	calls = !atomic_load(&g->gone) && complete(q, late->kept.head, (uint32_t)put);
+	calls = !atomic_load(&g->gone) && complete(g, q, late->kept.head, (uint32_t)put);
 	pthread_mutex_unlock(&q->lock);
+	tell_log(g);
 	if (calls)
 		call_guest(q);
 	free(late);
@@ -402,10 +479,12 @@ static int next_chain(struct guest *g, struct queue *q, int head, int64_t len)
 
 	pthread_mutex_lock(&q->lock);
 	if (!atomic_load(&g->gone)) {
-		calls = head >= 0 && complete(q, (uint16_t)head, (uint32_t)len);
-		next = atomic_load(&g->wanted) || has_late(q) ? NOT_YET : take_head(q);
+		calls = head >= 0 && complete(g, q, (uint16_t)head, (uint32_t)len);
+		next = atomic_load(&g->wanted) || has_late(q) ? NOT_YET : take_head(g, q);
 	}
 	pthread_mutex_unlock(&q->lock);
+	if (head >= 0)
+		tell_log(g);
 	if (calls)
 		call_guest(q);
 	return next;
@@ -424,6 +503,8 @@ static int serve_chains(struct worker *w, struct guest *g, struct queue *q)
 		len = answer(w, g, q, (uint16_t)head);
 		if (len < 0)
 			head = NO_CHAIN;
+		else
+			mark_rooms(g, w->room, w->rooms);
 	}
 }
 
@@ -461,6 +542,7 @@ static void put_guest(struct guest *g)
 	later_end(&g->later);
 	drop_late(g);
 	guest_unshare(g);
+	guest_end_log(g);
 	for (int i = 0; i < QUEUES; i++) {
 		struct queue *q = &g->queue[i];
 
@@ -537,14 +619,16 @@ static void lose_memory(int number, siginfo_t *about, void *context)
 	const struct guest *g = this_worker ? atomic_load(&this_worker->serves) : NULL;
 
 	(void)context;
-	for (size_t i = 0; g && i < g->regions; i++) {
-		const struct region *r = &g->region[i];
-		const uintptr_t from = (uintptr_t)r->map;
+	/* (behind the regions: the log) */
+	for (size_t i = 0; g && i <= g->regions; i++) {
+		unsigned char *map = i < g->regions ? g->region[i].map : g->log.map;
+		const size_t mapped = i < g->regions ? g->region[i].mapped : g->log.mapped;
+		const uintptr_t from = (uintptr_t)map;
 
-		if (at < from || at - from >= r->mapped)
+		if (at < from || at - from >= mapped)
 			continue;
 		/* (by itself: a sanitizer takes mmap() for a write to what another worker reads) */
-		if (syscall(SYS_mmap, r->map, r->mapped, PROT_READ | PROT_WRITE,
+		if (syscall(SYS_mmap, map, mapped, PROT_READ | PROT_WRITE,
 			    MAP_PRIVATE | MAP_ANONYMOUS | MAP_NORESERVE | MAP_FIXED, -1, 0) == -1)
 			break;
 		if (!atomic_load(&g->gone))
@@ -663,6 +747,16 @@ void guest_unshare(struct guest *g)
 	}
 }
 
+void guest_end_log(struct guest *g)
+{
+	if (g->log.at)
+		munmap(g->log.map, g->log.mapped);
+	if (g->log.event >= 0)
+		close(g->log.event);
+	g->log = (struct log){ .event = -1 };
+	g->logs = 0;
+}
+
 int queues_over(void)
 {
 	return over;
@@ -695,6 +789,7 @@ static struct guest *new_guest(void)
 	if (!g)
 		return NULL;
 	g->users = 1;
+	g->log.event = -1;
 	pthread_rwlockattr_init(&writer_first);
 	pthread_rwlockattr_setkind_np(&writer_first, PTHREAD_RWLOCK_PREFER_WRITER_NONRECURSIVE_NP);
 	pthread_rwlock_init(&g->in_flight, &writer_first);

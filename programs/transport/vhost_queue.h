@@ -39,6 +39,18 @@ struct queue {
 	atomic_int look;
 	/* Chains that were answered later, and are not given back yet. */
 	struct late *late;
+	/* What is written to the used ring is marked by this address of the guest, and not by that of its memory. */
+	int has_log_address;
+	uint64_t log_address;
+};
+
+/* Where what is written to the guest's memory is marked while it migrates: a bit for each page, in a file that the front
+ * end shares. `at` is NULL where there is none. `event`, if it is none below 0, tells the front end. */
+struct log {
+	unsigned char *at, *map;
+	size_t mapped;
+	uint64_t size;
+	int event;
 };
 
 /* What a front end shares. It is there until it has gone, and each worker that has a request of it is
@@ -50,6 +62,9 @@ struct guest {
 	struct vhost_region told[REGIONS];
 	nizwarf_region shared[REGIONS];
 	size_t regions;
+	/* Whether it is marked, and where. */
+	int logs;
+	struct log log;
 	/* Is held by a worker while it has a chain, and by the calling thread, alone, while it changes
 	 * queues or memory. */
 	pthread_rwlock_t in_flight;
@@ -89,8 +104,9 @@ int queues_part(int signals);
  * completed within a second never is. */
 void queues_recall(void);
 void queues_keep(void);
-/* Lets go of the memory that a front end shared. */
+/* Lets go of the memory that a front end shared; and of its log. */
 void guest_unshare(struct guest *g);
+void guest_end_log(struct guest *g);
 
 /* Finds the rings of a queue, anew after each change of the memory. Where one is missing, none is
  * there. */

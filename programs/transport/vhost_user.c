@@ -20,6 +20,7 @@
 #include <time.h>
 #include <unistd.h>
 #include "vhost_queue.h"
+#include "vhost_state.h"
 
 /* Messages of the front end. */
 enum {
@@ -28,7 +29,9 @@ enum {
 	SET_OWNER,
 	RESET_OWNER,
 	SET_MEM_TABLE,
-	SET_VRING_NUM = 8,
+	SET_LOG_BASE,
+	SET_LOG_FD,
+	SET_VRING_NUM,
 	SET_VRING_ADDR,
 	SET_VRING_BASE,
 	GET_VRING_BASE,
@@ -38,19 +41,22 @@ enum {
 	GET_PROTOCOL_FEATURES,
 	SET_PROTOCOL_FEATURES,
 	GET_QUEUE_NUM,
-	SET_VRING_ENABLE
+	SET_VRING_ENABLE,
+	SET_DEVICE_STATE_FD = 42,
+	CHECK_DEVICE_STATE
 };
 
 #define VERSION_1 (1ull << 32)
 #define PROTOCOL_FEATURES (1ull << 30)
 #define INDIRECT_DESCRIPTORS (1ull << VIRTIO_RING_F_INDIRECT_DESC)
 #define EVENT_INDICES (1ull << VIRTIO_RING_F_EVENT_IDX)
-enum { MANY_QUEUES = 1 << 0, REPLY_ACK = 1 << 3 };
+#define LOG_ALL (1ull << 26)
+enum { MANY_QUEUES = 1 << 0, LOG_IN_FILE = 1 << 1, REPLY_ACK = 1 << 3, DEVICE_STATE = 1 << 19 };
+/* What is answered to SET_DEVICE_STATE_FD: it is taken, and no other descriptor wanted. */
+enum { TAKES_DESCRIPTOR = 1 << 8 };
 enum { VERSION = 1, IS_REPLY = 1 << 2 };
 
-static const struct vhost_offer offer = {
-	VERSION_1 | PROTOCOL_FEATURES | INDIRECT_DESCRIPTORS | EVENT_INDICES, MANY_QUEUES | REPLY_ACK, QUEUES
-};
+static struct vhost_offer offer;
 
 /* A message as it came, and what it says. */
 struct message {
@@ -65,6 +71,8 @@ static size_t queues;
 
 static const transport *by;
 static uint64_t protocol;
+/* What CHECK_DEVICE_STATE is answered: whether the last state was saved or loaded wholly. */
+static uint64_t state_failed = 1;
 
 /* What came of a message: GONE if the front end hung up, or is to be hung up on. */
 enum outcome { DONE, REPLIED, GONE };
@@ -96,7 +104,7 @@ static enum outcome refused(const struct message *m, uint32_t refusal)
 		[VHOST_WRONG_QUEUE_SIZE] = "a size of a queue that can't be",
 		[VHOST_WRONG_BASE] = "an index of a ring that can't be",
 		[VHOST_WRONG_ENABLE] = "a queue that is neither enabled nor disabled",
-		[VHOST_LOGS] = "a log, which was not offered",
+		[VHOST_LOGS] = "flags of a ring that can't be",
 		[VHOST_MISALIGNED] = "a ring that is not aligned",
 		[VHOST_WRONG_COUNT] = "a table of memory that can't be",
 		[VHOST_EMPTY_REGION] = "a region of memory that is empty",
@@ -104,6 +112,8 @@ static enum outcome refused(const struct message *m, uint32_t refusal)
 		[VHOST_USER_RANGE] = "a region past the front end's addresses",
 		[VHOST_FILE_RANGE] = "a region past the end of any file",
 		[VHOST_OVERLAP] = "two regions of the same memory",
+		[VHOST_WRONG_LOG] = "a log that can't be",
+		[VHOST_WRONG_TRANSFER] = "a state that goes no way that is known",
 	};
 	const char *why = refusal < VHOST_REFUSALS ? whys[refusal] : NULL;
 	uint32_t request;
@@ -145,6 +155,28 @@ static enum outcome share_memory(const struct message *m)
 	for (size_t i = 0; i < queues; i++)
 		queue_place(&vhost_guest->queue[i]);
 	return outcome;
+}
+
+/* Maps the log that the front end shares, in place of the one before. */
+static enum outcome share_log(const struct message *m)
+{
+	struct log *log = &vhost_guest->log;
+	const uint64_t mapped = m->said.log.size + m->said.log.offset;
+	struct stat file;
+	unsigned char *map;
+
+	if (fstat(m->descriptor[0], &file) || file.st_size < 0 || (uint64_t)file.st_size < mapped)
+		return wrong("a log without its memory");
+	map = mmap(NULL, mapped, PROT_READ | PROT_WRITE, MAP_SHARED, m->descriptor[0], 0);
+	if (map == MAP_FAILED)
+		return wrong("a log that can't be mapped");
+	if (log->at)
+		munmap(log->map, log->mapped);
+	log->map = map;
+	log->mapped = mapped;
+	log->at = map + m->said.log.offset;
+	log->size = m->said.log.size;
+	return DONE;
 }
 
 /* Takes the only descriptor of a message; -1: it has none. */
@@ -234,6 +266,8 @@ static enum outcome obey_for(int client, struct message *m, struct queue *q)
 		q->descriptors_user = m->said.ring_descriptors;
 		q->available_user = m->said.ring_available;
 		q->used_user = m->said.ring_used;
+		q->has_log_address = m->said.number == 1;
+		q->log_address = m->said.ring_log;
 		queue_place(q);
 		return DONE;
 	case SET_VRING_BASE:
@@ -259,6 +293,7 @@ static enum outcome obey_for(int client, struct message *m, struct queue *q)
 /* Takes over the features that were agreed on. */
 static void take_features(uint64_t features)
 {
+	vhost_guest->logs = (features & LOG_ALL) != 0;
 	for (int i = 0; i < QUEUES; i++) {
 		struct queue *q = &vhost_guest->queue[i];
 
@@ -269,9 +304,49 @@ static void take_features(uint64_t features)
 	}
 }
 
-/* Does what a message asks. */
-static enum outcome obey(int client, struct message *m)
+/* Has what signals the log. */
+static enum outcome call_log(int event)
 {
+	struct log *log = &vhost_guest->log;
+
+	if (log->event >= 0)
+		close(log->event);
+	log->event = event;
+	fcntl(event, F_SETFL, O_NONBLOCK);
+	return DONE;
+}
+
+/* Saves or loads the state of the device, by a descriptor that the front end has the other end of. It waits for that,
+ * and then asks by CHECK_DEVICE_STATE what came of it. */
+static enum outcome transfer_state(int client, int signals, struct message *m)
+{
+	transport_state *state = state_new(take_descriptor(m), signals, client);
+	const int loads = m->said.number == 1;
+
+	state_failed = 1;
+	if (!state)
+		return reply_number(client, SET_DEVICE_STATE_FD, TAKES_DESCRIPTOR | 1);
+	if (reply_number(client, SET_DEVICE_STATE_FD, TAKES_DESCRIPTOR) == REPLIED)
+		state_failed = loads ? by->load(by->user, state) != 0 : by->save(by->user, state) != 0;
+	if (state_end(state))
+		state_failed = 1;
+	return REPLIED;
+}
+
+/* Tells whether the state went wholly. */
+static enum outcome check_state(int client)
+{
+	const uint64_t failed_so = state_failed;
+
+	state_failed = 1;
+	return reply_number(client, CHECK_DEVICE_STATE, failed_so);
+}
+
+/* Does what a message asks. */
+static enum outcome obey(int client, int signals, struct message *m)
+{
+	enum outcome outcome;
+
 	switch (m->said.request) {
 	case GET_FEATURES:
 		return reply_number(client, GET_FEATURES, offer.features);
@@ -291,12 +366,21 @@ static enum outcome obey(int client, struct message *m)
 		return DONE;
 	case GET_QUEUE_NUM:
 		return reply_number(client, GET_QUEUE_NUM, offer.queues);
+	case SET_LOG_BASE:
+		outcome = share_log(m);
+		return outcome == DONE ? reply_number(client, SET_LOG_BASE, 0) : outcome;
+	case SET_LOG_FD:
+		return call_log(take_descriptor(m));
+	case SET_DEVICE_STATE_FD:
+		return transfer_state(client, signals, m);
+	case CHECK_DEVICE_STATE:
+		return check_state(client);
 	default:
 		return obey_for(client, m, queue_of(m));
 	}
 }
 
-/* Whether a message changes queues or memory, in which a request may wait. */
+/* Whether a message changes queues or memory, in which a request may wait, or tells of all requests. */
 static int changes(const struct message *m)
 {
 	switch (m->said.request) {
@@ -306,6 +390,7 @@ static int changes(const struct message *m)
 	case SET_VRING_ADDR:
 	case SET_VRING_BASE:
 	case GET_VRING_BASE:
+	case SET_DEVICE_STATE_FD:
 		return 1;
 	default:
 		return 0;
@@ -324,7 +409,7 @@ static enum outcome serve_message(int client, int signals)
 	if (outcome == DONE && queues_hold(signals, client)) {
 		outcome = GONE;
 	} else if (outcome == DONE) {
-		outcome = obey(client, &m);
+		outcome = obey(client, signals, &m);
 		queues_keep();
 		queues_go();
 	}
@@ -347,9 +432,10 @@ static void clear_guest(void)
 		q->available = NULL;
 		q->descriptors_user = q->available_user = q->used_user = 0;
 		q->next = q->done = 0;
-		q->enabled = q->has_events = 0;
+		q->enabled = q->has_events = q->has_log_address = 0;
 	}
 	guest_unshare(vhost_guest);
+	guest_end_log(vhost_guest);
 }
 
 /* Lets go of all that a front end left, and tells what came of its requests. -1: that can't be, or a signal
@@ -368,6 +454,7 @@ static int part_from_client(int client, int signals)
 		clear_guest();
 	queues = 0;
 	protocol = 0;
+	state_failed = 1;
 	if (by->parted)
 		by->parted(by->user);
 	if (!parted)
@@ -532,6 +619,12 @@ static int serve_with_workers(const transport *with, int listener, int client)
 	int status = 1;
 
 	by = with;
+	offer = (struct vhost_offer){ VERSION_1 | PROTOCOL_FEATURES | INDIRECT_DESCRIPTORS | EVENT_INDICES,
+				      MANY_QUEUES | REPLY_ACK, QUEUES };
+	if (by->save && by->load) {
+		offer.features |= LOG_ALL;
+		offer.protocol |= LOG_IN_FILE | DEVICE_STATE;
+	}
 	sigemptyset(&ending);
 	sigaddset(&ending, SIGINT);
 	sigaddset(&ending, SIGTERM);

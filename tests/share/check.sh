@@ -8,7 +8,7 @@
 # asks a plain folder. escape.c tries to leave the sandbox from within, and the server's capabilities and directories
 # are looked at. Words of virtiofsd come to what they do there (words.py). Files that the mount's kernel has by itself are as in the folder (apart.py), and what others change is
 # seen where all is remembered (watched.py). Files of several file systems below the folder are told apart, and how many
-# are known is bounded; what a node takes is printed (nodes.py). Over vhost-user it is asked the hostile requests of
+# are known is bounded; what a node takes is printed (nodes.py). A machine goes from one server to another (migrates.py). Over vhost-user it is asked the hostile requests of
 # tests/beside, and more that are made up, and told messages that can't be (messages.py), under sanitizers and in its
 # sandbox (hostile.py); a machine that goes away is followed by another. Locks are those of the folder, and what waits
 # for one holds nothing up (waits.py).
@@ -406,6 +406,9 @@ try_words() {
         "--passthrough --modcaps=-dac_override $work/folder $work/mount" \
         "--watch --inode-file-handles=prefer $work/folder $work/mount" \
         "--allow-direct-io $work/folder $work/mount" \
+        "--migration-mode=find-paths $work/folder $work/mount" "--migration-confirm-paths $work/folder $work/mount" \
+        "--migration-mode=file-handles --migration-verify-handles --socket-path=$work/none $work/folder" \
+        "--migration-mode=file-handles --migration-confirm-paths --socket-path=$work/none $work/folder" \
         "--passthrough --xattrmap=:map::user.virtiofs.: $work/folder $work/mount" \
         "--socket-path= $work/folder" "-o =5 $work/folder $work/mount" "-o fsname= $work/folder $work/mount"; do
         came=0
@@ -417,7 +420,7 @@ try_words() {
     done
     # What can't be is named: a beginning of a word is none.
     for words in --no-such-word --cach=never --cache --xattr=1 -x "-o no-such-option" "-o loglevel" \
-        "-o sandbox=some" --migration-mode=find-paths --migration-confirm-paths; do
+        "-o sandbox=some" --migration-mode=some --migration-on-error=some; do
         # shellcheck disable=SC2086
         timeout 10 "$share" "$work/folder" "$work/mount" $words > "$work/said" 2>&1 && wrong "it serves with $words"
         grep -qF -- "${words##*[ =]}" "$work/said" || grep -qF -- ": ${words##* }" "$work/said" ||
@@ -445,6 +448,15 @@ try_managers() {
     mkdir "$work/a,b"
     timeout 60 python3 -B "$here/tests/share/managers.py" "$ask" "$share" "$work" || wrong "a line of libvirt"
     echo "It is started as libvirt starts a daemon."
+}
+
+# A machine goes from one server to another.
+try_migration() {
+    mkdir "$work/moved"
+    timeout 200 python3 -B "$here/tests/share/migrates.py" "$work/moved" "$share" --log-level=warn "$@" > "$work/said" 2>&1 ||
+        { cat "$work/said" >&2 && wrong "a machine that migrates, with $*"; }
+    rm -rf "$work/moved"
+    echo "$(tail -n 1 "$work/said")${*:+ ($*)}"
 }
 
 # Words of virtiofsd come to what they do there.
@@ -630,6 +642,7 @@ try_sanitizers() {
     ask_hostile "under the sanitizers $1" --xattr --announce-submounts "${words[@]}"
     ask_hostile "with more words under the sanitizers $1" "${translates[@]}" "${words[@]}"
     try_virtiofsd "${words[@]}"
+    try_migration "${words[@]}"
     for way in "${ways[@]}"; do
         try_mount --thread-pool-size=4 --xattr --log-level=error -o "$way" "${words[@]}"
         try_calls -o "$way" "${words[@]}"
@@ -720,6 +733,8 @@ part "a share by a user"
 try_user
 part "what a client knows of files"
 try_nodes
+part "machines that migrate"
+try_migration
 part "hostile requests"
 ask_hostile "over vhost-user, in its sandbox" --xattr
 ask_hostile "with attributes and ids that are translated" "${translates[@]}"

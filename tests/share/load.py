@@ -671,7 +671,7 @@ def main(minutes):
     parts = (lambda: stress_and_keep(mounted, chance, "the mount"), lambda: machines(served, chance, work + "/socket"),
              lambda: with_words(chance), lambda: full_disk(chance), lambda: few_descriptors(chance),
              lambda: few_allocations(chance), *(lambda act=act: act(share, work, chance) for act in rounds.PARTS),
-             *(lambda it=it: rounds.migrate(ask, it, work, chance) for it in sys.argv[6:]))
+             *(lambda it=it: rounds.migrate(ask, it, work, chance) for it in (share, *sys.argv[6:])))
     turns = 0
     while time.monotonic() < until and len(faults) < 20:
         for part in parts:

@@ -2,7 +2,7 @@
 # Puts shares of folders under load, and has them meet faults, by tests/share/load.py: programs that stress a file
 # system, machines, both killed amid a request; full disks, descriptors that run out, allocations that are refused in
 # turn and by chance, openings in turn; mounts that come and go, locks of many, a folder that others change, and machines
-# that migrate by what tools/virtiofsd.sh left in out/virtiofsd. What was written is held against what is there, what is
+# that migrate, also by what tools/virtiofsd.sh left in out/virtiofsd. What was written is held against what is there, what is
 # refused makes no name, and descriptors and memory are counted.
 #
 # Usage: tests/share/load.sh MINUTES
@@ -19,7 +19,7 @@ build_transport share vfs_door "$here/tests/share/refuse_some.c" -Wl,--wrap=mall
     -Wl,--wrap=realloc -Wl,--wrap=aligned_alloc -Wl,--wrap=openat
 daemon=$here/out/virtiofsd/nizwarf-virtiofsd
 if [ ! -x "$daemon" ]; then
-    echo "No machine migrates: \`tools/virtiofsd.sh\` makes what does." >&2
+    echo "No machine of virtiofsd migrates: \`tools/virtiofsd.sh\` makes it." >&2
     daemon=''
 fi
 python3 -B "$here/tests/share/load.py" "$share" "$transport" "$ask" "$work" "$1" ${daemon:+"$daemon"}

@@ -9,9 +9,10 @@ import struct
 GET_FEATURES, SET_FEATURES, SET_OWNER, RESET_OWNER, SET_MEM_TABLE = range(1, 6)
 SET_NUM, SET_ADDR, SET_BASE, GET_BASE, SET_KICK, SET_CALL, SET_ERR = range(8, 15)
 GET_PROTOCOL, SET_PROTOCOL, GET_QUEUES, SET_ENABLE = range(15, 19)
+SET_LOG_BASE, SET_LOG_FD, SET_STATE_FD, CHECK_STATE = 6, 7, 42, 43
 SIZES = {GET_FEATURES: 0, SET_FEATURES: 8, SET_OWNER: 0, RESET_OWNER: 0, SET_NUM: 8, SET_ADDR: 40, SET_BASE: 8,
          GET_BASE: 8, SET_KICK: 8, SET_CALL: 8, SET_ERR: 8, GET_PROTOCOL: 0, SET_PROTOCOL: 8, GET_QUEUES: 0,
-         SET_ENABLE: 8}
+         SET_ENABLE: 8, SET_LOG_BASE: 16, SET_LOG_FD: 0, SET_STATE_FD: 8, CHECK_STATE: 0}
 NO_DESCRIPTOR, WANTS_REPLY, REPLY_ACK = 1 << 8, 1 << 3, 1 << 3
 PAGE, USER = 4096, 1 << 32
 
@@ -46,7 +47,7 @@ def headers():
     """Messages (name, bytes, descriptors) whose header can't be."""
     for flags in (0, 2, 3, 1 | 1 << 2):
         yield f"flags {flags}", message(GET_FEATURES, flags=flags), 0
-    for request in (0, 6, 7, 19, 24, 37, 38, 77, 0xFFFFFFFF):
+    for request in (0, 19, 24, 37, 38, 41, 44, 77, 0xFFFFFFFF):
         yield f"request {request}", message(request), 0
     for request, size in SIZES.items():
         yield f"request {request} with more", message(request, bytes(size + 4)), 0
@@ -67,17 +68,36 @@ def queues():
     yield "an index of 17 bits", state(SET_BASE, 0, 65536), 0
     yield "neither enabled nor disabled", state(SET_ENABLE, 0, 2), 0
     yield "rings of queue 256", rings(queue=256), 0
-    yield "a log", rings(flags=1), 0
+    for flags in (2, 3, 1 << 31):
+        yield f"rings with the flags {flags}", rings(flags=flags), 0
     yield "descriptors at 8", rings(descriptors=USER + 8), 0
     yield "an available ring at 1", rings(available=USER + 1), 0
     yield "a used ring at 2", rings(used=USER + 2), 0
     for request in (SET_KICK, SET_CALL, SET_ERR):
         yield f"request {request} without its descriptor", number(request, 0), 0
         yield f"request {request} with one that it has not", number(request, NO_DESCRIPTOR), 1
-    for bit in (0, 26, 34, 63):
+    for bit in (0, 27, 34, 63):
         yield f"feature {bit}", number(SET_FEATURES, 1 << 32 | 1 << bit), 0
-    for bit in (1, 9, 15, 63):
+    for bit in (2, 9, 15, 18, 63):
         yield f"feature {bit} of the protocol", number(SET_PROTOCOL, 1 << bit), 0
+
+
+def log(size=PAGE, offset=0):
+    return message(SET_LOG_BASE, struct.pack("<QQ", size, offset))
+
+
+def logs():
+    """The same of logs, in a file of 16 pages, and of states."""
+    yield "a log without a descriptor", log(), 0
+    yield "an empty log", log(0), 1
+    yield "a log past its file", log(16 * PAGE + 1), 1
+    yield "a log whose end is past its file", log(PAGE, 16 * PAGE), 1
+    yield "a log past the offsets of files", log((1 << 63) - PAGE, PAGE), 1
+    yield "a log past all numbers", log((1 << 64) - PAGE, 2 * PAGE), 1
+    yield "who is told of a log, without a descriptor", message(SET_LOG_FD), 0
+    for words in ((2, 0), (0, 1), (1, 1), (1 << 31, 0)):
+        yield f"a state that goes by {words}", state(SET_STATE_FD, *words), 1
+    yield "a state without a descriptor", state(SET_STATE_FD, 0, 0), 0
 
 
 def tables():
@@ -119,12 +139,16 @@ def right():
         yield f"enabled: {value}", state(SET_ENABLE, 0, value), 0
     yield "rings as near as they may be", rings(), 0
     yield "rings of the last queue", rings(queue=255), 0
+    yield "rings that are logged", rings(flags=1), 0
     for request in (SET_KICK, SET_CALL, SET_ERR):
         yield f"request {request} without a descriptor", number(request, NO_DESCRIPTOR | 255), 0
     yield "an event for errors", number(SET_ERR, 0), 1
     yield "no features", number(SET_FEATURES, 0), 0
     yield "features that every device has", number(SET_FEATURES, 1 << 32 | 1 << 30), 0
     yield "indirect tables, and events by index", number(SET_FEATURES, 1 << 32 | 1 << 29 | 1 << 28), 0
+    yield "a log of all", number(SET_FEATURES, 1 << 32 | 1 << 26), 0
+    yield "a log in a file, and a state", number(SET_PROTOCOL, 1 << 19 | 1 << 1), 0
+    yield "who is told of a log", message(SET_LOG_FD), 1
     yield "no region", table(), 0
     yield "a region", table(region()), 1
     yield "a region that is all of its file", table(region(size=16 * PAGE)), 1
@@ -175,7 +199,7 @@ def tell_all(path):
     faults, count = [], 0
     memory = os.memfd_create("memory")
     os.ftruncate(memory, 16 * PAGE)
-    for wanted, ends, cases in ((False, False, headers), (False, False, queues), (False, False, tables),
+    for wanted, ends, cases in ((False, False, headers), (False, False, queues), (False, False, tables), (False, False, logs),
                                 (False, True, cut), (True, False, right)):
         for name, said, descriptors in cases():
             count += 1

@@ -267,7 +267,7 @@ def move(daemon, at, mode, chance):
 
 
 def migrate(ask, daemon, work, chance):
-    """A machine of virtiofsd over the layer here is moved some times, in each mode."""
+    """A machine of nizwarf-share, or of virtiofsd over the layer here, is moved some times, in each mode."""
     migrated.ASK = ask
     for mode in migrated.MODES:
         with tempfile.TemporaryDirectory(dir=work) as at:

@@ -2,7 +2,7 @@
 use Rattle.std.specs.Prelude.{◌≡◌, ◌⊎◌, ℕ, List, Result, MatchResult}
 use Rattle.vfs_vhost.specs.Places.{IsNowhere, IsPlace}
 use Rattle.vfs_vhost.specs.declared.message.Refusal.{Refusal}
-use Rattle.vfs_vhost.specs.declared.message.Refusal.TheVariants.{Cut, WrongVersion, IsReply, NotServed, WrongSize, WrongDescriptors, NotOffered, NoQueue, WrongQueueSize, WrongBase, WrongEnable, Logs, Misaligned, WrongCount, EmptyRegion, GuestRange, UserRange, FileRange, Overlap}
+use Rattle.vfs_vhost.specs.declared.message.Refusal.TheVariants.{Cut, WrongVersion, IsReply, NotServed, WrongSize, WrongDescriptors, NotOffered, NoQueue, WrongQueueSize, WrongBase, WrongEnable, Logs, Misaligned, WrongCount, EmptyRegion, GuestRange, UserRange, FileRange, Overlap, WrongLog, WrongTransfer}
 use Rattle.vfs_vhost.specs.declared.place.Place.{Place}
 use Rattle.vfs_vhost.specs.declared.place.View.{View}
 use Rattle.vfs_vhost.specs.declared.records.Region.{Region}
@@ -28,6 +28,8 @@ number_of GuestRange = 16
 number_of UserRange = 17
 number_of FileRange = 18
 number_of Overlap = 19
+number_of WrongLog = 20
+number_of WrongTransfer = 21
 
 -- the value is told, or why there is none, and then nothing is
 abbrev pub IsTold : {V : Type 0} → Result V Refusal → (old : V) → (result : ℕ) → (new : V) → Type 0

@@ -1,20 +1,22 @@
 -- Messages: the value of a header and a payload, or why they are refused.
-use Rattle.std.specs.Prelude.{◌==◌, ◌%◌, ◌&&◌, ℕ, List, length, Bool, Option, Some, None, Result, Ok, Err, if◌then◌else◌, nat_lt, nat_le, bit_and}
+use Rattle.std.specs.Prelude.{◌==◌, ◌%◌, ◌+◌, ◌^◌, ◌&&◌, ◌||◌, ℕ, List, length, Bool, Option, Some, None, Result, Ok, Err, if◌then◌else◌, nat_lt, nat_le, bit_and}
 use Rattle.std.specs.Int.{is_power_of_two}
 use Rattle.vfs_wire.specs.Fields.{number}
-use Rattle.vfs_vhost.specs.Records.{address, head, record_at, state}
+use Rattle.vfs_vhost.specs.Records.{address, head, log, record_at, state, transfer}
 use Rattle.vfs_vhost.specs.Requests.{has_size, request_of}
 use Rattle.vfs_vhost.specs.Tables.{alone, table_of}
 use Rattle.vfs_vhost.specs.declared.message.Message.{Message}
 use Rattle.vfs_vhost.specs.declared.message.Offer.{Offer}
 use Rattle.vfs_vhost.specs.declared.message.Rings.{Rings}
 use Rattle.vfs_vhost.specs.declared.message.Refusal.{Refusal}
-use Rattle.vfs_vhost.specs.declared.message.Refusal.TheVariants.{Cut, WrongVersion, IsReply, NotServed, WrongSize, WrongDescriptors, NotOffered, NoQueue, WrongQueueSize, WrongBase, WrongEnable, Logs, Misaligned}
+use Rattle.vfs_vhost.specs.declared.message.Refusal.TheVariants.{Cut, WrongVersion, IsReply, NotServed, WrongSize, WrongDescriptors, NotOffered, NoQueue, WrongQueueSize, WrongBase, WrongEnable, Logs, Misaligned, WrongLog, WrongTransfer}
 use Rattle.vfs_vhost.specs.declared.records.Address.{Address}
 use Rattle.vfs_vhost.specs.declared.records.Head.{Head}
+use Rattle.vfs_vhost.specs.declared.records.Log.{Log}
 use Rattle.vfs_vhost.specs.declared.records.State.{State}
+use Rattle.vfs_vhost.specs.declared.records.Transfer.{Transfer}
 use Rattle.vfs_vhost.specs.declared.request.Request.{Request}
-use Rattle.vfs_vhost.specs.declared.request.Request.TheVariants.{GetFeatures, SetFeatures, SetOwner, ResetOwner, SetMemTable, SetVringNum, SetVringAddr, SetVringBase, GetVringBase, SetVringKick, SetVringCall, SetVringErr, GetProtocolFeatures, SetProtocolFeatures, GetQueueNum, SetVringEnable}
+use Rattle.vfs_vhost.specs.declared.request.Request.TheVariants.{GetFeatures, SetFeatures, SetOwner, ResetOwner, SetMemTable, SetVringNum, SetVringAddr, SetVringBase, GetVringBase, SetVringKick, SetVringCall, SetVringErr, GetProtocolFeatures, SetProtocolFeatures, GetQueueNum, SetVringEnable, SetLogBase, SetLogFd, SetDeviceStateFd, CheckDeviceState}
 
 -- ---- headers
 
@@ -94,17 +96,61 @@ are_aligned a = a.descriptors % 16 == 0 && a.available % 2 == 0 && a.used % 4 ==
 
 -- the rings of a queue
 abbrev pub rings_at : Address → Rings
-rings_at a = record { descriptors = a.descriptors; used = a.used; available = a.available }
+rings_at a =
+    record { descriptors = a.descriptors; used = a.used; available = a.available; log = a.log }
 
-unfoldable pub rings_of : Address → (queues : ℕ) → Result Message Refusal
-rings_of a queues =
+-- the feature that what is written is marked in a log, and those of the protocol that this is in shared memory, and that
+-- a state goes by a descriptor
+abbrev pub log_all : ℕ
+log_all = 0x4000000
+
+abbrev pub log_shmfd : ℕ
+log_shmfd = 2
+
+abbrev pub device_state : ℕ
+device_state = 0x80000
+
+-- the flags of a ring can be: none, or bit 0, that what is written there is marked, if a log was offered
+unfoldable pub can_be_logged : (flags features : ℕ) → Bool
+can_be_logged flags features =
+    flags == 0 || (flags == 1 && bit_and features log_all == log_all)
+
+unfoldable pub rings_of : Address → (features queues : ℕ) → Result Message Refusal
+rings_of a features queues =
     if nat_lt a.queue queues
-    then (if a.flags == 0
+    then (if can_be_logged a.flags features
     then (if are_aligned a
-    then Ok (record (alone SetVringAddr) { queue = a.queue; rings = rings_at a })
+    then Ok (record (alone SetVringAddr) { queue = a.queue; number = a.flags; rings = rings_at a })
     else Err Misaligned)
     else Err Logs)
     else Err NoQueue
+
+-- a log, if one was offered: it has bytes, and ends before 2^63 in its file
+unfoldable pub log_of : Log → (protocol : ℕ) → Result Message Refusal
+log_of l protocol =
+    if bit_and protocol log_shmfd == log_shmfd
+    then (if l.size == 0 then Err WrongLog
+    else (if nat_lt (l.offset + l.size) (2 ^ 63)
+    then Ok (record (alone SetLogBase) { descriptors = 1; log = l })
+    else Err WrongLog))
+    else Err NotOffered
+
+-- so many descriptors and nothing else, if a feature of the protocol was offered
+unfoldable pub only_with : Request → (descriptors feature protocol : ℕ) → Result Message Refusal
+only_with r descriptors feature protocol =
+    if bit_and protocol feature == feature then Ok (record (alone r) { descriptors = descriptors })
+    else Err NotOffered
+
+-- which way a state goes, if that was offered: it is saved (0) or loaded (1), while the queues are stopped (0)
+unfoldable pub transfer_of : Transfer → (protocol : ℕ) → Result Message Refusal
+transfer_of t protocol =
+    if bit_and protocol device_state == device_state
+    then (if nat_lt t.direction 2
+    then (if t.phase == 0
+    then Ok (record (alone SetDeviceStateFd) { descriptors = 1; number = t.direction })
+    else Err WrongTransfer)
+    else Err WrongTransfer)
+    else Err NotOffered
 
 -- what a payload says, which has its request's size
 unfoldable pub payload_of : Request → (body : List ℕ) → Offer → Result Message Refusal
@@ -115,7 +161,11 @@ payload_of SetVringNum body o = state_of SetVringNum (record_at state 0 body) o.
 payload_of SetVringBase body o = state_of SetVringBase (record_at state 0 body) o.queues
 payload_of GetVringBase body o = state_of GetVringBase (record_at state 0 body) o.queues
 payload_of SetVringEnable body o = state_of SetVringEnable (record_at state 0 body) o.queues
-payload_of SetVringAddr body o = rings_of (record_at address 0 body) o.queues
+payload_of SetVringAddr body o = rings_of (record_at address 0 body) o.features o.queues
+payload_of SetLogBase body o = log_of (record_at log 0 body) o.protocol
+payload_of SetLogFd body o = only_with SetLogFd 1 log_shmfd o.protocol
+payload_of SetDeviceStateFd body o = transfer_of (record_at transfer 0 body) o.protocol
+payload_of CheckDeviceState body o = only_with CheckDeviceState 0 device_state o.protocol
 payload_of SetVringKick body o = event_of SetVringKick (number 8 body) o.queues
 payload_of SetVringCall body o = event_of SetVringCall (number 8 body) o.queues
 payload_of SetVringErr body o = event_of SetVringErr (number 8 body) o.queues

@@ -4,7 +4,9 @@ use Rattle.vfs_wire.specs.Fields.{Table, numbers_at, table}
 use Rattle.vfs_vhost.specs.declared.records.Address.{Address}
 use Rattle.vfs_vhost.specs.declared.records.Head.{Head}
 use Rattle.vfs_vhost.specs.declared.records.Region.{Region}
+use Rattle.vfs_vhost.specs.declared.records.Log.{Log}
 use Rattle.vfs_vhost.specs.declared.records.State.{State}
+use Rattle.vfs_vhost.specs.declared.records.Transfer.{Transfer}
 
 -- a header: 12 bytes
 abbrev pub made_head : List ℕ → Head
@@ -52,6 +54,20 @@ made_region xs = record {
 abbrev pub region : Table Region
 region =
     table (8 ∷ 8 ∷ 8 ∷ 8 ∷ []) (λ r. r.guest ∷ r.size ∷ r.user ∷ r.offset ∷ []) made_region
+
+-- a log: 16 bytes
+abbrev pub made_log : List ℕ → Log
+made_log xs = record { size = slice_index xs 0; offset = slice_index xs 1 }
+
+abbrev pub log : Table Log
+log = table (8 ∷ 8 ∷ []) (λ l. l.size ∷ l.offset ∷ []) made_log
+
+-- how a state goes: 8 bytes
+abbrev pub made_transfer : List ℕ → Transfer
+made_transfer xs = record { direction = slice_index xs 0; phase = slice_index xs 1 }
+
+abbrev pub transfer : Table Transfer
+transfer = table (4 ∷ 4 ∷ []) (λ t. t.direction ∷ t.phase ∷ []) made_transfer
 
 -- the record of the bytes from this place on
 abbrev pub record_at : {R : Type 0} → Table R → (at : ℕ) → (bytes : List ℕ) → R

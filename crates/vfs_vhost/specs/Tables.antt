@@ -9,6 +9,7 @@ use Rattle.vfs_vhost.specs.declared.message.Rings.{Rings}
 use Rattle.vfs_vhost.specs.declared.message.Table.{Table}
 use Rattle.vfs_vhost.specs.declared.message.Refusal.{Refusal}
 use Rattle.vfs_vhost.specs.declared.message.Refusal.TheVariants.{WrongCount, EmptyRegion, GuestRange, UserRange, FileRange, Overlap}
+use Rattle.vfs_vhost.specs.declared.records.Log.{Log}
 use Rattle.vfs_vhost.specs.declared.records.Region.{Region}
 use Rattle.vfs_vhost.specs.declared.request.Request.{Request}
 use Rattle.vfs_vhost.specs.declared.request.Request.TheVariants.{SetMemTable}
@@ -16,7 +17,10 @@ use Rattle.vfs_vhost.specs.declared.request.Request.TheVariants.{SetMemTable}
 -- ---- messages
 
 abbrev pub no_rings : Rings
-no_rings = record { descriptors = 0; used = 0; available = 0 }
+no_rings = record { descriptors = 0; used = 0; available = 0; log = 0 }
+
+abbrev pub no_log : Log
+no_log = record { size = 0; offset = 0 }
 
 abbrev pub no_region : Region
 no_region = record { guest = 0; size = 0; user = 0; offset = 0 }
@@ -33,6 +37,7 @@ alone r = record {
   descriptors = 0;
   number = 0;
   rings = no_rings;
+  log = no_log;
   memory = no_memory;
 }
 
@@ -101,10 +106,11 @@ pub record CanBe (t : Table) : Type 0 where
   pub are : All IsRegion (shared t)
   pub apart : AllPairs Apart (shared t)
 
--- The memory of a message: it can be, and each region came with a descriptor.
+-- The memory of a message: it can be, and each region came with a descriptor; and its log ends before 2^63 in its file.
 pub record HasMemory (m : Message) : Type 0 where
   pub can_be : CanBe m.memory
   pub with_descriptors : m.memory.count ≤ m.descriptors
+  pub log : m.log.offset + m.log.size < 2 ^ 63
 
 -- ---- tables
 

@@ -1,6 +1,6 @@
 //! What a message comes to.
 
-use crate::records::Region;
+use crate::records::{Log, Region};
 
 /// Why a message is refused.
 #[derive(Clone, Copy, Debug)]
@@ -27,7 +27,7 @@ pub enum Refusal {
     WrongBase = 10,
     /// A queue is neither enabled nor disabled.
     WrongEnable = 11,
-    /// What is written to a ring is to be logged.
+    /// What is written to a ring is to be logged, which was not offered, or its flags can't be.
     Logs = 12,
     /// A ring begins where its entries can't be.
     Misaligned = 13,
@@ -43,6 +43,10 @@ pub enum Refusal {
     FileRange = 18,
     /// Two regions have an address of the guest in common.
     Overlap = 19,
+    /// A log is empty, or ends past the offsets of a file.
+    WrongLog = 20,
+    /// A state goes neither way, or not while the queues are stopped.
+    WrongTransfer = 21,
 }
 
 /// What was offered, and how many queues there are.
@@ -55,13 +59,14 @@ pub struct Offer {
     pub queues: u64,
 }
 
-/// Where the rings of a queue begin, by the front end's addresses.
+/// Where the rings of a queue begin, by the front end's addresses, and by the guest's the used one, for the log.
 #[repr(C)]
 #[derive(Clone, Copy, Debug)]
 pub struct Rings {
     pub descriptors: u64,
     pub used: u64,
     pub available: u64,
+    pub log: u64,
 }
 
 impl Rings {
@@ -69,6 +74,7 @@ impl Rings {
         descriptors: 0,
         used: 0,
         available: 0,
+        log: 0,
     };
 }
 
@@ -98,9 +104,11 @@ pub struct Message {
     pub queue: u32,
     /// How many descriptors it has.
     pub descriptors: u32,
-    /// Features, or a number of the queue.
+    /// Features; a number of the queue; of its rings, 1 if what is written there is marked in the log; of a state,
+    /// 0 if it is saved, and 1 if it is loaded.
     pub number: u64,
     pub rings: Rings,
+    pub log: Log,
     pub memory: Table,
 }
 
@@ -112,6 +120,7 @@ impl Message {
         descriptors: 0,
         number: 0,
         rings: Rings::NONE,
+        log: Log::NONE,
         memory: Table::NONE,
     };
 }

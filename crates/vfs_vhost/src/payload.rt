@@ -1,17 +1,28 @@
 //! Payloads of messages.
 
 ghost use Rattle.std.specs.Prelude.{◌≡◌, ◌≤◌, ◌<◌, length, true, IfOk};
-ghost use Rattle.vfs_vhost.specs.Messages.{are_aligned, event_of, number_fault, payload_of, rings_of, state_of, wanted as wanted_of};
-ghost use Rattle.vfs_vhost.specs.Records.{record_at, state as state_table, address as address_table};
+ghost use Rattle.vfs_vhost.specs.Messages.{are_aligned, can_be_logged, event_of, log_of, number_fault, only_with as only_of, payload_of, rings_of, state_of, transfer_of, wanted as wanted_of};
+ghost use Rattle.vfs_vhost.specs.Records.{record_at, state as state_table, address as address_table, log as log_table, transfer as transfer_table};
 ghost use Rattle.vfs_vhost.specs.Requests.{has_size};
 ghost use Rattle.vfs_vhost.specs.Tables.{HasMemory, alone as alone_of};
 
 use crate::message::{Message, Offer, Refusal, Rings};
-use crate::records::{Address, State};
+use crate::records::{Address, Log, State, Transfer};
 use crate::request::Request;
 use crate::table::table;
 use vfs_wire::bytes::u64_at;
 use vfs_wire::parts::part_at;
+
+/// The greatest offset of a file.
+const LAST_OFFSET: u64 = i64::MAX as u64;
+
+/// The feature that what is written is marked in a log, and those of the protocol that this is in shared memory, and that
+/// a state goes by a descriptor.
+const LOG_ALL: u64 = 1 << 26;
+
+const LOG_SHMFD: u64 = 1 << 1;
+
+const DEVICE_STATE: u64 = 1 << 19;
 
 /// A message of this request alone.
 fn alone(request: Request) -> Message
@@ -120,11 +131,19 @@ fn is_aligned(address: &Address) -> bool
     address.descriptors % 16 == 0 && address.available % 2 == 0 && address.used % 4 == 0
 }
 
+/// Whether these flags of a ring can be: one alone, if a log was offered.
+#[tactic(auto, unfolding(crate::specs::Messages::can_be_logged))]
+fn may_log(flags: u32, features: u64) -> bool
+    ensures { result ≡ can_be_logged flags features }
+{
+    flags == 0 || (flags == 1 && features & LOG_ALL == LOG_ALL)
+}
+
 /// The rings of a queue.
 #[tactic(auto, unfolding(crate::specs::Messages::rings_of))]
-fn rings(body: &[u8], queues: u64) -> Result<Message, Refusal>
+fn rings(body: &[u8], features: u64, queues: u64) -> Result<Message, Refusal>
     requires { 40 ≤ length body.now }
-    ensures value { result ≡ rings_of (record_at address_table 0 body.now) queues }
+    ensures value { result ≡ rings_of (record_at address_table 0 body.now) features queues }
     ensures memory { IfOk result HasMemory }
     ensures queue { IfOk result (λ m. m.queue < queues) }
 {
@@ -132,7 +151,7 @@ fn rings(body: &[u8], queues: u64) -> Result<Message, Refusal>
     if u64::from(address.queue) >= queues {
         return Err(Refusal::NoQueue);
     }
-    if address.flags != 0 {
+    if !may_log(address.flags, features) {
         return Err(Refusal::Logs);
     }
     if !is_aligned(&address) {
@@ -140,12 +159,79 @@ fn rings(body: &[u8], queues: u64) -> Result<Message, Refusal>
     }
     Ok(Message {
         queue: address.queue,
+        number: u64::from(address.flags),
         rings: Rings {
             descriptors: address.descriptors,
             used: address.used,
             available: address.available,
+            log: address.log,
         },
         ..alone(Request::SetVringAddr)
+    })
+}
+
+/// A log, if one was offered.
+#[tactic(auto, unfolding(crate::specs::Messages::log_of))]
+fn log(body: &[u8], protocol: u64) -> Result<Message, Refusal>
+    requires { 16 ≤ length body.now }
+    ensures value { result ≡ log_of (record_at log_table 0 body.now) protocol }
+    ensures memory { IfOk result HasMemory }
+    ensures queue { IfOk result (λ m. m.queue ≡ 0) }
+{
+    let log: Log = part_at(body, 0);
+    if protocol & LOG_SHMFD != LOG_SHMFD {
+        return Err(Refusal::NotOffered);
+    }
+    if log.size == 0 || log.size > LAST_OFFSET || log.offset > LAST_OFFSET - log.size {
+        return Err(Refusal::WrongLog);
+    }
+    Ok(Message {
+        descriptors: 1,
+        log,
+        ..alone(Request::SetLogBase)
+    })
+}
+
+/// A message with so many descriptors and nothing else, if this feature of the protocol was offered.
+#[tactic(auto, unfolding(crate::specs::Messages::only_with))]
+fn only_with(
+    request: Request,
+    descriptors: u32,
+    feature: u64,
+    protocol: u64,
+) -> Result<Message, Refusal>
+    ensures value { result ≡ only_of request descriptors feature protocol }
+    ensures memory { IfOk result HasMemory }
+    ensures queue { IfOk result (λ m. m.queue ≡ 0) }
+{
+    if protocol & feature != feature {
+        return Err(Refusal::NotOffered);
+    }
+    Ok(Message {
+        descriptors,
+        ..alone(request)
+    })
+}
+
+/// Which way a state goes, if that was offered.
+#[tactic(auto, unfolding(crate::specs::Messages::transfer_of))]
+fn transfer(body: &[u8], protocol: u64) -> Result<Message, Refusal>
+    requires { 8 ≤ length body.now }
+    ensures value { result ≡ transfer_of (record_at transfer_table 0 body.now) protocol }
+    ensures memory { IfOk result HasMemory }
+    ensures queue { IfOk result (λ m. m.queue ≡ 0) }
+{
+    let transfer: Transfer = part_at(body, 0);
+    if protocol & DEVICE_STATE != DEVICE_STATE {
+        return Err(Refusal::NotOffered);
+    }
+    if transfer.direction >= 2 || transfer.phase != 0 {
+        return Err(Refusal::WrongTransfer);
+    }
+    Ok(Message {
+        descriptors: 1,
+        number: u64::from(transfer.direction),
+        ..alone(Request::SetDeviceStateFd)
     })
 }
 
@@ -165,10 +251,14 @@ pub fn payload(request: Request, body: &[u8], offer: &Offer) -> Result<Message, 
         | Request::SetVringBase
         | Request::GetVringBase
         | Request::SetVringEnable => state(request, body, offer.queues),
-        Request::SetVringAddr => rings(body, offer.queues),
+        Request::SetVringAddr => rings(body, offer.features, offer.queues),
         Request::SetVringKick | Request::SetVringCall | Request::SetVringErr => {
             event(request, u64_at(body, 0), offer.queues)
         }
+        Request::SetLogBase => log(body, offer.protocol),
+        Request::SetLogFd => only_with(request, 1, LOG_SHMFD, offer.protocol),
+        Request::SetDeviceStateFd => transfer(body, offer.protocol),
+        Request::CheckDeviceState => only_with(request, 0, DEVICE_STATE, offer.protocol),
         Request::GetFeatures
         | Request::SetOwner
         | Request::ResetOwner

@@ -2,7 +2,7 @@
 
 ghost use Rattle.std.specs.Prelude.{refl};
 ghost use Rattle.std.proofs.Common.{lit≤};
-ghost use Rattle.vfs_vhost.specs.Records.{address, head, region, state};
+ghost use Rattle.vfs_vhost.specs.Records.{address, head, log, region, state, transfer};
 
 use vfs_wire::ByteValued;
 use vfs_wire::bytes::Field::{Eight, Four};
@@ -88,12 +88,12 @@ impl ByteValued for State {
 #[derive(Clone, Copy, Debug, Default)]
 pub struct Address {
     pub queue: u32,
-    /// Bit 0: what is written to the used ring is to be logged.
+    /// Bit 0: what is written to the used ring is marked in the log.
     pub flags: u32,
     pub descriptors: u64,
     pub used: u64,
     pub available: u64,
-    /// Where it is logged.
+    /// By which address of the guest.
     pub log: u64,
 }
 
@@ -185,6 +185,82 @@ impl ByteValued for Region {
             size: u64_at(b, 8),
             user: u64_at(b, 16),
             offset: u64_at(b, 24),
+        }
+    }
+
+    ghost size_is = { refl };
+
+    ghost size_small = { lit≤ tt };
+
+    ghost made_fields = { λ x h. refl };
+
+    ghost fields_made = { λ b h. refl };
+}
+
+/// Where what is written to the guest's memory is marked, in 16 bytes (`VhostUserLog`): so many bytes of a file.
+#[repr(C)]
+#[derive(Clone, Copy, Debug, Default)]
+pub struct Log {
+    pub size: u64,
+    /// Where it begins in its file.
+    pub offset: u64,
+}
+
+impl Log {
+    pub const NONE: Log = Log { size: 0, offset: 0 };
+}
+
+impl ByteValued for Log {
+    const SIZE: usize = 16;
+
+    ghost SIZE = { 16 };
+
+    ghost table = { log };
+
+    fn put(&self, out: &mut [u8]) {
+        put_fields(out, &[Eight(self.size), Eight(self.offset)]);
+    }
+
+    fn take(b: &[u8]) -> Log {
+        Log {
+            size: u64_at(b, 0),
+            offset: u64_at(b, 8),
+        }
+    }
+
+    ghost size_is = { refl };
+
+    ghost size_small = { lit≤ tt };
+
+    ghost made_fields = { λ x h. refl };
+
+    ghost fields_made = { λ b h. refl };
+}
+
+/// How the state of the device goes, in 8 bytes (`VhostUserTransferDeviceState`).
+#[derive(Clone, Copy, Debug, Default)]
+pub struct Transfer {
+    /// 0: it is saved; 1: it is loaded.
+    pub direction: u32,
+    /// 0: while the queues are stopped.
+    pub phase: u32,
+}
+
+impl ByteValued for Transfer {
+    const SIZE: usize = 8;
+
+    ghost SIZE = { 8 };
+
+    ghost table = { transfer };
+
+    fn put(&self, out: &mut [u8]) {
+        put_fields(out, &[Four(self.direction), Four(self.phase)]);
+    }
+
+    fn take(b: &[u8]) -> Transfer {
+        Transfer {
+            direction: u32_at(b, 0),
+            phase: u32_at(b, 4),
         }
     }
 

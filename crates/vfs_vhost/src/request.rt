@@ -11,6 +11,8 @@ pub enum Request {
     SetOwner = 3,
     ResetOwner = 4,
     SetMemTable = 5,
+    SetLogBase = 6,
+    SetLogFd = 7,
     SetVringNum = 8,
     SetVringAddr = 9,
     SetVringBase = 10,
@@ -22,6 +24,8 @@ pub enum Request {
     SetProtocolFeatures = 16,
     GetQueueNum = 17,
     SetVringEnable = 18,
+    SetDeviceStateFd = 42,
+    CheckDeviceState = 43,
 }
 
 /// The request of a number.
@@ -35,6 +39,8 @@ pub fn request_by(number: u32) -> Option<Request>
         3 => Some(Request::SetOwner),
         4 => Some(Request::ResetOwner),
         5 => Some(Request::SetMemTable),
+        6 => Some(Request::SetLogBase),
+        7 => Some(Request::SetLogFd),
         8 => Some(Request::SetVringNum),
         9 => Some(Request::SetVringAddr),
         10 => Some(Request::SetVringBase),
@@ -46,6 +52,8 @@ pub fn request_by(number: u32) -> Option<Request>
         16 => Some(Request::SetProtocolFeatures),
         17 => Some(Request::GetQueueNum),
         18 => Some(Request::SetVringEnable),
+        42 => Some(Request::SetDeviceStateFd),
+        43 => Some(Request::CheckDeviceState),
         _ => None,
     }
 }
@@ -60,9 +68,12 @@ pub fn has_size(request: Request, size: u32) -> bool
         Request::GetFeatures
         | Request::SetOwner
         | Request::ResetOwner
+        | Request::SetLogFd
         | Request::GetProtocolFeatures
-        | Request::GetQueueNum => size == 0,
+        | Request::GetQueueNum
+        | Request::CheckDeviceState => size == 0,
         Request::SetMemTable => size >= 8 && size <= 264 && size % 32 == 8,
+        Request::SetLogBase => size == 16,
         Request::SetVringAddr => size == 40,
         Request::SetFeatures
         | Request::SetVringNum
@@ -72,6 +83,7 @@ pub fn has_size(request: Request, size: u32) -> bool
         | Request::SetVringCall
         | Request::SetVringErr
         | Request::SetProtocolFeatures
-        | Request::SetVringEnable => size == 8,
+        | Request::SetVringEnable
+        | Request::SetDeviceStateFd => size == 8,
     }
 }

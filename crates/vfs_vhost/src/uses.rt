@@ -1,6 +1,6 @@
 //! Small callers.
 
-ghost use Rattle.std.specs.Prelude.{◌≡◌, ◌≤◌, ◌+◌, IfOk, IfSome};
+ghost use Rattle.std.specs.Prelude.{◌≡◌, ◌≤◌, ◌<◌, ◌+◌, ◌^◌, IfOk, IfSome};
 ghost use Rattle.std.specs.List.{AllPairs, HoldsAt};
 ghost use Rattle.vfs_vhost.specs.Samples.{head_of, num_128};
 ghost use Rattle.vfs_vhost.specs.Tables.{Apart, shared};
@@ -8,7 +8,7 @@ ghost use Rattle.vfs_vhost.specs.Tables.{Apart, shared};
 use crate::message::{Message, Offer, Refusal, Table};
 use crate::place::{Place, View, place_of};
 use crate::read::{payload_size, read_message};
-use crate::records::Region;
+use crate::records::{Log, Region};
 
 /// The size of a queue's message is that of its header.
 #[tactic(auto, unfolding(vfs_wire::specs::Fields::number, crate::specs::Messages::size_in, crate::specs::Messages::asked_by, crate::specs::Requests::request_of, crate::specs::Requests::has_size))]
@@ -37,6 +37,16 @@ fn share(head: &[u8], body: &[u8], descriptors: usize, offer: &Offer) -> Option<
 {
     match read_message(head, body, descriptors, offer) {
         Ok(said) => Some(said.memory),
+        Err(_) => None,
+    }
+}
+
+/// A log that is taken can be mapped.
+fn mark(head: &[u8], body: &[u8], descriptors: usize, offer: &Offer) -> Option<Log>
+    ensures { IfSome result (λ l. l.offset + l.size < 2 ^ 63) }
+{
+    match read_message(head, body, descriptors, offer) {
+        Ok(said) => Some(said.log),
         Err(_) => None,
     }
 }

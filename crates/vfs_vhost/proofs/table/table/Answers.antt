@@ -15,4 +15,5 @@ returns-clause-memory c =
         apart = subst Lie (sym c.from.ensures) (c.any_meet.ensures.apart c.if-any_meet.false);
       };
       with_descriptors = omega (arith, c.from.ensures);
+      log = omega arith;
     }

@@ -1,0 +1,141 @@
+/* The state of a device, as it goes: vhost_state.h. */
+#define _GNU_SOURCE
+#include <errno.h>
+#include <fcntl.h>
+#include <poll.h>
+#include <stdlib.h>
+#include <string.h>
+#include <unistd.h>
+#include "vhost_state.h"
+
+enum { BUFFER = 65536 };
+
+struct transport_state {
+	int descriptor, signals, client;
+	/* What was put, and is not written yet; or what came, and was not got yet. */
+	size_t at, end;
+	int puts;
+	unsigned char buffer[BUFFER];
+};
+
+transport_state *state_new(int descriptor, int signals, int client)
+{
+	transport_state *state = malloc(sizeof(*state));
+
+	if (!state) {
+		close(descriptor);
+		return NULL;
+	}
+	state->descriptor = descriptor;
+	state->signals = signals;
+	state->client = client;
+	state->at = state->end = 0;
+	state->puts = 0;
+	fcntl(descriptor, F_SETFL, fcntl(descriptor, F_GETFL) | O_NONBLOCK);
+	return state;
+}
+
+/* Waits for the descriptor, at most so long: 0, or -1. */
+static int await(const transport_state *state, short event, int most)
+{
+	struct pollfd wait[] = { { state->descriptor, event, 0 },
+				 { state->signals, POLLIN, 0 },
+				 { state->client, POLLRDHUP, 0 } };
+
+	while (poll(wait, 3, most) < 0)
+		if (errno != EINTR)
+			return -1;
+	errno = ECANCELED;
+	return wait[1].revents || wait[2].revents ? -1 : 0;
+}
+
+int transport_wants_state(transport_state *of)
+{
+	return await(of, 0, 0);
+}
+
+/* Whether what came to an error is to be tried again. */
+static int is_for_now(void)
+{
+	return errno == EAGAIN || errno == EWOULDBLOCK || errno == EINTR;
+}
+
+/* Writes what was put. */
+static int flush(transport_state *to)
+{
+	while (to->at < to->end) {
+		const ssize_t done = await(to, POLLOUT, -1) ?
+					     -2 :
+					     write(to->descriptor, to->buffer + to->at, to->end - to->at);
+
+		if (done == -2 || (done < 0 && !is_for_now()))
+			return -1;
+		if (done > 0)
+			to->at += (size_t)done;
+	}
+	to->at = to->end = 0;
+	return 0;
+}
+
+int transport_put_state(transport_state *to, const void *bytes, size_t len)
+{
+	to->puts = 1;
+	while (len) {
+		const size_t room = sizeof(to->buffer) - to->end, part = len < room ? len : room;
+
+		memcpy(to->buffer + to->end, bytes, part);
+		to->end += part;
+		bytes = (const char *)bytes + part;
+		len -= part;
+		if (to->end == sizeof(to->buffer) && flush(to))
+			return -1;
+	}
+	return 0;
+}
+
+/* Reads what comes next, behind what was got: how many bytes, 0 at the end, or -1. */
+static ssize_t fill(transport_state *from)
+{
+	ssize_t got;
+
+	do {
+		if (await(from, POLLIN, -1))
+			return -1;
+		got = read(from->descriptor, from->buffer, sizeof(from->buffer));
+	} while (got < 0 && is_for_now());
+	from->at = 0;
+	from->end = got > 0 ? (size_t)got : 0;
+	return got;
+}
+
+ssize_t transport_get_state(transport_state *from, void *bytes, size_t len)
+{
+	size_t done = 0;
+
+	while (done < len) {
+		const size_t there = from->end - from->at, part = len - done < there ? len - done : there;
+
+		memcpy((char *)bytes + done, from->buffer + from->at, part);
+		from->at += part;
+		done += part;
+		if (done < len) {
+			const ssize_t got = fill(from);
+
+			if (got < 0)
+				return -1;
+			if (!got)
+				break;
+		}
+	}
+	return (ssize_t)done;
+}
+
+int state_end(transport_state *state)
+{
+	int error = state->puts ? flush(state) : 0;
+
+	if (close(state->descriptor))
+		error = -1;
+	free(state);
+	return error;
+}

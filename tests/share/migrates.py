@@ -1,0 +1,514 @@
+#!/usr/bin/env python3
+"""Moves what a machine knows from one nizwarf-share to another by its state, for check.sh.
+
+Usage: tests/share/migrates.py WORK SHARE [WORDS]: a folder to work in, and nizwarf-share with its words, as root
+
+In both modes of --migration-mode the client goes on: reads and writes files that are open, one that was opened to append
+and one whose first name is gone, and goes on with a directory in the middle of its list. By handles it does so with a file
+that was renamed or unlinked meanwhile. What is missing ends it, or is an error to the client, as --migration-on-error says.
+A state that is cut, or of which a byte is another one, is refused, and so are paths and handles that lead out of the
+folder, numbers that come twice, another version, and options of INIT that the target lacks. Locks hold a machine where it
+is. While it is marked what is written, the marks are those of the pages that are written. Status 0: all came so.
+"""
+import ctypes
+import fcntl
+import os
+import pathlib
+import select
+import shutil
+import signal
+import struct
+import subprocess
+import sys
+import tempfile
+
+from machine import (GUEST, LOG_ALL, LONG, PAGE, QUEUE, ROOM, SAVE, SET_FEATURES, SET_LOG_FD, SET_STATE_FD, USED, GET_FEATURES,
+                     GET_PROTOCOL, DEVICE_STATE, LOG_SHMFD, Machine, Op, record)
+
+ESTALE, EBADF, EROFS, NAMES = 116, 9, 30, 300
+HANDLES = "--migration-mode=file-handles"
+# Of the state: its header, of a record, a node, an open file, and the end.
+HEADER, RECORD, NODE, FILE, END = "<8sIIQ", "<II", "<QQIIiHBB", "<QQII", "<QQQ"
+KINDS = END_KIND, MOUNT_KIND, NODE_KIND, FILE_KIND = 0, 1, 2, 3
+faults = []
+
+
+def hold(what, came, wanted):
+    if came != wanted:
+        faults.append(f"{what}: {came} and not {wanted}")
+
+
+class Server:
+    """A share of a folder, and what it says."""
+
+    def __init__(self, folder, *words):
+        self.at = tempfile.mkdtemp(dir=WORK)
+        self.path = self.at + "/socket"
+        self.log = open(self.at + "/log", "w+")
+        self.process = subprocess.Popen([SHARE, *WORDS, *words, "--socket-path=" + self.path, folder],
+                                        stdin=subprocess.DEVNULL, stderr=self.log)
+        for _ in range(1000):
+            if os.path.exists(self.path) or self.process.poll() is not None:
+                break
+            signal.sigtimedwait([], 0.02)
+
+    def said(self):
+        self.log.seek(0)
+        return self.log.read()
+
+    def machine(self, **more):
+        return Machine(self.path, **more)
+
+    def end(self):
+        self.process.terminate()
+        try:
+            status = self.process.wait(LONG)
+        except subprocess.TimeoutExpired:
+            self.process.kill()
+            status = "no end"
+        said = self.said()
+        if status or "Sanitizer" in said or "runtime error" in said:
+            faults.append(f"a server ended with {status}, and said: {said}")
+        self.log.close()
+        shutil.rmtree(self.at)
+
+
+def make_folder():
+    folder = tempfile.mkdtemp(dir=WORK)
+    os.makedirs(folder + "/d/deep")
+    for name, data in (("file", b"0123456789"), ("first", b"a file of two names"), ("end", b"begun"), ("gone", b"gone")):
+        pathlib.Path(folder, "d", name).write_bytes(data)
+    os.link(folder + "/d/first", folder + "/d/deep/second")
+    os.symlink("file", folder + "/d/link")
+    os.makedirs(folder + "/many")
+    for i in range(NAMES):
+        pathlib.Path(folder, "many", f"name{i:03}").touch()
+    return folder
+
+
+def begin(machine):
+    """A session: its numbers by name."""
+    had = {}
+    hold("INIT", machine.begin().init(), 0)
+    for name in (b"d", b"many"):
+        had[name] = machine.look_up(name)
+    # (numbers that are given back are another node's later)
+    for i in range(5):
+        number = machine.look_up(b"name%03d" % i, had[b"many"])
+        machine.ask(Op.FORGET, record(Op.FORGET, lookups=1), number, room=16)
+    for name in (b"file", b"first", b"end", b"gone", b"link", b"deep"):
+        had[name] = machine.look_up(name, had[b"d"])
+    machine.look_up(b"file", had[b"d"])
+    had["file"] = machine.open(had[b"file"])
+    had["first"] = machine.open(had[b"first"], os.O_RDONLY)
+    had["end"] = machine.open(had[b"end"], os.O_WRONLY | os.O_APPEND)
+    had["gone"] = machine.open(had[b"gone"])
+    had["many"] = machine.open(had[b"many"], os.O_DIRECTORY)
+    made = machine.take(Op.CREATE, record(Op.CREATE, flags=os.O_RDWR, mode=0o644) + b"made\0", had[b"deep"])
+    had[b"made"], had["made"] = struct.unpack_from("<Q", made)[0], struct.unpack_from("<Q", made, 128)[0]
+    hold("WRITE", machine.write(had[b"made"], had["made"], b"made here"), 0)
+    had["listed"], had["at"] = machine.list(had[b"many"], had["many"], 1000)
+    return had
+
+
+def go_on(machine, had, folder, name=b"file"):
+    """What the client does where it is now."""
+    hold("READ", machine.read(had[b"file"], had["file"]), (0, b"0123456789"))
+    hold("WRITE", machine.write(had[b"file"], had["file"], b"abc", 10), 0)
+    hold("READ of what was written", machine.read(had[b"file"], had["file"]), (0, b"0123456789abc"))
+    hold("READ of a file whose first name is gone", machine.read(had[b"first"], had["first"]), (0, b"a file of two names"))
+    hold("WRITE to the end", machine.write(had[b"end"], had["end"], b" here", 0, os.O_APPEND), 0)
+    hold("what was written to the end", pathlib.Path(folder, "d/end").read_bytes(), b"begun here")
+    hold("READ of what was made", machine.read(had[b"made"], had["made"]), (0, b"made here"))
+    hold("READLINK", machine.ask(Op.READLINK, b"", had[b"link"]), (0, b"file"))
+    names, at = list(had["listed"]), had["at"]
+    while True:
+        more, at = machine.list(had[b"many"], had["many"], 1000, at)
+        if not more:
+            break
+        names += more
+    hold("the names of a list", sorted(names), sorted([b".", b"..", *(b"name%03d" % i for i in range(NAMES))]))
+    if name:
+        hold("LOOKUP of what is known", machine.look_up(name, had[b"d"]), had[b"file"])
+    for i in range(20):
+        number = machine.look_up(b"name%03d" % i, had[b"many"])
+        hold("a new node has a number of its own", number in had.values() or number <= 1, False)
+    for number in (2, 3, 7):
+        hold("GETATTR of a number that was given back", machine.ask(Op.GETATTR, record(Op.GETATTR), number | 7 << 32)[0], ESTALE)
+    hold("RELEASE", machine.ask(Op.RELEASE, record(Op.RELEASE, handle=had["file"]), had[b"file"])[0], 0)
+    hold("READ of what is released", machine.read(had[b"file"], had["file"])[0], EBADF)
+    # (it was looked up twice there, and perhaps once here)
+    machine.ask(Op.FORGET, record(Op.FORGET, lookups=1 + bool(name)), had[b"file"], room=16)
+    hold("GETATTR of a node with a lookup left", machine.ask(Op.GETATTR, record(Op.GETATTR), had[b"file"])[0], 0)
+    machine.ask(Op.FORGET, record(Op.FORGET, lookups=1), had[b"file"], room=16)
+    hold("GETATTR of a node that is forgotten", machine.ask(Op.GETATTR, record(Op.GETATTR), had[b"file"])[0], ESTALE)
+
+
+def move(source_words, target_words, meanwhile=None, name=b"file", loads=True, then=None):
+    """A session that goes from one server to another."""
+    folder = make_folder()
+    source = Server(folder, *source_words)
+    target = Server(folder, *target_words)
+    one = source.machine()
+    had = begin(one)
+    os.unlink(folder + "/d/first")
+    one.stop()
+    state = one.save()
+    if not state:
+        faults.append(f"it is not saved with {source_words}: {source.said()}")
+        return
+    if meanwhile:
+        meanwhile(folder)
+    other = target.machine()
+    other.next = one.next
+    hold(f"it is loaded, from {source_words} to {target_words}: {target.said()}", other.load(state), loads)
+    if loads:
+        # (rings and all of the memory go with the machine)
+        other.view[:] = one.view[:]
+        other.begin()
+        (then or go_on)(other, had, folder, name)
+        hold("INIT of a machine that starts again", other.init(), 0)
+        hold("LOOKUP after it", other.look_up(b"d") > 1, True)
+        hold("a number of before it", other.ask(Op.GETATTR, record(Op.GETATTR), had[b"made"])[0], ESTALE)
+    else:
+        # (it stays where it was)
+        one.begin()
+        go_on(one, had, folder, None if meanwhile is replace else b"file")
+    one.end()
+    other.end()
+    source.end()
+    target.end()
+    shutil.rmtree(folder)
+
+
+def without_gone(machine, had, folder, name):
+    hold("GETATTR of what is missing", machine.ask(Op.GETATTR, record(Op.GETATTR), had[b"gone"])[0], ESTALE)
+    hold("READ of what is missing", machine.read(had[b"gone"], had["gone"])[0], ESTALE)
+    go_on(machine, had, folder, name)
+
+
+def with_gone(machine, had, folder, name):
+    hold("READ of a file without a name", machine.read(had[b"gone"], had["gone"]), (0, b"gone"))
+    go_on(machine, had, folder, name)
+
+
+def rename_and_unlink(folder):
+    os.rename(folder + "/d/file", folder + "/d/moved")
+    os.unlink(folder + "/d/gone")
+
+
+def replace(folder):
+    """Another file has the name."""
+    pathlib.Path(folder, "d/other").write_bytes(b"0123456789")
+    os.rename(folder + "/d/other", folder + "/d/file")
+
+
+def modes():
+    move([], [])
+    move([], ["--inode-file-handles=prefer"])
+    move(["--inode-file-handles=prefer"], [])
+    move(["--migration-verify-handles", "--migration-confirm-paths"], [])
+    move([HANDLES], [HANDLES], rename_and_unlink, b"moved", then=with_gone)
+    move([HANDLES, "--inode-file-handles=mandatory"], [HANDLES, "--inode-file-handles=mandatory"])
+    move([HANDLES], [], loads=False)
+
+
+def errors():
+    unlink = lambda folder: os.unlink(folder + "/d/gone")
+    move([], [], unlink, loads=False)
+    move([], ["--migration-on-error=guest-error"], unlink, then=without_gone)
+    move(["--migration-verify-handles"], [], unlink, loads=False)
+    # (a path leads to any file, but by its handle)
+    move([], [], replace, then=lambda machine, had, *_: hold("READ of another file", machine.read(had[b"file"], had["file"]),
+                                                            (0, b"0123456789")))
+    move(["--migration-verify-handles"], [], replace, loads=False)
+    move([], ["--readonly"], loads=False)
+
+
+def parts_of(state):
+    """The header, and the records, each a kind and bytes."""
+    at, records = struct.calcsize(HEADER), []
+    while at < len(state):
+        kind, size = struct.unpack_from(RECORD, state, at)
+        records.append((kind, state[at + 8:at + 8 + size]))
+        at += 8 + size
+    return struct.unpack_from(HEADER, state), records
+
+
+def state_of(header, records, nodes=None):
+    """A state with an end that is right."""
+    made = struct.pack(HEADER, *header)
+    made += b"".join(struct.pack(RECORD, kind, len(body)) + body for kind, body in records)
+    total = 0xcbf29ce484222325
+    for byte in made:
+        total = (total ^ byte) * 0x100000001b3 & 2**64 - 1
+    counts = [sum(kind == wanted for kind, _ in records) for wanted in (NODE_KIND, FILE_KIND)]
+    return made + struct.pack(RECORD, END_KIND, 24) + struct.pack(END, nodes or counts[0], counts[1], total)
+
+
+def node(number, path, lookups=1, kind=0o100000, handle=b"", handle_type=1, mount=0):
+    return NODE_KIND, struct.pack(NODE, number, lookups, kind, mount, handle_type if handle else 0, len(handle), 0, 0) + handle + path
+
+
+def file(number, of, flags=0):
+    return FILE_KIND, struct.pack(FILE, number, of, flags, 0)
+
+
+def small_state(server):
+    """The state of a session of few nodes."""
+    machine = server.machine()
+    machine.begin().init()
+    number = machine.look_up(b"d")
+    machine.open(machine.look_up(b"file", number))
+    machine.stop()
+    state = machine.save()
+    machine.end()
+    return state
+
+
+def handle_of(path):
+    """A handle by name_to_handle_at(2): its type, and its bytes."""
+    room = ctypes.create_string_buffer(struct.pack("<Ii", 128, 0) + bytes(128))
+    mount = ctypes.c_int()
+    if ctypes.CDLL(None, use_errno=True).name_to_handle_at(-100, path.encode(), room, ctypes.byref(mount), 0):
+        return None
+    size, kind = struct.unpack_from("<Ii", room.raw)
+    return kind, room.raw[8:8 + size]
+
+
+def loads(server, state, what, wanted=False, words=None):
+    """Whether a state is taken; and the server says why not."""
+    before = len(server.said())
+    machine = server.machine()
+    hold(f"{what} is taken", machine.load(state), wanted)
+    said = server.said()[before:]
+    if not wanted and (words or "migration: ") not in said:
+        faults.append(f"{what}: it says {said!r}")
+    return machine
+
+
+def damaged(server, state):
+    """It is cut in each place, and has another byte in each."""
+    count = 0
+    for at in range(len(state)):
+        loads(server, state[:at], f"a state of {at} bytes of {len(state)}").end()
+        wrong = bytearray(state)
+        wrong[at] ^= 1 << at % 8
+        loads(server, bytes(wrong), f"a state with another byte {at}").end()
+        count += 2
+    loads(server, state + b"\0", "a state with a byte behind its end").end()
+    return count + 1
+
+
+def hostile(server, folder, state):
+    """States that are whole, and can't be."""
+    header, _ = parts_of(state)
+    root = node(1, b"", 2, 0o40000)
+    cases = {
+        "another magic": state_of((b"nizwarg", *header[1:]), [root]),
+        "version 2": state_of((header[0], 2, *header[2:]), [root]),
+        "a third mode": state_of((*header[:2], 2, header[3]), [root]),
+        "handles that were not asked for": state_of((*header[:2], 1, header[3]), [root]),
+        "options that are not offered": state_of((*header[:3], header[3] | 1 << 41), [root]),
+        "a number twice": state_of(header, [root, node(2, b"d/file"), node(2, b"d/end")]),
+        "a place twice": state_of(header, [root, node(2, b"d/file"), node(2 | 1 << 32, b"d/end")]),
+        "a file twice": state_of(header, [root, node(2, b"d/file"), node(3, b"d/file")]),
+        "an open file twice": state_of(header, [root, node(2, b"d/file"), file(1, 2), file(1, 2)]),
+        "the place 0": state_of(header, [root, node(1 << 32, b"d/file")]),
+        "a place that can't be": state_of(header, [root, node(2**32 - 1, b"d/file")]),
+        "an open file's place that can't be": state_of(header, [root, node(2, b"d/file"), file(2**32 - 1, 2)]),
+        "an open file of no node": state_of(header, [root, file(1, 2)]),
+        "an open file of a link": state_of(header, [root, node(2, b"d/link", 1, 0o120000), file(1, 2)]),
+        "an open directory of a file": state_of(header, [root, node(2, b"d/file"), file(1, 2, os.O_DIRECTORY)]),
+        "an open file of a directory": state_of(header, [root, node(2, b"d", 1, 0o40000), file(1, 2, os.O_RDWR)]),
+        "flags that can't be": state_of(header, [root, node(2, b"d/file"), file(1, 2, os.O_TRUNC)]),
+        "a file that is created": state_of(header, [root, node(2, b"d/file"), file(1, 2, os.O_CREAT)]),
+        "both accesses": state_of(header, [root, node(2, b"d/file"), file(1, 2, 3)]),
+        "too many lookups": state_of(header, [root, node(2, b"d/file", 2**64 - 1)]),
+        "another type": state_of(header, [root, node(2, b"d/file", 1, 0o40000)]),
+        "a mount by paths": state_of(header, [root, (MOUNT_KIND, b"d")]),
+        "a record that is none": state_of(header, [root, (9, b"")]),
+        "a node that is cut": state_of(header, [root, (NODE_KIND, bytes(10))]),
+        "an open file that is cut": state_of(header, [root, (FILE_KIND, bytes(10))]),
+        "a handle past its record": state_of(header, [root, (NODE_KIND, struct.pack(NODE, 2, 1, 0o100000, 0, 1, 100, 0, 0) + b"d")]),
+        "a handle that is too long": state_of(header, [root, node(2, b"d/file", handle=bytes(129))]),
+        "a node too few": state_of(header, [root], nodes=2),
+        "a record without end": struct.pack(HEADER, *header) + struct.pack(RECORD, NODE_KIND, 2**32 - 1),
+        "nothing": b"",
+        "zeros": bytes(100000),
+    }
+    for path in (b"..", b"../outside", b"d/../../outside", b"/etc/passwd", b"d//file", b"d/", b"/", b"d/./file", b".", b"d/fi\0le",
+                 b"out", b"out/outside", b"d/link/x", b"a" * 256, b"d/none", b"d/file/x", b"x/" * 30000 + b"x"):
+        cases[f"the path {path[:30]}"] = state_of(header, [root, node(2, path)])
+    for what, made in cases.items():
+        machine = loads(server, made, what)
+        # (nothing of it is there)
+        machine.begin()
+        hold(f"a node, after {what}", machine.ask(Op.GETATTR, record(Op.GETATTR), 2)[0], ESTALE)
+        machine.end()
+    loads(server, state_of(header, [root, node(2, b"d/file")]), "a state that is made up", True).end()
+    return len(cases)
+
+
+def by_handles(folder, outside):
+    """A handle that leads out of the folder is none, and so is one that is changed."""
+    server = Server(folder, HANDLES)
+    machine = server.machine()
+    machine.begin().init()
+    machine.stop()
+    header, records = parts_of(machine.save())
+    machine.end()
+    kind, inside = handle_of(folder + "/d/file")
+    _, away = handle_of(outside)
+    _, above = handle_of(os.path.dirname(folder))
+    begun = [records[0], node(1, b"", 2, 0o40000)]
+    wrong = bytearray(inside)
+    wrong[-1] ^= 1
+    cases = {"a file outside": node(2, b"", handle=away, handle_type=kind),
+             "a file outside, with a path of the folder": node(2, b"d/file", handle=away, handle_type=kind),
+             "a directory above": node(2, b"", kind=0o40000, handle=above, handle_type=kind),
+             "another file's handle": node(2, b"d/file", handle=bytes(wrong), handle_type=kind),
+             "no generation": node(2, b"d/file", handle=inside[:4] + bytes(len(inside) - 4), handle_type=kind),
+             "another type of handle": node(2, b"d/file", handle=inside, handle_type=0xff),
+             "a mount that is none": node(2, b"d/file", handle=inside, handle_type=kind, mount=5),
+             "no handle": node(2, b"d/file")}
+    for what, it in cases.items():
+        loads(server, state_of(header, [*begun, it]), what).end()
+    right = state_of(header, [*begun, node(2, b"", handle=inside, handle_type=kind)])
+    loads(server, right, "a handle of the folder", True).end()
+    server.end()
+    return len(cases) + 1
+
+
+def states():
+    folder = make_folder()
+    outside = os.path.join(os.path.dirname(folder), "outside")
+    pathlib.Path(outside).write_text("outside")
+    os.symlink("..", folder + "/out")
+    server = Server(folder)
+    state = small_state(server)
+    count = damaged(server, state) + hostile(server, folder, state)
+    server.end()
+    count += by_handles(folder, outside)
+    os.unlink(outside)
+    shutil.rmtree(folder)
+    return count
+
+
+def options():
+    """The target has what the client agreed on, and a client that holds locks stays."""
+    folder = make_folder()
+    source = Server(folder, "--writeback", "--posix-lock", "--flock")
+    one = source.machine()
+    had = begin(one)
+    state = one.save()
+    plain = Server(folder)
+    loads(plain, state, "a state with options that the target lacks", words="options").end()
+    plain.end()
+    same = Server(folder, "--writeback", "--posix-lock", "--flock")
+    loads(same, state, "a state with options that the target has", True).end()
+    same.end()
+    lock = record(Op.SETLK, handle=had["file"], lock_owner=7, start=0, end=9, type=fcntl.F_WRLCK, pid=1)
+    hold("SETLK", one.ask(Op.SETLK, lock, had[b"file"])[0], 0)
+    hold("a state with a lock", one.save(), None)
+    if "holds locks" not in source.said():
+        faults.append(f"of a lock it says {source.said()}")
+    lock = record(Op.SETLK, handle=had["file"], lock_owner=7, start=0, end=9, type=fcntl.F_UNLCK, pid=1)
+    hold("SETLK that unlocks", one.ask(Op.SETLK, lock, had[b"file"])[0], 0)
+    hold("a state once it is unlocked", bool(one.save()), True)
+    one.end()
+    source.end()
+    shutil.rmtree(folder)
+
+
+def marks():
+    """Of what is written to the memory the pages are marked, and of nothing else."""
+    folder = make_folder()
+    server = Server(folder)
+    one = server.machine()
+    had = begin(one)
+    room = {(GUEST + ROOM) // PAGE + i for i in range(4)}
+    ring = (GUEST + USED) // PAGE
+    one.share_log((GUEST + 2**26) // PAGE // 8)
+    read = record(Op.READ, handle=had["file"], size=3 * PAGE)
+
+    def asks(what, wanted):
+        # (what was told is done)
+        one.number(GET_FEATURES)
+        one.take(Op.READ, read, had[b"file"], room=3 * PAGE + 16)
+        hold(f"pages that are marked, {what}", one.marked(), wanted)
+    asks("before a log is wanted", set())
+    one.tell(SET_FEATURES, one.features | LOG_ALL)
+    asks("once it is", room | {ring})
+    one.place(1, 100 * PAGE + USED % PAGE)
+    asks("where the rings are logged elsewhere", room | {100})
+    one.place(1, 2**64 - 100)
+    asks("where they are logged nowhere", room)
+    one.place(1, GUEST + USED)
+    event = os.eventfd(0, os.EFD_NONBLOCK)
+    one.tell(SET_LOG_FD, fds=[event])
+    one.number(GET_FEATURES)
+    one.look_up(b"d")
+    hold("who is told of marks", bool(select.select([event], [], [], LONG)[0]), True)
+    hold("pages of a LOOKUP", one.marked(), {(GUEST + ROOM) // PAGE, ring})
+    os.close(event)
+    one.share_log(1)
+    asks("in a log of eight pages", set())
+    one.tell(SET_FEATURES, one.features)
+    one.share_log((GUEST + 2**26) // PAGE // 8)
+    asks("once it isn't wanted any more", set())
+    hold("features", one.number(GET_FEATURES) & LOG_ALL, LOG_ALL)
+    hold("features of the protocol", one.number(GET_PROTOCOL) & (LOG_SHMFD | DEVICE_STATE), LOG_SHMFD | DEVICE_STATE)
+    one.end()
+    server.end()
+    shutil.rmtree(folder)
+
+
+def gone():
+    """A front end that goes, or takes nothing, while a state goes, holds nothing up."""
+    folder = make_folder()
+    server = Server(folder)
+    for way in (0, 1):
+        one = server.machine()
+        begin(one)
+        os.unlink(folder + "/d/deep/made")
+        ours, theirs = os.pipe2(os.O_CLOEXEC)
+        # (so that its end can't be written)
+        fcntl.fcntl(theirs, fcntl.F_SETPIPE_SZ, PAGE)
+        os.set_blocking(theirs, False)
+        for byte in (b"x" * PAGE, b"x"):
+            try:
+                while not way and os.write(theirs, byte):
+                    pass
+            except BlockingIOError:
+                pass
+        one.number(SET_STATE_FD, way, 0, shape="II", fds=[theirs if not way else ours])
+        one.end()
+        os.close(ours)
+        os.close(theirs)
+    one = server.machine()
+    begin(one)
+    ours, theirs = os.pipe2(os.O_CLOEXEC)
+    one.number(SET_STATE_FD, 1, 0, shape="II", fds=[ours])
+    server.end()
+    os.close(ours)
+    os.close(theirs)
+    one.end()
+    shutil.rmtree(folder)
+
+
+if __name__ == "__main__":
+    WORK, SHARE, *WORDS = sys.argv[1:]
+    os.chmod(WORK, 0o755)
+    try:
+        modes()
+        errors()
+        options()
+        marks()
+        gone()
+        tried = states()
+    finally:
+        for fault in faults:
+            print(fault, file=sys.stderr)
+    print(f"A machine goes from one server to another, in both modes; {tried} states that can't be are none.")
+    sys.exit(len(faults) > 0)
