@@ -205,10 +205,9 @@ static int save_open_node(struct saving *s, const struct grip *grip)
 	/* (a path without the handle that was asked for is none) */
 	if ((has_handle || !tells_handles(s)) && find_path_of(&s->paths, grip, &seen, s->path) < 0) {
 		*s->path = 0;
-		if (!by_handles && seen.stx_nlink)
+		if (seen.stx_nlink)
 			return seek_node(s, grip->node->counted.number, &seen);
-		if (!by_handles)
-			has_handle = false;
+		has_handle &= by_handles;
 	}
 	return put_node(s, grip->node, has_handle ? &room.handle : NULL, mount, s->path);
 }
@@ -292,6 +291,7 @@ static bool goes_on(void *user)
 /* Saves the nodes that a search finds, which takes as long as the folder is large, and those that it doesn't. */
 static int save_sought(struct saving *s)
 {
+	const bool by_handles = s->all->options.migration_mode == MIGRATES_BY_HANDLES;
 	struct grip grip;
 	int failed = 0;
 
@@ -301,14 +301,17 @@ static int save_sought(struct saving *s)
 	for (size_t i = 0; i < s->sought_count && !failed; i++) {
 		const struct sought *one = &s->sought[i];
 		union handle_room room;
+		uint32_t mount;
 		bool has_handle;
 
 		if (node_get(&s->all->nodes, one->number, &grip)) {
 			failed = save_node(s, one->number);
 			continue;
 		}
-		has_handle = one->path && tells_handles(s) && handle_by(grip.fd, &room);
-		failed = put_node(s, grip.node, has_handle ? &room.handle : NULL, 0,
+		mount = by_handles ? mount_number(s, grip.node->on) : 0;
+		has_handle = (by_handles ? mount < MOST_MOUNTS : tells_handles(s) && one->path) &&
+			     handle_by(grip.fd, &room);
+		failed = put_node(s, grip.node, has_handle ? &room.handle : NULL, mount,
 				  one->path && (has_handle || !tells_handles(s)) ? one->path : "");
 		node_put(&grip);
 	}
@@ -447,18 +450,11 @@ static bool is_path(const char *path, size_t len)
 
 static int load_mount(struct loading *l)
 {
-	int fd = -1;
-
 	if (l->header.mode != MIGRATES_BY_HANDLES || l->mount_count == MOST_MOUNTS ||
 	    !is_path(l->body, l->size))
 		return refuse("a state with a file system that can't be");
-	if (!fd_reserve(&l->all->nodes, 1)) {
-		fd = open_below(&l->paths, l->body, O_RDONLY | O_DIRECTORY);
-		if (fd < 0)
-			fd_give_back(&l->all->nodes, 1);
-	}
-	/* (what comes by its handles is lost then) */
-	l->mounts[l->mount_count++] = fd;
+	/* (it is open for as long as no request is; and where it doesn't open, what comes by its handles is lost) */
+	l->mounts[l->mount_count++] = open_below(&l->paths, l->body, O_RDONLY | O_DIRECTORY);
 	return 0;
 }
 
@@ -724,7 +720,7 @@ int passthrough_load(void *user, transport_state *from)
 	nodes_settle(&all->nodes);
 	for (size_t i = 0; i < l->mount_count; i++)
 		if (l->mounts[i] >= 0)
-			fd_let_go(&all->nodes, l->mounts[i]);
+			close(l->mounts[i]);
 	free(l);
 	return failed;
 }

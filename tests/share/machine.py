@@ -30,7 +30,12 @@ class Machine:
     def __init__(self, path, features=0):
         self.socket = socket.socket(socket.AF_UNIX)
         self.socket.settimeout(LONG)
-        self.socket.connect(path)
+        # (the name is there before somebody listens)
+        until = time.monotonic() + LONG
+        while self.socket.connect_ex(path):
+            if time.monotonic() > until:
+                raise ConnectionError(f"{path}: nobody listens")
+            time.sleep(0.01)
         self.memory = os.memfd_create("memory")
         os.ftruncate(self.memory, SIZE)
         self.view = mmap.mmap(self.memory, SIZE)

@@ -225,6 +225,42 @@ def errors():
     move([], ["--readonly"], loads=False)
 
 
+def places():
+    """Files that are deep below the folder, of names in no known letters, and on another file system."""
+    folder = make_folder()
+    subprocess.run(["mount", "-t", "tmpfs", "none", folder + "/many"], check=True)
+    pathlib.Path(folder, "many", "apart").write_bytes(b"apart")
+    names = [bytes([128 + i, 255 - i]) * 100 for i in range(40)]
+    at = os.open(folder, os.O_RDONLY)
+    for name in names:
+        os.mkdir(name, dir_fd=at)
+        below = os.open(name, os.O_RDONLY, dir_fd=at)
+        os.close(at)
+        at = below
+    os.close(os.open("deep", os.O_CREAT | os.O_WRONLY, dir_fd=at))
+    os.close(at)
+    for words in ([], ["--migration-verify-handles"], [HANDLES], ["--inode-file-handles=prefer"]):
+        source, target = Server(folder, *words), Server(folder, *words)
+        one, other, node = source.machine(), target.machine(), 1
+        one.begin().init()
+        for name in names:
+            node = one.look_up(name, node)
+        deep, many = one.look_up(b"deep", node), one.look_up(b"many")
+        apart = one.look_up(b"apart", many)
+        handle = one.open(apart)
+        one.stop()
+        state = one.save()
+        hold(f"files that are deep and apart are loaded, with {words}", bool(state) and other.load(state), True)
+        other.begin()
+        hold(f"LOOKUP of what is deep, with {words}", other.look_up(b"deep", node), deep)
+        hold(f"LOOKUP of what is apart, with {words}", other.look_up(b"apart", many), apart)
+        hold(f"READ of what is apart, with {words}", other.read(apart, handle), (0, b"apart"))
+        for it in (one, other, source, target):
+            it.end()
+    subprocess.run(["umount", "-l", folder + "/many"], check=True)
+    subprocess.run(["rm", "-rf", folder], check=True)
+
+
 def parts_of(state):
     """The header, and the records, each a kind and bytes."""
     at, records = struct.calcsize(HEADER), []
@@ -504,6 +540,7 @@ if __name__ == "__main__":
         modes()
         errors()
         options()
+        places()
         marks()
         gone()
         tried = states()

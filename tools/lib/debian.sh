@@ -86,6 +86,39 @@ find_virtiofsd() {
     version=$("${virtiofsd[@]}" --version)
 }
 
+# Downloads QEMU of a suite, with its libraries, into a folder: fetch_qemu SUITE FOLDER
+fetch_qemu() {
+    local part=$2.part packages
+    rm -rf "$part"
+    mkdir -p "$part"
+    use_suite "$1" "$part/apt"
+    mapfile -t packages < <(apt-get "${apt[@]}" install -y -s --no-install-recommends qemu-system-x86 |
+        sed -nE 's/^Inst ([^ ]+) .*/\1/p')
+    [ ${#packages[@]} -gt 0 ]
+    unpack_packages "$part/unpacked" "${packages[@]}"
+    mv "$part/unpacked" "$2"
+    rm -rf "$part"
+}
+
+# Sets `qemu` to that of a suite, as find_virtiofsd does: find_qemu SUITE FOLDER.
+find_qemu() {
+    local libraries=$2/usr/lib/x86_64-linux-gnu said
+    if [ ! -e "$2" ]; then
+        echo "Downloading QEMU of Debian's $1 .." >&2
+        said=$(mktemp)
+        quietly "$said" fetch_qemu "$1" "$2" || {
+            rm "$said"
+            echo "Debian's package qemu-system-x86 of $1 can't be had by apt-get here." >&2
+            exit 2
+        }
+        rm "$said"
+    fi
+    export QEMU_MODULE_DIR=$libraries/qemu
+    # shellcheck disable=SC2034
+    qemu=("$libraries/ld-linux-x86-64.so.2" --library-path "$libraries" "$2/usr/bin/qemu-system-x86_64"
+        -L "$2/usr/share/qemu" -L "$2/usr/share/seabios")
+}
+
 # Runs a command with what it says in a file, and where it fails shows that, without the names of the places
 # that it asked: quietly FILE COMMAND..
 quietly() {

@@ -1,0 +1,31 @@
+#!/bin/busybox sh
+# The first program of the virtual machine that tests/guest/migrate.sh moves: it reads on in a file, writes on in another,
+# lists a directory and makes files, two hundred times.
+# shellcheck shell=dash disable=SC2154,SC2012
+/bin/busybox --install -s /bin
+export PATH=/bin
+mount -t devtmpfs dev /dev
+mount -t proc proc /proc
+exec < /dev/console > /dev/console 2>&1
+# shellcheck source=/dev/null
+. /settings
+for module in $modules; do
+    [ ! -e "/modules/$module.ko" ] || insmod "/modules/$module.ko"
+done
+echo "Linux $(uname -r)"
+mount -t virtiofs nizwarf /mnt || poweroff -f
+cd /mnt/d || poweroff -f
+exec 3< lines 4>> written
+for i in $(seq 1 200); do
+    read -r line <&3
+    [ "$line" = "line $i" ] || echo "WRONG: it reads '$line' at $i"
+    echo "written $i" >&4 || echo "WRONG: it can't write at $i"
+    [ "$(ls many | wc -l)" = 500 ] || echo "WRONG: a list at $i"
+    echo new > "new$i" && [ "$(cat "new$i")" = new ] || echo "WRONG: a new file at $i"
+    [ $((i % 20)) != 0 ] || echo "step $i"
+done
+[ "$(wc -l < written)" = 200 ] || echo "WRONG: $(wc -l < written) lines were written"
+exec 3<&- 4>&-
+cd /
+umount /mnt && echo 'The guest unmounted it.'
+poweroff -f
