@@ -453,7 +453,7 @@ try_managers() {
 # A machine goes from one server to another.
 try_migration() {
     mkdir "$work/moved"
-    timeout 200 python3 -B "$here/tests/share/migrates.py" "$work/moved" "$share" --log-level=warn "$@" > "$work/said" 2>&1 ||
+    timeout 600 python3 -B "$here/tests/share/migrates.py" "$work/moved" "$share" --log-level=warn "$@" > "$work/said" 2>&1 ||
         { cat "$work/said" >&2 && wrong "a machine that migrates, with $*"; }
     rm -rf "$work/moved"
     echo "$(tail -n 1 "$work/said")${*:+ ($*)}"
