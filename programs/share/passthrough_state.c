@@ -278,7 +278,7 @@ static int save_mounts(struct saving *s)
 	if (!s->mounts)
 		return refuse("there is no memory");
 	failed = for_each_node(s, note_mount);
-	for (size_t i = 0; i < s->mount_count && !failed; i++)
+	for (size_t i = 0; i < s->mount_count && s->mounts[i].path && !failed; i++)
 		failed = put_record(s, MOUNT, "", 0, "", 0, s->mounts[i].path, strlen(s->mounts[i].path));
 	return failed;
 }

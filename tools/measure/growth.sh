@@ -54,7 +54,7 @@ build_transport share vfs_door
 find_border
 folder=$here/out/c
 build_front pace
-sources=("$here"/programs/transport/{vhost_user,vhost_queue,later}.c)
+sources=("$here"/programs/transport/{vhost_user,vhost_queue,vhost_state,later}.c)
 cc -std=c11 -O2 -Wall -Wextra -Werror -pthread -I "$here/include" -I "$here/programs/transport" \
     -o "$folder/floor_vhost" "$here/tools/measure/floor_vhost.c" "${sources[@]}" "$border" "${library[@]}"
 # shellcheck disable=SC2119
