@@ -17,7 +17,7 @@
 # objects and compiler give the same bytes.
 #
 #   --unproved  takes of these what is proved, and builds the rest without a proof, in a minute or two each; the
-#               version says so of all that is made then: 0.2.0~unproved
+#               version of all that is made then ends in ~unproved
 #   --check     makes all twice, and compares; lintian must find no error in the packages, and mandoc none in
 #               the pages
 #   --no-demo   leaves out nizwarf-demo and nizwarf-decode

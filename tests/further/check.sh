@@ -33,7 +33,7 @@ fi
 
 # A session with the program, compiled with these flags.
 run() {
-    cc -std=c11 -Wall -Wextra -Werror -pthread -I "$here/include" -o "$folder/news" "$here/tests/further/news.c" \
+    cc -std=c11 -Wall -Wextra -Werror -pthread -I "$here/include" -I "$here/programs/transport" -o "$folder/news" "$here/examples/c/news.c" \
         "$here"/programs/transport/{fuse_device,fuse_mount,fuse_ring,later,uring}.c "${library[@]}" "$@"
     for way in "${ways[@]}"; do
         for part in session kept; do

@@ -23,7 +23,7 @@
 #include <sys/mount.h>
 #include <unistd.h>
 #include "nizwarf_ops.h"
-#include "../../programs/transport/transport.h"
+#include "transport.h"
 
 enum {
 	ROOT = 1,
