@@ -43,13 +43,16 @@ OPTIONS = (28, 32), (48, 52)
 # Where the mode is in a reply with attributes, by the reply's length: of GETATTR and SETATTR, of an entry.
 MODES = {120: 92, 144: 116}
 
-REFUSED, PANIC, OTHER_PANIC, SAME, DIFFER = KINDS = (
+REFUSED, PANIC, OTHER_PANIC, LACKED, SAME, DIFFER = KINDS = (
     "refused by both protocol layers: virtiofsd serves its queue no more; completed with no byte here",
     "another panic of virtiofsd's protocol layer: its queue is served no more; completed here",
     "a panic of virtiofsd's file system: its queue is served no more; served here",
+    "a call that virtiofsd has not, and the tree has: ENOSYS there; completed with no byte here",
     "the same bytes from both",
     "served by both, whose file systems differ")
 ENDED = REFUSED, PANIC, OTHER_PANIC
+# What the tree serves beyond virtiofsd: IOCTL, TMPFILE, STATX.
+OF_THE_TREE = 39, 51, 52
 
 
 class Stopped(Exception):
@@ -161,7 +164,10 @@ def kind_of(line, theirs, ours, log):
             came = "no byte" if nothing else outcome(here)
             return PANIC if panic[1] in LAYER else OTHER_PANIC, f"{panic[1]}, line {panic[2]}; {came} here"
         return None, ""
-    part = difference(there, here, struct.unpack_from("<I", request, 4)[0]) if there and here else None
+    opcode = struct.unpack_from("<I", request, 4)[0]
+    if nothing and there and outcome(there) == "ENOSYS" and opcode in OF_THE_TREE:
+        return LACKED, ""
+    part = difference(there, here, opcode) if there and here else None
     return (DIFFER if part else None), part or ""
 
 
