@@ -17,7 +17,7 @@
 #
 # Root only, in namespaces of its own.
 # Status 0: each case came to the same with both; 1: not so; 2: it could not start.
-# shellcheck disable=SC2317
+# shellcheck disable=SC2016,SC2317
 set -euo pipefail
 . "$(dirname "$0")/../../tools/lib/usage.sh"
 
@@ -68,7 +68,6 @@ run_image() {
 }
 
 # (of its cases one that fails is the last; sudo is a script here, and pkg-config)
-# shellcheck disable=SC2016
 run_bindfs() {
     mkdir -p src bin
     cp -r /sources/bindfs/tests .
@@ -78,7 +77,7 @@ run_bindfs() {
     chmod 755 . bin/*
     cd tests
     PATH=$PWD/../bin:$PATH ruby test_bindfs.rb > "$said" 2>&1 || echo "test_bindfs.rb ended by $? failed"
-    sed -nE 's/^OK$/passed/p; s/^SKIP.*/skipped/p; s/^--- (.*) ---$/: \1/p' "$said" |
+    sed -nE 's/[0-9]{8}-[0-9]+-[a-z0-9]+//g; s/^OK$/passed/p; s/^SKIP.*/skipped/p; s/^--- (.*) ---$/: \1/p' "$said" |
         awk '/^:/ { name = $0; next } { print ++number name, $1 }'
 }
 
@@ -125,10 +124,11 @@ root=$folder/root
 
 make_root() {
     if [ "$suite" = sid ]; then
-        unpack_root "$root" "$suite" dash libc-bin findutils attr e2fsprogs passwd procps ruby bindfs
+        unpack_root "$root" "$suite" dash libc-bin findutils attr e2fsprogs mawk passwd procps ruby bindfs
         printf '%s\n' 'nobody:x:65534:65534::/:/bin/sh' >> "$root/etc/passwd"
         printf '%s\n' 'root:x:0:' 'nogroup:x:65534:' > "$root/etc/group"
         ln -sf which.debianutils "$root/usr/bin/which"
+        ln -sf mawk "$root/usr/bin/awk"
         return
     fi
     unpack_root "$root" "$suite" dash libc-bin findutils gawk procps python3 perl attr bc file hostname e2fsprogs \
@@ -147,25 +147,32 @@ fetch_sources() {
         return
     fi
     unpack_sources "$folder/sources" bookworm 'bindfs */tests/*' || return 1
+    echo '#define HAVE_UTIMENSAT 1' > "$folder/sources/bindfs/config.h"
     for it in "$folder"/sources/bindfs/tests/*.c; do
-        cc -w -D_GNU_SOURCE -o "${it%.c}" "$it" || return 1
+        cc -w -D_GNU_SOURCE -I "$folder/sources/bindfs" -o "${it%.c}" "$it" || return 1
     done
 }
 
 [ -e "$root" ] || { echo "Downloading programs of $suite .." >&2 && quietly "$folder/said" make_root; } || exit 2
 if [ ! -e "$folder/sources" ]; then
     echo "Downloading tests of $suite .." >&2
-    quietly "$folder/said" fetch_sources || exit 2
+    quietly "$folder/said" fetch_sources || { rm -rf "$folder/sources" && exit 2; }
 fi
 mkdir -p "$root/sources"
 mount --bind "$folder/sources" "$root/sources"
 bind_root "$root" "$folder" "$lib"
+# Runs a command in the root, which is no other one there: in a chroot no namespace of users can be made.
+enter() {
+    unshare -m --propagation private bash -c \
+        'mount --rbind "$0" "$0" && cd "$0" && pivot_root . . && umount -l . && cd / && exec "$@"' "$root" "$@"
+}
+
 status=0
 for it in "${suites[@]}"; do
     for of in theirs ours; do
         words=(PATH=/usr/sbin:/usr/bin HOME=/root)
         [ "$of" = theirs ] || words+=("LD_LIBRARY_PATH=$search")
-        chroot "$root" /usr/bin/env -i "${words[@]}" /here/tests/libfuse/others.sh --inside "$it" |
+        enter /usr/bin/env -i "${words[@]}" /here/tests/libfuse/others.sh --inside "$it" |
             sort > "$folder/$it-$of"
     done
     echo "$it: with libfuse's own library $(grep -c ' passed$' "$folder/$it-theirs" || true) of" \
