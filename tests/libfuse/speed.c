@@ -3,7 +3,8 @@
  * Usage: speed CLASS COUNT
  * CLASS is lookup, getattr, read-4k, write-4k, write-1m, read-1m, readdir or readdirplus. It hands the same request to a
  * session COUNT times, by a file system that answers at once, and takes the replies by custom io. It prints the
- * nanoseconds of processor time and of the clock that a request took. Status 2: it could not start. */
+ * nanoseconds of processor time and of the clock that a request took: the medians of 40 parts, since a part is mostly
+ * too short for other processes to come between. Status 2: it could not start. */
 #define _GNU_SOURCE
 #define FUSE_USE_VERSION 312
 #include <errno.h>
@@ -142,6 +143,15 @@ static size_t put_class(const char *name)
 	return 0;
 }
 
+enum { PARTS = 40 };
+
+static int compare(const void *a, const void *b)
+{
+	const double x = *(const double *)a, y = *(const double *)b;
+
+	return (x > y) - (x < y);
+}
+
 static double now(clockid_t clock)
 {
 	struct timespec t;
@@ -161,8 +171,8 @@ int main(int count, char **words)
 	struct fuse_session *session = fuse_session_new(&args, &ops, sizeof(ops), NULL);
 	struct fuse_buf buf = { .mem = room };
 	const long times = count == 3 ? atol(words[2]) : 0;
-	double processor, clock;
-	long i;
+	double processor[PARTS], clock[PARTS];
+	long i, part;
 
 	if (!times || !session || fuse_session_custom_io(session, &io, dup(0)))
 		return 2;
@@ -171,12 +181,18 @@ int main(int count, char **words)
 	buf.size = put_class(words[1]);
 	if (!buf.size || replied != 1)
 		return 2;
-	processor = now(CLOCK_PROCESS_CPUTIME_ID);
-	clock = now(CLOCK_MONOTONIC);
-	for (i = 0; i < times; i++)
-		fuse_session_process_buf(session, &buf);
-	printf("%.1f %.1f\n", (now(CLOCK_PROCESS_CPUTIME_ID) - processor) / (double)times,
-	       (now(CLOCK_MONOTONIC) - clock) / (double)times);
+	for (part = 0; part < PARTS; part++) {
+		processor[part] = -now(CLOCK_PROCESS_CPUTIME_ID);
+		clock[part] = -now(CLOCK_MONOTONIC);
+		for (i = times * part / PARTS; i < times * (part + 1) / PARTS; i++)
+			fuse_session_process_buf(session, &buf);
+		clock[part] += now(CLOCK_MONOTONIC);
+		processor[part] += now(CLOCK_PROCESS_CPUTIME_ID);
+	}
+	qsort(processor, PARTS, sizeof(*processor), compare);
+	qsort(clock, PARTS, sizeof(*clock), compare);
+	printf("%.1f %.1f\n", processor[PARTS / 2] * PARTS / (double)times,
+	       clock[PARTS / 2] * PARTS / (double)times);
 	fuse_session_destroy(session);
 	fuse_opt_free_args(&args);
 	return replied == (size_t)times + 1 ? 0 : 1;
