@@ -131,6 +131,18 @@ try_signal() {
     rm "$work/folder/open"
 }
 
+# Workers that are late, and have no request, are waited for.
+try_late_reads() {
+    cc -shared -fPIC -Wall -Wextra -Werror -o "$work/late_reads.so" "$here/tests/share/late_reads.c"
+    LD_PRELOAD=$work/late_reads.so "$share" --log-level=error "$@" "$work/folder" "$work/mount" 2> "$work/said" &
+    server=$!
+    await_mount
+    umount "$work/mount"
+    wait "$server" || wrong "the server ended with $? on a busy machine"
+    server=
+    [ ! -s "$work/said" ] || wrong "on a busy machine it is said: $(cat "$work/said")"
+}
+
 try_kill() {
     local came=0
     "$share" --log-level=off "$@" "$work/folder" "$work/mount" &
@@ -704,6 +716,7 @@ try_mounts() {
     try_signals --sandbox=namespace "$@"
     try_signals --sandbox=none "$@"
     try_kill "$@"
+    try_late_reads "$@"
     part "names that change"
     try_names --sandbox=namespace "$@"
     try_names --sandbox=none "$@"
