@@ -1069,14 +1069,15 @@ static inline int nizwarf_is_changed(const nizwarf_session *session, const nizwa
 	       session->options & NIZWARF_PASSTHROUGH && answer->count;
 }
 
-/* Whether the library makes of any answer of this kind what is replied, whatever its text is: that is so of most. */
+/* Whether the library makes of any answer of this kind what is replied, whatever its text is: that is so of most. (There
+ * is no kind above 31, and the library answers none.) */
 static inline int nizwarf_is_plain(const nizwarf_call *call)
 {
 	const uint32_t others = 1u << NIZWARF_DIRECTORY | 1u << NIZWARF_FAULT_OR_SILENCE |
 				1u << NIZWARF_WANT | 1u << NIZWARF_OPENED | 1u << NIZWARF_CREATED |
 				1u << NIZWARF_TEXT;
 
-	return call->answer > 31 || !(others >> call->answer & 1);
+	return !(others >> (call->answer & 31) & 1);
 }
 
 /* Whether the text of an answer is a record, which the library looks at. */
@@ -1089,9 +1090,9 @@ static inline int32_t nizwarf_reply(nizwarf_slot *slot, const nizwarf_session *s
 				    const nizwarf_call *call, const nizwarf_answer *answer,
 				    const nizwarf_room *room, size_t rooms, nizwarf_told *told)
 {
-	const nizwarf_item *items;
+	const nizwarf_item *items, *item;
 	const uint8_t *text;
-	size_t total, i;
+	size_t total;
 	int32_t code;
 
 	if (told)
@@ -1105,21 +1106,24 @@ static inline int32_t nizwarf_reply(nizwarf_slot *slot, const nizwarf_session *s
 	if (total != call->room)
 		return NIZWARF_NOT_ASKED;
 	/* (a pointer to something, also where there is nothing) */
-	text = answer->text_len ? answer->text : (const uint8_t *)answer;
-	items = answer->items_len ? answer->items : (const nizwarf_item *)(const void *)answer;
-	if (!text || !items)
-		return NIZWARF_NULL;
-	for (i = 0; i < answer->items_len; i++)
-		if (!items[i].name)
-			return NIZWARF_NULL;
-	if (nizwarf_is_plain(call)) {
-		code = nizwarf_answer_at(slot, session, call, answer, text, answer->text_len, items,
-					 answer->items_len, told);
+	text = (const uint8_t *)answer;
+	items = (const nizwarf_item *)(const void *)answer;
+	if (nizwarf_is_plain(call) && !answer->text_len && !answer->items_len) {
+		code = nizwarf_answer_at(slot, session, call, answer, text, 0, items, 0, told);
 		if (code == NIZWARF_OK && answer->error > NIZWARF_LAST_ERROR)
 			code = nizwarf_answer_fault(slot, session, call, told);
 		nizwarf_put(slot, room, rooms, told->put);
 		return code;
 	}
+	if (answer->text_len)
+		text = answer->text;
+	if (answer->items_len)
+		items = answer->items;
+	if (!text || !items)
+		return NIZWARF_NULL;
+	for (item = items; item != items + answer->items_len; item++)
+		if (!item->name)
+			return NIZWARF_NULL;
 	if (nizwarf_is_record(call))
 		code = nizwarf_answer_offered_at(slot, session, call, answer, text, answer->text_len, items,
 						 answer->items_len, told);

@@ -38,7 +38,9 @@ TIMES = {"stat": (2000, "file"), "stat-missing": (2000, "name"), "open-close": (
 # What takes long has so many rounds at most.
 FEW = {"names-100k": 3}
 # The names of our own.
-SHARE, BY_RING = "nizwarf-share", "nizwarf-share, io_uring"
+SHARE, BY_RING, PASSED = "nizwarf-share", "nizwarf-share, io_uring", "nizwarf-share, --passthrough"
+# What Linux does by itself with the last one.
+DATA = "write-1m", "read-1m", "write-4k", "read-4k"
 # Of mount(2).
 MS_REMOUNT = 32
 
@@ -85,7 +87,8 @@ a request goes to the file that was looked up, whatever is renamed meanwhile, an
 bindfs holds no file and walks the path of each request, so it may reach another file. What the share opens by a name is
 compared with that file by `fstat`; and each system call passes a filter. By read(2) its data of 64 KiB and more go by a
 pipe, without a copy of its own; and a worker that is alone looks up to 20 microseconds for the next request before it
-sleeps.
+sleeps. Over io_uring Linux takes no pipe, so data are copied twice, as by the others: with `--passthrough` it reads and
+writes files itself, in {} to {} of the quicker other's time.
 """
 
 
@@ -297,6 +300,7 @@ def main():
         own = {SHARE: Server([ours, "--log-level=error", "{folder}", "{mount}"])}
         if has_ring:
             own[BY_RING] = Server([ours, "--log-level=error", "-o", "io_uring", "{folder}", "{mount}"])
+        own[PASSED] = Server([ours, "--log-level=error", "--passthrough", "{folder}", "{mount}"])
         head, why, classes = SHARE_HEAD, SHARE_WHY, CLASSES
     servers = {**own, **others}
     classes = sys.argv[12:] or classes
@@ -306,26 +310,28 @@ def main():
     if kind == "tree":
         columns = [f"{it}, {said_of(jobs)}" for jobs in JOBS for it in dict.fromkeys(name.split(",")[0] for name in others)]
     else:
-        columns = [f"{'io_uring' if it == BY_RING else 'read(2)'}, {said_of(jobs)}" for it in own for jobs in JOBS]
+        columns = [f"{'io_uring' if it == BY_RING else 'read(2)'}, {said_of(jobs)}" for it in own if it != PASSED for jobs in JOBS]
     print("| Class | " + " | ".join(columns) + " |\n|---" + "|---" * len(columns) + "|")
-    lines = []
+    lines, passed = [], []
     for what in classes:
         of = {"the floor": Floor([floor, "-o", options, "{mount}"]), **others} if what == "floor" else servers
+        of = {it: server for it, server in of.items() if it != PASSED or what in DATA}
         ours_of = [it for it in of if it not in others]
         cells = rows_of(of, ours_of, what)
-        print(row_of(of, cells[ours_of[0]], what) if kind == "tree" else quickest_of(cells, ours_of, what), flush=True)
+        print(row_of(of, cells[ours_of[0]], what) if kind == "tree" else quickest_of(cells, [it for it in ours_of if it != PASSED], what), flush=True)
+        passed += [max(both[0][0] for both in beside.values()) for _, beside in cells.get(PASSED, ())]
         lines += [(SAID[what], it, jobs, other, *(f"{at:.2f}" for one in both for at in one))
                   for it in ours_of for jobs, beside in cells[it] for other, both in beside.items()]
     with open(f"{work}/all.tsv", "w", encoding="utf-8") as file:
         print("class", "ours", "jobs", "other", "clock", "from", "to", "processor", "from", "to", sep="\t", file=file)
         for line in lines:
             print(*line, sep="\t", file=file)
-    print(why, end="")
+    print(why.format(*(f"{it:.2f}" for it in (min(passed), max(passed))) if passed else ("-", "-")), end="")
     if "overwrite-1m" in classes:
         print(appends(servers["the tree"]), flush=True)
     counted = [what for what in classes if what in TIMES]
     if counted and shutil.which("strace"):
-        counting = [*own, "passthrough_ll", "bindfs"]
+        counting = [*(it for it in own if it != PASSED), "passthrough_ll", "bindfs"]
         print(CALLS.format(table=f"{kind}-calls.tsv"))
         with open(f"{work}/calls.tsv", "w", encoding="utf-8") as file:
             print("class", *counting, sep="\t", file=file)
