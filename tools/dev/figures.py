@@ -21,6 +21,7 @@ DOOR, SHARE = ["vfs_door", "include/nizwarf"], ["programs/share/", "programs/tra
 TREE, VIRTIOFSD = ["vfs_c", "include/nizwarf_tree.h", "programs/mount/"], ["vfs_server", "bindings/virtiofsd/"]
 MEASURED = {
     "docs/SPEED.md, Small requests": ["vfs_speed"],
+    "docs/SPEED.md, The server": ["vfs_speed"],
     "docs/SPEED.md, The door": DOOR,
     "docs/SPEED.md, End to end": DOOR + SHARE + VIRTIOFSD,
     "docs/SPEED.md, The tree": TREE + SHARE[1:],
