@@ -11,3 +11,4 @@ mod TreeMessageTaken
 mod TreeTmpfile
 mod TreeRows
 mod Texts
+mod TreeKept

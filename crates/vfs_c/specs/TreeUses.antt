@@ -1,16 +1,23 @@
 -- What small callers of the library say.
 use denote.RawPtr.{Ptr}
-use Rattle.std.specs.Prelude.{◌≡◌, ℕ, ◌-◌, ◌++◌, List, [], ◌∷◌, length, drop, min, Some}
+use Rattle.std.specs.Prelude.{◌≡◌, ◌≢◌, ◌≤◌, ◌+◌, ◌/◌, ℕ, ℤ, ◌-◌, ◌++◌, List, [], ◌∷◌, length, drop, min, Some, None}
 use Rattle.vfs_files.specs.Calls.{Answer}
+use Rattle.vfs_files.specs.Runs.{Event, IsRun}
+use Rattle.vfs_grammar.specs.Ask.{ask}
+use Rattle.vfs_grammar.specs.Directories.{least_record, takings}
+use Rattle.vfs_grammar.specs.Forms.{Lists}
+use Rattle.vfs_grammar.specs.Listing.{Listing}
+use Rattle.vfs_grammar.specs.Reply.{Echo}
 use Rattle.vfs_grammar.specs.Samples.{eight, four, header_9, zeros}
 use Rattle.vfs_calls.specs.Shapes.{nothing}
 use Rattle.vfs_calls.specs.declared.call.CallData.{CallData}
 use Rattle.vfs_calls.specs.declared.call.kind.TheConstants as kind
 use Rattle.vfs_calls.specs.declared.call.number.TheConstants as number
+use Rattle.vfs_further.specs.Further.{Ordinary}
 use Rattle.vfs_further.specs.Turns.{OfferedTurn, IsOfferedTurn}
 use Rattle.vfs_server.specs.Step.{ServerState}
-use Rattle.vfs_rooms.specs.Codes.{ok, length_of, number_of}
-use Rattle.vfs_c.specs.Files.{State}
+use Rattle.vfs_rooms.specs.Codes.{ok, length_of, no_memory, number_of, too_long}
+use Rattle.vfs_c.specs.Files.{State, Allows, Gives}
 use Rattle.vfs_c.specs.History.{AnsweredAs}
 use Rattle.vfs_c.specs.Offered.{row_limits, what_asked}
 use Rattle.vfs_c.specs.declared.memory.Place.{Place}
@@ -60,3 +67,12 @@ getflags_asked options room = record nothing {
   more = 0x80086601;
   size = 4;
 }
+
+-- a request that was handed on, and that asks for a directory, took few items of it, in a run of the tree
+abbrev pub TakesFewItems : (old : ServerState State) → (request : List ℕ) → (total : ℕ) → (code : ℤ)
+    → (new : ServerState State) → Type 0
+TakesFewItems old request total code new =
+    (echo : Echo) (l : Listing) → what_asked old.limits request ≡ Ordinary
+    → ask old.limits old.options total request ≡ Lists echo l → code ≢ no_memory → code ≢ too_long
+    → (events : List Event) × IsRun Allows Gives None old.fs events new.fs
+    × (length (takings events) ≤ l.size / least_record l.plus + 1)

@@ -1,9 +1,11 @@
 //! A server and the room of its replies, as they live between calls.
 
-ghost use Rattle.std.specs.Prelude.{◌≡◌, ◌≤◌, ◌⊎◌, ◌-◌, ◌++◌, length, take, drop, min, IfSome};
+ghost use Rattle.std.specs.Prelude.{◌≡◌, ◌≤◌, ◌⊎◌, ◌-◌, ◌++◌, ◌∷◌, [], length, take, drop, min, IfSome};
 ghost use Rattle.vfs_flags.specs.declared.constants.TheConstants.{LEAST_MAX_BUFFER, GREATEST_MAX_BUFFER};
 ghost use Rattle.vfs_segments.specs.Segments.{segments_of, contents, flat_bytes, lengths_of};
 ghost use Rattle.vfs_further.specs.Turns.{as_create};
+ghost use Rattle.vfs_history.specs.History.{Handled, turn_of_end};
+ghost use Rattle.vfs_c.specs.History.{Extends};
 ghost use Rattle.vfs_c.specs.Served.{new_server, told_time, Refused, ServedInC, SteppedInC};
 ghost use Rattle.vfs_c.specs.Taken.{place_of};
 ghost use Rattle.vfs_rooms.specs.Codes.{number_of, length_of, shown_of};
@@ -18,6 +20,7 @@ use std::mem;
 use vfs_calls::CallData;
 use vfs_further::Further;
 use vfs_grammar::Result;
+use vfs_history::laws::history_goes_on;
 use vfs_rooms::codes::{OK, OUT_OF_MEMORY, TOO_LONG, told};
 use vfs_rooms::{copy_part, lend, only_room};
 use vfs_segments::{Reader, Writer};
@@ -59,6 +62,15 @@ impl Instance {
             shown: 0,
             list: Vec::new(alloc),
         })
+    }
+
+    /// Ends the server, as a DESTROY does: that is the last turn of its history, and no options are agreed on then.
+    pub fn destroy(&mut self)
+        ensures history { Extends self.old.server (Handled turn_of_end ∷ []) self.new.server }
+        ensures no_options { self.new.server.options ≡ 0 }
+    {
+        history_goes_on::<Files>();
+        let _ = self.server.destroy();
     }
 
     /// Tells the file system the time.

@@ -21,12 +21,15 @@ mod taken;
 mod tree;
 mod uses;
 
-ghost use Rattle.std.specs.Prelude.{◌≡◌, ◌≢◌, ◌≤◌, ◌<◌, ◌⊎◌, ◌++◌, length, take, drop, min, IfSome, MatchOption};
+ghost use Rattle.std.specs.Prelude.{◌≡◌, ◌≢◌, ◌≤◌, ◌<◌, ◌⊎◌, ◌++◌, ◌∷◌, [], length, take, drop, min, IfSome, MatchOption};
 ghost use Rattle.std.specs.declared.option.Option.TheVariants.{None, Some};
 ghost use Rattle.vfs_flags.specs.declared.constants.TheConstants.{LEAST_MAX_BUFFER, GREATEST_MAX_BUFFER};
 ghost use Rattle.vfs_segments.specs.Segments.{segments_of, flat_bytes};
 ghost use Rattle.vfs_rooms.specs.Codes.{ok, no_memory, no_server, wrong_size};
-ghost use Rattle.vfs_c.specs.History.{Answered, Told};
+ghost use Rattle.vfs_history.specs.History.{Handled, turn_of_end};
+ghost use Rattle.vfs_server.specs.Step.{ServerState};
+ghost use Rattle.vfs_c.specs.Files.{State};
+ghost use Rattle.vfs_c.specs.History.{Answered, Extends, Told};
 ghost use Rattle.vfs_c.specs.Served.{new_server, told_time, ServedInC};
 ghost use Rattle.vfs_c.specs.Taken.{place_of};
 ghost use Rattle.vfs_rooms.specs.Parts.{part_from};
@@ -263,11 +266,15 @@ pub extern "C" fn nizwarf_max_buffer_at(alloc: Global, handle: &mut Handle) -> u
 pub extern "C" fn nizwarf_end_at(alloc: Global, handle: &mut Handle) -> i32
     ensures ended { handle.new.value ≡ None }
     ensures code { MatchOption handle.old.value (result ≡ no_server) (λ _. result ≡ ok) }
+
+    // One turn more, that of a DESTROY, is the last one of its history.
+    ensures history { IfSome handle.old.value (λ s. (last : ServerState State)
+        × Extends s.server (Handled turn_of_end ∷ []) last × (last.options ≡ 0)) }
 {
     let Some(mut instance) = handle.take(alloc) else {
         return NO_SERVER;
     };
-    let _ = instance.server.destroy();
+    instance.destroy();
     drop(instance);
     OK
 }
