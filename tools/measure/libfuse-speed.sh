@@ -69,9 +69,11 @@ instructions() {
 echo "| Request | ns, libfuse | ns, here | processor | clock | instructions, libfuse | here | ratio |"
 echo "|---|---|---|---|---|---|---|---|"
 for class in lookup getattr read-4k read-1m write-4k write-1m readdir readdirplus; do
+    times=20000
+    [[ $class != readdir* ]] || times=4000
     for _ in $(seq "$rounds"); do
-        LD_LIBRARY_PATH=$theirs "$work/speed" "$class" 20000 >> "$work/theirs-$class"
-        LD_LIBRARY_PATH=$ours "$work/speed" "$class" 20000 >> "$work/ours-$class"
+        LD_LIBRARY_PATH=$theirs "$work/speed" "$class" "$times" >> "$work/theirs-$class"
+        LD_LIBRARY_PATH=$ours "$work/speed" "$class" "$times" >> "$work/ours-$class"
     done
     awk -v class="$class" -v a="$(cut -d' ' -f1 "$work/theirs-$class" | median)" \
         -v b="$(cut -d' ' -f1 "$work/ours-$class" | median)" -v c="$(cut -d' ' -f2 "$work/theirs-$class" | median)" \
