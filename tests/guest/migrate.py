@@ -11,7 +11,7 @@ import socket
 import sys
 import time
 
-SECONDS = 60
+SECONDS = 300
 
 
 class Monitor:

@@ -46,7 +46,7 @@ serve() {
 # Starts a machine with a share: boot NAME WORDS
 boot() {
     # shellcheck disable=SC2154
-    timeout -k 5 300 "${qemu[@]}" -nodefaults -no-user-config -display none -machine q35,accel=tcg -cpu max -smp 1 \
+    timeout -k 5 1800 "${qemu[@]}" -nodefaults -no-user-config -display none -machine q35,accel=tcg -cpu max -smp 1 \
         -m 256 -object memory-backend-memfd,id=memory,size=256M,share=on -numa node,memdev=memory \
         -kernel "$kernel"/boot/vmlinuz-* -initrd "$work/files" \
         -append 'console=ttyS0 quiet loglevel=3 panic=0 no_timer_check' -serial "file:$at/$1.console" \
@@ -59,7 +59,7 @@ boot() {
 
 # Waits until a console says this: await_line NAME TEXT
 await_line() {
-    for _ in $(seq 1200); do
+    for _ in $(seq 6000); do
         ! grep -q "$2" "$at/$1.console" 2> /dev/null || return 0
         sleep 0.1
     done
