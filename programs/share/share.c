@@ -52,6 +52,30 @@ static int fill_standard(void)
 	return 0;
 }
 
+static const int ending[] = { SIGINT, SIGTERM, SIGHUP };
+
+/* Holds back the signals that end it, up to where it serves: one that came before would leave a socket, or a mount. */
+static void hold_signals(int how)
+{
+	sigset_t held;
+
+	sigemptyset(&held);
+	for (size_t i = 0; i < sizeof(ending) / sizeof(*ending); i++)
+		sigaddset(&held, ending[i]);
+	sigprocmask(how, &held, NULL);
+}
+
+/* Those that came before there was a child are for it. */
+static void pass_signals(pid_t child)
+{
+	sigset_t came;
+
+	sigpending(&came);
+	for (size_t i = 0; i < sizeof(ending) / sizeof(*ending); i++)
+		if (sigismember(&came, ending[i]) > 0)
+			kill(child, ending[i]);
+}
+
 /* Each file that a client knows may have a descriptor. */
 static void raise_limit(void)
 {
@@ -120,6 +144,8 @@ static int go_to_background(void)
 		return failed("fork");
 	if (child) {
 		close(ends[1]);
+		pass_signals(child);
+		hold_signals(SIG_UNBLOCK);
 		_exit(read(ends[0], &told, 1) == 1 ? 0 : 1);
 	}
 	close(ends[0]);
@@ -446,6 +472,7 @@ int main(int count, char **given)
 	/* (a sandbox has none) */
 	if ((words.daemonizes || words.is_off) && (nothing = open("/dev/null", O_RDWR | O_CLOEXEC)) < 0)
 		return failed("/dev/null"), 1;
+	hold_signals(SIG_BLOCK);
 	if (words.mount_point && (device = fuse_device_open(&by)) < 0)
 		return 1;
 	if (!words.mount_point)

@@ -236,7 +236,7 @@ works '' 'rm -r many'
 # folder for a second.
 works '' 'mkdir loop && for i in $(seq 300); do echo $i > loop/n$i || exit 1; done'
 works '300' 'for i in loop/*; do mv $i loop/x${i#loop/} || exit 1; done; ls loop | wc -l'
-works '300' '(cd / && timeout 60 find "$here/loop" -type f -exec mv {} {}x \;) && ls loop | wc -l'
+works '300' '(cd / && timeout 600 find "$here/loop" -type f -exec mv {} {}x \;) && ls loop | wc -l'
 if command -v python3 > /dev/null; then
     works '300' 'timeout 60 python3 -c "import os
 for e in os.scandir(\"loop\"):

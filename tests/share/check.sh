@@ -143,6 +143,31 @@ try_late_reads() {
     [ ! -s "$work/said" ] || wrong "on a busy machine it is said: $(cat "$work/said")"
 }
 
+# A signal that comes as soon as there is a mount, or a socket, leaves nothing.
+try_early_signals() {
+    local before=(timeout 60 env LD_PRELOAD="$work/early_signal.so") sandbox
+    cc -shared -fPIC -Wall -Wextra -Werror -o "$work/early_signal.so" "$here/tests/share/early_signal.c"
+    for sandbox in namespace chroot none; do
+        "${before[@]}" "$share" --log-level=error --sandbox="$sandbox" "$@" "$work/folder" "$work/mount" ||
+            wrong "a signal just after the mount: $?, in the sandbox $sandbox"
+        ! umount -l "$work/mount" 2> "$work/said" || wrong "a mount is left of an early signal, in the sandbox $sandbox"
+        "${before[@]}" "$share" --log-level=error --sandbox="$sandbox" --socket-path="$work/early" "$work/folder" ||
+            wrong "a signal just after the socket: $?, in the sandbox $sandbox"
+        if [ -e "$work/early" ] || [ -e "$work/early.pid" ]; then
+            wrong "a socket is left of an early signal, in the sandbox $sandbox"
+            rm -f "$work/early" "$work/early.pid"
+        fi
+        # (its child serves, and has the signal)
+        "${before[@]}" "$share" --daemonize --log-level=error --sandbox="$sandbox" --socket-path="$work/early" "$work/folder" \
+            2> "$work/said" || true
+        for _ in $(seq 600); do
+            [ -e "$work/early" ] || [ -e "$work/early.pid" ] || break
+            sleep 0.1
+        done
+        [ ! -e "$work/early" ] || wrong "an early signal does not end what is in the background, in the sandbox $sandbox"
+    done
+}
+
 try_kill() {
     local came=0
     "$share" --log-level=off "$@" "$work/folder" "$work/mount" &
@@ -717,6 +742,7 @@ try_mounts() {
     try_signals --sandbox=none "$@"
     try_kill "$@"
     try_late_reads "$@"
+    try_early_signals "$@"
     part "names that change"
     try_names --sandbox=namespace "$@"
     try_names --sandbox=none "$@"
