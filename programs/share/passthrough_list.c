@@ -233,9 +233,13 @@ static int find_name_of(const struct call *call, const char **name, struct xattr
 int lose_capability(const struct call *call, int fd)
 {
 	const char *name = call->all->options.capability;
-	const struct fd_name file = name_fd(fd);
-	int error = name ? failed(removexattr(file.bytes, name)) : 0;
+	struct fd_name file;
+	int error;
 
+	if (!name)
+		return 0;
+	file = name_fd(fd);
+	error = failed(removexattr(file.bytes, name));
 	/* (of a file that the host lets be appended to alone none is removed) */
 	if (error == EPERM && getxattr(file.bytes, name, NULL, 0) < 0)
 		error = errno;
