@@ -29,9 +29,8 @@ HEAD = """# What grows with what is served
 
 Of `nizwarf-share`, Debian's virtiofsd and libfuse's passthrough_ll, each of which shares the same folder in memory:
 `tools/measure/growth.sh`. The first two are asked over vhost-user by tests/beside/pace.c, and hold files by handles where
-they can, as they must where more files are known than a process may have open; passthrough_ll has a socket in place of
-`/dev/fuse`, a descriptor for each file, and a list of them, so it has up to {most:,}. Times are of the daemon's processor,
-its kernel's part too. {facts}
+they can; passthrough_ll has a socket in place of `/dev/fuse`, a descriptor for each file, and a list of them, so it has up
+to {most:,}. Times are of the daemon's processor, its kernel's part too. {facts}
 """
 
 
@@ -210,8 +209,7 @@ def locks():
         with open(os.environ.pop("LOCKS"), encoding="utf-8") as file:
             for name, taken, waited, ns in (line.split() for line in file):
                 cells.setdefault(name, {})[kind] = tuple(int(it) / count for it in (taken, waited, ns))
-    # (what a session takes but once says nothing of a request)
-    kept = {name: of for name, of in cells.items() if any(taken >= 0.01 for taken, _, _ in of.values())}
+    kept = {name: of for name, of in cells.items() if any(taken >= 0.01 and waited >= 0.001 for taken, waited, _ in of.values())}
     rows = [[f"`{name}`", *("{:.2f}/{:.1f}/{:.0f}".format(of[kind][0], 1000 * of[kind][1], of[kind][2]) if kind in of and of[kind][0] >= 0.01
                             else "-" for kind in kinds)] for name, of in sorted(kept.items())]
     table(["Lock", *kinds.values()], rows)
@@ -248,9 +246,8 @@ def main():
     table(["Files", *names], [cells(size, "{0}") for size in sizes])
     print("\nMicroseconds of the first LOOKUP of a file, and of a later one of any of them.")
     table(["LOOKUP among", *names], [cells(size, "{1}, {2}") for size in sizes])
-    print("\nNanoseconds a file of a BATCH_FORGET of all, 4,096 a message; nanoseconds a file of a DESTROY with a million known, or\n"
-          "all, and milliseconds of the INIT and its first four requests behind it, both by the clock; and the bytes that the daemon\n"
-          "has after the FORGET, and after the DESTROY, for each file of the most that it knew.")
+    print("\nNanoseconds a file of a BATCH_FORGET of all, and of a DESTROY of a million, milliseconds of an INIT and four requests,\n"
+          "both by the clock; and the bytes that are left after the FORGET and the DESTROY, for each file of the most.")
     table(["Daemon", "FORGET, ns", "left, bytes", "DESTROY, ns", "INIT, ms"], [[name, *grown[name][1]] for name in names])
     print("\n## A folder that is listed\n\nNanoseconds a name of a folder of so many, by LOOKUP, OPENDIR, READDIR with 256 KiB of room up to the end, and\nRELEASEDIR.")
     table(["Daemon", *(f"{size:,}" for size in FOLDERS if size <= most)], [[name, *list_folders(name)] for name in (SHARE, VIRTIOFSD, LIBFUSE)])
@@ -268,7 +265,7 @@ def main():
         say(f"{name}, machines")
         rows.append([name, *(machines(name, count) for count in (1, MACHINES))])
     table(["Daemon", "1 machine", f"{MACHINES} machines"], rows)
-    print("\n## Locks\n\nOf four queues and workers, 64 in flight: how often a request takes each lock, how many of a thousand wait for it, and the\n"
+    print("\n## Locks\n\nOf four queues and workers, 64 in flight: how often a request takes a lock, how many of a thousand wait for it, and the\n"
           "nanoseconds that a request waits (tools/measure/locks.c).")
     locks()
     print("\n## Where the processor's time goes\n\nMicroseconds of the processor for a request, 16 in flight, of a daemon with one worker that holds files by descriptors:\n"

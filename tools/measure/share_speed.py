@@ -53,8 +53,7 @@ whichever takes less. Below 1 the share is quicker. Medians of {rounds} rounds i
 {facts}
 
 Each has its defaults: names and attributes are remembered for a second, and no name that is missing. The share has its
-sandbox, the filter and 4 workers, over io_uring as many on each processor. A WRITE has up to 512 KiB at the share, 1 MiB
-at passthrough_ll and 4 KiB at bindfs.
+sandbox, the filter and 4 workers, over io_uring as many on each processor.
 """
 TREE_HEAD = """# The tree beside tmpfs, bindfs and libfuse's passthrough
 
@@ -74,13 +73,12 @@ said to the same LOOKUP or GETATTR."""
 BOTH_HEAD = """\
 passthrough_ll has `cache=auto`, `default_permissions`, and threads by need; of bindfs the quicker one of one thread and
 many is meant. Where a line stands one failed that holds a descriptor for each file, and could have {most} here.
-With one job, and read and write, it is chance in each round whether client and server come to one processor or to two, by
-which a small request takes two or three times as long; so of few rounds the medians of small requests say little.
+With one job, and read and write, it is chance whether client and server come to one processor or to two, by which a small
+request takes two or three times as long: of few rounds the medians say little.
 """
 CALLS = """
-[System calls](../speed/{table}) of the server, for each file, name, listing, MiB or block, are by `strace -c`, under which a
-class takes long enough that names may be looked up again. Those of less than one in twenty are left out, and what waits:
-`poll` and `futex`."""
+[System calls](../speed/{table}) of the server, for each file, name, listing, MiB or block, are by `strace -c`,
+but for `poll`, `futex` and those of less than one in twenty."""
 SHARE_WHY = """
 What the share alone does: each file that is looked up is opened with O_PATH, and closed when it is forgotten, so that
 a request goes to the file that was looked up, whatever is renamed meanwhile, and no path is walked or link followed.
