@@ -4,7 +4,8 @@
 ghost use Rattle.std.specs.Prelude.{◌≡◌, ◌≢◌, ◌≤◌, ◌^◌, ◌⊎◌, [], length, bit_and, pos};
 ghost use Rattle.vfs_flags.specs.Flags.{known_fs_options};
 ghost use Rattle.vfs_segments.specs.Segments.{segments_of, flat_bytes};
-ghost use Rattle.vfs_grammar.specs.Ask.{ask as ask_of, header_of};
+ghost use Rattle.vfs_grammar.specs.Ask.{ask as ask_of};
+ghost use Rattle.vfs_grammar.specs.Memory.{header_of};
 ghost use Rattle.vfs_grammar.specs.Options.{agreed};
 ghost use Rattle.vfs_grammar.specs.Samples.{not_served_reply};
 ghost use Rattle.vfs_calls.specs.Shapes.{nothing};
