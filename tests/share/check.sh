@@ -145,7 +145,7 @@ try_late_reads() {
 
 # A signal that comes as soon as there is a mount, or a socket, leaves nothing.
 try_early_signals() {
-    local before=(timeout 60 env LD_PRELOAD="$work/early_signal.so") sandbox
+    local before=(timeout 600 env LD_PRELOAD="$work/early_signal.so") sandbox
     cc -shared -fPIC -Wall -Wextra -Werror -o "$work/early_signal.so" "$here/tests/share/early_signal.c"
     for sandbox in namespace chroot none; do
         "${before[@]}" "$share" --log-level=error --sandbox="$sandbox" "$@" "$work/folder" "$work/mount" ||
@@ -199,7 +199,7 @@ try_escape() {
             filter=${what% ring}
             came=0
             # shellcheck disable=SC2086
-            timeout 20 "$work/escape" "$sandbox" "$filter" "$work/folder" "$work/outside" ${what#"$filter"} > "$work/said" 2>&1 ||
+            timeout 200 "$work/escape" "$sandbox" "$filter" "$work/folder" "$work/outside" ${what#"$filter"} > "$work/said" 2>&1 ||
                 came=$?
             # (the filter ends it at the call that opens a handle, or makes a ring)
             if [ "$filter" = kill ] && [ "$(cat "$work/said")" = "nizwarf-share: signal 31 ended the server" ]; then
@@ -237,7 +237,7 @@ hold_server() {
     local came=0
     "$share" --log-level=error "${@:2}" --socket-path="$work/held" "$work/folder" &
     server=$!
-    timeout 20 python3 -B "$here/tests/share/holds.py" "$server" "$work/folder" "$work/held" "$@" || came=1
+    timeout 200 python3 -B "$here/tests/share/holds.py" "$server" "$work/folder" "$work/held" "$@" || came=1
     kill "$server"
     wait "$server" || came=1
     server=
@@ -246,7 +246,7 @@ hold_server() {
 
 # Asks for directories, each NAME:UID:GID of who asks, and says what came: ask_directories SOCKET NAME..
 ask_directories() {
-    python3 -B "$here/tests/share/directories.py" "${@:2}" | timeout 60 "$ask" "$1" > "$work/said"
+    python3 -B "$here/tests/share/directories.py" "${@:2}" | timeout 600 "$ask" "$1" > "$work/said"
 }
 
 # Who isn't root has a sandbox too, if the kernel lets users make namespaces, and is root in it if ids are mapped.
@@ -293,7 +293,7 @@ try_user() {
         "${user[@]}" "$work/share" --log-level=error "${words%:*}" --socket-path="$work/user/socket" "$work/user" &
         server=$!
         await_socket "$work/user/socket"
-        came=$(timeout 20 python3 -B "$here/tests/share/noatime.py" "$ask" "$work/user/socket" others) || came=failed
+        came=$(timeout 200 python3 -B "$here/tests/share/noatime.py" "$ask" "$work/user/socket" others) || came=failed
         [ "$came" = "${words#*:}" ] || wrong "O_NOATIME of another user's file with ${words%:*} came to $came"
         kill "$server"
         wait "$server" || wrong "a share by a user ended with $?, with ${words%:*}"
@@ -303,7 +303,7 @@ try_user() {
         --gid-map=:0:4294967295:1: "--uid-map=:0:65534:1: --sandbox=none"; do
         came=0
         # shellcheck disable=SC2086
-        "${user[@]}" timeout 20 "$work/share" $words --socket-path="$work/user/socket" "$work/user" 2> "$work/said" || came=$?
+        "${user[@]}" timeout 200 "$work/share" $words --socket-path="$work/user/socket" "$work/user" 2> "$work/said" || came=$?
         if [ "$came" != 2 ] || ! grep -q -- "${words%%=*}" "$work/said"; then
             wrong "a share by a user ended with $came, and not with 2, with $words"
         fi
@@ -322,7 +322,7 @@ try_capabilities() {
         "$share" --log-level=error ${words%:*} "$work/folder" "$work/mount" &
         server=$!
         await_mount
-        timeout 20 python3 -B "$here/tests/share/may.py" "$work/mount/file" "$wanted" || wrong "the capabilities of $words"
+        timeout 200 python3 -B "$here/tests/share/may.py" "$work/mount/file" "$wanted" || wrong "the capabilities of $words"
         umount "$work/mount"
         wait "$server" || wrong "the server ended with $? with $words"
         server=
@@ -342,11 +342,11 @@ try_names() {
     [ "$(cat "$work/mount/file")" = this ] || wrong "a file that is read, with $*"
     mv "$work/folder/file" "$work/folder/moved"
     mkfifo "$work/folder/file"
-    came=$(timeout 20 cat "$work/mount/file") || came="status $?"
+    came=$(timeout 200 cat "$work/mount/file") || came="status $?"
     [ "$came" = this ] || wrong "a pipe took the name of a file, and reading it came to $came, with $*"
     rm "$work/folder/file"
     echo other > "$work/folder/file"
-    timeout 20 sh -c "echo more >> '$work/mount/file'" || wrong "a file that lost its name isn't written, with $*"
+    timeout 200 sh -c "echo more >> '$work/mount/file'" || wrong "a file that lost its name isn't written, with $*"
     [ "$(cat "$work/folder/moved" "$work/folder/file" | tr '\n' ' ')" = "this more other " ] ||
         wrong "another file took a name, and was written, with $*"
     [ ! -e "$work/mount/none" ] || wrong "a name that is none"
@@ -368,7 +368,7 @@ try_late() {
     "$share" --log-level=error -o allow_other,negative_timeout=60 "$@" "$work/folder" "$work/mount" &
     server=$!
     await_mount
-    timeout 60 python3 -B "$here/tests/share/late.py" "$work/folder" "$work/mount" || wrong "a file that came late"
+    timeout 600 python3 -B "$here/tests/share/late.py" "$work/folder" "$work/mount" || wrong "a file that came late"
     umount "$work/mount"
     wait "$server" || wrong "the server ended with $? behind a file that came late"
     server=
@@ -399,7 +399,7 @@ try_closed() {
 try_ends() {
     local ends=$work/ends
     mkdir "$ends"
-    timeout -k 5 120 unshare --mount \
+    timeout -k 5 900 unshare --mount \
         python3 -B "$here/tests/share/ends.py" "$share" "$ends" "$@" 2> "$ends/said" ||
         { cat "$ends/said" >&2 && wrong "tests/share/ends.py with $*"; }
     ! grep -E 'ERROR: |WARNING: ThreadSanitizer|runtime error' "$ends/said" >&2 || wrong "a sanitizer, at an end"
@@ -409,7 +409,7 @@ try_ends() {
 # What is asked of a plain folder too.
 try_calls() {
     mkdir "$work/calls"
-    timeout 120 python3 -B "$here/tests/share/calls.py" "$share" "$ask" "$work/calls" "$@" ||
+    timeout 900 python3 -B "$here/tests/share/calls.py" "$share" "$ask" "$work/calls" "$@" ||
         wrong "tests/share/calls.py with $*"
     umount -lq "$work/calls"/* || true
     rm -rf "$work/calls" || true
@@ -450,7 +450,7 @@ try_words() {
         "--socket-path= $work/folder" "-o =5 $work/folder $work/mount" "-o fsname= $work/folder $work/mount"; do
         came=0
         # shellcheck disable=SC2086
-        timeout 10 "$share" $words > "$work/said" 2>&1 || came=$?
+        timeout 100 "$share" $words > "$work/said" 2>&1 || came=$?
         if [ "$came" != 2 ] || [ ! -s "$work/said" ]; then
             wrong "it ended with $came and not with 2 for: $words"
         fi
@@ -459,7 +459,7 @@ try_words() {
     for words in --no-such-word --cach=never --cache --xattr=1 -x "-o no-such-option" "-o loglevel" \
         "-o sandbox=some" --migration-mode=some --migration-on-error=some; do
         # shellcheck disable=SC2086
-        timeout 10 "$share" "$work/folder" "$work/mount" $words > "$work/said" 2>&1 && wrong "it serves with $words"
+        timeout 100 "$share" "$work/folder" "$work/mount" $words > "$work/said" 2>&1 && wrong "it serves with $words"
         grep -qF -- "${words##*[ =]}" "$work/said" || grep -qF -- ": ${words##* }" "$work/said" ||
             wrong "$words is not named in: $(cat "$work/said")"
     done
@@ -472,10 +472,10 @@ try_words() {
     "$share" --print-capabilities | python3 -c 'import json, sys; assert json.load(sys.stdin)["type"] == "fs"' ||
         wrong "--print-capabilities"
     # It is mounted as soon as the command has ended, and holds nothing of the caller's.
-    came=$(timeout 20 "$share" --daemonize --log-level=error "$work/folder" "$work/mount" 2>&1) || wrong "--daemonize"
+    came=$(timeout 200 "$share" --daemonize --log-level=error "$work/folder" "$work/mount" 2>&1) || wrong "--daemonize"
     mountpoint -q "$work/mount" || wrong "--daemonize, which did not wait for the mount, and said: $came"
     umount "$work/mount"
-    timeout 60 python3 -B "$here/tests/share/notify.py" "$share" "$work" || wrong "NOTIFY_SOCKET"
+    timeout 600 python3 -B "$here/tests/share/notify.py" "$share" "$work" || wrong "NOTIFY_SOCKET"
     echo "Words that can't be are refused, and it is told when it serves."
 }
 
@@ -483,7 +483,7 @@ try_words() {
 try_managers() {
     rm -rf "$work/a,b"
     mkdir "$work/a,b"
-    timeout 60 python3 -B "$here/tests/share/managers.py" "$ask" "$share" "$work" || wrong "a line of libvirt"
+    timeout 600 python3 -B "$here/tests/share/managers.py" "$ask" "$share" "$work" || wrong "a line of libvirt"
     echo "It is started as libvirt starts a daemon."
 }
 
@@ -500,7 +500,7 @@ try_migration() {
 try_virtiofsd() {
     rm -rf "$work/words"
     mkdir "$work/words"
-    timeout 300 python3 -B "$here/tests/share/words.py" "$ask" "$work/words" --known "$share" --log-level=error "$@" \
+    timeout 900 python3 -B "$here/tests/share/words.py" "$ask" "$work/words" --known "$share" --log-level=error "$@" \
         > "$work/said" 2>&1 || { cat "$work/said" >&2 && wrong "words of virtiofsd${*:+, with $*}"; }
     ! grep -E 'ERROR: |WARNING: ThreadSanitizer|runtime error' "$work/said" >&2 || wrong "a sanitizer, by words of virtiofsd"
     echo "Words of virtiofsd${*:+, with $*}: $(tail -n 1 "$work/said")"
@@ -516,7 +516,7 @@ try_maps() {
         "$share" --log-level=error $word "$work/folder" "$work/mount" &
         server=$!
         await_mount
-        came=$(timeout 20 python3 -B "$here/tests/share/maps.py" "$work/mount/mapped" 2>&1) || came="failed: $came"
+        came=$(timeout 200 python3 -B "$here/tests/share/maps.py" "$work/mount/mapped" 2>&1) || came="failed: $came"
         umount "$work/mount"
         wait "$server" || wrong "the server ended with $? with $word"
         server=
@@ -561,14 +561,14 @@ try_files() {
         else
             $came "$work/pid/other" "$work/pid/socket.pid"
         fi
-        ! timeout 10 "$share" --socket-path="$work/pid/socket" "$work/pid/folder" 2> "$work/said" ||
+        ! timeout 100 "$share" --socket-path="$work/pid/socket" "$work/pid/folder" 2> "$work/said" ||
             wrong "it serves with $came in place of the file of the process"
         if [ "$(cat "$work/pid/other")" != other ] || ! grep -q "socket.pid: " "$work/said"; then
             wrong "$came in place of the file of the process: $(cat "$work/said")"
         fi
         rm "$work/pid/socket.pid" "$work/pid/other"
     done
-    timeout 60 python3 -B "$here/tests/share/logged.py" "$share" "$work/pid" || wrong "--syslog"
+    timeout 600 python3 -B "$here/tests/share/logged.py" "$share" "$work/pid" || wrong "--syslog"
     echo "A file says which process serves, and the log what it says."
 }
 
@@ -579,7 +579,7 @@ try_group() {
     touch "$work/target"
     chmod 600 "$work/target"
     cc -shared -fPIC -Wall -Wextra -Werror -o "$work/swap.so" "$here/tests/share/swap_socket.c"
-    TARGET=$work/target LD_PRELOAD=$work/swap.so timeout 20 "$share" --log-level=error --socket-path="$work/socket" \
+    TARGET=$work/target LD_PRELOAD=$work/swap.so timeout 200 "$share" --log-level=error --socket-path="$work/socket" \
         --socket-group="$group" "$work/folder" 2> "$work/said" || came=$?
     [ "$came $(stat -c '%a %u %g' "$work/target")" = "1 600 0 0" ] ||
         wrong "a link in place of a socket: it ended with $came, $(stat -c '%a %u %g' "$work/target"), $(cat "$work/said")"
@@ -606,7 +606,7 @@ try_chroot() {
     local came=0 inside=(unshare --mount "$here/tests/share/in_chroot.sh" "$work/root") way
     mkdir -p "$work/root/folder"
     cp "$share" "$work/root/share"
-    timeout 20 "${inside[@]}" 2> "$work/said" || came=$?
+    timeout 200 "${inside[@]}" 2> "$work/said" || came=$?
     if [ "$came" != 1 ] || ! grep -q -e --sandbox=chroot "$work/said"; then
         wrong "in a chroot it ended with $came: $(cat "$work/said")"
     fi
@@ -630,7 +630,7 @@ try_locks() {
     "$share" --log-level=error --flock --posix-lock --thread-pool-size=2 "$@" "$work/folder" "$work/mount" &
     server=$!
     await_mount
-    timeout 60 python3 -B "$here/tests/further/locks.py" --no-ofd-close "$work/mount/file" > "$work/said" ||
+    timeout 600 python3 -B "$here/tests/further/locks.py" --no-ofd-close "$work/mount/file" > "$work/said" ||
         { grep WRONG "$work/said" >&2 && wrong "locks over a mount, with $*"; }
     flock "$work/mount/file" true || wrong "a lock of a program, with $*"
     ! flock "$work/mount/file" flock -n "$work/folder/file" true || wrong "a lock of a mount that the host does not see, with $*"
@@ -641,7 +641,7 @@ try_locks() {
     umount "$work/mount"
     wait "$server" || wrong "the server with locks ended with $?, with $*"
     server=
-    timeout 100 python3 -B "$here/tests/share/waits.py" "$work" "$share" "$@" || wrong "locks that are waited for, with $*"
+    timeout 900 python3 -B "$here/tests/share/waits.py" "$work" "$share" "$@" || wrong "locks that are waited for, with $*"
     rm -rf "$work/waits" "$work/waits.socket"
     echo "Locks are those of the folder${*:+, with $*}."
 }
@@ -650,7 +650,7 @@ try_locks() {
 # line tells what they cost; what others change is seen, where all is remembered for an hour.
 try_by() {
     mkdir "$work/$1"
-    timeout 300 python3 -B "$here/tests/share/$1.py" "$share" "$work/$1" "${@:2}" > "$work/said" 2>&1 ||
+    timeout 900 python3 -B "$here/tests/share/$1.py" "$share" "$work/$1" "${@:2}" > "$work/said" 2>&1 ||
         { cat "$work/said" >&2 && wrong "tests/share/$1.py with ${*:2}"; }
     rm -rf "${work:?}/$1"
     echo "$1.py${*:+, with ${*:2}}: $(tail -n 1 "$work/said")"

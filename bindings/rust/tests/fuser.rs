@@ -280,14 +280,14 @@ fn init() -> Vec<u8> {
     request.bytes(&[0; 44]).done()
 }
 
-/// Begins a session. The client waits for each reply for a second.
+/// Begins a session. The client waits for each reply, as long as a busy machine wants.
 fn begin(
     files: Files,
     acl: SessionACL,
     threads: usize,
 ) -> (UnixDatagram, io::Result<Session<Files>>) {
     let (client, device) = UnixDatagram::pair().unwrap();
-    client.set_read_timeout(Some(SECOND)).unwrap();
+    client.set_read_timeout(Some(60 * SECOND)).unwrap();
     // What comes before an INIT is refused.
     client.send(&Request::new(17, 1).done()).unwrap();
     client.send(&init()).unwrap();
@@ -420,6 +420,7 @@ fn a_reply_comes_later_and_from_another_thread() {
     assert_eq!(seen.ended.load(Ordering::Relaxed), 1);
     // One that comes after the end goes nowhere.
     last.attr(&SECOND, &attr(9));
+    served.client.set_read_timeout(Some(SECOND)).unwrap();
     assert_eq!(receive(&served.client), b"");
 }
 
