@@ -88,14 +88,14 @@ find_virtiofsd() {
 
 # Downloads QEMU of a suite, with its libraries, into a folder: fetch_qemu SUITE FOLDER
 fetch_qemu() {
-    local part=$2.part packages
+    local part=$2.part needed
     rm -rf "$part"
     mkdir -p "$part"
     use_suite "$1" "$part/apt"
-    mapfile -t packages < <(apt-get "${apt[@]}" install -y -s --no-install-recommends qemu-system-x86 |
+    mapfile -t needed < <(apt-get "${apt[@]}" install -y -s --no-install-recommends qemu-system-x86 |
         sed -nE 's/^Inst ([^ ]+) .*/\1/p')
-    [ ${#packages[@]} -gt 0 ]
-    unpack_packages "$part/unpacked" "${packages[@]}"
+    [ ${#needed[@]} -gt 0 ]
+    unpack_packages "$part/unpacked" "${needed[@]}"
     mv "$part/unpacked" "$2"
     rm -rf "$part"
 }

@@ -17,12 +17,12 @@ need() {
 
 # Stops where commands are not there, and names the packages of all of them: need_packages "COMMAND PACKAGE.."..
 need_packages() {
-    local it words missing=() packages=()
+    local it words missing=() having=()
     for it in "$@"; do
         read -ra words <<< "$it"
-        command -v "${words[0]}" > /dev/null || { missing+=("${words[0]}") && packages+=("${words[@]:1}"); }
+        command -v "${words[0]}" > /dev/null || { missing+=("${words[0]}") && having+=("${words[@]:1}"); }
     done
-    [ ${#missing[@]} = 0 ] || { echo "Missing: ${missing[*]}. Install them: apt-get install ${packages[*]}." >&2 && exit 2; }
+    [ ${#missing[@]} = 0 ] || { echo "Missing: ${missing[*]}. Install them: apt-get install ${having[*]}." >&2 && exit 2; }
 }
 
 # Stops where somebody else than root runs it: need_root "why".
