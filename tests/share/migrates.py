@@ -22,7 +22,7 @@ import subprocess
 import sys
 import tempfile
 
-from machine import (GUEST, LOG_ALL, LONG, PAGE, QUEUE, ROOM, SAVE, SET_FEATURES, SET_LOG_FD, SET_STATE_FD, USED, GET_FEATURES,
+from machine import (GUEST, LOG_ALL, LONG, PAGE, ROOM, SET_FEATURES, SET_LOG_FD, SET_STATE_FD, USED, GET_FEATURES,
                      GET_PROTOCOL, DEVICE_STATE, LOG_SHMFD, Machine, Op, record)
 
 ESTALE, EBADF, EROFS, NAMES = 116, 9, 30, 300

@@ -113,12 +113,7 @@ fn synced(tree: &mut TreeFs, inode: u64, datasync: bool, handle: u64) -> Result<
 }
 
 /// FSYNCDIR, likewise.
-fn directory_synced(
-    tree: &mut TreeFs,
-    inode: u64,
-    datasync: bool,
-    handle: u64,
-) -> Result<(), Fault>
+fn directory_synced(tree: &mut TreeFs, inode: u64, datasync: bool, handle: u64) -> Result<(), Fault>
     ensures answer { result ≡ Ok tt }
     ensures same { tree.new ≡ tree.old }
 {
