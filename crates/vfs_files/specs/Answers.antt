@@ -72,8 +72,7 @@ done_answer (Err fault) = Failed fault
 
 -- the answer of a call that opens a file or a directory, where the first argument gives a handle's
 -- number
-abbrev pub opened_answer :
-    {H : Type 0} → (H → ℕ) → Result (Option H × OpenOptions) (Option ℕ) → Answer
+abbrev pub opened_answer : {H : Type 0} → (H → ℕ) → Result (Option H × OpenOptions) (Option ℕ) → Answer
 opened_answer number (Ok reply) = Opened (option_map number reply.0) (open_options_bits reply.1)
 opened_answer number (Err fault) = Failed fault
 

@@ -20,8 +20,7 @@ use mathlib.Core.Option.{none}
 -- the text of a name: a byte list is a name where its last byte is 0 and no other is, and its text
 -- is the rest
 abbrev pub name_of : List ℕ → Option (List ℕ)
-name_of bytes =
-    option_and_then (λ i. if i + 1 == length bytes then Some (take i bytes) else None)
+name_of bytes = option_and_then (λ i. if i + 1 == length bytes then Some (take i bytes) else None)
     (position (λ b. b == 0) bytes)
 
 -- the bytes of a name, without the 0 behind them
@@ -34,8 +33,7 @@ IsName bytes text = (bytes ≡ text ++ 0 ∷ []) × ((k : ℕ) → k < length te
 
 -- the text of the first name in a byte list, and what follows the 0 behind it, where there is a 0
 abbrev pub first_name : List ℕ → Option (List ℕ × List ℕ)
-first_name bytes =
-    option_map (λ i. (take i bytes, drop (i + 1) bytes)) (position (λ b. b == 0) bytes)
+first_name bytes = option_map (λ i. (take i bytes, drop (i + 1) bytes)) (position (λ b. b == 0) bytes)
 
 -- ---- callers and entries
 

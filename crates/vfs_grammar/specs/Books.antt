@@ -89,8 +89,7 @@ nodes_behind _ reply = []
 -- the nodes that a reply delivers: none where its header says an error, in the four bytes from place
 -- 4 on
 abbrev pub delivered_nodes : Option Opcode → (reply : List ℕ) → List ℕ
-delivered_nodes opcode reply =
-    if number 4 (drop 4 reply) == 0 then nodes_behind opcode reply else []
+delivered_nodes opcode reply = if number 4 (drop 4 reply) == 0 then nodes_behind opcode reply else []
 
 -- what a request's bytes give back, by its opcode, as pairs of a node and a count
 abbrev pub forgets_in : Option Opcode → (request : List ℕ) → List (ℕ × ℕ)

@@ -7,11 +7,9 @@ use Rattle.vfs_grammar.specs.declared.error.Error.TheVariants.{EncodeMessage}
 -- The reply was put into the room. One that fits stands there, before the old bytes behind it, and
 -- the outcome is its length; of another there is as much as the room has, and the outcome is
 -- EncodeMessage.
-pub record IsPut (reply room : List ℕ) (outcome : Result ℕ Error) (room_after : List ℕ)
-    : Type 0 where
+pub record IsPut (reply room : List ℕ) (outcome : Result ℕ Error) (room_after : List ℕ) : Type 0 where
   pub says :
-      outcome
-      ≡ (if nat_le (length reply) (length room) then Ok (length reply) else Err EncodeMessage)
+      outcome ≡ (if nat_le (length reply) (length room) then Ok (length reply) else Err EncodeMessage)
   pub leaves :
       room_after
       ≡ (if nat_le (length reply) (length room) then reply ++ drop (length reply) room

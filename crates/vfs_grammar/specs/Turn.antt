@@ -16,8 +16,7 @@ use Rattle.vfs_grammar.specs.declared.error.Error.TheVariants.{OutOfMemory}
 -- as those of every node but 0 are
 abbrev pub node_answered : Kind → Answer → Option ℕ
 node_answered Entries (Found entry) = if entry.inode == 0 then None else Some entry.inode
-node_answered Creations (Created entry handle opening) =
-    if entry.inode == 0 then None else Some entry.inode
+node_answered Creations (Created entry _ _) = if entry.inode == 0 then None else Some entry.inode
 node_answered _ _ = None
 
 -- a request with what is seen of it from outside
