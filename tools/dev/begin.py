@@ -319,7 +319,7 @@ def answers():
 def answer_of(row, kinds, kind_of):
     called = re.search(r"call\.(\w+)", row)
     if called:
-        kind = kind_of.get(called[1], kind_of["_"])
+        kind = kind_of[called[1]]
         body = " or ".join(kinds.get(kind, []))
         return f"`{kind}`" + (f": {body}" if body else "")
     plus = "listing_of true" in row
