@@ -12,7 +12,7 @@ def loop_of(text, function, number):
     if not head:
         return None
     end = text.index("\n}\n", head.end())
-    loops = [found.start() for found in re.finditer(r"^\t+(for|while|do)\b(?!.*;$)", text[head.end():end], re.M)]
+    loops = [found.start() for found in re.finditer(r"^\t+(for|while|do)\b(?!.*\);$)", text[head.end():end], re.M)]
     return head.end() + loops[number - 1] if number <= len(loops) else None
 
 

@@ -24,6 +24,12 @@
         \separated(g->region[i].at + (0 .. g->shared[i].size - 1), w);
 */
 
+/*@ requires log: \valid_read(log);
+    requires at: \valid(log->at + (0 .. log->size - 1));
+    requires apart: \separated(log, log->at + (0 .. log->size - 1));
+    assigns log->at[0 .. log->size - 1] \from log->at[0 .. log->size - 1], address, len; */
+static void mark(const struct log *log, uint64_t address, uint64_t len);
+
 /*@ requires \valid(w) && w->copied <= LONGEST && most <= LONGEST;
     requires \valid(at) && \valid(len) && \valid_read(*at + (0 .. *len - 1));
     requires \separated(w, at, len, *at + (0 .. *len - 1));

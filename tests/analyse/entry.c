@@ -7,8 +7,8 @@
 #include "contracts.h"
 #include "__fc_builtin.h"
 
-enum { SHARED = 1 << 22 };
-static unsigned char memory[REGIONS][SHARED];
+enum { SHARED = 1 << 22, MARKS = 1 << 12 };
+static unsigned char memory[REGIONS][SHARED], marks[MARKS];
 static volatile int any;
 static struct guest front_end;
 static struct worker worker;
@@ -49,6 +49,10 @@ static void share(struct guest *g)
 		g->told[i].guest = g->shared[i].address = Frama_C_unsigned_long_interval(0, SIZE_MAX);
 	}
 	g->regions = Frama_C_unsigned_long_interval(0, REGIONS);
+	g->logs = any;
+	if (any)
+		g->log = (struct log){ marks, marks, MARKS, Frama_C_unsigned_long_interval(0, MARKS), 0 };
+	g->log.event = Frama_C_interval(-1, 1000);
 }
 
 static void tell_queue(struct queue *q)
@@ -64,6 +68,8 @@ static void tell_queue(struct queue *q)
 	q->kick = Frama_C_interval(-1, 1000);
 	q->call = Frama_C_interval(0, 1000);
 	q->calls = any;
+	q->has_log_address = any;
+	q->log_address = Frama_C_unsigned_long_interval(0, SIZE_MAX);
 	queue_place(q);
 }
 
@@ -94,6 +100,8 @@ int main(void)
 		len = head < 0 ? 0 : answer(&worker, &front_end, q, (uint16_t)head);
 		if (len < 0)
 			head = NO_CHAIN;
+		else
+			mark_rooms(&front_end, worker.room, worker.rooms);
 	}
 	return 0;
 }

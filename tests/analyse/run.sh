@@ -4,8 +4,8 @@
 #
 # Usage: tests/analyse/run.sh
 # WP proves of functions, for requests, rooms and lists of any length, that they read and write nothing but what they are
-# given, come to an end, and keep to their contracts. Of the queues these are copy_up_to, add_request, add_piece and
-# take_chain (contracts.h). Of the headers they are those with loops over pieces, and all that make a table's calls: names
+# given, come to an end, and keep to their contracts. Of the queues these are mark, copy_up_to, add_request, add_piece
+# and take_chain (contracts.h). Of the headers they are those with loops over pieces, and all that make a table's calls: names
 # and data that these are handed lie in the request, texts that they answer in the room (door.acsl, tree.acsl,
 # table.acsl). Eva looks for undefined behaviour: in a worker that serves a queue three turns long (entry.c), with any
 # regions and rings, any number that the guest writes, and any answer, now or later; in all of nizwarf.h and
@@ -122,7 +122,7 @@ run pieces prove pieces headers.c cvc4 "$headers" nizwarf_add_up nizwarf_put niz
     nizwarf_is_wrong nizwarf_is_cut nizwarf_put_changed nizwarf_take_interrupt nizwarf_message nizwarf_message_take
 run made prove made headers.c cvc4 "$headers" nizwarf_do_forgets nizwarf_do_quiet nizwarf_do_lock nizwarf_do_done \
     nizwarf_do_entry nizwarf_do_attr nizwarf_do_open
-run copies prove copies chains.c z3,cvc4 "$queue -I $out/annotated $queue_here" copy_up_to add_request add_piece
+run copies prove copies chains.c z3,cvc4 "$queue -I $out/annotated $queue_here" mark copy_up_to add_request add_piece
 only=-same,-names run items prove items headers.c cvc4 "$headers" nizwarf_do_directory nizwarf_add_item \
     nizwarf_add_direntry
 only=same,names run added prove added headers.c cvc4 "$headers" nizwarf_add_item nizwarf_add_direntry
@@ -132,7 +132,7 @@ run fields prove fields headers.c cvc4 "$headers" $read_fields nizwarf_answer_op
     nizwarf_answer_offset nizwarf_keep_interrupt nizwarf_served nizwarf_seconds_of nizwarf_nanoseconds_of \
     nizwarf_entry_of nizwarf_has_open_flags nizwarf_file_of
 run worker evaluate worker entry.c "$queue $queue_here" -eva-precision 2 -eva-plevel 5000 -eva-partition-history 2 \
-    -eva-mlevel 8 -eva-auto-loop-unroll 16 -eva-use-spec take_chain
+    -eva-mlevel 8 -eva-auto-loop-unroll 16 -eva-use-spec take_chain,mark
 run doors evaluate doors headers-entry.c "-I headers -I $here/include" -main doors -eva-precision 1 \
     -eva-auto-loop-unroll 10 -eva-slevel 20 -eva-split-return auto
 run tables evaluate tables headers-entry.c "-I headers -I $here/include" -main ops -eva-precision 0 \

@@ -27,6 +27,7 @@ typedef unsigned long atomic_ulong;
 	})
 #define __atomic_load_n(at, order) (*(volatile __typeof__(*(at)) *)(at))
 #define __atomic_store_n(at, value, order) ((void)(*(at) = (value)))
+#define __atomic_fetch_or(at, value, order) ((void)(*(at) |= (value)))
 #define __atomic_signal_fence(order) ((void)0)
 
 /* ---- chains */
