@@ -135,6 +135,8 @@ make_root() {
         xdg-desktop-portal-tests libglib2.0-bin ostree-tests libnbd-bin nbdkit qemu-utils qemu-system-common \
         qemu-system-x86
     ln -sf which.debianutils "$root/usr/bin/which"
+    # (libnbd's tests wait a minute by loops of bash's, and ask sh for that: dash waits a second)
+    ln -sf bash "$root/usr/bin/sh"
     chroot "$root" glib-compile-schemas /usr/share/glib-2.0/schemas
 }
 
