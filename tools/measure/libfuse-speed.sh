@@ -1,11 +1,11 @@
 #!/usr/bin/env bash
 # Times libfuse's library over the layer here beside libfuse's own, by requests that no kernel and no file system costs:
-# tests/libfuse/speed.c hands them to the library, which tools/libfuse.sh builds. A row has the medians of processor time
-# and of the clock of both, in turns, and their ratio; below 1 it is quicker here; then, if valgrind is installed, the
-# ratio of instructions.
+# tests/libfuse/speed.c hands them to the library, which tools/libfuse.sh builds. A row has the least processor time of
+# both, in turns, its ratio, and that of the least by the clock; below 1 it is quicker here; then, if valgrind is
+# installed, the ratio of instructions. (The least, since a busy processor is half as quick, by turns)
 #
 # Usage: tools/measure/libfuse-speed.sh [--mount [--class CLASS]..] [ROUNDS [FOLDER]]
-# Without a word 9 rounds. FOLDER is that of tools/libfuse.sh. It takes a minute.
+# Without a word 40 rounds, with --mount 9. FOLDER is that of tools/libfuse.sh. It takes a minute.
 # With --mount libfuse's passthrough_ll is mounted with both, in turns, and files are used, by one job and by four: a cell
 # is the ratio by the clock, and in brackets that of the processor time of the server, the kernel's part included. That
 # takes root and ten minutes; the classes are those of tools/measure/share-speed.sh.
@@ -24,7 +24,7 @@ while [ "$mount ${1:-}" = "yes --class" ] && [ $# -ge 2 ]; do
     classes+=("$2")
     shift 2
 done
-rounds=${1:-9}
+rounds=${1:-$([ -n "$mount" ] && echo 9 || echo 40)}
 if ! [[ $rounds =~ ^[1-9][0-9]*$ ]] || [ $# -gt 2 ]; then
     echo "Usage: tools/measure/libfuse-speed.sh [--mount [--class CLASS]..] [ROUNDS [FOLDER]]" >&2
     exit 2
@@ -50,8 +50,8 @@ trap 'rm -rf "$work"' EXIT
 cc -std=c11 -O2 -w -D_FILE_OFFSET_BITS=64 -I "$folder/source-$suite/include" -I "$folder/$suite-unmodified/build" \
     -o "$work/speed" "$here/tests/libfuse/speed.c" "$theirs/libfuse3.so.3" -pthread
 
-median() {
-    sort -n | awk '{ it[NR] = $1 } END { print it[int((NR + 1) / 2)] }'
+least() {
+    sort -n | sed -n 1p
 }
 
 # How many instructions a request takes: those of 3000 less those of 1000, by 2000.
@@ -75,9 +75,9 @@ for class in lookup getattr read-4k read-1m write-4k write-1m readdir readdirplu
         LD_LIBRARY_PATH=$theirs "$work/speed" "$class" "$times" >> "$work/theirs-$class"
         LD_LIBRARY_PATH=$ours "$work/speed" "$class" "$times" >> "$work/ours-$class"
     done
-    awk -v class="$class" -v a="$(cut -d' ' -f1 "$work/theirs-$class" | median)" \
-        -v b="$(cut -d' ' -f1 "$work/ours-$class" | median)" -v c="$(cut -d' ' -f2 "$work/theirs-$class" | median)" \
-        -v d="$(cut -d' ' -f2 "$work/ours-$class" | median)" -v e="$(instructions "$theirs" "$class")" \
+    awk -v class="$class" -v a="$(cut -d' ' -f1 "$work/theirs-$class" | least)" \
+        -v b="$(cut -d' ' -f1 "$work/ours-$class" | least)" -v c="$(cut -d' ' -f2 "$work/theirs-$class" | least)" \
+        -v d="$(cut -d' ' -f2 "$work/ours-$class" | least)" -v e="$(instructions "$theirs" "$class")" \
         -v f="$(instructions "$ours" "$class")" 'BEGIN {
             printf "| %s | %.0f | %.0f | %.2f | %.2f |", class, a, b, b / a, d / c
             if (e > 0) printf " %d | %d | %.2f |\n", e, f, f / e; else print " | | |" }'
