@@ -953,7 +953,7 @@ static void begin_end(struct device *d, struct asked *asked)
  * ends with its user. */
 static int is_stuck(struct device *d, struct asked *asked)
 {
-	const uint64_t at = now(), more = (at - asked->last) / 1000, most = 2000 * LOOK_TICK;
+	const uint64_t at = now(), more = (at - asked->last) / 1000, most = UINT64_C(2000) * LOOK_TICK;
 	const uint64_t since = (asked->waited += more < most ? more : most) / 1000;
 
 	asked->last = at;
