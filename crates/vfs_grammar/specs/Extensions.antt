@@ -73,8 +73,8 @@ abbrev pub cut_on : Result Block Error → (others : Cut) → Cut
 cut_on (Err error) others = record { blocks = []; error = Some error }
 cut_on (Ok block) others = record { blocks = block ∷ others.blocks; error = others.error }
 
--- the same, with at most so many blocks: the number of bytes is always enough. A header's size
--- counts the header too.
+-- what bytes are, cut into at most that many blocks: the number of bytes is always enough. A
+-- header's size counts the header too.
 abbrev pub cut_of_most : (most : ℕ) → (bytes : List ℕ) → Cut
 cut_of_most zero bytes = record { blocks = []; error = None }
 cut_of_most (suc most) [] = record { blocks = []; error = None }

@@ -97,7 +97,7 @@ dot_out i = record (entry_out.made (replicate 22 0)) {
 }
 
 -- What an item gets, by whether entries are wanted and whether it is `.` or `..`: these get an
--- entry of their own, and every other item that of its lookup, or its fault.
+-- entry of their own, and every other item any entry or a fault: that of its lookup, by its events.
 abbrev pub Gets : (plus dot : Bool) → Item → Got → Type 0
 Gets false dot i got = got ≡ Ok None
 Gets true true i (Ok (Some entry)) = entry_out_of entry ≡ dot_out i
