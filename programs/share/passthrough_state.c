@@ -90,7 +90,8 @@ __attribute__((format(printf, 1, 2))) static int refuse(const char *why, ...)
 
 	va_start(rest, why);
 	fputs("nizwarf-share: migration: ", stderr);
-	vfprintf(stderr, why, rest);
+	/* (clang-tidy does not see va_start() where it looks at many files) */
+	vfprintf(stderr, why, rest); // NOLINT(clang-analyzer-valist.Uninitialized)
 	fputc('\n', stderr);
 	va_end(rest);
 	return -1;
