@@ -39,7 +39,7 @@ make_shared() {
             return
         fi
     done
-    find_library vfs_door
+    find_library nizwarf_door
     rm -f "$built"/libnizwarf.so*
     cc -shared -o "$built/libnizwarf.so.0" -Wl,-soname,libnizwarf.so.0 -Wl,-z,defs -Wl,--whole-archive "${library[0]}" \
         -Wl,--no-whole-archive "${library[1]}"

@@ -826,7 +826,7 @@ static inline size_t nizwarf_notice_prune(uint32_t count, void *out, size_t size
 /* ---- The functions of the library -------------------------------------------------------------- */
 
 /* A program that isn't in C links these, and lays structs out so. No pointer is NULL, and that to a
- * list or a text of length 0 may point anywhere. Their contracts: crates/vfs_door/src. */
+ * list or a text of length 0 may point anywhere. Their contracts: crates/nizwarf_door/src. */
 #if defined(__cplusplus) && __cplusplus >= 201103L
 #define NIZWARF_HOLDS(fact) static_assert(fact, #fact)
 #elif !defined(__cplusplus) && defined(__STDC_VERSION__) && __STDC_VERSION__ >= 201112L

@@ -3,7 +3,7 @@
  *
  * A transport takes a request from its queue, calls nizwarf_message with the segments of the request
  * and of the room for its reply, and completes the request with the length that it is told. Of the
- * library's own functions, whose names end in `_at`, each promise is proved (crates/vfs_c); those for a
+ * library's own functions, whose names end in `_at`, each promise is proved (crates/nizwarf_tree); those for a
  * transport look at pointers first, and copy replies into the room by calls of nizwarf_copy_at. Or it calls
  * nizwarf_message_take, by which no reply is copied.
  *
@@ -94,7 +94,7 @@ typedef struct {
 	}
 
 /* The functions of the library. No pointer is NULL here, and that to a list without pieces may point
- * anywhere. A program that isn't in C links these. Their contracts: crates/vfs_c/src/lib.rt. */
+ * anywhere. A program that isn't in C links these. Their contracts: crates/nizwarf_tree/src/lib.rt. */
 int32_t nizwarf_new_at(nizwarf_server *server, uint32_t page_size, uint32_t max_buffer,
 		       const nizwarf_settings *settings);
 int32_t nizwarf_tell_time_at(nizwarf_server *server, uint64_t seconds, uint32_t nanoseconds);

@@ -73,13 +73,13 @@ pack() {
 part "the daemon"
 proved=yes
 if [ -n "$unproved" ]; then
-    has_proof vfs_door || proved=
+    has_proof nizwarf_door || proved=
 else
-    prove_crates vfs_door
+    prove_crates nizwarf_door
 fi
 "$here/tools/virtiofsd.sh" "$folder" > /dev/null
 set_source "$name" "1.13.2+nizwarf$release"
-{ tell_build vfs_door && cargo --version && rustc --version; } > "$work/build-info"
+{ tell_build nizwarf_door && cargo --version && rustc --version; } > "$work/build-info"
 part "the package"
 pack "$folder" "$work/out"
 if [ -n "$check" ]; then

@@ -130,7 +130,7 @@ check_c() {
 
 check_crate() {
     export NIZWARF_LIB_DIR=$here/out/rust/lib
-    find_library vfs_door
+    find_library nizwarf_door
     mkdir -p "$NIZWARF_LIB_DIR"
     cp -u "${library[@]}" "$NIZWARF_LIB_DIR"
     (cd bindings/rust && cargo test --quiet --offline)
@@ -156,7 +156,7 @@ count_of() {
 
 # The libraries are built beside the first parts.
 if [[ " ${parts[*]} " =~ \ (door|crate)\  ]] && [ -z "$(missing_of door)" ]; then
-    (find_library vfs_door && find_library vfs_c) > "$folder/libraries" 2>&1 &
+    (find_library nizwarf_door && find_library nizwarf_tree) > "$folder/libraries" 2>&1 &
 fi
 failed=() skipped=() times=() number=0
 for part in "${parts[@]}"; do

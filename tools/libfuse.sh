@@ -57,7 +57,7 @@ done
 need_packages "${to_build[@]}"
 folder=$(realpath -m "${folder:-$here/out/libfuse}")
 mkdir -p "$folder"
-[ "$kind" = unmodified ] || find_library vfs_door
+[ "$kind" = unmodified ] || find_library nizwarf_door
 
 # The sources of the package, with Debian's changes. (`set -e` means nothing where a function is judged)
 fetch() {
@@ -114,7 +114,7 @@ replace() {
     sed -E "s#link_args: \['-Wl,--version-script,'#link_args: [$archives, '-Wl,--version-script,'#
         s#link_depends: 'fuse_versionscript'#link_depends: ['fuse_versionscript', '${library[0]##*/}']#" \
         "$source/lib/meson.build" > "$work/meson.build"
-    if ! grep -q libvfs_door "$work/meson.build"; then
+    if ! grep -q libnizwarf_door "$work/meson.build"; then
         echo "libfuse's lib/meson.build links in a way that isn't known here." >&2
         return 1
     fi

@@ -5,12 +5,12 @@
 # Usage: tools/mount.sh [--library NAME] [-o OPTIONS] [--trace[=FILE]] FOLDER
 #        tools/mount.sh --check
 # `umount FOLDER` or Ctrl-C unmounts it, and what was written there is gone. The library is crates/NAME, which
-# tools/new-library.sh makes; vfs_c where none is named. Options are those of other file systems, with commas
+# tools/new-library.sh makes; nizwarf_tree where none is named. Options are those of other file systems, with commas
 # between them: allow_other, ro, rw, noexec, nosuid, nodev, fsname=NAME, max_read=BYTES, and for the tree in
 # memory size=BYTES, nr_inodes=N (k, m, g), mode=OCTAL, uid=N, gid=N, writeback, by which the kernel keeps what
 # is written and writes it later, and no_io_uring, by which requests come by read(2) even where Linux offers
 # io_uring. With --trace each request and each reply is printed, or their bytes go to a new
-# FILE for vfs_decode, which a package has as nizwarf-decode.
+# FILE for text_decode, which a package has as nizwarf-decode.
 #
 # --check tests it by tests/mount/check.sh.
 #
@@ -29,7 +29,7 @@ usage() {
     exit 2
 }
 
-name=vfs_c
+name=nizwarf_tree
 options=()
 while [[ ${1:-} == -* ]]; do
     case $1 in
@@ -45,7 +45,7 @@ while [[ ${1:-} == -* ]]; do
             shift
             ;;
         --check)
-            [ "$# ${#options[@]} $name" = "1 0 vfs_c" ] || usage "--check stands alone."
+            [ "$# ${#options[@]} $name" = "1 0 nizwarf_tree" ] || usage "--check stands alone."
             exec "$here/tests/mount/check.sh"
             ;;
         *) usage "There is no word $1." ;;

@@ -1,5 +1,5 @@
 #!/usr/bin/env bash
-# Makes a library for transports in C over a file system of your own: a copy of crates/vfs_c under
+# Makes a library for transports in C over a file system of your own: a copy of crates/nizwarf_tree under
 # another name, with the same functions behind the same header. docs/USE.md says what to change
 # in it then.
 #
@@ -50,16 +50,16 @@ words_of_tree() {
     fi
 }
 
-# A library as vfs_c: what has `tree` in its path there, and the edits of its file system, are of the tree in memory alone.
+# A library as nizwarf_tree: what has `tree` in its path there, and the edits of its file system, are of the tree in memory alone.
 new_library() {
     mkdir "crates/$name" "tools/lib/unproved/$name"
-    cp -R crates/vfs_c/{src,specs,proofs,must-fail} "crates/$name/"
-    cp tools/lib/unproved/vfs_c/* "tools/lib/unproved/$name/"
+    cp -R crates/nizwarf_tree/{src,specs,proofs,must-fail} "crates/$name/"
+    cp tools/lib/unproved/nizwarf_tree/* "tools/lib/unproved/$name/"
     rm -r "crates/$name"/{src,specs,proofs}/[Tt]ree*
     sed -i '/^\(pub \)\?mod [Tt]ree/d' "crates/$name"/{src/lib.rt,specs/Lib.antt,proofs/Lib.antt}
     grep -l '^file: src/files.rt$' "crates/$name"/must-fail/*.edit | xargs rm
-    name_copy vfs_c "$name"
-    sed -i "/^$name\b/s/ vfs_tree_laws\b//" crates.txt
+    name_copy nizwarf_tree "$name"
+    sed -i "/^$name\b/s/ laws_tree\b//" crates.txt
 }
 
 # Puts the tree in the place of the tree in memory, by the two files of lib/read_only_library, without the proof of its
@@ -72,7 +72,7 @@ over_tree() {
     done
     rm -r "crates/$name"/proofs/{files,Texts.antt}
     sed -i '/^mod Texts$/d' "crates/$name/proofs/Lib.antt"
-    sed -i "/^$name\b/s/ vfs_tree\b/ vfs_small $tree/" crates.txt
+    sed -i "/^$name\b/s/ fs_tree\b/ fs_small $tree/" crates.txt
 }
 
 if [ -n "$tree" ]; then
@@ -86,6 +86,6 @@ if [ -n "$tree" ]; then
     echo "Mount it:"
 else
     echo "Now change crates/$name/src/files.rt, what proves it in proofs/files, specs/Files.antt, and in crates.txt, on the"
-    echo "line of $name, vfs_tree to the crate of your file system. Then mount it:"
+    echo "line of $name, fs_tree to the crate of your file system. Then mount it:"
 fi
 echo "    tools/mount.sh --library $name FOLDER"

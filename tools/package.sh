@@ -74,20 +74,20 @@ trap 'rm -rf "$work"' EXIT
 
 # Finds what is packed, as `packed`, and sets `proved` by whether all of it is.
 find_parts() {
-    local name parts=(vfs_door vfs_c vfs_border)
-    [ -z "$demo" ] || parts+=(vfs_demo vfs_decode)
+    local name parts=(nizwarf_door nizwarf_tree nizwarf_border)
+    [ -z "$demo" ] || parts+=(text_demo text_decode)
     [ -n "$unproved" ] || prove_crates "${parts[@]}"
     proved=yes
     for name in "${parts[@]}"; do
         has_proof "$name" || proved=
     done
-    for name in vfs_door vfs_c; do
+    for name in nizwarf_door nizwarf_tree; do
         find_library "$name"
         packed+=("${library[0]}")
     done
     heap=${library[1]}
     find_border
-    [ -z "$demo" ] || build_programs vfs_demo vfs_decode
+    [ -z "$demo" ] || build_programs text_demo text_decode
     set_source nizwarf "$release"
     note=", proved"
     [ -n "$proved" ] || note=" (NOT PROVED: this build stands on no proof)"
@@ -192,7 +192,7 @@ put_demo() {
     [ -n "$demo" ] || return 0
     mkdir -p "$1"/{bin,libexec/nizwarf,share/nizwarf}
     install -m 755 "$packaging"/nizwarf-{demo,decode} "$1/bin/"
-    for name in vfs_demo vfs_decode; do
+    for name in text_demo text_decode; do
         install -m 755 "$(path_of "$name")" "$1/libexec/nizwarf/"
         strip --remove-section=.comment --remove-section=.note "$1/libexec/nizwarf/$name"
     done

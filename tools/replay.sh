@@ -1,9 +1,9 @@
 #!/usr/bin/env bash
-# Runs lines of requests through the program vfs_demo.
+# Runs lines of requests through the program text_demo.
 #
 # Usage: tools/replay.sh [--bytes] LINES [EXPECTED]
 # Prints the lines of the file LINES and their answers, and below each what the message says, by the
-# program vfs_decode; with --bytes the answers alone, as vfs_demo writes them; with EXPECTED, a file of
+# program text_decode; with --bytes the answers alone, as text_demo writes them; with EXPECTED, a file of
 # answers, only the first that differs, with its request. A bad line ends a session with status 2, here
 # too. The first line may be `limit N`, which has no answer.
 #
@@ -32,16 +32,16 @@ done
 lines=$(realpath "$1")
 expected=${2:+$(realpath "$2")}
 
-programs=(vfs_demo)
+programs=(text_demo)
 if [ -z "$expected" ] && [ -z "$bytes" ]; then
-    programs+=(vfs_decode)
+    programs+=(text_decode)
 fi
 build_programs "${programs[@]}"
 
 answers=$(mktemp)
 trap 'rm -f "$answers"' EXIT
 status=0
-"$(path_of vfs_demo)" < "$lines" > "$answers" || status=$?
+"$(path_of text_demo)" < "$lines" > "$answers" || status=$?
 
 if [ -z "$expected" ]; then
     if [ -n "$bytes" ]; then

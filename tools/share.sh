@@ -1,6 +1,6 @@
 #!/usr/bin/env bash
 # Shares a folder of the host: mounts it on another one over /dev/fuse, or serves it to a virtual machine over
-# vhost-user. The protocol is that of the library vfs_door; the program is programs/share, of which nothing is
+# vhost-user. The protocol is that of the library nizwarf_door; the program is programs/share, of which nothing is
 # proved.
 #
 # Usage: tools/share.sh FOLDER MOUNTPOINT [WORDS]
@@ -29,5 +29,5 @@ case $#:${1:-} in
         exit 2
         ;;
 esac
-build_transport share vfs_door
+build_transport share nizwarf_door
 exec "$transport" "$@"

@@ -80,7 +80,7 @@ link_library() {
 
 link_library cap-ng libcap-ng0
 link_library seccomp libseccomp2
-[ -n "$unmodified" ] || find_library vfs_door
+[ -n "$unmodified" ] || find_library nizwarf_door
 
 # Copies a file if the other is not the same, so that its time stays where nothing changed.
 renew() {

@@ -31,7 +31,7 @@ fn main() {
         eprintln!("libnizwarf was not found: {fault}.");
         eprintln!("Install its development package, so that `pkg-config {NAME}` finds it, or set");
         eprintln!("NIZWARF_LIB_DIR to a folder with libnizwarf.a, with libnizwarf.so, or with");
-        eprintln!("libvfs_door.a and liblibc_c.a.");
+        eprintln!("libnizwarf_door.a and liblibc_c.a.");
         exit(1);
     }
 }
@@ -41,8 +41,8 @@ fn link_folder(folder: &str) -> Result<(), String> {
     let has = |file: &str| Path::new(folder).join(file).exists();
     let libraries: &[&str] = if has("libnizwarf.a") {
         &["static=nizwarf"]
-    } else if has("libvfs_door.a") && has("liblibc_c.a") {
-        &["static=vfs_door", "static=libc_c"]
+    } else if has("libnizwarf_door.a") && has("liblibc_c.a") {
+        &["static=nizwarf_door", "static=libc_c"]
     } else if has("libnizwarf.so") && !is_static() {
         &["dylib=nizwarf"]
     } else {
@@ -57,7 +57,7 @@ fn link_folder(folder: &str) -> Result<(), String> {
     for library in libraries {
         println!("cargo:rustc-link-lib={library}");
     }
-    for file in ["libnizwarf.a", "libvfs_door.a", "liblibc_c.a", "libnizwarf.so"] {
+    for file in ["libnizwarf.a", "libnizwarf_door.a", "liblibc_c.a", "libnizwarf.so"] {
         let path = folder.join(file);
         if path.exists() {
             println!("cargo:rerun-if-changed={}", path.display());

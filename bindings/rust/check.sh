@@ -1,5 +1,5 @@
 #!/usr/bin/env bash
-# Builds the library vfs_door, and checks the crate `nizwarf` with it: the crate builds without a network and
+# Builds the library nizwarf_door, and checks the crate `nizwarf` with it: the crate builds without a network and
 # without other crates, there are no warnings, and its tests, doctests and examples pass.
 #
 # Usage: bindings/rust/check.sh [--msrv] [--fuser]
@@ -35,7 +35,7 @@ steps=$((17 + has_msrv))
 need cargo "Install it: apt-get install cargo."
 need cc "Install a C compiler: apt-get install gcc libc6-dev."
 if [ -z "${NIZWARF_LIB_DIR:-}" ]; then
-    find_library vfs_door
+    find_library nizwarf_door
     NIZWARF_LIB_DIR=$here/out/rust/lib
     mkdir -p "$NIZWARF_LIB_DIR"
     cp "${library[@]}" "$NIZWARF_LIB_DIR"
@@ -83,9 +83,9 @@ build_static() {
     local installed=$folder/installed version
     version=$(sed -n 's/^version = "\(.*\)"$/\1/p' "$here/bindings/rust/Cargo.toml")
     mkdir -p "$installed"
-    cc -shared -o "$installed/libnizwarf.so" -Wl,--whole-archive "$NIZWARF_LIB_DIR/libvfs_door.a" \
+    cc -shared -o "$installed/libnizwarf.so" -Wl,--whole-archive "$NIZWARF_LIB_DIR/libnizwarf_door.a" \
         -Wl,--no-whole-archive "$NIZWARF_LIB_DIR/liblibc_c.a" || return
-    printf 'create %s\naddlib %s\naddlib %s\nsave\n' "$installed/libnizwarf.a" "$NIZWARF_LIB_DIR"/lib{vfs_door,libc_c}.a |
+    printf 'create %s\naddlib %s\naddlib %s\nsave\n' "$installed/libnizwarf.a" "$NIZWARF_LIB_DIR"/lib{nizwarf_door,libc_c}.a |
         ar -M || return
     sed -e "s,^prefix=.*,prefix=$installed,; s,^libdir=.*,libdir=$installed," -e "s/@VERSION@/$version/" \
         "$here/packaging/nizwarf.pc.in" > "$installed/nizwarf.pc"

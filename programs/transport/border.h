@@ -1,4 +1,4 @@
-/* What the static library of crates/vfs_border tells: proved functions over bytes. They read and write what they are
+/* What the static library of crates/nizwarf_border tells: proved functions over bytes. They read and write what they are
  * given alone, and take no memory. */
 #ifndef BORDER_H
 #define BORDER_H

@@ -1,4 +1,4 @@
-"""Refuses allocations of vfs_sessions and vfs_demo, for check.sh, which says how: refuse.py FOLDER, where that has
+"""Refuses allocations of test_sessions and text_demo, for check.sh, which says how: refuse.py FOLDER, where that has
 refuse_allocation.so."""
 import collections, glob, os, re, subprocess, sys, threading
 from concurrent.futures import ThreadPoolExecutor
@@ -54,7 +54,7 @@ def refused(program, stdin, part, clean):
 
 
 def parts_of(output):
-    """The parts of what vfs_sessions wrote after its line `refusals`."""
+    """The parts of what test_sessions wrote after its line `refusals`."""
     parts = []
     for text in output.split("request ")[1:]:
         head, answered, *lines = text.splitlines()
@@ -109,7 +109,7 @@ def wrong(what, it):
 
 
 class Refusals:
-    """The runs of vfs_sessions on some lines after the line `refusals`."""
+    """The runs of test_sessions on some lines after the line `refusals`."""
 
     def __init__(self, program, lines):
         self.program, self.lines = program, lines
@@ -118,7 +118,7 @@ class Refusals:
         self.first_line = len(self.parts) - len(lines)
         self.counts = self.clean.counts[1:]
         if self.clean.status or len(self.counts) != len(self.parts):
-            raise ValueError("vfs_sessions, refused nothing, does not end well")
+            raise ValueError("test_sessions, refused nothing, does not end well")
 
     def stdin(self, but=None):
         return b"".join([b"refusals\n", *(line for at, line in enumerate(self.lines) if at != but)])
@@ -138,7 +138,7 @@ class Refusals:
         for it in refused(self.program, self.stdin(), at + 1, self.clean):
             endings.append(self.ending(at, behind, it))
             if endings[-1] is None:
-                wrong(f"vfs_sessions, allocation {len(endings)} of {self.parts[at].name}", it)
+                wrong(f"test_sessions, allocation {len(endings)} of {self.parts[at].name}", it)
         return endings
 
     def ending(self, at, behind, it):
@@ -156,7 +156,7 @@ def is_stopped(output, stored):
 
 
 def demo_ending(program, lines, stored, it):
-    """How a run of vfs_demo ended, by who wanted memory, or None."""
+    """How a run of text_demo ended, by who wanted memory, or None."""
     answers = it.output.splitlines()
     if it.status == 4 and is_stopped(it.output, stored):
         return "the program"
@@ -176,16 +176,16 @@ def try_demo(program, lines, stored):
     stdin = b"".join(lines)
     clean = run(program, stdin)
     if clean.status or clean.output.splitlines() != stored:
-        raise ValueError("vfs_demo, refused nothing, does not give its stored answers")
+        raise ValueError("text_demo, refused nothing, does not give its stored answers")
     with ThreadPoolExecutor(os.cpu_count()) as pool:
         numbers = range(1, clean.counts[0] + 2)
         runs = list(pool.map(lambda number: run(program, stdin, 0, number), numbers))
     if runs.pop() != clean:
-        raise ValueError("vfs_demo wants more memory than it wanted")
+        raise ValueError("text_demo wants more memory than it wanted")
     endings = [demo_ending(program, lines, stored, it) for it in runs]
     for number, (ending, it) in enumerate(zip(endings, runs), 1):
         if ending is None:
-            wrong(f"vfs_demo, allocation {number}", it)
+            wrong(f"text_demo, allocation {number}", it)
     return endings
 
 
@@ -195,15 +195,15 @@ def tell(what, endings):
     print(f"{what}: {len(endings)} allocations refused in turn; answered by {told}", flush=True)
 
 
-script, demo = built("vfs_sessions"), built("vfs_demo")
-with open("crates/vfs_demo/stdin", "rb") as file:
+script, demo = built("test_sessions"), built("text_demo")
+with open("crates/text_demo/stdin", "rb") as file:
     lines = file.readlines()
-with open("crates/vfs_demo/stdout") as file:
+with open("crates/text_demo/stdout") as file:
     stored = file.read().splitlines()
 header = next(it[1] for it in (re.match(rb"(144 2a00000001[0-9a-f]*)61\+00\n", it) for it in lines) if it)
 lookups = [header + b"+6100\n", header + b"61+00\n"]
 
-print("1 of 2: each call of vfs_sessions, by itself ..", flush=True)
+print("1 of 2: each call of test_sessions, by itself ..", flush=True)
 tried = Refusals(script, lines + lookups)
 with ThreadPoolExecutor(os.cpu_count()) as pool:
     endings = list(pool.map(tried.endings, range(len(tried.parts))))
@@ -211,8 +211,8 @@ if endings[-2:] != [[], ["the server"]]:
     faults.append("LOOKUP of a")
     print(f"LOOKUP of a, cut behind its header and in its name: {endings[-2:]}", file=sys.stderr)
 wanting = sum(len(it) > 0 for it in endings)
-print(f"vfs_sessions: {len(endings)} calls, of which {wanting} want memory")
-tell("vfs_sessions", sum(endings, []))
-print("2 of 2: a whole session of vfs_demo ..", flush=True)
-tell("vfs_demo", try_demo(demo, lines, stored))
+print(f"test_sessions: {len(endings)} calls, of which {wanting} want memory")
+tell("test_sessions", sum(endings, []))
+print("2 of 2: a whole session of text_demo ..", flush=True)
+tell("text_demo", try_demo(demo, lines, stored))
 sys.exit(1 if faults else 0)

@@ -1,5 +1,5 @@
 /* Where Eva begins: requests in any pieces, of any bytes, and rooms in any pieces, over a library that tells anything
- * that its contracts let it (crates/vfs_door/src, crates/vfs_c/src), and a table of functions that answer anything. */
+ * that its contracts let it (crates/nizwarf_door/src, crates/nizwarf_tree/src), and a table of functions that answer anything. */
 #ifdef __FRAMAC__
 #include "__fc_builtin.h"
 #include <stddef.h>

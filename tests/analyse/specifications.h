@@ -1,5 +1,5 @@
 /* What Frama-C takes the analysed sources to call, included before them: functions of the proved library by what
- * their contracts say (crates/vfs_border/src/chains.rt, vhost.rt), as far as memory depends on it, and atomic
+ * their contracts say (crates/nizwarf_border/src/chains.rt, vhost.rt), as far as memory depends on it, and atomic
  * accesses as plain ones. Those of what a guest writes too are volatile: each reads any value. */
 #ifndef SPECIFICATIONS_H
 #define SPECIFICATIONS_H

@@ -12,7 +12,7 @@
 # libfuse, fuser and go-fuse each serve a socket that keeps messages apart, in place of /dev/fuse. libfuse does
 # so by itself, behind examples/c/check.c, which hands on what is whole, and over the layer here, as tools/libfuse.sh
 # builds it, if meson and ninja are there. libfuse is built with the
-# address sanitizer, with the bytes after each message poisoned. The server here is the library vfs_door; a
+# address sanitizer, with the bytes after each message poisoned. The server here is the library nizwarf_door; a
 # page that can't be read begins after each of its messages. virtiofsd is asked by vhost-user.
 #
 # The sessions are those of tests/beside/requests.py. With --count it makes M sessions more, which are
@@ -66,7 +66,7 @@ if [ "$(uname -m)" != x86_64 ]; then
     echo "It is made for x86-64 alone." >&2
     exit 2
 fi
-find_library vfs_door
+find_library nizwarf_door
 
 there=$here/out/beside
 mkdir -p "$there"

@@ -2,7 +2,7 @@
 # Builds examples/c/serve.c with the library for C, and runs it: it answers an INIT, a MKDIR and a LOOKUP, and
 # checks the replies. Then tests/c/tree.c holds the library against what the header says, also where each
 # allocation is refused in turn. tests/c/hello.c asks a few requests of examples/c/hello.c, a file system over the
-# library vfs_door; door.c, door-cases.c, door-threads.c, init.c, notices.c, offered.c, ops.c, ops-threads.c and text.c
+# library nizwarf_door; door.c, door-cases.c, door-threads.c, init.c, notices.c, offered.c, ops.c, ops-threads.c and text.c
 # hold that library against what the headers say, and largest.c asks both for as much memory as they are ever asked for;
 # as root mounted.c mounts a table of wrong answers. All that runs under
 # the sanitizers of the compiler too, if it has them. The structs are laid out as in version 0.2, and a program of that
@@ -16,7 +16,7 @@
 # Usage: tests/c/check.sh [--prove | --quick]
 # With --quick nothing is mounted or packed, and no sanitizer runs: ten seconds. It takes each proved library where
 # that is built and no source is newer; otherwise tools/lib/unproved.sh builds it without a proof, which takes a
-# minute. With --prove they are proved first, as crates/vfs_c/out and crates/vfs_door/out have them then: a few
+# minute. With --prove they are proved first, as crates/nizwarf_tree/out and crates/nizwarf_door/out have them then: a few
 # minutes, and half an hour where no lower crate was proved before.
 # Status 0: all is as it should be; 1: not so; 2: it could not start.
 set -euo pipefail
@@ -35,12 +35,12 @@ folder=$(mktemp -d)
 trap 'rm -rf "$folder"' EXIT
 if [ "${1:-}" = --prove ]; then
     need_toolchain
-    for name in vfs_c vfs_door vfs_border; do
+    for name in nizwarf_tree nizwarf_door nizwarf_border; do
         echo "Proving and building the library $name .." >&2
         (cd "$here/crates/$name" && rt lib) > "$folder/said" 2>&1 || { tail -n 20 "$folder/said" >&2 && exit 1; }
     done
 fi
-find_library vfs_door
+find_library nizwarf_door
 door=${library[0]}
 find_library
 library=("$door" "${library[@]}")
@@ -114,7 +114,7 @@ run_all() {
 }
 
 # Those that kernels were recorded to ask.
-sed -n '/^# What kernels asked/,/^# The corpus/p' "$here/crates/vfs_sessions/stdin" > "$folder/recorded"
+sed -n '/^# What kernels asked/,/^# The corpus/p' "$here/crates/test_sessions/stdin" > "$folder/recorded"
 
 part "the examples and the programs that hold the libraries against the headers"
 run_all -O2

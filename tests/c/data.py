@@ -48,8 +48,8 @@ def whole(struct, fields):
 
 # ---- structs
 
-for name, body in re.findall(r"^#\[repr\(C\)\]\n(?:#[^\n]*\n)*pub struct (\w+) \{\n(.*?)^\}", read("crates/vfs_calls/src/*.rt")
-                             + read("crates/vfs_door/src/data.rt"), re.M | re.S):
+for name, body in re.findall(r"^#\[repr\(C\)\]\n(?:#[^\n]*\n)*pub struct (\w+) \{\n(.*?)^\}", read("crates/door_calls/src/*.rt")
+                             + read("crates/nizwarf_door/src/data.rt"), re.M | re.S):
     if name not in STRUCTS:
         continue
     fields, place = re.findall(r"^    pub (\w+): (\w+),", body, re.M), "0"
@@ -80,14 +80,14 @@ def hold_number(names, value, what):
         faults.append(f"{what}: nizwarf.h has none of {', '.join(names)}")
 
 
-for module, body in re.findall(r"^pub mod (\w+) \{\n(.*?)^\}", read("crates/vfs_calls/src/call.rt"), re.M | re.S):
+for module, body in re.findall(r"^pub mod (\w+) \{\n(.*?)^\}", read("crates/door_calls/src/call.rt"), re.M | re.S):
     for name, value in re.findall(r"pub const (\w+): u32 = (\d+);", body):
         hold_number([f"NIZWARF_HAS_{name}", f"NIZWARF_{name}"] if module == "has" else [f"NIZWARF_{name}"], value, module)
         opcode = f"FUSE_{OPCODES.get(name, name)}"
         if module == "number" and re.search(rf"\b{opcode}\b", KERNEL.stdout):
             hold(f"(int){opcode} == {value}", f"{opcode} is {value}")
             held["numbers"] += 1
-CODES = read("crates/vfs_rooms/specs/Codes.antt")
+CODES = read("crates/c_rooms/specs/Codes.antt")
 CALLED = {"no_memory": "OUT_OF_MEMORY", "is_asked": "ASKED"}
 CODE = dict(re.findall(r"^abbrev pub (\w+) : ℤ\n\1 = pos (\d+)$", CODES, re.M))
 for name, value in CODE.items():
@@ -99,7 +99,7 @@ for error, value in re.findall(r"^number_of \((?:Err )?\(?(\w+)[^=]*\) = (?:pos 
 
 # ---- definitions
 
-for text in (read("crates/vfs_calls/specs/Shapes.antt"), read("crates/vfs_calls/specs/Values.antt")):
+for text in (read("crates/door_calls/specs/Shapes.antt"), read("crates/door_calls/specs/Values.antt")):
     for found in re.finditer(COPIED, text, re.M):
         name, given, made, body = found.groups()[:4]
         fields = re.findall(r"(\w+) = ", body)

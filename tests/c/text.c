@@ -3,7 +3,7 @@
  * is printable, and ends in a 0 within each memory.
  *
  * Usage: text LINES
- * LINES are those of a session, as crates/vfs_sessions/stdin has them; others than requests are left out.
+ * LINES are those of a session, as crates/test_sessions/stdin has them; others than requests are left out.
  * tests/c/check.sh links it with --wrap=malloc, --wrap=realloc and --wrap=free. Status 0: all is as it
  * should be. */
 #include <linux/fuse.h>

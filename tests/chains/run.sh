@@ -36,7 +36,7 @@ if [ ! -d "$packages" ]; then
     mv "$out/half" "$packages"
 fi
 
-find_library vfs_border
+find_library nizwarf_border
 cc -std=c11 -Wall -Wextra -Werror -O2 -I "$here/programs/transport" "$here/tests/chains/walk.c" "${library[@]}" -o "$out/walk"
 rm -rf "$out/upstream"
 cp -R "$here/tests/chains/upstream" "$out/"

@@ -2,7 +2,7 @@
 # A table of functions that has what virtiofsd has not, mounted, and asked as programs ask.
 #
 # Usage: tests/further/check.sh, as root
-# news.c is compiled with the library vfs_door, plainly, under address and undefined, and under thread sanitizers if the
+# news.c is compiled with the library nizwarf_door, plainly, under address and undefined, and under thread sanitizers if the
 # compiler has them, and mounted: session.py goes through its notices, STATX, IOCTL, POLL and O_TMPFILE, locks.py through
 # 41 steps of flock(2) and fcntl(2), and kept.py through what waits, to its ends; by read(2), and by io_uring if Linux
 # offers it. The library is the proved one where that is built and no source is newer, or else one that
@@ -23,7 +23,7 @@ own_mounts "$@"
 folder=$(mktemp -d)
 trap 'umount -lq "$folder/mounted" || true; rm -rf "$folder"' EXIT
 mkdir "$folder/mounted"
-find_library vfs_door
+find_library nizwarf_door
 ways=("")
 if [ "$(cat /sys/module/fuse/parameters/enable_uring 2> /dev/null)" = Y ]; then
     ways+=(--io_uring)

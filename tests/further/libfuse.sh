@@ -34,7 +34,7 @@ if ! quietly "$work/said" "$here/tests/suites/get.sh" libfuse "$there"; then
     echo "libfuse's tests can't be had here." >&2
     exit 2
 fi
-build_transport share vfs_door "${flags[@]}"
+build_transport share nizwarf_door "${flags[@]}"
 built=$work/built
 cp -r "$there/libfuse/built" "$built"
 cc -std=c11 -Wall -Wextra -Werror -pthread -I "$here/include" -o "$built/example/hello" "$here/tests/further/examples.c" \

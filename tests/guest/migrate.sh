@@ -20,7 +20,7 @@ if [ "$(uname -m)" != x86_64 ]; then
     echo "It is made for x86-64 alone." >&2
     exit 2
 fi
-build_transport share vfs_door
+build_transport share nizwarf_door
 work=$(mktemp -d -p "$(if [ -d /dev/shm ]; then echo /dev/shm; else echo /tmp; fi)")
 started=()
 trap 'kill "${started[@]}" 2> /dev/null || true; rm -rf "$work"' EXIT

@@ -64,7 +64,7 @@ words=(--suite "$suite" "$folder")
 [[ " ${parts[*]} " != *" tests "* ]] || words=(--all "${words[@]}")
 ours=$("$here/tools/libfuse.sh" "${words[@]}")
 theirs=$("$here/tools/libfuse.sh" --unmodified "${words[@]}")
-find_library vfs_door
+find_library nizwarf_door
 version=$(cat "$folder/source-$suite/debian-version")
 work=$(mktemp -d -p "$folder")
 # (the name of a socket, which libfuse's tests make at the end of such a path twice over, has room for 107 bytes)

@@ -110,7 +110,7 @@ for way in "${ways[@]}"; do
             mirror requests library "$work/library.so" "$work/tmpfs/beside" || status=1
             ;;
         --share)
-            build_transport share vfs_door
+            build_transport share nizwarf_door
             share=("$transport" -o "allow_other,suid,dev" --xattr --log-level=warn)
             for line in "${words[*]}" --writeback; do
                 echo "System calls, on a shared folder of a tmpfs${line:+, with $line,} and on a tmpfs:" >&2

@@ -28,7 +28,7 @@ fi
 own_mounts "$@"
 # (what runs in a namespace of processes ends with its first one)
 if [ "$$" != 1 ]; then
-    build_transport share vfs_door
+    build_transport share nizwarf_door
     exec unshare --pid --fork --mount-proc env SHARE="$transport" "$0"
 fi
 

@@ -14,7 +14,7 @@ begin_share() {
     need python3 "Install it: apt-get install python3."
     # (what is mounted from here on is in no other namespace, where it would stay in use)
     own_mounts "$@"
-    build_transport share vfs_door
+    build_transport share nizwarf_door
     # shellcheck disable=SC2034
     share=$transport
     ask=$here/out/c/ask

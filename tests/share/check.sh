@@ -674,7 +674,7 @@ try_sanitizers() {
         echo "The compiler lacks them." >&2
         return
     fi
-    build_transport share vfs_door "${flags[@]}"
+    build_transport share nizwarf_door "${flags[@]}"
     share=$transport
     ask_hostile "under the sanitizers $1" --xattr --announce-submounts "${words[@]}"
     ask_hostile "with more words under the sanitizers $1" "${translates[@]}" "${words[@]}"

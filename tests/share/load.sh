@@ -15,7 +15,7 @@ set -euo pipefail
 [[ $#:${1:-} =~ ^1:[0-9]+$ ]] || { echo "Usage: tests/share/load.sh MINUTES" >&2 && exit 2; }
 need stress-ng "Install it: apt-get install stress-ng."
 begin_share "$@"
-build_transport share vfs_door "$here/tests/share/refuse_some.c" -Wl,--wrap=malloc -Wl,--wrap=calloc \
+build_transport share nizwarf_door "$here/tests/share/refuse_some.c" -Wl,--wrap=malloc -Wl,--wrap=calloc \
     -Wl,--wrap=realloc -Wl,--wrap=aligned_alloc -Wl,--wrap=openat
 daemon=$here/out/virtiofsd/nizwarf-virtiofsd
 if [ ! -x "$daemon" ]; then

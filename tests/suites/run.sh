@@ -170,7 +170,7 @@ case $what in
         passthrough_column "over this layer" nizwarf
         ;;
     --share)
-        build_transport share vfs_door "${flags[@]}"
+        build_transport share nizwarf_door "${flags[@]}"
         column "the folder" folder judged bare
         if [ ${#words[@]} -gt 0 ]; then
             share_column "share ${words[*]}" "${words[@]}"
@@ -189,7 +189,7 @@ case $what in
         fi
         ;;
     --tree)
-        build_transport mount vfs_c "${flags[@]}"
+        build_transport mount nizwarf_tree "${flags[@]}"
         column tmpfs tmpfs judged tmpfs
         column "the tree" fuse.nizwarf judged mount "$transport" -o allow_other "${words[@]}" MOUNT
         ;;

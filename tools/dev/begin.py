@@ -3,7 +3,7 @@
 
 Usage: tools/dev/begin.py [--check]
 The first page quotes the five definitions of the promise, and fills in a turn for each case of what may follow from a
-request: of stored requests and their answers (crates/vfs_sessions), and of proved callers, by the tables of records.
+request: of stored requests and their answers (crates/test_sessions), and of proved callers, by the tables of records.
 The second is the table of the protocol: of each opcode the record of fuse.h, its row of form_of, and what is answered.
 It stops if a stored line or a definition is no more as the pages say. With --check nothing is written, and it is told
 which page is not as it would be made.
@@ -19,11 +19,11 @@ sys.dont_write_bytecode = True
 from records import laid_out, struct_of  # noqa: E402
 
 BEGIN, PROTOCOL = "docs/BEGIN.md", "docs/generated/protocol.md"
-SESSION, TURN, BOOKS = "vfs_server/specs/Session.antt", "vfs_grammar/specs/Turn.antt", "vfs_grammar/specs/Books.antt"
-ASK, REPLY = "vfs_grammar/specs/Ask.antt", "vfs_grammar/specs/Reply.antt"
-CALLS, ANSWERS = "vfs_files/specs/Calls.antt", "vfs_files/specs/Answers.antt"
-NUMBERS, EXAMPLES = "vfs_flags/specs/Numbers.antt", "vfs_laws/proofs/Examples.antt"
-SAMPLES, DOOR = "vfs_grammar/specs/Samples.antt", "vfs_ask/src/uses.rt"
+SESSION, TURN, BOOKS = "fuse_server/specs/Session.antt", "fuse_grammar/specs/Turn.antt", "fuse_grammar/specs/Books.antt"
+ASK, REPLY = "fuse_grammar/specs/Ask.antt", "fuse_grammar/specs/Reply.antt"
+CALLS, ANSWERS = "fs_trait/specs/Calls.antt", "fs_trait/specs/Answers.antt"
+NUMBERS, EXAMPLES = "fuse_flags/specs/Numbers.antt", "laws_turns/proofs/Examples.antt"
+SAMPLES, DOOR = "fuse_grammar/specs/Samples.antt", "door_ask/src/uses.rt"
 
 
 def read(path):
@@ -75,9 +75,9 @@ class Stored:
 
 def stored():
     """The stored requests by the comment above each, and how many stand above it since."""
-    came = re.findall(r"^((?:ok|err) .*)\n((?:  .*\n)*)", crate("vfs_sessions/stdout"), re.M)
+    came = re.findall(r"^((?:ok|err) .*)\n((?:  .*\n)*)", crate("test_sessions/stdout"), re.M)
     found, comment, answers, number, at = {}, "", [], 0, 0
-    for line in crate("vfs_sessions/stdin").split("\n"):
+    for line in crate("test_sessions/stdin").split("\n"):
         if line.startswith("#"):
             comment, number = (comment + line[1:] if number == 0 else line[2:]), 0
         elif line.startswith("answer "):
@@ -88,14 +88,14 @@ def stored():
             found[" ".join(comment.split()), number] = Stored(sum(map(int, filter(None, room.split("+")))),
                                                               request.replace("+", ""), answers, came[at][0], told)
             answers, number, at = [], number + 1, at + 1
-    expect(at == len(came), "crates/vfs_sessions: stdin and stdout have not as many requests")
+    expect(at == len(came), "crates/test_sessions: stdin and stdout have not as many requests")
     return found
 
 
 def one(found, begins, number=0):
     """The stored request that many after the comment that begins so."""
     those = [it for (comment, at), it in found.items() if comment.startswith(begins) and at == number]
-    expect(len(those) == 1, f"crates/vfs_sessions/stdin has no one comment: {begins}")
+    expect(len(those) == 1, f"crates/test_sessions/stdin has no one comment: {begins}")
     return those[0]
 
 
@@ -171,7 +171,7 @@ def lookup(found):
     expect(proved and it.room == 144, f"{EXAMPLES} has no such lookup_of_a")
     return opcode, it, f"""## It asks a call: LOOKUP
 
-Stored in `crates/vfs_sessions/stdin`, below `LOOKUP of a finds node {node}`:
+Stored in `crates/test_sessions/stdin`, below `LOOKUP of a finds node {node}`:
 
 {block(("request", [*request, (name.hex(), "tail", text_of(name[:-1]))]), ("room", f"0 x {it.room}"),
        ("form_of", form_of(opcode)), ("ask", "WithMemory (Asks echo call), echo.unique = 9"), ("call", call),

@@ -8,7 +8,7 @@ DOCUMENTS = [*COUNTED, "tools/README.md", "tests/README.md", "tests/oracle/READM
 # Pages of which only links are looked at.
 LINKED = [*sorted(glob.glob("docs/generated/*.md")), *sorted(glob.glob("bindings/*/README.md"))]
 # Where no crate is named in PROTOCOL.md, it is this one, as that page says.
-CRATES = {"docs/PROTOCOL.md": ["vfs_grammar"]}
+CRATES = {"docs/PROTOCOL.md": ["fuse_grammar"]}
 CODE = re.compile(r"`([^`]+)`")
 NAMED = re.compile(r"((?:`[\w:]+`, )+)`([\w./]+\.(?:rt|antt))`")
 CLAUSED = re.compile(r"`[\w:]+`: ((?:`\w+`(?:, )?)+)")
@@ -61,18 +61,18 @@ def number_of(said):
     return NUMBERS.index(said) if said in NUMBERS else int(said.replace(",", ""))
 
 
-OPCODES, HANDLED = (count(pattern, "crates/vfs_grammar/specs/Ask.antt")
+OPCODES, HANDLED = (count(pattern, "crates/fuse_grammar/specs/Ask.antt")
                     for pattern in ("^ *form_of ", "^ *form_of (?!.* = NotServed)"))
-CALLS = count(r"^    fn ", "crates/vfs_files/src/filesystem.rt")
+CALLS = count(r"^    fn ", "crates/fs_trait/src/filesystem.rt")
 RECORDS, MORE_RECORDS = (count(r"impl ByteValued for [A-Z]", f"crates/{crate}/src/")
-                         for crate in ("vfs_wire", "vfs_wire_more"))
+                         for crate in ("fuse_wire", "fuse_wire_more"))
 # The stored requests: worked, generated, and what kernels asked, of which each session begins with one of the first
 # kind, which says what INIT wants.
 WORKED, GENERATED, KERNELS = (len(re.findall(r"^\d", part, re.M)) for part in re.split(
-    r"^# (?:The generated requests|What kernels asked)\..*", read("crates/vfs_sessions/stdin"), flags=re.M))
-SESSIONS = len(re.findall(r"^# (?:Linux|The same)", read("crates/vfs_sessions/stdin").split("# What kernels asked.")[1], re.M))
+    r"^# (?:The generated requests|What kernels asked)\..*", read("crates/test_sessions/stdin"), flags=re.M))
+SESSIONS = len(re.findall(r"^# (?:Linux|The same)", read("crates/test_sessions/stdin").split("# What kernels asked.")[1], re.M))
 # How many forms each hostile message has.
-FORMS = re.findall(r"^.*: (\d+) forms, ", read("crates/vfs_sessions/stdout"), re.M)
+FORMS = re.findall(r"^.*: (\d+) forms, ", read("crates/test_sessions/stdout"), re.M)
 # What a line counts, by the words around the number, and how many there are.
 COUNTS = [
     (rf"{NUMBER} (?:numbers are )?opcodes", OPCODES),
@@ -87,7 +87,7 @@ COUNTS = [
     (rf"{NUMBER} worked", WORKED + SESSIONS),
     (rf"{NUMBER} (?:of them recorded from|of) kernels", KERNELS - SESSIONS),
     (rf"{NUMBER} stored requests, [\d,]+ of them recorded", WORKED + GENERATED + KERNELS),
-    (rf"stored lines of `vfs_sessions` hold {NUMBER} requests", WORKED + GENERATED + KERNELS),
+    (rf"stored lines of `test_sessions` hold {NUMBER} requests", WORKED + GENERATED + KERNELS),
     (rf"{NUMBER} messages, at least one for each opcode", len(FORMS)),
     (rf"{NUMBER} hostile forms", sum(map(int, FORMS))),
     (rf"folder `must-fail` has {NUMBER} edits", sum(crate == "example_tree" for crate, _ in edits)),
@@ -139,7 +139,7 @@ def check_below(fault, line):
     for match in BELOW.finditer(line):
         said, crate = match.groups()
         named = [it for it in CODE.findall(line[:match.start()]) if it in below]
-        crate = {"it": (named or [""])[-1], "the program": "vfs_demo"}.get(crate, crate.strip("`"))
+        crate = {"it": (named or [""])[-1], "the program": "text_demo"}.get(crate, crate.strip("`"))
         if crate not in below:
             fault(f"no crate is named that {said} crates are below")
         elif number_of(said) != len(below[crate]):
@@ -151,10 +151,10 @@ def check_order(fault, items):
     item_of = {file: number for number, files in items for file in files}
     for file, own in item_of.items():
         folder = "specs" if file.endswith(".antt") else "src"
-        text = sources.get(f"crates/vfs_grammar/{folder}/{file}", "")
+        text = sources.get(f"crates/fuse_grammar/{folder}/{file}", "")
         if not text:
-            fault(f"there is no {file} in vfs_grammar")
-        for name in re.findall(r"Rattle\.vfs_grammar\.specs\.(?:declared\.)?(\w+)", text):
+            fault(f"there is no {file} in fuse_grammar")
+        for name in re.findall(r"Rattle\.fuse_grammar\.specs\.(?:declared\.)?(\w+)", text):
             used = f"{name}.antt" if name[0].isupper() else f"{name}.rt"
             if item_of.get(used, own) < own:
                 fault(f"{file}, of item {own}, names a word of {used}, of item {item_of[used]}")
@@ -259,11 +259,11 @@ for path in (line.split(":")[0] for line in reached):
         faults.append(f"docs/PROMISE.md: the reading order lacks {path}")
 COUNTS = re.compile(r"(\d+) definitions,? (?:of )?([\d,]+) lines")
 # What is told as so much more than the session, and begins with these.
-BESIDE = {"the clause `memory`": ["vfs_server/Sparing.IsSparing"],
-          "the door": ["vfs_door/Turns.IsAskedOrNot", "vfs_door/Turns.IsAnsweredOrNot", "vfs_door/Kept.HoldsAnswer"]}
+BESIDE = {"the clause `memory`": ["fuse_server/Sparing.IsSparing"],
+          "the door": ["nizwarf_door/Turns.IsAskedOrNot", "nizwarf_door/Turns.IsAnsweredOrNot", "nizwarf_door/Kept.HoldsAnswer"]}
 further = []
 for what, starts in BESIDE.items():
-    *files, ends = subprocess.run(["tools/measure/statement.sh", "--files", "vfs_server/Session.IsSession", *starts],
+    *files, ends = subprocess.run(["tools/measure/statement.sh", "--files", "fuse_server/Session.IsSession", *starts],
                                   capture_output=True, text=True, check=True).stdout.splitlines()[:-1]
     more = [int(it) - int(server) for it, server in zip(COUNTS.search(ends).groups(), COUNTS.search(counted).groups())]
     further += files
@@ -316,7 +316,7 @@ VERSIONS = {
     "include/nizwarf.h": r"^#define NIZWARF_VERSION_(?:MAJOR|MINOR|PATCH) (\d+)$",
     "bindings/rust/Cargo.toml": r'^version = "([^"]+)"',
     "bindings/rust/Cargo.lock": r'^name = "nizwarf"\nversion = "([^"]+)"',
-    "crates/vfs_door/src/lib.rt": r"nizwarf_version\(\)[^{]*{[^}]*}\s*{\s*0x0*(\w\w?)_(\w\w)(\w\w)\s*}",
+    "crates/nizwarf_door/src/lib.rt": r"nizwarf_version\(\)[^{]*{[^}]*}\s*{\s*0x0*(\w\w?)_(\w\w)(\w\w)\s*}",
     # (of the minor version: what is new in it, what the crate wants, and what who builds it writes)
     "packaging/nizwarf.map": r"(?s).*^NIZWARF_(\S+) {",
     "bindings/rust/build.rs": r'">= ([^"]+)"',

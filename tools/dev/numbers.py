@@ -3,9 +3,9 @@
 
 Usage: tools/dev/numbers.py
 
-The tables are in crates: opcodes in vfs_flags/src/opcode.rt, with their names where vfs_print has opcode_name; calls,
-kinds of answers, bits of `has` and the records of a call in vfs_calls/src/call.rt; the records of an answer in
-vfs_calls/src/data.rt; what is told in vfs_door/src/data.rt; codes in vfs_rooms/specs/Codes.antt.
+The tables are in crates: opcodes in fuse_flags/src/opcode.rt, with their names where fuse_print has opcode_name; calls,
+kinds of answers, bits of `has` and the records of a call in door_calls/src/call.rt; the records of an answer in
+door_calls/src/data.rt; what is told in nizwarf_door/src/data.rt; codes in c_rooms/specs/Codes.antt.
 
 It prints a line for each difference, with the file and the name, and ends with their count. Status 0: there is none;
 1: there are some.
@@ -19,9 +19,9 @@ os.chdir(os.path.join(os.path.dirname(os.path.abspath(__file__)), "../.."))
 if len(sys.argv) > 1:
     print(__doc__.strip())
     sys.exit(0 if sys.argv[1:] == ["--help"] else 2)
-OPCODES = "crates/vfs_flags/src/opcode.rt"
-CALLS, DATA = "crates/vfs_calls/src/call.rt", "crates/vfs_calls/src/data.rt"
-DOOR, CODES = "crates/vfs_door/src/data.rt", "crates/vfs_rooms/specs/Codes.antt"
+OPCODES = "crates/fuse_flags/src/opcode.rt"
+CALLS, DATA = "crates/door_calls/src/call.rt", "crates/door_calls/src/data.rt"
+DOOR, CODES = "crates/nizwarf_door/src/data.rt", "crates/c_rooms/specs/Codes.antt"
 HEADER, RUST, RUST_CALLS = "include/nizwarf.h", "bindings/rust/src/numbers.rs", "bindings/rust/src/call.rs"
 faults = []
 
@@ -31,7 +31,7 @@ def read(path):
         return file.read()
 
 
-NAMES = next(it for it in sorted(glob.glob("crates/vfs_print/src/*.rt")) if "fn opcode_name" in read(it))
+NAMES = next(it for it in sorted(glob.glob("crates/fuse_print/src/*.rt")) if "fn opcode_name" in read(it))
 
 
 def part(path, begin, end):
@@ -72,7 +72,7 @@ NAME = dict(re.findall(r'Opcode::(\w+) => "(\w+)"', read(NAMES)))
 hold(NAMES, dict.fromkeys(NAME, "named"), OPCODES, dict.fromkeys(OPCODE, "named"), "opcode")
 hold(OPCODES, {name: int(n) for n, name in re.findall(r"(\d+) => Ok\(Opcode::(\w+)\)", read(OPCODES))}, OPCODES, OPCODE,
      "in try_from")
-SPEC = "crates/vfs_flags/specs/Numbers.antt"
+SPEC = "crates/fuse_flags/specs/Numbers.antt"
 hold(SPEC, numbers(r"^number_of (\w+) = (\d+)", read(SPEC)), OPCODES, OPCODE, "number_of")
 hold(SPEC, {name: int(n) for n, name in re.findall(r"n == (\d+) then Some (\w+)", part(SPEC, "opcode_of n =", "\n\n"))},
      OPCODES, OPCODE, "in opcode_of")
@@ -113,7 +113,7 @@ for name, n in re.findall(r"\(Err \(?(\w+).*\) = (pos \d+|no_memory)", said):
 for name, code in (("no_server", "NO_SERVER"), ("wrong_size", "WRONG_SIZE"), ("too_long", "TOO_LONG"),
                    ("is_asked", "ASKED"), ("not_asked", "NOT_ASKED"), ("no_memory", "OUT_OF_MEMORY")):
     CODE[code] = int(part(CODES, f"\n{name} = pos ", "\n"))
-code_file = "crates/vfs_rooms/src/codes.rt"
+code_file = "crates/c_rooms/src/codes.rt"
 hold(code_file, numbers(r"pub const (\w+): i32 = (\d+);", read(code_file)), CODES, CODE, "code", False)
 
 header = re.sub(r"/\*.*?\*/", "", read(HEADER), flags=re.S)
@@ -246,7 +246,7 @@ for name in {**enum_with("OK"), **enum_with("ASKED")}:
         faults.append(f"packaging/man: no page tells the code NIZWARF_{name}")
 BARE = re.compile(r"\basks \d|\b(?:call|answer|opcode)\b (?:==|≡|=) [1-9]|\b(?:bit|bit_of) [\w.]+ \d|\.has \d"
                   r"|\b(?:n|number|kind) == [1-9]|^\w*(?:number|opcode) = \d")
-for crate in ("vfs_calls", "vfs_ask", "vfs_answer", "vfs_in_flight", "vfs_door"):
+for crate in ("door_calls", "door_ask", "door_answer", "laws_flight", "nizwarf_door"):
     for file in sorted(os.listdir(f"crates/{crate}/specs")):
         path = f"crates/{crate}/specs/{file}"
         for at, line in enumerate(read(path).splitlines(), 1):

@@ -21,10 +21,10 @@ SPELLED = {"LSEEK": "lseek", "FALLOCATE": "fallocate", "SYNCFS": "syncfs",
            "COPY_FILE_RANGE": r"copy_?file_?range|nizwarf_copy\b|number(::|\.)copy\b"}
 PAGE = "CONTRIBUTING.md"
 # Written by tools or recorded, and what tells of the past or of this list.
-APART = ["docs/generated/*", "crates/vfs_sessions/std*", "crates/vfs_decode/std*", "crates/vfs_demo/std*",
+APART = ["docs/generated/*", "crates/test_sessions/std*", "crates/text_decode/std*", "crates/text_demo/std*",
          "tests/oracle/recorded/*", "tests/c/version-0.2/*", "CHANGELOG.md", PAGE, "tools/dev/opcode.py", "tools/dev/numbers.py"]
 # Where the word is a call of the system or of a client, or begins that of another opcode (COPY_FILE_RANGE_64).
-ELSEWHERE = ["crates/vfs_further/*", "crates/vfs_print/src/further.rt", "programs/share/passthrough_list.c", "tests/beside/get.sh",
+ELSEWHERE = ["crates/door_further/*", "crates/fuse_print/src/further.rt", "programs/share/passthrough_list.c", "tests/beside/get.sh",
              "tests/suites/get.sh",
              "tests/mirror/calls.py", "tests/mount/session.sh", "tests/share/apart.py", "tests/share/calls.py", "tests/share/load.py",
              "bindings/rust/fuser/session.py",

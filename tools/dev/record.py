@@ -1,5 +1,5 @@
 #!/usr/bin/env python3
-"""Writes out what the proofs want of a record of the protocol, from its struct in crates/vfs_wire or vfs_wire_more.
+"""Writes out what the proofs want of a record of the protocol, from its struct in crates/fuse_wire or fuse_wire_more.
 
 Usage: tools/dev/record.py NAME | --check
 
@@ -23,7 +23,7 @@ def read(path):
         return file.read()
 
 
-SOURCES = {path: read(path) for path in sorted(glob.glob("crates/vfs_wire*/src/*.rt"))}
+SOURCES = {path: read(path) for path in sorted(glob.glob("crates/fuse_wire*/src/*.rt"))}
 
 
 def fields_of(name):
@@ -84,7 +84,7 @@ def plain(text):
 
 
 def check():
-    stands = plain("".join(SOURCES.values()) + "".join(map(read, glob.glob("crates/vfs_wire*/specs/*.antt"))))
+    stands = plain("".join(SOURCES.values()) + "".join(map(read, glob.glob("crates/fuse_wire*/specs/*.antt"))))
     names = [it for text in SOURCES.values() for it in re.findall(r"impl ByteValued for ([A-Z]\w+)", text)]
     same = 0
     for name in names:

@@ -3,11 +3,11 @@
 # shellcheck shell=bash
 . "$(dirname "${BASH_SOURCE[0]}")/program.sh"
 
-# Sets `library` to the library, which is vfs_c where no name is given, and what it stands on:
+# Sets `library` to the library, which is nizwarf_tree where no name is given, and what it stands on:
 # find_library [NAME]. That is the proved one where it is built and no source is newer; otherwise
 # tools/lib/unproved.sh builds it without a proof. It says which one it is.
 find_library() {
-    local name=${1:-vfs_c}
+    local name=${1:-nizwarf_tree}
     local built=$here/crates/$name/out/lib$name.a
     need cc "Install a C compiler: apt-get install gcc libc6-dev."
     need rt "The Rattle toolchain builds the library: put its folder bin on the PATH."
@@ -25,17 +25,17 @@ find_library() {
     library=("$built" "$(dirname "$(rt doc)")/c/liblibc_c.a")
 }
 
-# Adds vfs_door to `library`, which prints messages.
+# Adds nizwarf_door to `library`, which prints messages.
 link_door() {
     local others=("${library[@]}")
-    find_library vfs_door
+    find_library nizwarf_door
     library=("${library[0]}" "${others[@]}")
 }
 
 # Sets `border` to the static library that nizwarf-share and nizwarf-vhost want besides.
 find_border() {
     local library
-    find_library vfs_border
+    find_library nizwarf_border
     border=${library[0]}
 }
 
@@ -57,7 +57,7 @@ make_program() {
 # [FLAGS..]]. One that runs meanwhile, of another tool, stays what it is. With flags, as those of sanitizers, it is
 # another program.
 build_transport() {
-    local name=$1 of=${2:-vfs_c} folder border=
+    local name=$1 of=${2:-nizwarf_tree} folder border=
     find_library "$of"
     [ "$name" = mount ] || find_border
     if [ "$name" != share ]; then

@@ -4,7 +4,7 @@
 #
 # Usage: tools/measure/chain-costs.sh [FOLDER]
 # With a FOLDER it counts those of the file vhost_queue.c there, of another commit, with its headers. It takes the proved
-# library if that is built (`rt lib` in crates/vfs_border), and says which one it is: one without a proof checks itself
+# library if that is built (`rt lib` in crates/nizwarf_border), and says which one it is: one without a proof checks itself
 # as it runs. Instructions are those of all that runs, by the difference of a long run and a short one under valgrind.
 set -euo pipefail
 . "$(dirname "$0")/../lib/usage.sh"
@@ -12,7 +12,7 @@ set -euo pipefail
 [ $# -le 1 ] || { echo "Usage: tools/measure/chain-costs.sh [FOLDER]" >&2 && exit 2; }
 from=${1:-$here/programs/transport}
 need valgrind "Install it: apt-get install valgrind."
-find_library vfs_border
+find_library nizwarf_border
 folder=$(mktemp -d)
 trap 'rm -rf "$folder"' EXIT
 program=$folder/chain_costs

@@ -4,7 +4,7 @@
 # each class, as a row of a table.
 #
 # Usage: tools/measure/door-speed.sh
-# It takes the proved library where that is built (`rt lib` in crates/vfs_door), and says which one it is.
+# It takes the proved library where that is built (`rt lib` in crates/nizwarf_door), and says which one it is.
 # Instructions are those of all that runs, the inline functions of the header too, by the difference of a long
 # run and a short one under valgrind. Times are the least of 500 runs, each short enough for other work on
 # the machine to leave some alone, and move with the machine.
@@ -13,7 +13,7 @@ set -euo pipefail
 . "$(dirname "$0")/../lib/transport.sh"
 take_none "$@"
 need valgrind "Install it: apt-get install valgrind."
-find_library vfs_door
+find_library nizwarf_door
 folder=$(mktemp -d)
 trap 'rm -rf "$folder"' EXIT
 program=$folder/door_speed

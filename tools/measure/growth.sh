@@ -48,9 +48,9 @@ fi
 # By its own loader and libraries, whatever the machine has.
 libraries=$there/usr/lib/x86_64-linux-gnu
 virtiofsd=("$libraries/ld-linux-x86-64.so.2" --library-path "$libraries" "$there/usr/libexec/virtiofsd")
-build_transport share vfs_door "$here/tools/measure/locks.c" -I "$here/tools/measure" -include locks.h
+build_transport share nizwarf_door "$here/tools/measure/locks.c" -I "$here/tools/measure" -include locks.h
 counting=$transport
-build_transport share vfs_door
+build_transport share nizwarf_door
 find_border
 folder=$here/out/c
 build_front pace

@@ -1,6 +1,6 @@
 #!/usr/bin/env bash
 # Counts the instructions of one request in the server, from its bytes to its reply, over a file system that answers at
-# once (`null` of crates/vfs_speed), in one piece: by function and by kind.
+# once (`null` of crates/test_speed), in one piece: by function and by kind.
 #
 # Usage: tools/measure/path.sh [--listing] [CLASS..]
 # CLASS is a class of tools/measure/speed.c: null/getattr and null/lookup, if none is named. It prints a table for each: how
@@ -9,12 +9,12 @@
 # follows, with how often a request comes by it. docs/speed/bound.tsv has, counted by hand, what the request's records,
 # checks and one dispatch need.
 #
-# It wants valgrind, python3, binutils, a C compiler and the Rattle toolchain, and takes the library of crates/vfs_speed
+# It wants valgrind, python3, binutils, a C compiler and the Rattle toolchain, and takes the library of crates/test_speed
 # as tools/measure/speed.sh does: proved.
 set -euo pipefail
 . "$(dirname "$0")/../lib/usage.sh"
 here=$(cd "$(dirname "$0")/../.." && pwd)
-library=$here/crates/vfs_speed/out/libvfs_speed.a
+library=$here/crates/test_speed/out/libtest_speed.a
 
 listing=''
 if [ "${1:-}" = --listing ]; then

@@ -58,11 +58,11 @@ own_mounts "${given[@]}"
 get_passthrough
 version='' floor=''
 if [ "$what" = tree ]; then
-    build_transport mount vfs_c "$here/tools/measure/floor.c" -Wl,--wrap=nizwarf_message_at -Wl,--wrap=nizwarf_take_at
+    build_transport mount nizwarf_tree "$here/tools/measure/floor.c" -Wl,--wrap=nizwarf_message_at -Wl,--wrap=nizwarf_take_at
     floor=$transport
     build_transport mount
 else
-    build_transport share vfs_door
+    build_transport share nizwarf_door
     version=", $("$transport" --version | sed 's/.*, //')"
 fi
 cc -std=c11 -O2 -Wall -Wextra -Werror -o "$here/out/c/share_speed" "$here/tools/measure/share_speed.c"

@@ -3,7 +3,7 @@
  *
  * speed [--only TEXT] [--runs N] [--ms N] [--growth | --write FOLDER | --rounds N]
  *
- * It is linked with the library of crates/vfs_speed (tools/measure/speed.sh does it), makes the requests
+ * It is linked with the library of crates/test_speed (tools/measure/speed.sh does it), makes the requests
  * itself, and compares the digests of the replies, over all cuttings and one to three rounds, before
  * it times anything. --write leaves the batches of requests in a folder and measures nothing; --rounds serves those of
  * the classes so many times, in one piece, for path.sh.

@@ -1,5 +1,5 @@
 #!/usr/bin/env bash
-# Measures what requests cost, with the library of crates/vfs_speed.
+# Measures what requests cost, with the library of crates/test_speed.
 #
 # Usage: tools/measure/speed.sh [--beside [--source FOLDER]] [--growth] [--only TEXT] [--runs N] [--ms N]
 # By itself it prints, for each class of request and each cutting of it, the processor time of a
@@ -16,8 +16,8 @@
 set -euo pipefail
 . "$(dirname "${BASH_SOURCE[0]}")/../lib/usage.sh"
 here=$(cd "$(dirname "${BASH_SOURCE[0]}")/../.." && pwd)
-crate=$here/crates/vfs_speed
-library=$crate/out/libvfs_speed.a
+crate=$here/crates/test_speed
+library=$crate/out/libtest_speed.a
 
 beside='' growth=''
 source=() flags=()

@@ -70,7 +70,7 @@ esac
 make_folder
 "$here/tools/virtiofsd.sh" "$folder" > /dev/null
 "$here/tools/virtiofsd.sh" --unmodified "$folder" > /dev/null
-build_transport share vfs_door
+build_transport share nizwarf_door
 of=$(git -C "$here" describe --always --dirty --exclude '*' 2> /dev/null || echo "no commit")
 case ${library[0]} in
     */unproved/*) of="a library of $of without a proof" ;;

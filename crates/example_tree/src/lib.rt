@@ -6,8 +6,8 @@ ghost use Rattle.example_tree.specs.Docs.{docs};
 
 mod uses;
 
-use vfs_small::{ReadTree, TreeItem, directory_attr, directory_item, file_attr, file_item};
-use vfs_wire::Attr;
+use fs_small::{ReadTree, TreeItem, directory_attr, directory_item, file_attr, file_item};
+use fuse_wire::Attr;
 
 /// The tree. `ReadOnly { tree: Docs }` is its file system.
 #[derive(Clone, Copy)]

@@ -2,7 +2,7 @@
 //! C is made of. Any type can stand behind a handle.
 //!
 //! A handle of C's layout owns what a [`Slot`] of its type owns. Its crate moves the fields from
-//! the one to the other, as `vfs_c` does, and needs no other raw pointer: the calls that take a
+//! the one to the other, as `nizwarf_tree` does, and needs no other raw pointer: the calls that take a
 //! box's pointer out, put a box together again and test for null stand here.
 #![tactic(auto)]
 

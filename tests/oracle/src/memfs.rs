@@ -1,4 +1,4 @@
-//! The files in memory of `vfs_small`, written again for virtiofsd's trait: a root, node 1, with at most
+//! The files in memory of `fs_small`, written again for virtiofsd's trait: a root, node 1, with at most
 //! a thousand files of at most 65,536 bytes; at first the file `a`, node 2, which says `hello`.
 use crate::file::File;
 use crate::filesystem::*;

@@ -1,4 +1,4 @@
-//! Notes of calls, with their arguments and what they were answered, as `vfs_sessions` has them: two
+//! Notes of calls, with their arguments and what they were answered, as `test_sessions` has them: two
 //! spaces before each line are put by who prints it.
 use crate::filesystem::*;
 use crate::request::hex;

@@ -1,4 +1,4 @@
-//! A file system that answers at once, as `null` of `vfs_speed` does, so that what is measured over it is
+//! A file system that answers at once, as `null` of `test_speed` does, so that what is measured over it is
 //! the server. It has no state.
 use crate::file::File;
 use crate::filesystem::*;

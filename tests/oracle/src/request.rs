@@ -1,4 +1,4 @@
-//! Requests: the lines of a session, as `vfs_demo` and `vfs_sessions` read them, and what becomes of one.
+//! Requests: the lines of a session, as `text_demo` and `test_sessions` read them, and what becomes of one.
 use crate::descriptor_utils::{Reader, Writer};
 use crate::filesystem::FileSystem;
 use crate::server::Server;
@@ -135,7 +135,7 @@ impl Answer {
         }
     }
 
-    /// The outcome and the whole room, as `vfs_sessions` writes them after its line `refusals`.
+    /// The outcome and the whole room, as `test_sessions` writes them after its line `refusals`.
     pub fn whole(&self) -> String {
         let outcome = match &self.outcome {
             Outcome::Ok(n) => format!("Ok({n})"),

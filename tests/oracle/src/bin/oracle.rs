@@ -1,10 +1,10 @@
 //! oracle script|memory|rooms [IN OUT]: answers the lines of sessions as virtiofsd's own code does.
 //!
-//! - `script` answers as `vfs_sessions` does, with the calls of the scripted file system below each answer,
+//! - `script` answers as `test_sessions` does, with the calls of the scripted file system below each answer,
 //!   which lines `answer ..` may tell what to answer;
-//! - `memory` answers as `vfs_demo` does, over files in memory;
+//! - `memory` answers as `text_demo` does, over files in memory;
 //! - `rooms` the same files, but for each request its outcome, its whole room and the options that are
-//!   agreed after it, as `vfs_sessions` does after its line `refusals`.
+//!   agreed after it, as `test_sessions` does after its line `refusals`.
 //!
 //! By itself it answers standard input. With two folders it answers each file of IN, by a server of its
 //! own, into a file of the same name in OUT. A bad line ends a session, with status 2 of the first form.

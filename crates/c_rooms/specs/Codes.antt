@@ -1,0 +1,67 @@
+-- The numbers that C sees of what a call came to. Those of a request's outcome are 0, where it was
+-- answered, and 1 to 10, by the error.
+use Rattle.std.specs.Prelude.{ℕ, ℤ, pos, nat_lt, if◌then◌else◌, Result, Ok, Err}
+use Rattle.fuse_grammar.specs.declared.error.Error.{Error}
+use Rattle.fuse_grammar.specs.declared.error.Error.TheVariants.{DecodeMessage, EncodeMessage, FlushMessage, MissingParameter, InvalidCString, InvalidCString2, InvalidHeaderLength, InvalidXattrSize, MissingExtension, OutOfMemory}
+
+-- all is well
+abbrev pub ok : ℤ
+ok = pos 0
+
+-- there was no memory
+abbrev pub no_memory : ℤ
+no_memory = pos 10
+
+-- the handle has no server
+abbrev pub no_server : ℤ
+no_server = pos 11
+
+-- a server can't be made for this page size, or for this largest payload
+abbrev pub wrong_size : ℤ
+wrong_size = pos 12
+
+-- the lengths of the pieces sum past the largest count
+abbrev pub too_long : ℤ
+too_long = pos 13
+
+-- a request asks for a call, which is told
+abbrev pub is_asked : ℤ
+is_asked = pos 15
+
+-- a call is none that was asked, or has another room
+abbrev pub not_asked : ℤ
+not_asked = pos 16
+
+-- the number of an outcome
+abbrev pub number_of : Result ℕ Error → ℤ
+number_of (Ok len) = ok
+number_of (Err DecodeMessage) = pos 1
+number_of (Err EncodeMessage) = pos 2
+number_of (Err FlushMessage) = pos 3
+number_of (Err MissingParameter) = pos 4
+number_of (Err InvalidCString) = pos 5
+number_of (Err InvalidCString2) = pos 6
+number_of (Err InvalidHeaderLength) = pos 7
+number_of (Err (InvalidXattrSize sizes)) = pos 8
+number_of (Err MissingExtension) = pos 9
+number_of (Err OutOfMemory) = no_memory
+
+-- the length of the reply, 0 where there is none
+abbrev pub length_of : Result ℕ Error → ℕ
+length_of (Ok len) = len
+length_of (Err error) = 0
+
+-- how many bytes of a room of so many are there to be copied out: the reply's; and all of them where
+-- the reply was too long for the room, and the room has space for its header of 16 bytes
+abbrev pub shown_of : Result ℕ Error → (room : ℕ) → ℕ
+shown_of (Ok len) room = len
+shown_of (Err DecodeMessage) room = 0
+shown_of (Err EncodeMessage) room = if nat_lt room 16 then 0 else room
+shown_of (Err FlushMessage) room = 0
+shown_of (Err MissingParameter) room = 0
+shown_of (Err InvalidCString) room = 0
+shown_of (Err InvalidCString2) room = 0
+shown_of (Err InvalidHeaderLength) room = 0
+shown_of (Err (InvalidXattrSize sizes)) room = 0
+shown_of (Err MissingExtension) room = 0
+shown_of (Err OutOfMemory) room = 0

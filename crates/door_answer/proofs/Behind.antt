@@ -1,0 +1,99 @@
+-- A reply whose header alone is put: its data stand behind the header already, in the writer's room or further
+-- behind.
+use Rattle.std.proofs.Common.{◌≡◌, ◌≤◌, ◌+◌, ◌∙◌, ℕ, List, ◌++◌, length, take, drop, Option, Result, Ok, refl, ap, sym, arith, append_assoc, length-append, length-take, length-drop}
+use Rattle.std.proofs.lemmas.List.{take_at, drop-append-le, take-append-drop}
+use Rattle.fuse_wire.specs.Fields.{bytes_of}
+use Rattle.fuse_wire.specs.Records.{out_header}
+use Rattle.fuse_segments.specs.Written.{Written, whole, wrote}
+use Rattle.fuse_messages.specs.Rooms.{data_header, Replies, with_behind}
+use Rattle.fuse_messages.proofs.Rooms.{whole_behind}
+use Rattle.fuse_grammar.specs.Reply.{Bytes, OpenBehind, body_reply, fault_reply}
+use Rattle.fuse_grammar.specs.declared.error.Error.{Error}
+use Rattle.fuse_grammar.proofs.Rooms.{length-header, length-body_reply, length-fault_reply, put_outcome-fits, put_room-fits}
+
+abbrev header : (count unique : ℕ) → List ℕ
+header count unique = bytes_of out_header (data_header (Ok count) unique)
+
+-- all bytes of a writer into which a header was written, with more room behind
+header_whole : (old : Written) (head behind : List ℕ) → length head ≡ 16 → 16 ≤ length old.left
+    → whole (with_behind (wrote old head) behind) ≡ old.passed ++ (head ++ drop 16 (old.left ++ behind))
+header_whole old head behind n h = rw (n, drop-append-le 16 old.left behind h) (append_assoc old.passed head (drop 16 old.left ++ behind))
+
+-- the data behind a header, and what stands behind them
+data_stand : (count unique : ℕ) (rest : List ℕ) → count ≤ length rest
+    → header count unique ++ rest ≡ body_reply (take count rest) unique ++ drop count rest
+data_stand count unique rest h =
+    let long : length (take count rest) ≡ count = omega (arith, length-take count rest, h) in
+    rw long (ap (λ (x : List ℕ). header count unique ++ x) (sym (take-append-drop count rest)) ∙ sym (append_assoc (header count unique) (take count rest) (drop count rest)))
+
+pub data_replied : (old new : Written) (behind : List ℕ) (count unique : ℕ) → 16 ≤ length old.left
+    → 16 + count ≤ length (old.left ++ behind) → new ≡ wrote old (header count unique)
+    → Replies (OpenBehind (body_reply (take count (drop 16 (old.left ++ behind))) unique)) (with_behind old behind) (Ok (16 + count)) (with_behind new behind)
+data_replied old new behind count unique room fits e =
+    let rest = drop 16 (old.left ++ behind) in
+    let h = header count unique in
+    let enough : count ≤ length rest = omega (arith, fits, length-drop 16 (old.left ++ behind)) in
+    let n : length h ≡ 16 = length-header (data_header (Ok count) unique) in
+    let long : length (take count rest) ≡ count = omega (arith, length-take count rest, enough) in
+    let same : length (h ++ rest) ≡ length (old.left ++ behind) = omega (arith, n, fits, length-append h rest, length-drop 16 (old.left ++ behind)) in
+    let stand = data_stand count unique rest enough in
+    record {
+      room_after = h ++ rest;
+      leaves = record {
+        kept = ap (λ (w : Written). whole (with_behind w behind)) e ∙ header_whole old h behind n room;
+        same_length = same;
+        same_segments = ap (λ (w : Written). w.lengths) e;
+      };
+      says = record {
+        says = ap Ok (omega (arith, long, length-body_reply (take count rest) unique));
+        begins = rw stand (take_at (body_reply (take count rest) unique) (drop count rest) (length (body_reply (take count rest) unique)) refl);
+        same_length = same;
+      };
+      no_hold = λ z. ap (λ (w : Written). w.held) e ∙ z;
+    }
+
+pub data_kept : (old new : Written) (behind : List ℕ) (count unique : ℕ) → 16 ≤ length old.left → new ≡ wrote old (header count unique)
+    → (head : List ℕ) × (length head ≡ 16) × (whole (with_behind new behind) ≡ old.passed ++ (head ++ drop 16 (old.left ++ behind)))
+data_kept old new behind count unique room e =
+    let n = length-header (data_header (Ok count) unique) in
+    (header count unique, n, ap (λ (w : Written). whole (with_behind w behind)) e ∙ header_whole old (header count unique) behind n room)
+
+-- a reply that fits, with what stands behind it and further behind
+fault_whole : (old new : Written) (behind reply : List ℕ) (outcome : Result ℕ Error) → length reply ≡ 16 → 16 ≤ length old.left
+    → Replies (Bytes reply) old outcome new → whole (with_behind new behind) ≡ old.passed ++ (reply ++ drop 16 (old.left ++ behind))
+fault_whole old new behind reply outcome n room w =
+    let put : w.room_after ≡ reply ++ drop 16 old.left = rw (← n) (w.says.leaves ∙ put_room-fits reply old.left (omega (arith, n, room))) in
+    whole_behind new behind
+    ∙ ap (λ (x : List ℕ). x ++ behind) (w.leaves.kept ∙ ap (λ (x : List ℕ). old.passed ++ x) put)
+    ∙ append_assoc old.passed (reply ++ drop 16 old.left) behind
+    ∙ ap (λ (x : List ℕ). old.passed ++ x) (append_assoc reply (drop 16 old.left) behind ∙ ap (λ (x : List ℕ). reply ++ x) (sym (drop-append-le 16 old.left behind room)))
+
+pub fault_replied : (old new : Written) (behind : List ℕ) (fault : Option ℕ) (unique : ℕ) (outcome : Result ℕ Error) → 16 ≤ length old.left
+    → Replies (Bytes (fault_reply fault unique)) old outcome new
+    → Replies (OpenBehind (fault_reply fault unique)) (with_behind old behind) outcome (with_behind new behind)
+fault_replied old new behind fault unique outcome room w =
+    let reply = fault_reply fault unique in
+    let n : length reply ≡ 16 = length-fault_reply fault unique in
+    let rest = drop 16 (old.left ++ behind) in
+    let same : length (reply ++ rest) ≡ length (old.left ++ behind) = omega (arith, n, room, length-append reply rest, length-append old.left behind, length-drop 16 (old.left ++ behind)) in
+    record {
+      room_after = reply ++ rest;
+      leaves = record {
+        kept = fault_whole old new behind reply outcome n room w;
+        same_length = same;
+        same_segments = w.leaves.same_segments;
+      };
+      says = record {
+        says = w.says.says ∙ put_outcome-fits reply old.left (omega (arith, n, room));
+        begins = take_at reply rest (length reply) refl;
+        same_length = same;
+      };
+      no_hold = w.no_hold;
+    }
+
+pub fault_kept : (old new : Written) (behind : List ℕ) (fault : Option ℕ) (unique : ℕ) (outcome : Result ℕ Error) → 16 ≤ length old.left
+    → Replies (Bytes (fault_reply fault unique)) old outcome new
+    → (head : List ℕ) × (length head ≡ 16) × (whole (with_behind new behind) ≡ old.passed ++ (head ++ drop 16 (old.left ++ behind)))
+fault_kept old new behind fault unique outcome room w =
+    let n = length-fault_reply fault unique in
+    (fault_reply fault unique, n, fault_whole old new behind (fault_reply fault unique) outcome n room w)

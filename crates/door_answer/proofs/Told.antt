@@ -1,0 +1,75 @@
+-- What came of an answer, in the room that was told at the call.
+use Rattle.std.proofs.Common.{◌≡◌, ◌≤◌, ◌+◌, ◌∙◌, ℕ, List, ◌++◌, true, length, take, drop, Option, Some, Result, Ok, Err, IfOk, MatchResult, ap, sym, subst, arith, length-append, length-take, length-drop}
+use Rattle.fuse_wire.specs.Fields.{bytes_of}
+use Rattle.fuse_wire.specs.Records.{out_header}
+use Rattle.fuse_segments.specs.Written.{Written, wrote}
+use Rattle.fs_trait.specs.Calls.{Kind, Data, Answer, IsFault, read_answer}
+use Rattle.fuse_messages.specs.Rooms.{data_header, Replies, with_behind}
+use Rattle.fuse_grammar.specs.Reply.{Bytes, fault_reply}
+use Rattle.fuse_grammar.specs.declared.limits.Limits.{Limits}
+use Rattle.door_calls.specs.declared.call.CallData.{CallData}
+use Rattle.door_calls.specs.declared.data.AnswerData.{AnswerData}
+use Rattle.door_answer.specs.Said.{FitsData, IsSaid}
+use Rattle.door_answer.specs.Kinds.{kind_told}
+use Rattle.door_answer.specs.Answering.{can_answer, AnswersCall, Comes, KeepsData, IsAnswered}
+use Rattle.door_answer.specs.declared.answered.Answered.{Answered}
+use Rattle.fuse_messages.proofs.Rooms.{with_none_behind}
+use Rattle.door_answer.proofs.Behind.{data_replied, data_kept, fault_replied, fault_kept}
+
+-- in all the room that was told, nothing stands behind
+pub answered : (limits : Limits) (call : CallData) (kind : Kind) (a : AnswerData) (text : List ℕ) (old : Written) (came : Answered) (new : Written) (answer : Answer)
+    → kind_told call.answer call.size ≡ Some kind → length old.left ≡ call.room → can_answer (Some kind) call (length old.left) ≡ true
+    → IsSaid a text old.left kind answer → Comes limits call kind answer old came new → KeepsData kind old new
+    → AnswersCall limits (kind_told call.answer call.size) call a text old (Some came) new
+answered limits call kind a text old came new answer told room can said comes kept =
+    subst (λ (k : Option Kind). AnswersCall limits k call a text old (Some came) new) (sym told) (
+      can,
+      λ behind all.
+          let none : length behind ≡ 0 = omega (arith, room, all) in
+          rw (with_none_behind old behind none, with_none_behind new behind none)
+          (record { answer = answer; said = said; comes = comes; kept = kept }),
+    )
+
+-- a READ
+pub read_answered : (limits : Limits) (call : CallData) (a : AnswerData) (text : List ℕ) (old new : Written) (came : Answered) (said : Result ℕ (Option ℕ))
+    → 16 ≤ length old.left
+    → IfOk said (λ count. (count ≡ a.count) × FitsData call.size call.room a.count)
+    → ((text room : List ℕ) → length room ≡ call.room → IsSaid a text room (Data call.size) (read_answer said (take a.count (drop 16 room))))
+    → came ≡ record { outcome = came.outcome; options = call.options; given = 0; taken = 0 }
+    → MatchResult said
+    (λ count. (came.outcome ≡ Ok (16 + count)) × (new ≡ wrote old (bytes_of out_header (data_header (Ok count) call.unique))))
+    (λ fault. IsFault fault × Replies (Bytes (fault_reply fault call.unique)) old came.outcome new)
+    → (behind : List ℕ) → length old.left + length behind ≡ call.room
+    → IsAnswered limits call (Data call.size) a text (with_behind old behind) came (with_behind new behind)
+read_answered limits call a text old new came (Ok count) room fits said plain put behind all =
+    let whole : length (old.left ++ behind) ≡ call.room = length-append old.left behind ∙ all in
+    let bytes = take a.count (drop 16 (old.left ++ behind)) in
+    let within : 16 + count ≤ length (old.left ++ behind) = omega (arith, whole, fits.0, fits.1.room_for) in
+    let long : length bytes ≡ a.count = omega (arith, within, fits.0, length-take a.count (drop 16 (old.left ++ behind)), length-drop 16 (old.left ++ behind)) in
+    let replied = data_replied old new behind count call.unique room within put.1 in
+    record {
+      answer = read_answer (Ok count) bytes;
+      said = said text (old.left ++ behind) whole;
+      comes = (
+        (omega (arith, long, fits.1.asked_for), omega (arith, long, fits.1.short)),
+        rw (put.0, ← fits.0) replied,
+        ap (λ (x : Answered). x.options) plain,
+        ap (λ (x : Answered). x.given) plain,
+        ap (λ (x : Answered). x.taken) plain,
+      );
+      kept = data_kept old new behind count call.unique room put.1;
+    }
+read_answered limits call a text old new came (Err fault) room fits said plain put behind all =
+    let whole : length (old.left ++ behind) ≡ call.room = length-append old.left behind ∙ all in
+    record {
+      answer = read_answer (Err fault) (take a.count (drop 16 (old.left ++ behind)));
+      said = said text (old.left ++ behind) whole;
+      comes = (
+        put.0,
+        fault_replied old new behind fault call.unique came.outcome room put.1,
+        ap (λ (x : Answered). x.options) plain,
+        ap (λ (x : Answered). x.given) plain,
+        ap (λ (x : Answered). x.taken) plain,
+      );
+      kept = fault_kept old new behind fault call.unique came.outcome room put.1;
+    }

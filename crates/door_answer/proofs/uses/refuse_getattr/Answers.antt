@@ -1,0 +1,10 @@
+use Rattle.std.proofs.Common.{[], pos, refl, arith}
+use Rattle.fs_trait.specs.Calls.{Getattr}
+use Rattle.door_answer.proofs.Using.{in_room, in_each, refused}
+use Rattle.door_answer.proofs.uses.refuse_getattr.Goals as goal
+
+pub returns : goal.returns
+returns c echo ctx node handle e t =
+    let a = record c.default.result { error = pos 5 } in
+    in_each c.answer.result _ _ (λ came h. refused c.args.limits echo ctx node handle c.args.call.now.options a [] c.args.w.now c.answer.new.w came refl h)
+    (in_room c.args.limits c.args.call.now a [] c.args.w.now c.answer.new.w echo (Getattr ctx node handle) c.answer.result c.answer.ensures.calls e t (λ h. cc) c.requires.room (λ h. omega (arith, h)))

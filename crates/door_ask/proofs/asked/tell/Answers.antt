@@ -1,0 +1,18 @@
+use Rattle.std.proofs.Common.{inl, inr, refl}
+use Rattle.door_ask.proofs.asked.tell.Goals as goal
+
+pub returns-then-call-eq0 : goal.returns-then-call-eq0
+returns-then-call-eq0 c = record {
+  noted = c.note_opcode-outcome.new.call;
+  outcome = c.note_opcode-outcome.result;
+  is_noted = c.note_opcode-outcome.ensures;
+  told_so = inl (c.if-call-eq0.true, c.finished.ensures, refl);
+}
+
+pub returns : goal.returns
+returns c = record {
+  noted = c.note_opcode-outcome.new.call;
+  outcome = c.note_opcode-outcome.result;
+  is_noted = c.note_opcode-outcome.ensures;
+  told_so = inr (c.if-call-eq0.false, refl, c.complete.ensures);
+}

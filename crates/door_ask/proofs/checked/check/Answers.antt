@@ -1,0 +1,24 @@
+use Rattle.std.proofs.Common.{rules}
+use Rattle.fuse_flags.specs.Flags.{fs_options_bits}
+use Rattle.fuse_flags.specs.Numbers.{opcode_of}
+use Rattle.fuse_grammar.specs.Ask.{ask}
+use Rattle.fuse_server.specs.MemoryByPieces.{MayWantBehind}
+use Rattle.door_ask.specs.Asked.{interrupted_by}
+use Rattle.door_ask.specs.Checked.{Judges}
+use Rattle.door_ask.specs.Memory.{MayWant}
+use Rattle.door_ask.proofs.Checking.{judges_less}
+use Rattle.door_ask.proofs.Memory.{read_header_is}
+use Rattle.door_ask.proofs.checked.check.Goals as goal
+
+pub returns-in-Ok : goal.returns-in-Ok
+returns-in-Ok c =
+    let q = c.args.r.left in
+    let options = fs_options_bits c.args.options in
+    let by = interrupted_by c.args.limits q in
+    let h = c.in-Ok.header in
+    let wanted = MayWantBehind c.args.limits options c.args.room (opcode_of h.opcode) h c.read_record-header.new.reader.pieces in
+    let said : Judges wanted q options by c.args.room (ask c.args.limits options c.args.room q) c.check_behind.result
+    c.check_behind.new.call = search rules in
+    judges_less (MayWant c.args.limits options c.args.room c.args.r) wanted
+    (λ w. rw (c.in-Ok.ensures.pieces, read_header_is q h c.in-Ok.ensures.value) at w)
+    q options by c.args.room (ask c.args.limits options c.args.room q) _ _ said

@@ -1,0 +1,28 @@
+use Rattle.std.proofs.Common.{◌≡◌, ◌==◌, false, length, nat_lt, ap, arith, Some}
+use Rattle.std.proofs.lemmas.Bool.Decides.{nat_tests}
+use Rattle.fuse_flags.specs.Flags.{fs_options_bits}
+use Rattle.fuse_flags.specs.Numbers.{opcode_of}
+use Rattle.fuse_flags.specs.declared.opcode.Opcode.TheVariants.{Init}
+use Rattle.fuse_grammar.specs.Limits.{max_len}
+use Rattle.door_ask.proofs.Checking.{ends_short, above_it, judges_behind, no_interrupt, not_above}
+use Rattle.door_ask.proofs.checked.check_behind.Goals as goal
+
+pub returns-then-is_init : goal.returns-then-is_init
+returns-then-is_init c = λ request long first rest.
+    let h = c.args.q.header.now in
+    let is = c.is_init.ensures.init c.if-is_init.true in
+    let below : nat_lt (max_len c.args.terms.limits) h.len ≡ false = not_above (max_len c.args.terms.limits) h.len is.1 in
+    let number : (h.opcode == 36) ≡ false = no_interrupt h.opcode is.0 in
+    rw (below, is.0, number) (c.check_init.ensures request)
+
+pub returns : goal.returns
+returns c = λ request long first rest.
+    let h = c.args.q.header.now in
+    let options = fs_options_bits c.args.terms.options in
+    let limits = c.args.terms.limits in
+    let room = c.args.terms.room in
+    let short = ends_short limits options room h c.args.q.r.now.left (λ below is.
+    above_it (max_len limits) h.len below (c.is_init.ensures.other c.if-is_init.false is)) in
+    rw (c.of.ensures) (judges_behind _ request options _ room c.empty-nowhere.result c.ask_behind.new.w
+    (ap (λ w. length w.left) c.empty-nowhere.ensures) c.ask_behind.new.call limits c.ask_behind.result h
+    c.args.q.r.now.left first rest short (c.ask_behind.ensures request long first rest))

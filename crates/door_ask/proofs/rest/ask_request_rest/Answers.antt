@@ -1,0 +1,45 @@
+use Rattle.std.proofs.Common.{◌≡◌, ◌++◌, ◌+◌, ◌∙◌, ℕ, List, length, nat_lt, false, Err, ap, arith, rules, subst, sym, length-append}
+use Rattle.std.proofs.lemmas.Bool.Decides.{nat_tests}
+use Rattle.fuse_flags.specs.Flags.{fs_options_bits}
+use Rattle.fuse_flags.specs.Numbers.{opcode_of}
+use Rattle.fuse_wire.specs.Records.{in_header}
+use Rattle.fuse_wire.specs.declared.headers.InHeader.{InHeader}
+use Rattle.fuse_grammar.specs.Ask.{ask}
+use Rattle.fuse_grammar.specs.Records.{record_of}
+use Rattle.fuse_grammar.specs.declared.error.Error.{Error}
+use Rattle.fuse_server.specs.MemoryByPieces.{MayWantBehind}
+use Rattle.door_ask.specs.Asked.{Tells, interrupted_by}
+use Rattle.door_ask.specs.Memory.{MayWantBehindHeader}
+use Rattle.door_ask.proofs.AtOnce.{front_header, front_rest}
+use Rattle.door_ask.proofs.Memory.{read_header_is, tells_less}
+use Rattle.door_ask.proofs.rest.ask_request_rest.Goals as goal
+
+pub returns : goal.returns
+returns c =
+    let head = c.args.head.now in
+    let rest = c.args.r.left in
+    let q = head ++ rest in
+    let limits = c.args.limits in
+    let room = c.args.room in
+    let options = fs_options_bits c.args.options in
+    let by = interrupted_by limits q in
+    let h = c.in-Ok.header in
+    let first = front_header head rest h c.requires.head (sym c.in-Ok.ensures) in
+    let behind = front_rest head rest c.requires.head in
+    let long : length q ≡ 40 + length rest = length-append head rest ∙ ap (λ (n : ℕ). n + length rest) c.requires.head in
+    let wanted = MayWantBehind limits options room (opcode_of h.opcode) h c.args.r.pieces in
+    let told : Tells wanted q options by room (ask limits options room q) c.args.w.now c.ask_behind.result
+    c.ask_behind.new.w c.ask_behind.new.call = rw (first, behind) (c.ask_behind.ensures q (search (rules, long)) first behind) in
+    tells_less wanted (MayWantBehindHeader limits options room q c.args.r.pieces)
+    (λ w. subst (λ (g : InHeader). MayWantBehind limits options room (opcode_of g.opcode) g c.args.r.pieces)
+    (read_header_is q h first) w)
+    q options by room (ask limits options room q) c.args.w.now _ _ _ told
+
+-- forty bytes are a whole header
+is_whole : (head : List ℕ) (e : Error) → length head ≡ 40 → Err e ≡ record_of in_header head → ⊥
+is_whole head e long is =
+    let whole : nat_lt (length head) 40 ≡ false = grind (arith, nat_tests, long) in
+    let a = rw whole at is in cc
+
+pub unreachable-requires : goal.unreachable-requires
+unreachable-requires c = is_whole c.args.head.now _ c.requires.head (sym c.in-Err.is ∙ c.record_in-header.ensures)

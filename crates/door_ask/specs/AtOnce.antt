@@ -1,0 +1,36 @@
+-- What is told at once of a request: the call that it asks for.
+use Rattle.std.specs.Prelude.{◌≡◌, ⊤, List, ℕ}
+use Rattle.fuse_flags.specs.Flags.{fs_options_bits}
+use Rattle.fuse_flags.specs.declared.opcode.Opcode.{Opcode}
+use Rattle.fuse_wire.specs.declared.headers.InHeader.{InHeader}
+use Rattle.fuse_segments.specs.Written.{Written}
+use Rattle.fuse_grammar.specs.Words.{ask_header, ask_opcode}
+use Rattle.fuse_grammar.specs.Forms.{Ask, Ends, Asks, Lists, WithMemory}
+use Rattle.door_calls.specs.Shapes.{shape_of}
+use Rattle.door_calls.specs.declared.call.CallData.{CallData}
+use Rattle.door_ask.specs.Asked.{interrupted_behind}
+use Rattle.door_ask.specs.Parts.{told_with}
+use Rattle.door_ask.specs.Terms.{TellsBehind}
+use Rattle.door_ask.specs.declared.asked.Asked.TheVariants as asked
+use Rattle.door_ask.specs.declared.asked.Terms.{Terms}
+
+-- what is asked is a call, and it is told with its places
+abbrev pub IsCallTold : Ask → (place : CallData → CallData) → CallData → Type 0
+IsCallTold (Ends reply) place told = ⊥
+IsCallTold (Asks echo call) place told = told ≡ place (shape_of call)
+IsCallTold (Lists echo l) place told = ⊥
+IsCallTold (WithMemory rest) place told = IsCallTold rest place told
+
+-- the call is told that a request of this opcode asks for
+abbrev pub IsToldAtOnce : Terms → Opcode → InHeader → (rest : List ℕ) → CallData → Type 0
+IsToldAtOnce terms o h rest told =
+    IsCallTold (ask_opcode terms.limits (fs_options_bits terms.options) terms.room o h rest)
+    (told_with h.unique (fs_options_bits terms.options) terms.room terms.len o) told
+
+-- the call is told that a request with this header asks for, whatever a writer has
+abbrev pub TellsAtOnce : Terms → InHeader → (rest : List ℕ) → CallData → Type 0
+TellsAtOnce terms h rest told =
+    (writer writer_after : Written) →
+    TellsBehind terms ⊤ (interrupted_behind terms.limits h rest) h rest
+    (ask_header terms.limits (fs_options_bits terms.options) terms.room h rest)
+    writer asked.Call writer_after told

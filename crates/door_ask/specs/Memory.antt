@@ -1,0 +1,29 @@
+-- Which requests are refused for want of memory.
+use Rattle.std.specs.Prelude.{◌≢◌, ⊤, ℕ, List, Err}
+use Rattle.fuse_flags.specs.Numbers.{opcode_of}
+use Rattle.fuse_wire.specs.Records.{in_header}
+use Rattle.fuse_segments.specs.Lengths.{lengths_from}
+use Rattle.fuse_segments.specs.Unread.{Unread}
+use Rattle.fuse_grammar.specs.Memory.{header_of}
+use Rattle.fuse_grammar.specs.Records.{size_of}
+use Rattle.fuse_grammar.specs.declared.error.Error.TheVariants.{OutOfMemory}
+use Rattle.fuse_grammar.specs.declared.limits.Limits.{Limits}
+use Rattle.fuse_server.specs.MemoryByPieces.{MayWantBehind}
+use Rattle.door_ask.specs.declared.asked.Asked.{Asked}
+use Rattle.door_ask.specs.declared.asked.Asked.TheVariants as asked
+
+-- memory may be wanted for the request that a reader has left
+abbrev pub MayWant : Limits → (options space : ℕ) → Unread → Type 0
+MayWant limits options space u =
+    MayWantBehind limits options space (opcode_of (header_of u.left).opcode) (header_of u.left)
+    (lengths_from (size_of in_header) u.pieces)
+
+-- memory may be wanted for a request with these bytes, of which those behind the header lie in these pieces
+abbrev pub MayWantBehindHeader : Limits → (options space : ℕ) → (request : List ℕ) → (pieces : List ℕ) → Type 0
+MayWantBehindHeader limits options space q pieces =
+    MayWantBehind limits options space (opcode_of (header_of q).opcode) (header_of q) pieces
+
+-- a request is not refused for want of memory: a call is told, or what it came to is another thing
+abbrev pub LacksNoMemory : Asked → Type 0
+LacksNoMemory asked.Call = ⊤
+LacksNoMemory (asked.Finished outcome interrupts) = outcome ≢ Err OutOfMemory

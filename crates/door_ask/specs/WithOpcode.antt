@@ -1,0 +1,12 @@
+-- A request with another opcode.
+use Rattle.std.specs.Prelude.{ℕ, List, ◌++◌, take, drop}
+use Rattle.fuse_wire.specs.Fields.{little}
+use Rattle.fuse_segments.specs.Unread.{Unread}
+
+-- the bytes of a request with this number in place of its opcode, which stands in place 4
+abbrev pub with_opcode : (opcode : ℕ) → (request : List ℕ) → List ℕ
+with_opcode opcode q = take 4 q ++ (little 4 opcode ++ drop 8 q)
+
+-- what a reader has left, with this number in place of the opcode
+abbrev pub unread_with_opcode : (opcode : ℕ) → Unread → Unread
+unread_with_opcode opcode u = record u { left = with_opcode opcode u.left }

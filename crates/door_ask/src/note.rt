@@ -1,0 +1,64 @@
+//! Noting the call of a request, with names and values by their lengths.
+
+ghost use Rattle.std.specs.Prelude.{◌≡◌, length};
+ghost use Rattle.fuse_flags.specs.Flags.{fs_options_bits};
+ghost use Rattle.fuse_flags.specs.Numbers.{opcode_of};
+ghost use Rattle.fuse_grammar.specs.Words.{ask_header};
+ghost use Rattle.fuse_grammar.specs.Limits.{AreLimits};
+ghost use Rattle.fuse_server.specs.MemoryByPieces.{MayWantBehind};
+ghost use Rattle.door_calls.specs.Shapes.{nothing};
+ghost use Rattle.door_ask.specs.Noting.{IsNoted};
+
+use door_calls::{Asking, CallData};
+use fuse_flags::FsOptions;
+use fuse_grammar::{Limits, Result};
+use fuse_messages::Request;
+use fuse_segments::Writer;
+use fuse_server::handlers::Session;
+
+// Has a request handled over a file system that notes its call.
+fn handle(session: &mut Session<Asking<'_>>, q: Request<'_, '_>, w: &mut Writer) -> Result<usize>
+    requires { session.old.fs.call.now ≡ nothing }
+    ensures same_record { session.new.fs.call.ghost_name ≡ session.old.fs.call.ghost_name }
+    ensures noted { IsNoted
+        (MayWantBehind session.old.limits session.old.options (length w.old.left)
+        (opcode_of q.entry.header.now.opcode) q.entry.header.now q.entry.r.now.pieces)
+        (ask_header session.old.limits session.old.options (length w.old.left) q.entry.header.now
+        q.entry.r.now.left)
+        w.old result w.new session.new.fs.call.now }
+{
+    session.handle_header(q, w)
+}
+
+/// Notes the call that a request with this header asks for, in a record that has none. Else it
+/// finishes the request: the reply is put into the room that `w` has left.
+#[inline(never)]
+pub fn note(
+    limits: Limits,
+    options: FsOptions,
+    q: Request<'_, '_>,
+    w: &mut Writer,
+    call: &mut CallData,
+) -> Result<usize>
+    requires limits { AreLimits limits }
+    requires none { call.old ≡ nothing }
+    ensures { IsNoted
+        (MayWantBehind limits (fs_options_bits options) (length w.old.left)
+        (opcode_of q.entry.header.now.opcode) q.entry.header.now q.entry.r.now.pieces)
+        (ask_header limits (fs_options_bits options) (length w.old.left) q.entry.header.now
+        q.entry.r.now.left)
+        w.old result w.new call.new }
+{
+    let mut session = Session {
+        fs: Asking { call },
+        options,
+        limits,
+    };
+    let outcome = handle(&mut session, q, w);
+    let Session {
+        fs: Asking { call: _noted },
+        options: _,
+        limits: _,
+    } = session;
+    outcome
+}

@@ -1,0 +1,107 @@
+//! Where the names and values of a call stand in its request.
+
+ghost use Rattle.std.specs.Prelude.{◌≡◌, ◌+◌, ◌≤◌};
+ghost use Rattle.fuse_flags.specs.Flags.{fs_options_bits};
+ghost use Rattle.fuse_segments.specs.declared.record.TheConstants.{LARGEST_RECORD};
+ghost use Rattle.fuse_wire.specs.Records.{in_header};
+ghost use Rattle.fuse_grammar.specs.Records.{size_of};
+ghost use Rattle.door_ask.specs.Parts.{parts_of, place_behind, with_parts};
+
+use bitflags::Flags;
+use door_calls::{CallData, Range};
+use fuse_flags::{FsOptions, Opcode};
+use fuse_messages::setxattr_size;
+use fuse_wire::{BatchForgetIn, ByteValued, ForgetOne, InHeader, OutHeader};
+use fuse_wire_more::{
+    CreateIn, GetxattrIn, LinkIn, MkdirIn, MknodIn, Rename2In, RenameIn, WriteIn,
+};
+
+/// The parts of a request that a call takes as they stand, each from a place of the request on.
+#[derive(Clone, Copy)]
+pub enum Parts {
+    /// None.
+    Nowhere,
+    /// A name.
+    Name(u64),
+    /// A name, and another behind it.
+    Names(u64),
+    /// A name, and a value behind it.
+    NameAndValue(u64),
+    /// Pairs of a node and a count.
+    Pairs(u64),
+    /// All bytes up to the end.
+    Rest(u64),
+    /// None, but data are put into the room for the reply.
+    Room,
+}
+
+// Where the parts behind a record of this size begin.
+fn behind(size: usize) -> u64
+    requires { size ≤ LARGEST_RECORD }
+    ensures { result ≡ size_of in_header + size }
+{
+    (InHeader::SIZE + size) as u64
+}
+
+impl Parts {
+    /// The parts of a request of this opcode, where these options are agreed on.
+    #[inline(always)]
+    pub fn of(opcode: Opcode, options: FsOptions) -> Parts
+        ensures { result ≡ parts_of (fs_options_bits options) opcode }
+    {
+        match opcode {
+            Opcode::Lookup | Opcode::Unlink | Opcode::Rmdir | Opcode::Removexattr => {
+                Parts::Name(behind(0))
+            }
+            Opcode::Mknod => Parts::Name(behind(MknodIn::SIZE)),
+            Opcode::Mkdir => Parts::Name(behind(MkdirIn::SIZE)),
+            Opcode::Link => Parts::Name(behind(LinkIn::SIZE)),
+            Opcode::Getxattr => Parts::Name(behind(GetxattrIn::SIZE)),
+            Opcode::Create => Parts::Name(behind(CreateIn::SIZE)),
+            Opcode::Symlink => Parts::Names(behind(0)),
+            Opcode::Rename => Parts::Names(behind(RenameIn::SIZE)),
+            Opcode::Rename2 => Parts::Names(behind(Rename2In::SIZE)),
+            Opcode::Setxattr => Parts::NameAndValue(behind(setxattr_size(options))),
+            Opcode::BatchForget => Parts::Pairs(behind(BatchForgetIn::SIZE)),
+            Opcode::Write => Parts::Rest(behind(WriteIn::SIZE)),
+            Opcode::Read => Parts::Room,
+            _ => Parts::Nowhere,
+        }
+    }
+
+    /// Tells the places of these parts of a call, whose names and values are told by their lengths, in
+    /// a request of `len` bytes with a room of `room` bytes.
+    #[inline(always)]
+    pub fn place(self, len: u64, room: u64, call: &mut CallData)
+        ensures { call.new ≡ with_parts len room self call.old }
+    {
+        match self {
+            Parts::Nowhere => {}
+            Parts::Name(at) => call.name.at = at,
+            Parts::Names(at) => {
+                call.name.at = at;
+                call.other_name.at = place_behind(call.name);
+            }
+            Parts::NameAndValue(at) => {
+                call.name.at = at;
+                call.data.at = place_behind(call.name);
+            }
+            Parts::Pairs(at) => {
+                let len = call.length.saturating_mul(ForgetOne::SIZE as u64);
+                call.data = Range { at, len };
+            }
+            Parts::Rest(at) => {
+                let len = len.saturating_sub(at);
+                call.data = Range { at, len };
+            }
+            Parts::Room => call.length = room.saturating_sub(OutHeader::SIZE as u64),
+        }
+    }
+}
+
+/// The place behind a name and its 0.
+pub fn place_behind(name: Range) -> u64
+    ensures { result ≡ place_behind name.at name }
+{
+    name.at.saturating_add(name.len).saturating_add(1)
+}

@@ -1,0 +1,90 @@
+//! What a request asks whose header lies in one piece. A reader has the rest: it is made without the header, and
+//! passes over none.
+
+ghost use Rattle.std.specs.Prelude.{◌≡◌, ◌<◌, ◌^◌, ◌+◌, ◌++◌, ℕ, List, length};
+ghost use Rattle.fuse_flags.specs.Flags.{fs_options_bits};
+ghost use Rattle.fuse_messages.specs.Rooms.{with_behind};
+ghost use Rattle.fuse_grammar.specs.Ask.{ask};
+ghost use Rattle.fuse_grammar.specs.Limits.{AreLimits};
+ghost use Rattle.door_ask.specs.Asked.{IsAsked, IsEnough, LiesWithin, Tells, interrupted_by};
+ghost use Rattle.door_ask.specs.Memory.{LacksNoMemory, MayWantBehindHeader};
+
+use crate::asked::{Asked, Terms, ask_behind};
+use crate::at_once::record_in;
+use crate::clear::{clear_numbers, clear_places};
+use door_calls::CallData;
+use fuse_flags::FsOptions;
+use fuse_grammar::Limits;
+use fuse_messages::Request;
+use fuse_segments::{Reader, Writer};
+use fuse_wire::{ByteValued, InHeader};
+use std::alloc::Global;
+
+/// What the request asks that has these bytes as its header, and behind it those that `r` has left:
+/// [`ask`](crate::ask) of all of them.
+#[inline(always)]
+pub fn ask_rest(
+    alloc: Global,
+    limits: Limits,
+    options: FsOptions,
+    head: &[u8],
+    r: Reader<'_>,
+    room: usize,
+    w: &mut Writer,
+    call: &mut CallData,
+) -> Asked
+    requires limits { AreLimits limits }
+    requires head { length head.now ≡ 40 }
+    requires fits { 40 + length r.left < 2 ^ 64 }
+    requires enough { IsEnough (length w.old.left) room }
+    ensures asked { (behind : List ℕ) → length w.old.left + length behind ≡ room →
+        IsAsked limits (fs_options_bits options) (head.now ++ r.entry.left)
+        (with_behind w.old behind) result (with_behind w.new behind) call.new }
+    ensures within { LiesWithin (length w.old.left) result }
+    ensures memory { ¬ (MayWantBehindHeader limits (fs_options_bits options) room (head.now ++ r.entry.left)
+        r.entry.pieces) → LacksNoMemory result }
+{
+    ask_request_rest(alloc, limits, options, head, r, room, w, call)
+}
+
+// The same, whatever room `w` has left.
+#[inline(always)]
+fn ask_request_rest(
+    alloc: Global,
+    limits: Limits,
+    options: FsOptions,
+    head: &[u8],
+    mut r: Reader<'_>,
+    room: usize,
+    w: &mut Writer,
+    call: &mut CallData,
+) -> Asked
+    requires limits { AreLimits limits }
+    requires head { length head.now ≡ 40 }
+    requires fits { 40 + length r.left < 2 ^ 64 }
+    ensures { Tells (MayWantBehindHeader limits (fs_options_bits options) room
+        (head.now ++ r.entry.left) r.entry.pieces)
+        (head.now ++ r.entry.left) (fs_options_bits options)
+        (interrupted_by limits (head.now ++ r.entry.left)) room
+        (ask limits (fs_options_bits options) room (head.now ++ r.entry.left)) w.old result w.new
+        call.new }
+{
+    clear_places(call);
+    let rest = r.available_bytes();
+    let len = (InHeader::SIZE + rest) as u64;
+    let header = record_in::<InHeader>(head);
+    clear_numbers(call);
+    match header {
+        Ok(header) => {
+            let (header, r) = (&header, &mut r);
+            let terms = Terms {
+                limits,
+                options,
+                len,
+                room,
+            };
+            ask_behind(terms, Request { alloc, header, r }, w, call)
+        }
+        Err(_) => unreachable!(),
+    }
+}

@@ -1,0 +1,81 @@
+//! What a request asks with another opcode: that of a TMPFILE, with CREATE's, asks for a file.
+
+ghost use Rattle.std.specs.Prelude.{◌≡◌, ◌+◌, ℕ, List, length};
+ghost use Rattle.fuse_flags.specs.Flags.{fs_options_bits};
+ghost use Rattle.fuse_messages.specs.Rooms.{with_behind};
+ghost use Rattle.fuse_grammar.specs.Ask.{ask};
+ghost use Rattle.fuse_grammar.specs.Limits.{AreLimits};
+ghost use Rattle.door_ask.specs.Asked.{IsAsked, IsEnough, LiesWithin, Tells, interrupted_by};
+ghost use Rattle.door_ask.specs.Memory.{LacksNoMemory, MayWant};
+ghost use Rattle.door_ask.specs.WithOpcode.{unread_with_opcode, with_opcode as with_opcode_of};
+
+use crate::asked::{Asked, Terms, ask_behind};
+use crate::clear::{clear_numbers, clear_places};
+use door_calls::CallData;
+use fuse_flags::FsOptions;
+use fuse_grammar::Limits;
+use fuse_messages::{Request, read_record};
+use fuse_segments::{Reader, Writer};
+use fuse_wire::InHeader;
+use std::alloc::Global;
+
+/// What the request asks that `r` has left with this number in place of its opcode: [`ask`](crate::ask) of those bytes.
+pub fn ask_as(
+    opcode: u32,
+    alloc: Global,
+    limits: Limits,
+    options: FsOptions,
+    r: Reader<'_>,
+    room: usize,
+    w: &mut Writer,
+    call: &mut CallData,
+) -> Asked
+    requires limits { AreLimits limits }
+    requires enough { IsEnough (length w.old.left) room }
+    ensures asked { (behind : List ℕ) → length w.old.left + length behind ≡ room →
+        IsAsked limits (fs_options_bits options) (with_opcode_of opcode r.entry.left)
+        (with_behind w.old behind) result (with_behind w.new behind) call.new }
+    ensures within { LiesWithin (length w.old.left) result }
+    ensures memory { ¬ (MayWant limits (fs_options_bits options) room (unread_with_opcode opcode r.entry)) →
+        LacksNoMemory result }
+{
+    ask_request_as(opcode, alloc, limits, options, r, room, w, call)
+}
+
+// The same, whatever room `w` has left.
+#[inline(never)]
+pub(crate) fn ask_request_as(
+    opcode: u32,
+    alloc: Global,
+    limits: Limits,
+    options: FsOptions,
+    mut r: Reader<'_>,
+    room: usize,
+    w: &mut Writer,
+    call: &mut CallData,
+) -> Asked
+    requires { AreLimits limits }
+    ensures { Tells (MayWant limits (fs_options_bits options) room (unread_with_opcode opcode r.entry))
+        (with_opcode_of opcode r.entry.left) (fs_options_bits options)
+        (interrupted_by limits (with_opcode_of opcode r.entry.left)) room
+        (ask limits (fs_options_bits options) room (with_opcode_of opcode r.entry.left)) w.old result
+        w.new call.new }
+{
+    clear_places(call);
+    let len = r.available_bytes() as u64;
+    let header = read_record::<InHeader>(&mut r);
+    clear_numbers(call);
+    match header {
+        Ok(header) => {
+            let (header, r) = (&InHeader { opcode, ..header }, &mut r);
+            let terms = Terms {
+                limits,
+                options,
+                len,
+                room,
+            };
+            ask_behind(terms, Request { alloc, header, r }, w, call)
+        }
+        Err(error) => Asked::finished(Err(error)),
+    }
+}

@@ -1,0 +1,9 @@
+use Rattle.std.proofs.Common.{arith}
+use Rattle.fs_trait.specs.WritingLaws.{length-Writes}
+use Rattle.fs_small.specs.MemFile.{most_bytes}
+use Rattle.fs_small.proofs.memfile.MemFile.write_from.Goals as goal
+
+pub invariant_of-self : goal.invariant_of-self
+invariant_of-self g c =
+    let size = length-Writes most_bytes _ _ _ _ _ c.write_bytes.ensures.2 in
+    omega (arith, size, c.self.invariant)

@@ -1,0 +1,46 @@
+//! A reading of a directory.
+
+ghost use Rattle.fs_trait.specs.Listing.{GivesFirst};
+
+use crate::tree::ReadTree;
+use fs_trait::{DirEntry, DirectoryIterator};
+use std::marker::Model;
+
+/// The items of a directory of a tree from an offset on. The offset of each is its place, counted
+/// from 1.
+#[derive(Drop)]
+pub struct TreeEntries<T: ReadTree> {
+    pub(crate) tree: T,
+    pub(crate) node: u64,
+    pub(crate) next: u64,
+}
+
+impl<T: ReadTree> Model for TreeEntries<T> {
+    ghost use Rattle.std.specs.Prelude.{List};
+    ghost use Rattle.fs_trait.specs.Values.{Item};
+    ghost use Rattle.fs_small.specs.Tables.{items_of};
+    ghost use Rattle.fs_small.specs.ReadOnly.{items_behind};
+
+    ghost Value = { List Item };
+
+    ghost view = { λ it. items_behind (items_of (T.tables it.tree) it.node) it.next };
+}
+
+impl<T: ReadTree> DirectoryIterator for TreeEntries<T> {
+    ghost gives = { GivesFirst };
+
+    fn next(&mut self) -> Option<DirEntry<'_>> {
+        match self.tree.item(self.node, self.next) {
+            Some(item) => {
+                self.next += 1;
+                Some(DirEntry {
+                    ino: item.node,
+                    offset: self.next,
+                    type_: item.kind,
+                    name: item.name,
+                })
+            }
+            None => None,
+        }
+    }
+}

@@ -1,0 +1,15 @@
+pub mod Answers
+pub mod CallValue
+pub mod Bytes
+pub mod BytesMut
+pub mod Calls
+pub mod Listing
+pub mod Migrations
+pub mod Places
+pub mod ReadingLaws
+pub mod RunLaws
+pub mod Runs
+pub mod TransferLaws
+pub mod Transfers
+pub mod Values
+pub mod WritingLaws

@@ -1,0 +1,12 @@
+pub use Rattle.fs_nodes.specs.Children
+pub use Rattle.fs_nodes.specs.Listing
+pub use Rattle.fs_nodes.specs.Node
+pub use Rattle.fs_nodes.specs.Statx
+pub use Rattle.fs_nodes.specs.Xattrs
+pub mod Holding
+pub mod Naming
+pub mod Outcome
+pub mod Rename
+pub mod Rows
+pub mod State
+pub mod Tree

@@ -1,0 +1,24 @@
+-- The nodes in a directory's records with entries, read from their bytes alone.
+use Rattle.std.specs.Prelude.{ℕ, zero, suc, ◌+◌, List, [], ◌∷◌, length, drop, nat_le, if◌then◌else◌}
+use Rattle.fuse_wire.specs.Fields.{value_of}
+use Rattle.fuse_wire.specs.Records.{direntplus, entry_out}
+use Rattle.fuse_grammar.specs.Listing.{dirent_len}
+use Rattle.fuse_grammar.specs.Records.{size_of}
+
+-- how long the record with an entry is that the bytes begin with: an `EntryOut`, and a `Dirent` with
+-- its name, whose length stands in the `Dirent`
+abbrev pub len_at_front : List ℕ → ℕ
+len_at_front bytes = size_of entry_out + dirent_len (value_of direntplus bytes).dirent.namelen
+
+-- the nodes of the records that the bytes begin with, one after another, at most so many. They end
+-- where no whole record follows
+abbrev pub nodes_of : (most : ℕ) → List ℕ → List ℕ
+nodes_of zero bytes = []
+nodes_of (suc most) bytes =
+    if nat_le (len_at_front bytes) (length bytes)
+    then (value_of entry_out bytes).nodeid ∷ nodes_of most (drop (len_at_front bytes) bytes)
+    else []
+
+-- the nodes of all records that the bytes begin with
+abbrev pub nodes_in : List ℕ → List ℕ
+nodes_in bytes = nodes_of (length bytes) bytes

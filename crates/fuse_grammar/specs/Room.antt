@@ -1,0 +1,42 @@
+-- How a reply is put into a room.
+use Rattle.std.specs.Prelude.{◌≡◌, ℕ, List, ◌++◌, length, take, drop, nat_le, if◌then◌else◌, Bool, true, Option, None, Some, Result, Ok, Err}
+use Rattle.fuse_grammar.specs.Reply.{Reply, Refusal, NoReply, Bytes, OpenBehind}
+use Rattle.fuse_grammar.specs.declared.error.Error.{Error}
+use Rattle.fuse_grammar.specs.declared.error.Error.TheVariants.{EncodeMessage}
+
+-- The reply was put into the room. One that fits stands there, before the old bytes behind it, and
+-- the outcome is its length; of another there is as much as the room has, and the outcome is
+-- EncodeMessage.
+pub record IsPut (reply room : List ℕ) (outcome : Result ℕ Error) (room_after : List ℕ) : Type 0 where
+  pub says :
+      outcome ≡ (if nat_le (length reply) (length room) then Ok (length reply) else Err EncodeMessage)
+  pub leaves :
+      room_after
+      ≡ (if nat_le (length reply) (length room) then reply ++ drop (length reply) room
+      else take (length room) reply)
+
+-- the reply stands at the beginning of the room, which it fits; the bytes behind it are any
+pub record IsPutOpen (reply room : List ℕ) (outcome : Result ℕ Error) (room_after : List ℕ)
+    : Type 0 where
+  pub says : outcome ≡ Ok (length reply)
+  pub begins : take (length reply) room_after ≡ reply
+  pub same_length : length room_after ≡ length room
+
+-- The rule of rooms: what comes back, put into this room, has this outcome and leaves these bytes
+-- there.
+abbrev pub IsReplied : Reply → (room : List ℕ) → Result ℕ Error → (room_after : List ℕ) → Type 0
+IsReplied (Refusal error) room outcome room_after = (outcome ≡ Err error) × (room_after ≡ room)
+IsReplied NoReply room outcome room_after = (outcome ≡ Ok 0) × (room_after ≡ room)
+IsReplied (Bytes reply) room outcome room_after = IsPut reply room outcome room_after
+IsReplied (OpenBehind reply) room outcome room_after = IsPutOpen reply room outcome room_after
+
+-- whether what comes back fits into a room of this length: only `Bytes` may not, for `IsPutOpen`
+-- says that its reply does
+abbrev pub fits : (room_len : ℕ) → Reply → Bool
+fits room_len (Bytes reply) = nat_le (length reply) room_len
+fits room_len _ = true
+
+-- the node of an entry that a client doesn't get to see: of one whose reply doesn't fit
+abbrev pub unseen : (room_len : ℕ) → Reply → Option ℕ → Option ℕ
+unseen room_len reply None = None
+unseen room_len reply (Some node) = if fits room_len reply then None else Some node

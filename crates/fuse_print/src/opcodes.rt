@@ -1,0 +1,597 @@
+//! What is printed of each opcode: its name, the parts of its request, the body of its reply, and the fields
+//! of its records. What a sender leaves 0 isn't printed.
+
+use crate::directory::{print_entries, print_items};
+use crate::fields::{Fields, print_alone, print_if_whole};
+use crate::flags::{Name, Set, Word};
+use crate::further::{print_handed_out, print_ioctl, print_notify_reply, print_tmpfile};
+use crate::reply::{asks_length, print_created};
+use crate::request::{
+    print_init, print_link, print_name, print_named, print_pairs, print_record_and_name,
+    print_setxattr, print_two_names, print_write,
+};
+use crate::stop::Stop;
+use crate::text::{Data, Octal, Quoted, Time};
+use bitflags::Flags;
+use fuse_flags::{
+    ATTR_DAX, ATTR_SUBMOUNT, FATTR_FH, FATTR_LOCKOWNER, FSYNC_FDATASYNC, FsOptions, GETATTR_FH,
+    IoctlFlags, LK_FLOCK, OPEN_KILL_SUIDGID, Opcode, OpenOptions, POLL_SCHEDULE_NOTIFY,
+    READ_LOCKOWNER, RELEASE_FLOCK_UNLOCK, RELEASE_FLUSH, SetattrValid, SetxattrFlags, WRITE_CACHE,
+    WRITE_KILL_PRIV, WRITE_LOCKOWNER,
+};
+use fuse_wire::{
+    Attr, AttrOut, BatchForgetIn, EntryOut, ForgetIn, ForgetOne, GetattrIn, InHeader, InitOut,
+    Kstatfs, SetattrIn,
+};
+use fuse_wire_more::{
+    AccessIn, BmapIn, BmapOut, CopyfilerangeIn, CreateIn, FallocateIn, FileLock, FlushIn, FsyncIn,
+    GetxattrIn, GetxattrOut, InterruptIn, IoctlIn, IoctlOut, LinkIn, LkIn, LkOut, LseekIn,
+    LseekOut, MkdirIn, MknodIn, NotifyRetrieveIn, OpenIn, OpenOut, PollIn, PollOut, ReadIn,
+    ReleaseIn, Rename2In, RenameIn, SetxattrIn, SetxattrInCompat, StatxIn, WriteIn, WriteOut,
+};
+use std::fmt::{self, Write};
+
+/// The name that an opcode has in the kernel's `enum fuse_opcode`, without `FUSE_`.
+pub fn opcode_name(opcode: Opcode) -> &'static str {
+    match opcode {
+        Opcode::Lookup => "LOOKUP",
+        Opcode::Forget => "FORGET",
+        Opcode::Getattr => "GETATTR",
+        Opcode::Setattr => "SETATTR",
+        Opcode::Readlink => "READLINK",
+        Opcode::Symlink => "SYMLINK",
+        Opcode::Mknod => "MKNOD",
+        Opcode::Mkdir => "MKDIR",
+        Opcode::Unlink => "UNLINK",
+        Opcode::Rmdir => "RMDIR",
+        Opcode::Rename => "RENAME",
+        Opcode::Link => "LINK",
+        Opcode::Open => "OPEN",
+        Opcode::Read => "READ",
+        Opcode::Write => "WRITE",
+        Opcode::Statfs => "STATFS",
+        Opcode::Release => "RELEASE",
+        Opcode::Fsync => "FSYNC",
+        Opcode::Setxattr => "SETXATTR",
+        Opcode::Getxattr => "GETXATTR",
+        Opcode::Listxattr => "LISTXATTR",
+        Opcode::Removexattr => "REMOVEXATTR",
+        Opcode::Flush => "FLUSH",
+        Opcode::Init => "INIT",
+        Opcode::Opendir => "OPENDIR",
+        Opcode::Readdir => "READDIR",
+        Opcode::Releasedir => "RELEASEDIR",
+        Opcode::Fsyncdir => "FSYNCDIR",
+        Opcode::Getlk => "GETLK",
+        Opcode::Setlk => "SETLK",
+        Opcode::Setlkw => "SETLKW",
+        Opcode::Access => "ACCESS",
+        Opcode::Create => "CREATE",
+        Opcode::Interrupt => "INTERRUPT",
+        Opcode::Bmap => "BMAP",
+        Opcode::Destroy => "DESTROY",
+        Opcode::Ioctl => "IOCTL",
+        Opcode::Poll => "POLL",
+        Opcode::NotifyReply => "NOTIFY_REPLY",
+        Opcode::BatchForget => "BATCH_FORGET",
+        Opcode::Fallocate => "FALLOCATE",
+        Opcode::Readdirplus => "READDIRPLUS",
+        Opcode::Rename2 => "RENAME2",
+        Opcode::Lseek => "LSEEK",
+        Opcode::CopyFileRange => "COPY_FILE_RANGE",
+        Opcode::SetupMapping => "SETUPMAPPING",
+        Opcode::RemoveMapping => "REMOVEMAPPING",
+        Opcode::Syncfs => "SYNCFS",
+        Opcode::TmpFile => "TMPFILE",
+    }
+}
+
+/// Prints what stands behind the header of a request; what is left behind that.
+pub fn print_parts<'a, W: Write>(
+    w: &mut W,
+    opcode: Opcode,
+    header: &InHeader,
+    options: FsOptions,
+    bytes: &'a [u8],
+) -> Result<&'a [u8], Stop> {
+    match opcode {
+        Opcode::Lookup | Opcode::Unlink | Opcode::Rmdir | Opcode::Removexattr => {
+            print_name(w, header, 0, bytes)
+        }
+        Opcode::Forget => print_alone::<ForgetIn, W>(w, bytes),
+        Opcode::Getattr => print_alone::<GetattrIn, W>(w, bytes),
+        Opcode::Setattr => print_alone::<SetattrIn, W>(w, bytes),
+        Opcode::Symlink => print_link(w, header, options, bytes),
+        Opcode::Mknod => print_named::<MknodIn, W>(w, header, options, bytes),
+        Opcode::Mkdir => print_named::<MkdirIn, W>(w, header, options, bytes),
+        Opcode::Create => print_named::<CreateIn, W>(w, header, options, bytes),
+        Opcode::Rename => print_two_names::<RenameIn, W>(w, header, bytes),
+        Opcode::Rename2 => print_two_names::<Rename2In, W>(w, header, bytes),
+        Opcode::Link => print_record_and_name::<LinkIn, W>(w, header, bytes),
+        Opcode::Getxattr => print_record_and_name::<GetxattrIn, W>(w, header, bytes),
+        Opcode::Open | Opcode::Opendir => print_alone::<OpenIn, W>(w, bytes),
+        Opcode::Read | Opcode::Readdir | Opcode::Readdirplus => print_alone::<ReadIn, W>(w, bytes),
+        Opcode::Write => print_write(w, bytes),
+        Opcode::Release | Opcode::Releasedir => print_alone::<ReleaseIn, W>(w, bytes),
+        Opcode::Fsync | Opcode::Fsyncdir => print_alone::<FsyncIn, W>(w, bytes),
+        Opcode::Setxattr => print_setxattr(w, header, options, bytes),
+        Opcode::Listxattr => print_alone::<GetxattrIn, W>(w, bytes),
+        Opcode::Flush => print_alone::<FlushIn, W>(w, bytes),
+        Opcode::Init => print_init(w, bytes),
+        Opcode::Access => print_alone::<AccessIn, W>(w, bytes),
+        Opcode::BatchForget => print_pairs(w, bytes),
+        Opcode::Fallocate => print_alone::<FallocateIn, W>(w, bytes),
+        Opcode::Lseek => print_alone::<LseekIn, W>(w, bytes),
+        Opcode::CopyFileRange => print_alone::<CopyfilerangeIn, W>(w, bytes),
+        Opcode::Getlk | Opcode::Setlk | Opcode::Setlkw => print_if_whole::<LkIn, W>(w, bytes),
+        Opcode::Interrupt => print_if_whole::<InterruptIn, W>(w, bytes),
+        Opcode::Bmap => print_if_whole::<BmapIn, W>(w, bytes),
+        Opcode::Ioctl => print_ioctl(w, bytes),
+        Opcode::Poll => print_if_whole::<PollIn, W>(w, bytes),
+        Opcode::NotifyReply => print_notify_reply(w, bytes),
+        Opcode::TmpFile => print_tmpfile(w, header, options, bytes),
+        Opcode::SetupMapping | Opcode::RemoveMapping => Err(Stop::NotServed),
+        Opcode::Readlink | Opcode::Statfs | Opcode::Destroy | Opcode::Syncfs => Ok(bytes),
+    }
+}
+
+/// Prints what stands behind the header of a reply to a request of this opcode, with this behind its
+/// header; what is left behind that.
+pub fn print_answer<'a, W: Write>(
+    w: &mut W,
+    opcode: Opcode,
+    record: &[u8],
+    body: &'a [u8],
+) -> Result<&'a [u8], Stop> {
+    match opcode {
+        Opcode::Lookup | Opcode::Symlink | Opcode::Mknod | Opcode::Mkdir | Opcode::Link => {
+            print_alone::<EntryOut, W>(w, body)
+        }
+        Opcode::Create | Opcode::TmpFile => print_created(w, body),
+        Opcode::Getattr | Opcode::Setattr => print_alone::<AttrOut, W>(w, body),
+        Opcode::Open | Opcode::Opendir => print_alone::<OpenOut, W>(w, body),
+        Opcode::Write | Opcode::CopyFileRange => print_alone::<WriteOut, W>(w, body),
+        Opcode::Statfs => print_alone::<Kstatfs, W>(w, body),
+        Opcode::Init => print_alone::<InitOut, W>(w, body),
+        Opcode::Lseek => print_alone::<LseekOut, W>(w, body),
+        Opcode::Getlk => print_alone::<LkOut, W>(w, body),
+        Opcode::Bmap => print_alone::<BmapOut, W>(w, body),
+        Opcode::Ioctl => print_handed_out(w, body),
+        Opcode::Poll => print_alone::<PollOut, W>(w, body),
+        Opcode::Getxattr | Opcode::Listxattr if asks_length(record) => {
+            print_alone::<GetxattrOut, W>(w, body)
+        }
+        _ => print_bytes(w, opcode, body),
+    }
+}
+
+/// Prints the body of a reply that is no record, to its end, if there is one.
+fn print_bytes<'a, W: Write>(w: &mut W, opcode: Opcode, body: &'a [u8]) -> Result<&'a [u8], Stop> {
+    match opcode {
+        Opcode::Read => write!(w, " data{}", Data(body))?,
+        Opcode::Getxattr => write!(w, " value{}", Data(body))?,
+        Opcode::Readlink => write!(w, " text={}", Quoted(body))?,
+        Opcode::Listxattr => write!(w, " names={}", Quoted(body))?,
+        Opcode::Readdir => print_items(w, body)?,
+        Opcode::Readdirplus => print_entries(w, body)?,
+        _ => return Ok(body),
+    }
+    Ok(&[])
+}
+
+// The records of requests, field by field.
+
+/// Bits of `flags` of GETATTR, and of `getattr_flags` of STATX.
+const GETATTR_FLAGS: &[Name] = &[("FH", GETATTR_FH)];
+
+/// Bits of `valid` of SETATTR that name no attribute.
+const SETATTR_ALSO: &[Name] = &[("FH", FATTR_FH), ("LOCKOWNER", FATTR_LOCKOWNER)];
+
+/// Bits of `open_flags` of OPEN, OPENDIR and CREATE.
+const OPEN_FLAGS: &[Name] = &[("KILL_SUIDGID", OPEN_KILL_SUIDGID)];
+
+/// Bits of `read_flags` of READ, READDIR and READDIRPLUS.
+const READ_FLAGS: &[Name] = &[("LOCKOWNER", READ_LOCKOWNER)];
+
+/// Bits of `write_flags` of WRITE.
+const WRITE_FLAGS: &[Name] = &[
+    ("CACHE", WRITE_CACHE),
+    ("LOCKOWNER", WRITE_LOCKOWNER),
+    ("KILL_PRIV", WRITE_KILL_PRIV),
+];
+
+/// Bits of `release_flags` of RELEASE and RELEASEDIR.
+const RELEASE_FLAGS: &[Name] = &[
+    ("FLUSH", RELEASE_FLUSH),
+    ("FLOCK_UNLOCK", RELEASE_FLOCK_UNLOCK),
+];
+
+/// Bits of `fsync_flags` of FSYNC and FSYNCDIR.
+const FSYNC_FLAGS: &[Name] = &[("FDATASYNC", FSYNC_FDATASYNC)];
+
+/// Bits of `flags` of RENAME2, as for `renameat2`.
+const RENAME_NAMES: &[Name] = &[("NOREPLACE", 1), ("EXCHANGE", 2), ("WHITEOUT", 4)];
+
+/// Bits of `flags` of SETXATTR, as for `setxattr`.
+const XATTR_NAMES: &[Name] = &[("CREATE", 1), ("REPLACE", 2)];
+
+/// Bits of `lk_flags` of GETLK, SETLK and SETLKW.
+const LOCK_FLAGS: &[Name] = &[("FLOCK", LK_FLOCK)];
+
+/// Bits of `flags` of POLL.
+const POLL_FLAGS: &[Name] = &[("SCHEDULE_NOTIFY", POLL_SCHEDULE_NOTIFY)];
+
+/// Bits of `flags` of attributes.
+const ATTR_FLAGS: &[Name] = &[("SUBMOUNT", ATTR_SUBMOUNT), ("DAX", ATTR_DAX)];
+
+impl Fields for ForgetIn {
+    fn print<W: Write>(&self, w: &mut W) -> fmt::Result {
+        write!(w, " nlookup={}", self.nlookup)
+    }
+}
+
+impl Fields for BatchForgetIn {
+    fn print<W: Write>(&self, w: &mut W) -> fmt::Result {
+        write!(w, " count={}", self.count)
+    }
+}
+
+impl Fields for ForgetOne {
+    fn print<W: Write>(&self, w: &mut W) -> fmt::Result {
+        write!(w, " (node={} nlookup={})", self.nodeid, self.nlookup)
+    }
+}
+
+impl Fields for GetattrIn {
+    fn print<W: Write>(&self, w: &mut W) -> fmt::Result {
+        let flags = Word(self.flags, GETATTR_FLAGS);
+        write!(w, " flags={flags} fh={}", self.fh)
+    }
+}
+
+impl Fields for SetattrIn {
+    fn print<W: Write>(&self, w: &mut W) -> fmt::Result {
+        let valid = Set(SetattrValid::from_bits_retain(self.valid), SETATTR_ALSO);
+        write!(w, " valid={valid} fh={} size={}", self.fh, self.size)?;
+        write!(w, " lock_owner={}", self.lock_owner)?;
+        write!(w, " atime={}", Time(self.atime, self.atimensec))?;
+        write!(w, " mtime={}", Time(self.mtime, self.mtimensec))?;
+        write!(w, " ctime={}", Time(self.ctime, self.ctimensec))?;
+        write!(w, " mode={}", Octal(self.mode))?;
+        write!(w, " uid={}", self.uid.into_inner())?;
+        write!(w, " gid={}", self.gid.into_inner())
+    }
+}
+
+impl Fields for MknodIn {
+    fn print<W: Write>(&self, w: &mut W) -> fmt::Result {
+        write!(w, " mode={} rdev={}", Octal(self.mode), self.rdev)?;
+        write!(w, " umask={}", Octal(self.umask))
+    }
+}
+
+impl Fields for MkdirIn {
+    fn print<W: Write>(&self, w: &mut W) -> fmt::Result {
+        write!(w, " mode={} umask={}", Octal(self.mode), Octal(self.umask))
+    }
+}
+
+impl Fields for RenameIn {
+    fn print<W: Write>(&self, w: &mut W) -> fmt::Result {
+        write!(w, " newdir={}", self.newdir)
+    }
+}
+
+impl Fields for Rename2In {
+    fn print<W: Write>(&self, w: &mut W) -> fmt::Result {
+        let flags = Word(self.flags, RENAME_NAMES);
+        write!(w, " newdir={} flags={flags}", self.newdir)
+    }
+}
+
+impl Fields for LinkIn {
+    fn print<W: Write>(&self, w: &mut W) -> fmt::Result {
+        write!(w, " oldnode={}", self.oldnodeid)
+    }
+}
+
+impl Fields for OpenIn {
+    fn print<W: Write>(&self, w: &mut W) -> fmt::Result {
+        let open_flags = Word(self.open_flags, OPEN_FLAGS);
+        write!(w, " flags={} open_flags={open_flags}", Octal(self.flags))
+    }
+}
+
+impl Fields for CreateIn {
+    fn print<W: Write>(&self, w: &mut W) -> fmt::Result {
+        let open_flags = Word(self.open_flags, OPEN_FLAGS);
+        write!(w, " flags={} mode={}", Octal(self.flags), Octal(self.mode))?;
+        write!(w, " umask={} open_flags={open_flags}", Octal(self.umask))
+    }
+}
+
+impl Fields for ReadIn {
+    fn print<W: Write>(&self, w: &mut W) -> fmt::Result {
+        let read_flags = Word(self.read_flags, READ_FLAGS);
+        write!(w, " fh={} offset={}", self.fh, self.offset)?;
+        write!(w, " size={} read_flags={read_flags}", self.size)?;
+        write!(w, " lock_owner={}", self.lock_owner)?;
+        write!(w, " flags={}", Octal(self.flags))
+    }
+}
+
+impl Fields for WriteIn {
+    fn print<W: Write>(&self, w: &mut W) -> fmt::Result {
+        let write_flags = Word(self.write_flags, WRITE_FLAGS);
+        write!(w, " fh={} offset={}", self.fh, self.offset)?;
+        write!(w, " size={} write_flags={write_flags}", self.size)?;
+        write!(w, " lock_owner={}", self.lock_owner)?;
+        write!(w, " flags={}", Octal(self.flags))
+    }
+}
+
+impl Fields for ReleaseIn {
+    fn print<W: Write>(&self, w: &mut W) -> fmt::Result {
+        let release_flags = Word(self.release_flags, RELEASE_FLAGS);
+        write!(w, " fh={} flags={}", self.fh, Octal(self.flags))?;
+        write!(w, " release_flags={release_flags}")?;
+        write!(w, " lock_owner={}", self.lock_owner)
+    }
+}
+
+impl Fields for FsyncIn {
+    fn print<W: Write>(&self, w: &mut W) -> fmt::Result {
+        let fsync_flags = Word(self.fsync_flags, FSYNC_FLAGS);
+        write!(w, " fh={} fsync_flags={fsync_flags}", self.fh)
+    }
+}
+
+impl Fields for FlushIn {
+    fn print<W: Write>(&self, w: &mut W) -> fmt::Result {
+        write!(w, " fh={} lock_owner={}", self.fh, self.lock_owner)
+    }
+}
+
+impl Fields for SetxattrIn {
+    fn print<W: Write>(&self, w: &mut W) -> fmt::Result {
+        let flags = Word(self.flags, XATTR_NAMES);
+        let further = Set(SetxattrFlags::from_bits_retain(self.setxattr_flags), &[]);
+        write!(
+            w,
+            " size={} flags={flags} setxattr_flags={further}",
+            self.size
+        )
+    }
+}
+
+impl Fields for SetxattrInCompat {
+    fn print<W: Write>(&self, w: &mut W) -> fmt::Result {
+        let flags = Word(self.flags, XATTR_NAMES);
+        write!(w, " size={} flags={flags}", self.size)
+    }
+}
+
+impl Fields for GetxattrIn {
+    fn print<W: Write>(&self, w: &mut W) -> fmt::Result {
+        write!(w, " size={}", self.size)
+    }
+}
+
+impl Fields for AccessIn {
+    fn print<W: Write>(&self, w: &mut W) -> fmt::Result {
+        write!(w, " mask={}", Octal(self.mask))
+    }
+}
+
+impl Fields for FallocateIn {
+    fn print<W: Write>(&self, w: &mut W) -> fmt::Result {
+        write!(w, " fh={} offset={}", self.fh, self.offset)?;
+        write!(w, " length={} mode=0x{:x}", self.length, self.mode)
+    }
+}
+
+impl Fields for LseekIn {
+    fn print<W: Write>(&self, w: &mut W) -> fmt::Result {
+        write!(w, " fh={} offset={}", self.fh, self.offset)?;
+        write!(w, " whence={}", self.whence)
+    }
+}
+
+impl Fields for CopyfilerangeIn {
+    fn print<W: Write>(&self, w: &mut W) -> fmt::Result {
+        write!(w, " fh_in={} off_in={}", self.fh_in, self.off_in)?;
+        write!(w, " node_out={} fh_out={}", self.nodeid_out, self.fh_out)?;
+        write!(w, " off_out={} len={}", self.off_out, self.len)?;
+        write!(w, " flags=0x{:x}", self.flags)
+    }
+}
+
+// The records of requests that a server looks at only if it offers their calls.
+
+/// Prints a lock: its range, its kind as for `fcntl`, and its holder.
+pub fn print_lock<W: Write>(w: &mut W, lock: &FileLock) -> fmt::Result {
+    write!(w, " start={} end={}", lock.start, lock.end)?;
+    write!(w, " type={} pid={}", lock.type_, lock.pid)
+}
+
+impl Fields for LkIn {
+    fn print<W: Write>(&self, w: &mut W) -> fmt::Result {
+        let lk_flags = Word(self.lk_flags, LOCK_FLAGS);
+        write!(w, " fh={} owner={}", self.fh, self.owner)?;
+        print_lock(w, &self.lk)?;
+        write!(w, " lk_flags={lk_flags}")
+    }
+}
+
+impl Fields for InterruptIn {
+    fn print<W: Write>(&self, w: &mut W) -> fmt::Result {
+        write!(w, " interrupted={}", self.unique)
+    }
+}
+
+impl Fields for BmapIn {
+    fn print<W: Write>(&self, w: &mut W) -> fmt::Result {
+        write!(w, " block={} blocksize={}", self.block, self.blocksize)
+    }
+}
+
+impl Fields for IoctlIn {
+    fn print<W: Write>(&self, w: &mut W) -> fmt::Result {
+        let flags = Set(IoctlFlags::from_bits_retain(self.flags), &[]);
+        write!(w, " fh={} flags={flags}", self.fh)?;
+        write!(w, " cmd=0x{:x} arg=0x{:x}", self.cmd, self.arg)?;
+        write!(w, " in_size={} out_size={}", self.in_size, self.out_size)
+    }
+}
+
+impl Fields for PollIn {
+    fn print<W: Write>(&self, w: &mut W) -> fmt::Result {
+        let flags = Word(self.flags, POLL_FLAGS);
+        write!(w, " fh={} kh={}", self.fh, self.kh)?;
+        write!(w, " flags={flags} events=0x{:x}", self.events)
+    }
+}
+
+impl Fields for NotifyRetrieveIn {
+    fn print<W: Write>(&self, w: &mut W) -> fmt::Result {
+        write!(w, " offset={} size={}", self.offset, self.size)
+    }
+}
+
+impl Fields for StatxIn {
+    fn print<W: Write>(&self, w: &mut W) -> fmt::Result {
+        let flags = Word(self.getattr_flags, GETATTR_FLAGS);
+        write!(w, " getattr_flags={flags} fh={}", self.fh)?;
+        write!(w, " sx_flags=0x{:x}", self.sx_flags)?;
+        write!(w, " sx_mask=0x{:x}", self.sx_mask)
+    }
+}
+
+// The records of replies.
+
+impl Fields for Attr {
+    fn print<W: Write>(&self, w: &mut W) -> fmt::Result {
+        write!(w, " ino={} size={}", self.ino, self.size)?;
+        write!(w, " blocks={}", self.blocks)?;
+        write!(w, " atime={}", Time(self.atime, self.atimensec))?;
+        write!(w, " mtime={}", Time(self.mtime, self.mtimensec))?;
+        write!(w, " ctime={}", Time(self.ctime, self.ctimensec))?;
+        write!(w, " mode={} nlink={}", Octal(self.mode), self.nlink)?;
+        write!(w, " uid={}", self.uid.into_inner())?;
+        write!(w, " gid={} rdev={}", self.gid.into_inner(), self.rdev)?;
+        let flags = Word(self.flags, ATTR_FLAGS);
+        write!(w, " blksize={} attr_flags={flags}", self.blksize)
+    }
+}
+
+impl Fields for EntryOut {
+    fn print<W: Write>(&self, w: &mut W) -> fmt::Result {
+        write!(w, " entry node={}", self.nodeid)?;
+        write!(w, " generation={}", self.generation)?;
+        write!(
+            w,
+            " entry_valid={}.{:09}",
+            self.entry_valid, self.entry_valid_nsec
+        )?;
+        write!(
+            w,
+            " attr_valid={}.{:09}",
+            self.attr_valid, self.attr_valid_nsec
+        )?;
+        self.attr.print(w)
+    }
+}
+
+impl Fields for AttrOut {
+    fn print<W: Write>(&self, w: &mut W) -> fmt::Result {
+        write!(
+            w,
+            " attr_valid={}.{:09}",
+            self.attr_valid, self.attr_valid_nsec
+        )?;
+        self.attr.print(w)
+    }
+}
+
+impl Fields for OpenOut {
+    fn print<W: Write>(&self, w: &mut W) -> fmt::Result {
+        let open_flags = Set(OpenOptions::from_bits_retain(self.open_flags), &[]);
+        write!(w, " fh={} open_flags={open_flags}", self.fh)
+    }
+}
+
+impl Fields for WriteOut {
+    fn print<W: Write>(&self, w: &mut W) -> fmt::Result {
+        write!(w, " size={}", self.size)
+    }
+}
+
+impl Fields for GetxattrOut {
+    fn print<W: Write>(&self, w: &mut W) -> fmt::Result {
+        write!(w, " size={}", self.size)
+    }
+}
+
+impl Fields for LseekOut {
+    fn print<W: Write>(&self, w: &mut W) -> fmt::Result {
+        write!(w, " offset={}", self.offset)
+    }
+}
+
+impl Fields for LkOut {
+    fn print<W: Write>(&self, w: &mut W) -> fmt::Result {
+        print_lock(w, &self.lk)
+    }
+}
+
+impl Fields for BmapOut {
+    fn print<W: Write>(&self, w: &mut W) -> fmt::Result {
+        write!(w, " block={}", self.block)
+    }
+}
+
+impl Fields for IoctlOut {
+    fn print<W: Write>(&self, w: &mut W) -> fmt::Result {
+        let flags = Set(IoctlFlags::from_bits_retain(self.flags), &[]);
+        write!(w, " result={} flags={flags}", self.result)?;
+        write!(w, " in_iovs={} out_iovs={}", self.in_iovs, self.out_iovs)
+    }
+}
+
+impl Fields for PollOut {
+    fn print<W: Write>(&self, w: &mut W) -> fmt::Result {
+        write!(w, " revents=0x{:x}", self.revents)
+    }
+}
+
+impl Fields for Kstatfs {
+    fn print<W: Write>(&self, w: &mut W) -> fmt::Result {
+        write!(w, " blocks={} bfree={}", self.blocks, self.bfree)?;
+        write!(w, " bavail={} files={}", self.bavail, self.files)?;
+        write!(w, " ffree={} bsize={}", self.ffree, self.bsize)?;
+        write!(w, " namelen={} frsize={}", self.namelen, self.frsize)
+    }
+}
+
+impl Fields for InitOut {
+    fn print<W: Write>(&self, w: &mut W) -> fmt::Result {
+        let options = Set(options_of(self), &[]);
+        write!(w, " major={} minor={}", self.major, self.minor)?;
+        write!(w, " max_readahead={} flags={options}", self.max_readahead)?;
+        write!(w, " max_background={}", self.max_background)?;
+        write!(w, " congestion_threshold={}", self.congestion_threshold)?;
+        write!(
+            w,
+            " max_write={} time_gran={}",
+            self.max_write, self.time_gran
+        )?;
+        write!(w, " max_pages={}", self.max_pages)?;
+        write!(w, " map_alignment={}", self.map_alignment)
+    }
+}
+
+/// The options that the reply to an INIT has, of both of its words.
+pub fn options_of(record: &InitOut) -> FsOptions {
+    let bits = u64::from(record.flags) | (u64::from(record.flags2) << 32);
+    FsOptions::from_bits_retain(bits)
+}

@@ -1,0 +1,26 @@
+-- Which requests may want memory, as a handler says it: by the pieces of memory in which the bytes
+-- behind their headers lie.
+use Rattle.std.specs.Prelude.{◌⊎◌, ℕ, List, Option, Some, None}
+use Rattle.fuse_flags.specs.declared.opcode.Opcode.{Opcode}
+use Rattle.fuse_wire.specs.declared.headers.InHeader.{InHeader}
+use Rattle.fuse_grammar.specs.Ask.{form_of}
+use Rattle.fuse_grammar.specs.Forms.{Form, layout_size}
+use Rattle.fuse_grammar.specs.Memory.{by_memory}
+use Rattle.fuse_grammar.specs.declared.limits.Limits.{Limits}
+use Rattle.fuse_messages.specs.Parts.{MayHoldContext, TailIsCut, pieces_behind}
+
+-- memory may be wanted for a request of this form, where the bytes behind its header lie in these
+-- pieces: for a tail that is cut, for a context, or for pairs
+abbrev pub MayWantFor : InHeader → (pieces : List ℕ) → Form → Type 0
+MayWantFor h pieces form =
+    by_memory ⊥ (λ R layout. TailIsCut h (layout_size layout) (pieces_behind layout pieces))
+    (λ R layout options.
+    TailIsCut h (layout_size layout) (pieces_behind layout pieces) ⊎ MayHoldContext options)
+    (λ R layout above count. Unit {0}) form
+
+-- the same by the opcode
+abbrev pub MayWantBehind : Limits → (options room_len : ℕ) → Option Opcode → InHeader
+    → (pieces : List ℕ) → Type 0
+MayWantBehind limits options room_len None h pieces = ⊥
+MayWantBehind limits options room_len (Some opcode) h pieces =
+    MayWantFor h pieces (form_of limits options room_len h opcode)

@@ -1,0 +1,49 @@
+-- Requests in order, over one run of the file system.
+use Rattle.std.specs.Prelude.{◌≡◌, ℕ, List, [], ◌∷◌, Option, None, Result, map}
+use Rattle.fuse_segments.specs.Unread.{Unread}
+use Rattle.fuse_segments.specs.Written.{Written, Leaves}
+use Rattle.fs_trait.specs.Values.{Item}
+use Rattle.fs_trait.specs.Calls.{Call, Handed}
+use Rattle.fs_trait.specs.Runs.{IsRun}
+use Rattle.fuse_grammar.specs.Turn.{Turn, IsTurn, events_in}
+use Rattle.fuse_grammar.specs.declared.limits.Limits.{Limits}
+use Rattle.fuse_grammar.specs.declared.error.Error.{Error}
+use Rattle.fuse_grammar.specs.Books.{KeepsBooks}
+use Rattle.fuse_server.specs.State.{ServerState}
+
+-- A request was served, by this turn, with these options before it and after it: the turn is of the
+-- bytes that its reader has left and of the room that its writer has left. The writer is left as the
+-- turn says, and holds nothing.
+pub record IsServed (limits : Limits) (options : ℕ) (reader : Unread) (writer : Written) (t : Turn)
+    (writer_after : Written) (after : ℕ) : Type 0 where
+  pub request : t.request ≡ reader.left
+  pub room : t.room ≡ writer.left
+  pub turn : IsTurn limits options t after
+  pub leaves : Leaves writer t.room_after writer_after
+  pub hold_given_up : writer_after.held ≡ 0
+
+-- Requests were served in order, from these options to those: each with the options that the one
+-- before it left. The k-th has the k-th reader, writer and turn, and the k-th writer afterwards.
+abbrev pub AreServed : Limits → (options : ℕ) → List Unread → List Written → List Turn
+    → (writers_after : List Written) → (after : ℕ) → Type 0
+AreServed limits options [] [] [] [] after = after ≡ options
+AreServed limits options (reader ∷ readers) (writer ∷ writers) (t ∷ turns) (new ∷ news) after =
+    (mid : ℕ)
+    × IsServed limits options reader writer t new mid
+    × AreServed limits mid readers writers turns news after
+AreServed limits options _ _ _ _ after = ⊥
+
+-- A session: a run of the file system from its state before to that after, with no iterator at
+-- first, whose events are those of turns in order. By these turns the requests were served in
+-- order, and they have these outcomes; the books of every node but 0 are kept over them; and the
+-- limits stay.
+pub record IsSession {S I : Type 0} (allows : S → Call → Handed I → S → Type 0)
+    (gives : I → Option Item → I → Type 0) (old : ServerState S) (readers : List Unread)
+    (writers : List Written) (outcomes : List (Result ℕ Error)) (writers_after : List Written)
+    (new : ServerState S) : Type 0 where
+  pub turns : List Turn
+  pub is_run : IsRun allows gives None old.fs (events_in turns) new.fs
+  pub served : AreServed old.limits old.options readers writers turns writers_after new.options
+  pub outcomes_are : map (λ t. t.outcome) turns ≡ outcomes
+  pub books : KeepsBooks turns
+  pub same_limits : new.limits ≡ old.limits

@@ -1,0 +1,58 @@
+-- Requests of one client in flight: a transport asks a request for its call, makes the call, and answers
+-- it, while others are asked and answered.
+use Rattle.std.specs.Prelude.{◌≡◌, ℕ, List, [], ◌∷◌, ◌++◌, length}
+use Rattle.fs_trait.specs.Calls.{Init, Destroy, Answer, Options}
+use Rattle.fs_trait.specs.Runs.{Called}
+use Rattle.fuse_grammar.specs.Turn.{Turn, IsTurn}
+use Rattle.fuse_grammar.specs.declared.limits.Limits.{Limits}
+
+-- a request that was asked and is not answered yet: its bytes, the options under which it was asked,
+-- and how many bytes of room there are for its reply
+pub record Waiting : Type 0 where
+  pub request : List ℕ
+  pub options : ℕ
+  pub space : ℕ
+
+-- A moment of a transport: it asked a request, or it answered one, by this turn, with these options from
+-- then on. What the calls of a turn are is seen when it is answered: its events.
+pub data Moment : Type 0 where
+  Asked : (w : Waiting) → Moment
+  Answered : (w : Waiting) (t : Turn) (after : ℕ) → Moment
+
+-- the turns among moments, in the order of the answers
+abbrev pub turns_answered : List Moment → List Turn
+turns_answered [] = []
+turns_answered (Asked w ∷ moments) = turns_answered moments
+turns_answered (Answered w t after ∷ moments) = t ∷ turns_answered moments
+
+-- a turn of a request that waits, under the options that it was asked with
+pub record IsTurnOf (limits : Limits) (w : Waiting) (t : Turn) (after : ℕ) : Type 0 where
+  pub asked : t.request ≡ w.request
+  pub space : length t.room ≡ w.space
+  pub turn : IsTurn limits w.options t after
+
+-- Each answer is that of a request that waits, which then waits no more.
+abbrev pub AreInFlight : Limits → (waiting : List Waiting) → List Moment → Type 0
+AreInFlight limits waiting [] = Unit {0}
+AreInFlight limits waiting (Asked w ∷ moments) = AreInFlight limits (w ∷ waiting) moments
+AreInFlight limits waiting (Answered w t after ∷ moments) =
+    (before behind : List Waiting) × (waiting ≡ before ++ w ∷ behind)
+    × IsTurnOf limits w t after
+    × AreInFlight limits (before ++ behind) moments
+
+-- an INIT that was answered, or a DESTROY, had none beside it that waits
+pub record IsAlone (t : Turn) (others : List Waiting) : Type 0 where
+  pub init : (offered want : ℕ) → t.events ≡ Called (Init offered) (Options want) ∷ [] → others ≡ []
+  pub destroy : (answer : Answer) → t.events ≡ Called Destroy answer ∷ [] → others ≡ []
+
+-- The same of a transport that asks each request under the options of then: those that the last answer
+-- left. INIT and DESTROY are alone in flight.
+abbrev pub AreAskedInTime : Limits → (options : ℕ) → (waiting : List Waiting) → List Moment → Type 0
+AreAskedInTime limits options waiting [] = Unit {0}
+AreAskedInTime limits options waiting (Asked w ∷ moments) =
+    (w.options ≡ options) × AreAskedInTime limits options (w ∷ waiting) moments
+AreAskedInTime limits options waiting (Answered w t after ∷ moments) =
+    (before behind : List Waiting) × (waiting ≡ before ++ w ∷ behind)
+    × IsTurnOf limits w t after
+    × IsAlone t (before ++ behind)
+    × AreAskedInTime limits after (before ++ behind) moments

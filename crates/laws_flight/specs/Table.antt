@@ -1,0 +1,181 @@
+-- Which data tell which call of a request: a row for each call, as `form_of` has one for each opcode.
+use Rattle.std.specs.Prelude.{◌≡◌, ◌+◌, ◌*◌, ◌==◌, ◌||◌, not, nat_lt, if◌then◌else◌, drop, ℕ, List, Bool, true, false, length, is_some, Option, Some, None, unwrap_or}
+use Rattle.fs_trait.specs.Calls.{Call}
+use Rattle.fs_trait.specs.Calls as call
+use Rattle.fs_trait.specs.Values.{ExtensionValues}
+use Rattle.fs_trait.specs.declared.entry.Context.{Context}
+use Rattle.fuse_flags.specs.Numbers.{number_of}
+use Rattle.fuse_flags.specs.declared.opcode.Opcode.TheVariants.{Interrupt}
+use Rattle.fuse_wire.specs.Fields.{value_of}
+use Rattle.fuse_wire.specs.Records.{in_header, forget_one}
+use Rattle.fuse_wire_more.specs.Locks.{interrupt_in}
+use Rattle.fuse_grammar.specs.Ask.{ask}
+use Rattle.fuse_grammar.specs.Forms.{Ask, Ends, Asks, Lists, WithMemory}
+use Rattle.fuse_grammar.specs.Limits.{max_len}
+use Rattle.fuse_grammar.specs.Records.{size_of}
+use Rattle.fuse_grammar.specs.Reply.{Echo}
+use Rattle.fuse_grammar.specs.declared.limits.Limits.{Limits}
+use Rattle.door_calls.specs.Shapes.{bit, nothing, setattr_of}
+use Rattle.door_calls.specs.declared.call.Range.{Range}
+use Rattle.door_calls.specs.declared.call.CallData.{CallData}
+use Rattle.door_calls.specs.declared.call.number.TheConstants.{LOOKUP, FORGET, GETATTR, SETATTR, READLINK, SYMLINK, MKNOD, MKDIR, UNLINK, RMDIR, RENAME, LINK, OPEN, READ, WRITE, STATFS, RELEASE, FSYNC, SETXATTR, GETXATTR, LISTXATTR, REMOVEXATTR, FLUSH, INIT, OPENDIR, READDIR, RELEASEDIR, FSYNCDIR, GETLK, SETLK, SETLKW, ACCESS, CREATE, BMAP, DESTROY, IOCTL, POLL, NOTIFY_REPLY, BATCH_FORGET, FALLOCATE, LSEEK, COPY, SYNCFS, TMPFILE}
+use Rattle.door_calls.specs.declared.call.kind.TheConstants.{QUIET, DONE, FAULT_OR_SILENCE, DATA, WANT, ENTRY, ATTR, OPENED, CREATED, STATISTICS, TEXT, TEXT_OR_COUNT, OFFSET, WRITTEN, DIRECTORY, FAULT}
+use Rattle.door_calls.specs.declared.call.has.TheConstants.{HANDLE, OWNER, CONTEXT, GROUP, KILL_PRIV, DELAYED, DATASYNC, FLUSHES, FLOCK_RELEASE, PLUS}
+use Rattle.door_ask.specs.Asked.{IsNameIn, Stand, Spell}
+
+-- the place of a range, and no bytes there
+abbrev pub empty_at : Range → Range
+empty_at range = record { at = range.at; len = 0 }
+
+-- what the data of any call have of its request
+abbrev pub of_request : Echo → (told : CallData) → CallData
+of_request echo told = record nothing {
+  unique = echo.unique;
+  readahead = echo.max_readahead;
+  options = told.options;
+  room = told.room;
+  name = empty_at told.name;
+  other_name = empty_at told.other_name;
+  «data» = empty_at told.data;
+  context_name = empty_at told.context_name;
+  context = empty_at told.context;
+}
+
+-- The name and the value of a security context, where there is one, stand in the request where the data say so.
+abbrev pub TellsContext : (q : List ℕ) → (told : CallData) → Option (List ℕ × List ℕ) → Type 0
+TellsContext q told None = (told.context_name.len ≡ 0) × (told.context.len ≡ 0)
+TellsContext q told (Some context) =
+    IsNameIn q told.context_name context.0 × Stand q told.context context.1
+
+-- These data, which have this of their request, tell this call: all their numbers are those of its row, and its names
+-- and values stand in the request where they say so.
+module _ (q : List ℕ) (told c : CallData) where
+  -- data of this call, which has this kind of answer; and of one by this caller, of this node
+  abbrev pub asks : (number kind : ℕ) → CallData
+  asks number kind = record c { call = number; answer = kind }
+
+  abbrev pub by : (number kind : ℕ) → Context → (node : ℕ) → CallData
+  by number kind ctx node =
+      record (asks number kind) { uid = ctx.uid; gid = ctx.gid; pid = ctx.pid; node = node }
+
+  -- the same of one that makes a node
+  abbrev pub made : CallData → (kill_priv : Bool) → ExtensionValues → CallData
+  made first kill_priv ext = record first {
+    name = told.name;
+    context_name = told.context_name;
+    context = told.context;
+    group = unwrap_or ext.group 0;
+    has = bit kill_priv KILL_PRIV + (bit (is_some ext.context) CONTEXT + bit (is_some ext.group) GROUP);
+  }
+
+  abbrev pub Tells : Call → Type 0
+  Tells (call.Lookup ctx parent name) =
+      (told ≡ record (by LOOKUP ENTRY ctx parent) { name = told.name }) × IsNameIn q told.name name
+  Tells (call.Forget ctx inode count) = told ≡ record (by FORGET QUIET ctx inode) { length = count }
+  Tells (call.Getattr ctx inode handle) =
+      told ≡ record (by GETATTR ATTR ctx inode) { handle = unwrap_or handle 0; has = bit (is_some handle) HANDLE }
+  Tells (call.Setattr ctx inode attr handle valid) =
+      told ≡ record (record (by SETATTR ATTR ctx inode) { attr = setattr_of attr; flags = valid })
+      { handle = unwrap_or handle 0; has = bit (is_some handle) HANDLE }
+  Tells (call.Readlink ctx inode) = told ≡ by READLINK TEXT ctx inode
+  Tells (call.Symlink ctx text parent name ext) =
+      (told ≡ record (made (by SYMLINK ENTRY ctx parent) false ext) { other_name = told.other_name })
+      × IsNameIn q told.name name × IsNameIn q told.other_name text × TellsContext q told ext.context
+  Tells (call.Mknod ctx inode name mode rdev umask ext) =
+      (told ≡ record (made (by MKNOD ENTRY ctx inode) false ext) { mode = mode; rdev = rdev; umask = umask })
+      × IsNameIn q told.name name × TellsContext q told ext.context
+  Tells (call.Mkdir ctx parent name mode umask ext) =
+      (told ≡ record (made (by MKDIR ENTRY ctx parent) false ext) { mode = mode; umask = umask })
+      × IsNameIn q told.name name × TellsContext q told ext.context
+  Tells (call.Unlink ctx parent name) =
+      (told ≡ record (by UNLINK DONE ctx parent) { name = told.name }) × IsNameIn q told.name name
+  Tells (call.Rmdir ctx parent name) =
+      (told ≡ record (by RMDIR DONE ctx parent) { name = told.name }) × IsNameIn q told.name name
+  Tells (call.Rename ctx olddir oldname newdir newname flags) =
+      (told ≡ record (record (by RENAME DONE ctx olddir) { other_node = newdir; flags = flags })
+      { name = told.name; other_name = told.other_name })
+      × IsNameIn q told.name oldname × IsNameIn q told.other_name newname
+  Tells (call.Link ctx inode newparent newname) =
+      (told ≡ record (by LINK ENTRY ctx inode) { other_node = newparent; name = told.name })
+      × IsNameIn q told.name newname
+  Tells (call.Open ctx inode kill_priv flags) =
+      told ≡ record (by OPEN OPENED ctx inode) { has = bit kill_priv KILL_PRIV; flags = flags }
+  Tells (call.Read ctx inode handle space size offset owner flags) =
+      told ≡ record (record (by READ DATA ctx inode) { handle = handle; size = size; offset = offset; flags = flags })
+      { length = space; lock_owner = unwrap_or owner 0; has = bit (is_some owner) OWNER }
+  Tells (call.Write ctx inode handle bytes size offset owner delayed kill_priv flags) =
+      (told ≡ record (record (record (by WRITE WRITTEN ctx inode) { handle = handle; size = size; offset = offset })
+      { «data» = told.data; flags = flags; lock_owner = unwrap_or owner 0 })
+      { has = bit (is_some owner) OWNER + (bit delayed DELAYED + bit kill_priv KILL_PRIV) })
+      × Stand q told.data bytes
+  Tells (call.Statfs ctx inode) = told ≡ by STATFS STATISTICS ctx inode
+  Tells (call.Release ctx inode flags handle flush flock_release owner) =
+      told ≡ record (record (by RELEASE DONE ctx inode) { handle = handle; flags = flags })
+      { lock_owner = unwrap_or owner 0; has = bit (is_some owner) OWNER + (bit flush FLUSHES + bit flock_release FLOCK_RELEASE) }
+  Tells (call.Fsync ctx inode datasync handle) =
+      told ≡ record (by FSYNC DONE ctx inode) { has = bit datasync DATASYNC; handle = handle }
+  Tells (call.Setxattr ctx inode name value flags extra) =
+      (told ≡ record (record (by SETXATTR DONE ctx inode) { flags = flags; more = extra })
+      { name = told.name; «data» = told.data })
+      × IsNameIn q told.name name × Stand q told.data value
+  Tells (call.Getxattr ctx inode name size) =
+      (told ≡ record (by GETXATTR TEXT_OR_COUNT ctx inode) { name = told.name; size = size })
+      × IsNameIn q told.name name
+  Tells (call.Listxattr ctx inode size) = told ≡ record (by LISTXATTR TEXT_OR_COUNT ctx inode) { size = size }
+  Tells (call.Removexattr ctx inode name) =
+      (told ≡ record (by REMOVEXATTR DONE ctx inode) { name = told.name }) × IsNameIn q told.name name
+  Tells (call.Flush ctx inode handle lock_owner) =
+      told ≡ record (by FLUSH DONE ctx inode) { handle = handle; lock_owner = lock_owner }
+  Tells (call.Init capable) = told ≡ record (asks INIT WANT) { length = capable }
+  Tells (call.Opendir ctx inode flags) = told ≡ record (by OPENDIR OPENED ctx inode) { flags = flags }
+  Tells (call.Readdir ctx inode handle size offset) =
+      told ≡ record (by READDIR DIRECTORY ctx inode) { handle = handle; size = size; offset = offset }
+  Tells (call.Releasedir ctx inode flags handle) =
+      told ≡ record (by RELEASEDIR DONE ctx inode) { flags = flags; handle = handle }
+  Tells (call.Fsyncdir ctx inode datasync handle) =
+      told ≡ record (by FSYNCDIR DONE ctx inode) { has = bit datasync DATASYNC; handle = handle }
+  Tells call.Getlk = told ≡ asks GETLK FAULT_OR_SILENCE
+  Tells call.Setlk = told ≡ asks SETLK FAULT_OR_SILENCE
+  Tells call.Setlkw = told ≡ asks SETLKW FAULT_OR_SILENCE
+  Tells (call.Access ctx inode mask) = told ≡ record (by ACCESS DONE ctx inode) { more = mask }
+  Tells (call.Create ctx parent name mode kill_priv flags umask ext) =
+      (told ≡ record (made (by CREATE CREATED ctx parent) kill_priv ext) { mode = mode; flags = flags; umask = umask })
+      × IsNameIn q told.name name × TellsContext q told ext.context
+  Tells call.Bmap = told ≡ asks BMAP FAULT_OR_SILENCE
+  Tells call.Destroy = told ≡ asks DESTROY QUIET
+  Tells call.Ioctl = told ≡ asks IOCTL FAULT_OR_SILENCE
+  Tells call.Poll = told ≡ asks POLL FAULT_OR_SILENCE
+  Tells call.NotifyReply = told ≡ asks NOTIFY_REPLY FAULT_OR_SILENCE
+  Tells (call.BatchForget ctx pairs) =
+      (told ≡ record (by BATCH_FORGET QUIET ctx 0) { length = length pairs; «data» = told.data })
+      × (told.data.len ≡ length pairs * size_of forget_one) × Spell q told.data pairs
+  Tells (call.Fallocate ctx inode handle mode offset length) =
+      told ≡ record (by FALLOCATE DONE ctx inode) { handle = handle; mode = mode; offset = offset; length = length }
+  Tells (call.Lseek ctx inode handle offset whence) =
+      told ≡ record (by LSEEK OFFSET ctx inode) { handle = handle; offset = offset; more = whence }
+  Tells (call.Copyfilerange ctx inode_in handle_in offset_in inode_out handle_out offset_out len flags) =
+      told ≡ record (record (by COPY WRITTEN ctx inode_in) { handle = handle_in; offset = offset_in; length = len })
+      { other_node = inode_out; other_handle = handle_out; other_offset = offset_out; lock_owner = flags }
+  Tells (call.Syncfs ctx inode) = told ≡ by SYNCFS DONE ctx inode
+  Tells call.Tmpfile = told ≡ asks TMPFILE FAULT
+
+-- What is asked for is a call, or a directory, and these data tell it.
+abbrev pub TellsAsked : (q : List ℕ) → (told : CallData) → Ask → Type 0
+TellsAsked q told (Ends reply) = ⊥
+TellsAsked q told (Asks echo call) = Tells q told (of_request echo told) call
+TellsAsked q told (Lists echo l) =
+    told ≡ record (by q told (of_request echo told) READDIR DIRECTORY l.ctx l.parent)
+    { handle = l.handle; size = l.size; offset = l.offset; has = bit l.plus PLUS }
+TellsAsked q told (WithMemory rest) = TellsAsked q told rest
+
+-- these data tell what this request asks for, with the options and the room that they say
+abbrev pub AreOf : Limits → (q : List ℕ) → (told : CallData) → Type 0
+AreOf limits q told = TellsAsked q told (ask limits told.options told.room q)
+
+-- the request that a request interrupts, and 0 where it is no whole INTERRUPT
+abbrev pub interrupted : Limits → (q : List ℕ) → ℕ
+interrupted limits q =
+    if nat_lt (length q) (size_of in_header + size_of interrupt_in) || nat_lt (max_len limits) (value_of in_header q).len
+    || not ((value_of in_header q).opcode == number_of Interrupt)
+    then 0
+    else (value_of interrupt_in (drop (size_of in_header) q)).unique

@@ -1,0 +1,20 @@
+-- A session that was handed over in one call, as a history.
+use Rattle.std.specs.Prelude.{ℕ, List, map, Option, Result}
+use Rattle.fuse_segments.specs.Unread.{Unread}
+use Rattle.fuse_segments.specs.Written.{Written}
+use Rattle.fs_trait.specs.Values.{Item}
+use Rattle.fs_trait.specs.Calls.{Call, Handed}
+use Rattle.fuse_grammar.specs.declared.error.Error.{Error}
+use Rattle.fuse_server.specs.Session.{IsSession}
+use Rattle.fuse_server.specs.Step.{ServerState}
+use Rattle.laws_history.specs.History.{Handled, IsHistory}
+
+module _ {S I : Type 0}
+    (allows : S → Call → Handed I → S → Type 0) (gives : I → Option Item → I → Type 0) where
+  -- a session is a history of the turns that it has
+  abbrev pub SessionsAreHistories : Type 0
+  SessionsAreHistories =
+      (old new : ServerState S) (readers : List Unread) (writers : List Written)
+      (outcomes : List (Result ℕ Error)) (writers_after : List Written)
+      → (s : IsSession allows gives old readers writers outcomes writers_after new)
+      → IsHistory allows gives old (map Handled s.turns) new

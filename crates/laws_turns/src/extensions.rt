@@ -1,0 +1,36 @@
+//! What holds of extensions, as laws: each function does nothing, and its clause says what was
+//! proved.
+
+ghost use Rattle.std.specs.Prelude.{◌≡◌, ◌<◌, ◌^◌, ◌++◌, ℕ, List, length, IsTrue, IsFalse, is_some, Ok, Some, None};
+ghost use Rattle.fuse_flags.specs.Flags.{security_ctx, create_supp_group};
+ghost use Rattle.fs_trait.specs.Values.{ExtensionValues};
+ghost use Rattle.fuse_grammar.specs.Extensions.{Block, cut_of, has_option};
+ghost use Rattle.fuse_grammar.specs.Words.{extensions_after};
+ghost use Rattle.laws_turns.specs.Extensions.{blocks_of, group_block, FitExtensions, IsCut, error_left};
+
+/// What is found in extensions as they are written is what was written, whatever names stand in
+/// front of them: with a context agreed on, and with a group too where there is one.
+pub fn written_extensions_are_found()
+    ensures { (options : ℕ) (names : List ℕ) (values : ExtensionValues) →
+        IsTrue (has_option options security_ctx) →
+        (IsTrue (is_some values.group) → IsTrue (has_option options create_supp_group)) →
+        FitExtensions values →
+        extensions_after options (length names) (names ++ blocks_of values) ≡ Ok values }
+{}
+
+/// The same of a group alone, where no context was agreed on.
+pub fn written_groups_are_found()
+    ensures { (options group : ℕ) (names : List ℕ) → IsFalse (has_option options security_ctx) →
+        IsTrue (has_option options create_supp_group) → group < 2 ^ 32 →
+        extensions_after options (length names) (names ++ group_block (Some group))
+        ≡ Ok (record { context = None; group = Some group }) }
+{}
+
+/// Bytes are blocks, one behind the other, and a rest that begins with none, in one way.
+pub fn extensions_are_cut_in_one_way()
+    ensures cut { (bytes : List ℕ) → (rest : List ℕ) × IsCut bytes (cut_of bytes).blocks rest
+        × ((cut_of bytes).error ≡ error_left rest) }
+    ensures only { (bytes rest other_rest : List ℕ) (blocks others : List Block) →
+        IsCut bytes blocks rest → IsCut bytes others other_rest →
+        (blocks ≡ others) × (rest ≡ other_rest) }
+{}

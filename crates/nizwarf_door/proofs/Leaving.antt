@@ -1,0 +1,109 @@
+-- What a writer leaves of its room, and what of that is there to be copied out.
+use Rattle.std.proofs.Common.{◌≡◌, ◌≤◌, ◌+◌, ◌++◌, ◌∙◌, ℕ, List, [], ◌∷◌, length, take, drop, if◌then◌else◌, Option, Some, Result, refl, ap, sym, subst, arith, length-append, append_assoc}
+use Rattle.std.proofs.lemmas.List.{drop_at, length-take-le, take_at}
+use Rattle.std.proofs.Math.Seq.{take-append-add}
+use Rattle.fuse_segments.specs.Written.{Written, whole, Leaves}
+use Rattle.fuse_messages.specs.Rooms.{Replies, with_behind}
+use Rattle.fuse_grammar.specs.Reply.{Reply, Refusal, NoReply, Bytes, OpenBehind}
+use Rattle.fuse_grammar.specs.declared.error.Error.{Error}
+use Rattle.nizwarf_door.specs.Kept.{HasRoomFor, Holds}
+use Rattle.nizwarf_door.specs.Shown.{AreFirst, bytes_in, bytes_shown, shown_of}
+use Rattle.nizwarf_door.specs.declared.memory.Memory.{Memory}
+use Rattle.nizwarf_door.specs.declared.memory.Part.{Part}
+
+-- a writer keeps what it had passed
+pub record Keeps (old new : Written) : Type 0 where
+  pub room_after : List ℕ
+  pub leaves : Leaves old room_after new
+
+pub same_keeps : (old new : Written) → new ≡ old → Keeps old new
+same_keeps old new e = rw e (record {
+  room_after = old.left;
+  leaves = record { kept = refl; same_length = refl; same_segments = refl };
+})
+
+-- also where a reply came back through it
+pub replied_keeps : (reply : Reply) (old new : Written) (outcome : Result ℕ Error)
+    → Replies reply old outcome new → Keeps old new
+replied_keeps (Refusal error) old new outcome h = same_keeps old new h.1
+replied_keeps NoReply old new outcome h = same_keeps old new h.1
+replied_keeps (Bytes reply) old new outcome h =
+    record { room_after = h.room_after; leaves = h.leaves }
+replied_keeps (OpenBehind reply) old new outcome h =
+    record { room_after = h.room_after; leaves = h.leaves }
+
+-- what holds with more room behind a writer's own holds of that alone
+pub shorter : (old new : Written) (behind : List ℕ) → Keeps (with_behind old behind) (with_behind new behind)
+    → Keeps old new
+shorter old new behind k =
+    let n = length old.left in
+    let all : whole new ++ behind ≡ old.passed ++ k.room_after =
+    append_assoc new.passed new.left behind ∙ k.leaves.kept in
+    let e1 = sym (length-append (whole new) behind) ∙ ap length all
+    ∙ length-append old.passed k.room_after in
+    let e2 : length k.room_after ≡ n + length behind =
+    k.leaves.same_length ∙ length-append old.left behind in
+    let long : length (whole new) ≡ length old.passed + n = omega (arith, e1, e2) in
+    let enough : n ≤ length k.room_after = omega (arith, e2) in
+    record {
+      room_after = take n k.room_after;
+      leaves = record {
+        kept =
+            sym (take_at (whole new) behind (length old.passed + n) long)
+            ∙ ap (take (length old.passed + n)) all
+            ∙ take-append-add old.passed k.room_after n;
+        same_length = length-take-le n k.room_after enough;
+        same_segments = k.leaves.same_segments;
+      };
+    }
+
+one_segment : (lengths bytes : List ℕ) (start shown : ℕ) → length lengths ≡ 1
+    → shown_of lengths bytes start shown ≡ take shown (drop start bytes)
+one_segment (n ∷ []) bytes start shown one = refl
+one_segment [] bytes start shown one = absurd (let e = one in cc)
+one_segment (n ∷ m ∷ lengths) bytes start shown one = absurd (omega (arith, one))
+
+-- the first bytes of the room that came back
+pub are_first : (count start : ℕ) (before after : Written) → Keeps before after
+    → start ≡ length before.passed → length before.lengths ≡ 1
+    → AreFirst count before after (shown_of after.lengths (whole after) start count)
+are_first count start before after keeps at one =
+    let same : length after.lengths ≡ 1 = ap length keeps.leaves.same_segments ∙ one in
+    let behind : drop start (whole after) ≡ keeps.room_after =
+    ap (drop start) keeps.leaves.kept ∙ drop_at before.passed keeps.room_after start (sym at) in
+    record {
+      room = keeps.room_after;
+      kept = keeps.leaves.kept;
+      first = one_segment after.lengths (whole after) start count same ∙ ap (take count) behind;
+    }
+
+-- nothing is shown of no byte
+pub none_shown : (lengths bytes : List ℕ) (start : ℕ) → shown_of lengths bytes start 0 ≡ []
+none_shown [] bytes start = refl
+none_shown (n ∷ []) bytes start = refl
+none_shown (n ∷ m ∷ lengths) bytes start = refl
+
+pub nothing_shown : (m : Memory) → m.shown ≡ 0 → bytes_shown m ≡ []
+nothing_shown m none =
+    let p : Part = if m.was_asked then m.asked else m.answers in
+    ap (bytes_in p) none ∙ none_shown p.writer.lengths (whole p.writer) p.start
+
+-- a part whose writer keeps what it had passed has as much room as before
+pub keeps_room : (n : ℕ) (old new : Part) → Keeps old.writer new.writer → HasRoomFor n old → HasRoomFor n new
+keeps_room n old new keeps has =
+    let k = keeps.leaves in
+    let long : length (whole new.writer) ≡ length (whole old.writer) =
+    ap length k.kept ∙ length-append old.writer.passed keeps.room_after
+    ∙ ap (λ (m : ℕ). length old.writer.passed + m) k.same_length
+    ∙ sym (length-append old.writer.passed old.writer.left) in
+    (ap length k.same_segments ∙ has.0, omega (arith, long, has.1))
+
+-- what a slot holds stays where its memory is taken out, keeps its room and is put back
+pub held_on : (n : ℕ) (old new : Option Memory) (taken now : Memory) → ((m : Memory) → old ≡ Some m → taken ≡ m)
+    → new ≡ Some now → (HasRoomFor n taken.answers → HasRoomFor n now.answers) → Holds n old → Holds n new
+held_on n old new taken now same put keeps h =
+    record {
+      memory = now;
+      is = put;
+      has = keeps (subst (λ (m : Memory). HasRoomFor n m.answers) (sym (same h.memory h.is)) h.has);
+    }

@@ -1,0 +1,28 @@
+use Rattle.std.proofs.Common.{◌≡◌, ◌≢◌, ◌≤◌, List, ℕ, length, ap, arith, inl, inr, rules}
+use Rattle.fuse_flags.specs.Numbers.{opcode_of}
+use Rattle.fuse_wire.specs.Fields.{number}
+use Rattle.fuse_grammar.specs.Samples.{lookup_of_a}
+use Rattle.fuse_segments.specs.Segments.{flat_bytes, segments_of}
+use Rattle.c_rooms.specs.Codes.{no_memory}
+use Rattle.nizwarf_door.proofs.Lookup.{are_limits, asked_for, looked_up}
+use Rattle.nizwarf_door.proofs.uses.ask_lookup_in_a_slot.Goals as goal
+
+pub returns-clause-code : goal.returns-clause-code
+unfolding number opcode_of
+returns-clause-code c =
+    let bytes : flat_bytes (segments_of c.args.lookup.now) ≡ lookup_of_a = ap (λ (x : List (List ℕ)). flat_bytes x) c.requires.bytes in
+    let few : length c.args.lookup.now ≤ 4 = omega (arith, c.requires.one) in
+    let has : c.nizwarf_ask_at.result ≢ no_memory =
+    c.nizwarf_ask_at.ensures.memory (rw bytes c.requires.slot) few (rw c.requires.bytes (λ cut. let a = cut in cc)) in
+    let told = asked_for _ _ _ _ _ (looked_up _ _ _ _ _ _ bytes (c.nizwarf_ask_at.ensures.asked are_limits)) has in
+    let is = told.0 in
+    search rules
+
+pub returns-clause-call : goal.returns-clause-call
+unfolding number opcode_of
+returns-clause-call c =
+    let bytes : flat_bytes (segments_of c.args.lookup.now) ≡ lookup_of_a = ap (λ (x : List (List ℕ)). flat_bytes x) c.requires.bytes in
+    let few : length c.args.lookup.now ≤ 4 = omega (arith, c.requires.one) in
+    let has : c.nizwarf_ask_at.result ≢ no_memory =
+    c.nizwarf_ask_at.ensures.memory (rw bytes c.requires.slot) few (rw c.requires.bytes (λ cut. let a = cut in cc)) in
+    (asked_for _ _ _ _ _ (looked_up _ _ _ _ _ _ bytes (c.nizwarf_ask_at.ensures.asked are_limits)) has).1

@@ -1,0 +1,73 @@
+-- What C is told of a call that was answered.
+use Rattle.std.specs.Prelude.{◌≡◌, ◌≤◌, ◌==◌, ◌||◌, ◌&&◌, if◌then◌else◌, ◌⊎◌, ℕ, ℤ, pos, List, [], length, Option, Some, None, IfSome}
+use Rattle.std.specs.Ordering.{int_eq}
+use Rattle.fuse_segments.specs.Written.{Written}
+use Rattle.fuse_grammar.specs.declared.limits.Limits.{Limits}
+use Rattle.door_calls.specs.declared.call.CallData.{CallData}
+use Rattle.door_calls.specs.declared.call.kind.TheConstants as kind
+use Rattle.door_calls.specs.declared.data.AnswerData.{AnswerData}
+use Rattle.door_calls.specs.declared.data.ItemData.{ItemData}
+use Rattle.door_answer.specs.Kinds.{kind_told}
+use Rattle.door_answer.specs.Answering.{Answers}
+use Rattle.door_answer.specs.Told.{AnswersEachCall, AnswersEachListing}
+use Rattle.door_answer.specs.declared.answered.Answered.{Answered}
+use Rattle.c_rooms.specs.Codes.{no_memory, not_asked, number_of, length_of}
+use Rattle.nizwarf_door.specs.Kept.{put_of}
+use Rattle.nizwarf_door.specs.Shown.{AreFirst}
+use Rattle.nizwarf_door.specs.declared.data.ToldData.{ToldData}
+
+-- the node of the entry that was answered to a call whose answers have one, and 0 where there is none
+abbrev pub entry_of : CallData → AnswerData → ℕ
+entry_of call a =
+    if (call.answer == kind.ENTRY || call.answer == kind.CREATED) && int_eq a.error (pos 0) then a.entry.node
+    else 0
+
+-- what is told of an answer: how long the reply is, the options, and what is to be given back
+abbrev pub answered : CallData → Answered → ToldData → ToldData
+answered call came told = record told {
+  len = length_of came.outcome;
+  put = put_of call (length_of came.outcome);
+  options = came.options;
+  give_back = came.given;
+  taken = came.taken;
+}
+
+-- What is told of this: the number of the outcome, and the reply's bytes to be copied out; or that the
+-- call can't be answered.
+abbrev pub IsPassedOn : Option Answered → CallData → (before after : Written) → (code : ℤ)
+    → (told told_after : ToldData) → (shown : List ℕ) → Type 0
+IsPassedOn None call before after code told told_after shown =
+    (code ≡ not_asked) × (told_after ≡ told) × (shown ≡ [])
+IsPassedOn (Some came) call before after code told told_after shown =
+    (code ≡ number_of came.outcome)
+    × (told_after ≡ answered call came told)
+    × AreFirst (put_of call (length_of came.outcome)) before after shown
+
+-- The call was answered, with a writer that had as many bytes left as it is to have.
+pub record AnswersIn (limits : Limits) (call : CallData) (a : AnswerData) (text : List ℕ)
+    (items : List ItemData) (code : ℤ) (told told_after : ToldData) (shown : List ℕ) : Type 0 where
+  pub before : Written
+  pub space : length before.left ≡ put_of call call.room
+  pub result : Option Answered
+  pub after : Written
+  pub by_kind :
+      Answers limits (kind_told call.answer call.size) call a text items before result after
+  pub calls : AnswersEachCall limits call a text before result after
+  pub listings : AnswersEachListing limits call a items before result after
+  pub within : IfSome result (λ came. came.taken ≤ length items)
+  pub passed_on : IsPassedOn result call before after code told told_after shown
+
+-- The call was not answered, for want of memory: an entry is to be given back, and nothing is there to
+-- be copied out.
+pub record IsNotAnswered (call : CallData) (a : AnswerData) (code : ℤ) (told told_after : ToldData)
+    (shown : List ℕ) : Type 0 where
+  pub why : code ≡ no_memory
+  pub entry_back : told_after ≡ record told { give_back = entry_of call a }
+  pub nothing : shown ≡ []
+
+-- a call was answered, or not
+abbrev pub AnswersOrNot : (limits : Limits) → (call : CallData) → (a : AnswerData) → (text : List ℕ)
+    → (items : List ItemData) → (code : ℤ) → (told told_after : ToldData) → (shown : List ℕ) → Type 0
+AnswersOrNot limits call a text items code told told_after shown =
+    AnswersIn limits call a text items code told told_after shown
+    ⊎ IsNotAnswered call a code told told_after shown

@@ -1,0 +1,49 @@
+-- Which memory a slot has.
+use Rattle.std.specs.Prelude.{◌≡◌, ◌≤◌, ◌==◌, ◌⊎◌, if◌then◌else◌, ⊤, ℕ, ℤ, length, min, Option, Some}
+use Rattle.fuse_segments.specs.Written.{whole}
+use Rattle.fuse_grammar.specs.Forms.{Ask, Ends, Asks, Lists, WithMemory}
+use Rattle.door_calls.specs.Shapes.{nothing, shape_of}
+use Rattle.door_calls.specs.declared.call.CallData.{CallData}
+use Rattle.door_calls.specs.declared.call.kind.TheConstants as kind
+use Rattle.c_rooms.specs.Codes.{is_asked, no_memory}
+use Rattle.nizwarf_door.specs.declared.memory.Part.{Part}
+use Rattle.nizwarf_door.specs.declared.memory.Memory.{Memory}
+
+-- Of so many bytes of a reply, or of its room, those that are put: all, but of a READ the header's 16 at
+-- most. Behind them the data are the caller's.
+abbrev pub put_of : CallData → (len : ℕ) → ℕ
+put_of call len = if call.answer == kind.DATA then min len 16 else len
+
+-- A call is told, and then this holds; or for want of memory none is.
+abbrev pub TellsOrNot : (code : ℤ) → (call call_after : CallData) → (kept : Type 0) → Type 0
+TellsOrNot code call call_after kept =
+    ((code ≡ is_asked) × (call_after ≡ call) × kept) ⊎ ((code ≡ no_memory) × (call_after ≡ nothing))
+
+-- this memory has one segment, of at least so many bytes: such a room takes none
+abbrev pub HasRoomFor : (room : ℕ) → Part → Type 0
+HasRoomFor room p = (length p.writer.lengths ≡ 1) × (room ≤ length (whole p.writer))
+
+-- this memory has room for any answer to the call that a request asks for, if it asks for one, with so much room
+abbrev pub HasFor : (room : ℕ) → Ask → Part → Type 0
+HasFor room (Ends reply) p = ⊤
+HasFor room (Asks echo call) p = HasRoomFor (put_of (shape_of call) room) p
+HasFor room (Lists echo l) p = HasRoomFor room p
+HasFor room (WithMemory rest) p = HasFor room rest p
+
+-- a slot has memory for an answer of so many bytes
+pub record Holds (count : ℕ) (slot : Option Memory) : Type 0 where
+  pub memory : Memory
+  pub is : slot ≡ Some memory
+  pub has : HasRoomFor count memory.answers
+
+-- a slot has memory for any answer to this call
+abbrev pub HoldsAnswer : CallData → Option Memory → Type 0
+HoldsAnswer call slot = Holds (put_of call call.room) slot
+
+-- A slot has memory for what comes of a request that asks this, with so much room: for the reply, if it asks for no
+-- call, and else for any answer to its call.
+pub record HoldsFor (room : ℕ) (asks : Ask) (slot : Option Memory) : Type 0 where
+  pub memory : Memory
+  pub is : slot ≡ Some memory
+  pub reply : HasRoomFor (min room 80) memory.asked
+  pub answer : HasFor room asks memory.answers

@@ -1,0 +1,104 @@
+-- What C is promised of a request that is asked for its call, and of the call that is answered.
+use Rattle.std.specs.Prelude.{◌≡◌, ◌⊎◌, ◌==◌, ◌++◌, if◌then◌else◌, ℕ, ℤ, List, [], ◌∷◌, length, take, Option, Some, None, Result}
+use Rattle.fs_trait.specs.Calls.{Answer, kind_of}
+use Rattle.fs_trait.specs.Runs.{Event, Called}
+use Rattle.fuse_grammar.specs.Ask.{ask}
+use Rattle.fuse_grammar.specs.Forms.{Ask, Ends, Asks, Lists, WithMemory}
+use Rattle.fuse_grammar.specs.Listing.{IsDirectory, given_back}
+use Rattle.fuse_grammar.specs.Turn.{Turn, IsTurn}
+use Rattle.fuse_grammar.specs.declared.error.Error.{Error}
+use Rattle.fuse_grammar.specs.declared.limits.Limits.{Limits}
+use Rattle.door_calls.specs.Shapes.{nothing}
+use Rattle.door_calls.specs.declared.call.CallData.{CallData}
+use Rattle.door_calls.specs.declared.data.AnswerData.{AnswerData}
+use Rattle.door_calls.specs.declared.data.ItemData.{ItemData}
+use Rattle.door_answer.specs.Listing.{IsOfferedBy}
+use Rattle.door_answer.specs.Said.{IsSaid}
+use Rattle.laws_flight.specs.Table.{AreOf, interrupted}
+use Rattle.c_rooms.specs.Codes.{is_asked, no_memory, not_asked, number_of, length_of}
+use Rattle.nizwarf_door.specs.Answering.{entry_of}
+use Rattle.nizwarf_door.specs.Asking.{IsNotAsked}
+use Rattle.nizwarf_door.specs.Kept.{put_of}
+use Rattle.nizwarf_door.specs.declared.data.ToldData.{ToldData}
+
+module _ (limits : Limits) (options : ℕ) (request : List ℕ) (room : ℕ) (code : ℤ) (call : CallData)
+    (told told_after : ToldData) (shown : List ℕ) where
+  -- The call that the request asks for is told, with the options and the room that it was asked with.
+  pub record TellsCall : Type 0 where
+    pub code_is : code ≡ is_asked
+    pub is_of : AreOf limits request call
+    pub same_options : call.options ≡ options
+    pub same_room : call.room ≡ room
+    pub same_told : told_after ≡ told
+    pub none_shown : shown ≡ []
+
+  -- The request asks for no call, or is refused: a turn of the grammar in a room of this length, whose outcome is told,
+  -- and whose reply is there to be copied out.
+  pub record Finishes : Type 0 where
+    pub turn : Turn
+    pub is_turn : IsTurn limits options turn options
+    pub of_request : turn.request ≡ request
+    pub in_room : length turn.room ≡ room
+    pub no_event : turn.events ≡ []
+    pub code_is : code ≡ number_of turn.outcome
+    pub no_call : call ≡ nothing
+    pub told_is : told_after ≡ record told {
+      len = length_of turn.outcome;
+      put = length_of turn.outcome;
+      interrupts = interrupted limits request;
+    }
+    pub shown_is : shown ≡ take (length_of turn.outcome) turn.room_after
+
+  -- what comes of asking: one of these, or it was not asked
+  abbrev pub IsAskedOrNot : Type 0
+  IsAskedOrNot = TellsCall ⊎ Finishes ⊎ IsNotAsked request code call told told_after shown
+
+module _ (a : AnswerData) (text : List ℕ) (items : List ItemData) where
+  -- What happened since the request was asked, which asks this: the call, with the answer that the data say, and that
+  -- the entry was given back which is told to be; or that the directory was read from the items that were offered.
+  abbrev pub Happened : Ask → (room : List ℕ) → ToldData → List Event → Type 0
+  Happened (Ends reply) room told events = ⊥
+  Happened (Asks echo asked) room told events =
+      (answer : Answer) × IsSaid a text room (kind_of asked) answer
+      × (events ≡ Called asked answer
+      ∷ given_back echo.ctx (if told.give_back == 0 then None else Some told.give_back))
+      × (told.taken ≡ 0)
+  Happened (Lists echo l) room told events =
+      (records : List ℕ) × (answer : Result ℕ (Option ℕ)) × (read : IsDirectory l events records answer)
+      × IsOfferedBy a items l events records answer read told.taken × (told.give_back ≡ 0)
+  Happened (WithMemory rest) room told events = Happened rest room told events
+
+module _ (limits : Limits) (call : CallData) (a : AnswerData) (text : List ℕ) (items : List ItemData) (code : ℤ)
+    (told told_after : ToldData) (shown : List ℕ) where
+  -- The call was answered: of each request of which the data are, with whatever behind the bytes of the room that are
+  -- put here, this is a turn of the grammar, under the options that it was asked with.
+  pub record AnswersCall : Type 0 where
+    pub room : List ℕ
+    pub outcome : Result ℕ Error
+    pub room_after : List ℕ
+    pub length_is : length room ≡ put_of call call.room
+    pub turn : (request behind : List ℕ) → AreOf limits request call → length (room ++ behind) ≡ call.room
+        → (events : List Event)
+        × Happened a text items (ask limits call.options call.room request) (room ++ behind) told_after events
+        × IsTurn limits call.options (record {
+          request = request;
+          room = room ++ behind;
+          events = events;
+          outcome = outcome;
+          room_after = room_after ++ behind;
+        }) told_after.options
+    pub code_is : code ≡ number_of outcome
+    pub len : told_after.len ≡ length_of outcome
+    pub put : told_after.put ≡ put_of call (length_of outcome)
+    pub same_interrupts : told_after.interrupts ≡ told.interrupts
+    pub shown_is : shown ≡ take (put_of call (length_of outcome)) room_after
+
+  -- It was not, since there is no memory, and the entry is to be given back; or since the data are of no request.
+  pub record IsUnanswered : Type 0 where
+    pub why : ((code ≡ no_memory) × (told_after ≡ record told { give_back = entry_of call a }))
+        ⊎ ((code ≡ not_asked) × (told_after ≡ told) × ((request : List ℕ) → AreOf limits request call → ⊥))
+    pub none_shown : shown ≡ []
+
+  -- what comes of answering
+  abbrev pub IsAnsweredOrNot : Type 0
+  IsAnsweredOrNot = AnswersCall ⊎ IsUnanswered

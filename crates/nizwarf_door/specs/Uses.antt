@@ -1,0 +1,49 @@
+-- What small callers of the library say.
+use Rattle.std.specs.Prelude.{◌≡◌, ◌+◌, ℕ, ℤ, List, [], ◌∷◌, length, Some}
+use Rattle.fuse_segments.specs.Written.{Written}
+use Rattle.fuse_messages.specs.Rooms.{with_behind}
+use Rattle.fuse_grammar.specs.Samples.{lookup_of_a}
+use Rattle.door_calls.specs.declared.call.CallData.{CallData}
+use Rattle.door_calls.specs.declared.call.number.TheConstants.{LOOKUP}
+use Rattle.door_calls.specs.declared.call.kind.TheConstants.{ENTRY}
+use Rattle.door_calls.specs.declared.data.AnswerData.{AnswerData}
+use Rattle.door_calls.specs.declared.data.ItemData.{ItemData}
+use Rattle.fuse_grammar.specs.declared.limits.Limits.{Limits}
+use Rattle.door_ask.specs.Asked.{IsNameIn}
+use Rattle.door_answer.specs.declared.answered.Answered.{Answered}
+use Rattle.laws_flight.specs.OneTurn.{IsAnsweredTurn}
+use Rattle.nizwarf_door.specs.Answering.{IsPassedOn}
+use Rattle.nizwarf_door.specs.declared.data.ToldData.{ToldData}
+
+abbrev pub usual_limits : Limits
+usual_limits = record { page_size = 4096; max_buffer = 1048576 }
+
+-- the call that request 9 asks for, a LOOKUP of the name `a` in node 1, with 4096 bytes of room
+pub record IsLookupOfA (call : CallData) : Type 0 where
+  pub unique : call.unique ≡ 9
+  pub readahead : call.readahead ≡ 0
+  pub options : call.options ≡ 0
+  pub room : call.room ≡ 4096
+  pub number : call.call ≡ LOOKUP
+  pub kind : call.answer ≡ ENTRY
+  pub size : call.size ≡ 0
+  pub node : call.node ≡ 1
+  pub name : IsNameIn lookup_of_a call.name (0x61 ∷ [])
+
+-- the reply to request 9 that says ENOENT: 16 bytes, and the error number 2 negated
+abbrev pub no_such_name : List ℕ
+no_such_name =
+    0x10 ∷ 0 ∷ 0 ∷ 0 ∷ 0xfe ∷ 0xff ∷ 0xff ∷ 0xff ∷ 9 ∷ 0 ∷ 0 ∷ 0 ∷ 0 ∷ 0 ∷ 0 ∷ 0 ∷ []
+
+-- A request with so much room was one turn of the grammar, with this answer to the call that was told, whatever stood
+-- in the room behind the first bytes that were put; and what came of it was told so.
+pub record IsOneTurn (limits : Limits) (options : ℕ) (request : List ℕ) (room : ℕ) (call : CallData)
+    (a : AnswerData) (text : List ℕ) (items : List ItemData) (code : ℤ) (told told_after : ToldData)
+    (shown : List ℕ) : Type 0 where
+  pub before : Written
+  pub came : Answered
+  pub after : Written
+  pub turn : (behind : List ℕ) → length before.left + length behind ≡ room
+      → IsAnsweredTurn limits options request a text items (with_behind before behind) came
+      (with_behind after behind)
+  pub passed_on : IsPassedOn (Some came) call before after code told told_after shown

@@ -1,0 +1,265 @@
+//! Asking a request for its call.
+
+ghost use Rattle.std.specs.Prelude.{◌≡◌, ◌≢◌, ◌≤◌, ◌++◌, ◌∷◌, [], ℕ, ⊤, false, length, min, true, MatchOption};
+ghost use Rattle.fuse_flags.specs.Flags.{fs_options_bits};
+ghost use Rattle.fuse_segments.specs.Lengths.{lengths_from};
+ghost use Rattle.fuse_segments.specs.Segments.{segments_of, flat_bytes, lengths_of};
+ghost use Rattle.fuse_segments.specs.Written.{Written};
+ghost use Rattle.fuse_grammar.specs.Ask.{ask as ask_of};
+ghost use Rattle.fuse_grammar.specs.Limits.{AreLimits};
+ghost use Rattle.door_calls.specs.Shapes.{nothing};
+ghost use Rattle.door_ask.specs.Asked.{IsAsked};
+ghost use Rattle.door_ask.specs.Memory.{MayWant};
+ghost use Rattle.door_ask.specs.declared.asked.Asked.TheVariants.{Call as IsCall};
+ghost use Rattle.c_rooms.specs.Codes.{is_asked, length_of, no_memory, number_of};
+ghost use Rattle.nizwarf_door.specs.Asking.{AsksOrNot, unread_in};
+ghost use Rattle.nizwarf_door.specs.Kept.{HasFor, HasRoomFor, TellsOrNot, put_of};
+ghost use Rattle.nizwarf_door.specs.Session.{limits_of, options_of};
+ghost use Rattle.nizwarf_door.specs.Shown.{bytes_shown};
+
+use crate::answer::{HEADER_SIZE, put_of};
+use crate::data::{SessionData, ToldData};
+use crate::memory::{Memory, Part};
+use crate::rest::ask_pieces;
+use c_rooms::codes::{ASKED, OK, OUT_OF_MEMORY, TOO_LONG, told as code_of};
+use door_ask::{Asked, LONGEST_REPLY, ask, ask_at_once};
+use door_calls::{CallData, kind, number};
+use fuse_flags::FsOptions;
+use fuse_grammar::{Limits, Result};
+use fuse_segments::Reader;
+use fuse_wire::parts::part_at;
+use fuse_wire::{ByteValued, InHeader};
+use std::alloc::Global;
+
+/// Where a header has its opcode.
+const OPCODE_PLACE: usize = 4;
+
+/// The number of an outcome, and the length of the reply, 0 where there is none.
+pub fn number_and_length(outcome: &Result<usize>) -> (i32, usize)
+    ensures number { result.0 ≡ number_of outcome.now }
+    ensures length { result.1 ≡ length_of outcome.now }
+{
+    match outcome {
+        Ok(len) => (OK, *len),
+        Err(error) => (code_of(error, 0).0, 0),
+    }
+}
+
+/// The code of a request that isn't asked. No call is told.
+#[cold]
+#[inline(never)]
+pub fn not_asked(code: i32, call: &mut CallData) -> i32
+    ensures code { result ≡ code }
+    ensures none { call.new ≡ nothing }
+{
+    *call = CallData::NONE;
+    code
+}
+
+// Whether this is memory for any answer to a call. Where it isn't found to be so at once, it may be.
+#[inline(always)]
+fn has_for(part: &Part, call: &CallData) -> bool
+    ensures { result ≡ true → HasRoomFor (put_of call.now call.now.room) part.now }
+{
+    part.has(call.room as usize) || (call.answer == kind::DATA && part.has(HEADER_SIZE))
+}
+
+// Takes memory for any answer to a call, and tells it; else none is told.
+#[inline(never)]
+fn take_and_tell(alloc: Global, memory: &mut Memory, call: &mut CallData) -> i32
+    ensures told { TellsOrNot result call.old call.new
+        (HasRoomFor (put_of call.old call.old.room) memory.new.answers) }
+    ensures has { HasRoomFor (put_of call.old call.old.room) memory.old.answers → result ≡ is_asked }
+    ensures keeps { (n : ℕ) → HasRoomFor n memory.old.answers → HasRoomFor n memory.new.answers }
+    ensures same_shown { memory.new.shown ≡ memory.old.shown }
+{
+    let room = put_of(call, call.room as usize);
+    if memory.answers.keep(alloc, room) {
+        return ASKED;
+    }
+    not_asked(OUT_OF_MEMORY, call)
+}
+
+/// Tells a call, if there is memory for any answer to it, which is kept. Else none is told.
+#[inline(always)]
+pub fn tell_call(alloc: Global, memory: &mut Memory, call: &mut CallData) -> i32
+    ensures told { TellsOrNot result call.old call.new
+        (HasRoomFor (put_of call.old call.old.room) memory.new.answers) }
+    ensures has { HasRoomFor (put_of call.old call.old.room) memory.old.answers → result ≡ is_asked }
+    ensures keeps { (n : ℕ) → HasRoomFor n memory.old.answers → HasRoomFor n memory.new.answers }
+    ensures same_shown { memory.new.shown ≡ memory.old.shown }
+{
+    if has_for(&memory.answers, call) {
+        return ASKED;
+    }
+    take_and_tell(alloc, memory, call)
+}
+
+/// Asks the request in these segments, with `room` bytes of room: the code of what came of it. Most have their header
+/// in one piece, and in one all that follows it.
+#[inline(always)]
+pub fn ask_segments(
+    alloc: Global,
+    memory: &mut Memory,
+    limits: Limits,
+    options: FsOptions,
+    request: &[&[u8]],
+    room: usize,
+    call: &mut CallData,
+    told: &mut ToldData,
+) -> i32
+    requires { AreLimits limits }
+    ensures asked { AsksOrNot limits (fs_options_bits options)
+        (flat_bytes (segments_of request.now)) room
+        result call.new told.old told.new (bytes_shown memory.new) }
+    ensures memory { HasRoomFor (min room 80) memory.old.asked →
+        HasFor room (ask_of limits (fs_options_bits options) room (flat_bytes (segments_of request.now)))
+        memory.old.answers → length request.now ≤ 4 →
+        ¬ (MayWant limits (fs_options_bits options) room (unread_in (segments_of request.now))) →
+        result ≢ no_memory }
+    ensures kept { result ≡ is_asked → HasRoomFor (put_of call.new call.new.room) memory.new.answers }
+    ensures keeps { (n : ℕ) → HasRoomFor n memory.old.answers → HasRoomFor n memory.new.answers }
+{
+    match header_and_rest(request) {
+        Some((head, rest)) => {
+            ask_pieces(alloc, memory, limits, options, head, rest, room, call, told)
+        }
+        None => ask_cut(alloc, memory, limits, options, request, room, call, told),
+    }
+}
+
+// The same, wherever the segments are cut.
+#[cold]
+#[inline(never)]
+fn ask_cut(
+    alloc: Global,
+    memory: &mut Memory,
+    limits: Limits,
+    options: FsOptions,
+    request: &[&[u8]],
+    room: usize,
+    call: &mut CallData,
+    told: &mut ToldData,
+) -> i32
+    requires { AreLimits limits }
+    ensures asked { AsksOrNot limits (fs_options_bits options)
+        (flat_bytes (segments_of request.now)) room
+        result call.new told.old told.new (bytes_shown memory.new) }
+    ensures memory { HasRoomFor (min room 80) memory.old.asked →
+        HasFor room (ask_of limits (fs_options_bits options) room (flat_bytes (segments_of request.now)))
+        memory.old.answers → length request.now ≤ 4 →
+        ¬ (MayWant limits (fs_options_bits options) room (unread_in (segments_of request.now))) →
+        result ≢ no_memory }
+    ensures kept { result ≡ is_asked → HasRoomFor (put_of call.new call.new.room) memory.new.answers }
+    ensures keeps { (n : ℕ) → HasRoomFor n memory.old.answers → HasRoomFor n memory.new.answers }
+{
+    memory.shown = 0;
+    match Reader::new(alloc, request) {
+        Ok(reader) => ask_reader(alloc, memory, limits, options, reader, room, call, told),
+        Err(fuse_segments::Error::DescriptorChainOverflow) => not_asked(TOO_LONG, call),
+        Err(_) => not_asked(OUT_OF_MEMORY, call),
+    }
+}
+
+/// Whether a request in one segment or in two is a LOOKUP, a GETATTR, a READ or a WRITE, if its header is whole. No promise
+/// stands on it: what is told is the same.
+#[inline(always)]
+pub fn is_asked_most(request: &[&[u8]]) -> bool {
+    if request.is_empty() || request.len() > 2 || request[0].len() < InHeader::SIZE {
+        return false;
+    }
+    matches!(
+        part_at::<u32>(request[0], OPCODE_PLACE),
+        number::LOOKUP | number::GETATTR | number::READ | number::WRITE
+    )
+}
+
+// The header of a request and all that follows it, where each lies in one piece.
+#[inline(always)]
+fn header_and_rest<'a>(request: &[&'a [u8]]) -> Option<(&'a [u8], &'a [u8])>
+    ensures { MatchOption result ⊤ (λ parts. (length parts.0.now ≡ 40)
+        × (flat_bytes (segments_of request.now) ≡ parts.0.now ++ parts.1.now)
+        × (lengths_from 40 (lengths_from 0 (lengths_of (segments_of request.now)))
+        ≡ lengths_from 0 (length parts.1.now ∷ []))) }
+{
+    if request.len() == 1 && request[0].len() >= InHeader::SIZE {
+        let all = request[0];
+        return Some((&all[..InHeader::SIZE], &all[InHeader::SIZE..]));
+    }
+    if request.len() == 2 && request[0].len() == InHeader::SIZE {
+        return Some((request[0], request[1]));
+    }
+    None
+}
+
+/// Asks at once a request in one segment, or in two of which the first is the header, where it is one of those
+/// that are asked for most. False where it is to be asked by a reader: then nothing is told.
+#[inline(always)]
+pub fn ask_in_two(
+    session: &SessionData,
+    request: &[&[u8]],
+    room: usize,
+    call: &mut CallData,
+) -> bool
+    ensures limits { result ≡ true → AreLimits (limits_of session.now) }
+    ensures told { result ≡ true → (w after : Written) → length w.left ≡ room →
+        IsAsked (limits_of session.now) (options_of session.now)
+        (flat_bytes (segments_of request.now)) w IsCall after call.new }
+    ensures same { result ≡ false → call.new ≡ call.old }
+{
+    let Some((head, rest)) = header_and_rest(request) else {
+        return false;
+    };
+    let Some(limits) = session.limits() else {
+        return false;
+    };
+    ask_at_once(limits, session.options(), head, rest, room, call)
+}
+
+// Asks the request that this reader has left.
+fn ask_reader(
+    alloc: Global,
+    memory: &mut Memory,
+    limits: Limits,
+    options: FsOptions,
+    reader: Reader<'_>,
+    room: usize,
+    call: &mut CallData,
+    told: &mut ToldData,
+) -> i32
+    requires { AreLimits limits }
+    ensures asked { AsksOrNot limits (fs_options_bits options) reader.entry.left room
+        result call.new told.old told.new (bytes_shown memory.new) }
+    ensures memory { HasRoomFor (min room 80) memory.old.asked →
+        HasFor room (ask_of limits (fs_options_bits options) room reader.entry.left) memory.old.answers →
+        ¬ (MayWant limits (fs_options_bits options) room reader.entry) → result ≢ no_memory }
+    ensures kept { result ≡ is_asked → HasRoomFor (put_of call.new call.new.room) memory.new.answers }
+    ensures keeps { (n : ℕ) → HasRoomFor n memory.old.answers → HasRoomFor n memory.new.answers }
+{
+    if !memory.begin_ask(alloc, room.min(LONGEST_REPLY)) {
+        return not_asked(OUT_OF_MEMORY, call);
+    }
+    let asked = ask(
+        alloc,
+        limits,
+        options,
+        reader,
+        room,
+        &mut memory.asked.writer,
+        call,
+    );
+    match asked {
+        Asked::Call => tell_call(alloc, memory, call),
+        Asked::Finished {
+            outcome,
+            interrupts,
+        } => {
+            let (code, len) = number_and_length(&outcome);
+            memory.shown = len;
+            told.len = len as u64;
+            told.put = len as u64;
+            told.interrupts = interrupts;
+            code
+        }
+    }
+}

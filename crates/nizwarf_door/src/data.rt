@@ -1,0 +1,79 @@
+//! What C hands in and is told, in the order of the header's fields.
+
+ghost use Rattle.std.specs.Prelude.{◌≡◌, MatchOption};
+ghost use Rattle.fuse_flags.specs.Flags.{fs_options_bits};
+ghost use Rattle.fuse_grammar.specs.Limits.{AreLimits};
+ghost use Rattle.nizwarf_door.specs.Session.{limits_of, options_of};
+
+use bitflags::Flags;
+use fuse_flags::{FsOptions, GREATEST_MAX_BUFFER, LEAST_MAX_BUFFER};
+use fuse_grammar::Limits;
+
+/// What is agreed on with a client (`nizwarf_session`).
+#[repr(C)]
+#[derive(Clone, Copy)]
+pub struct SessionData {
+    /// The options: `flags` of INIT are bits 0 to 31, its `flags2` bits 32 to 63. None before an
+    /// INIT.
+    pub options: u64,
+    /// The size of a page of the machine, in bytes.
+    pub page_size: u32,
+    /// The largest payload of a request or a reply, in bytes.
+    pub max_buffer: u32,
+}
+
+impl SessionData {
+    /// The sizes. `None` where they are none of a server.
+    pub fn limits(&self) -> Option<Limits>
+        ensures { MatchOption result (AreLimits (limits_of self.now) → ⊥) (λ limits.
+            (limits ≡ limits_of self.now) × AreLimits (limits_of self.now)) }
+    {
+        let (page_size, max_buffer) = (self.page_size, self.max_buffer);
+        if page_size < 4096 || max_buffer < LEAST_MAX_BUFFER || max_buffer > GREATEST_MAX_BUFFER {
+            return None;
+        }
+        Some(Limits {
+            page_size,
+            max_buffer,
+        })
+    }
+
+    /// The options, without bits that the protocol doesn't have.
+    #[tactic(auto, unfolding(bitflags::proofs::OnLiterals::bitflags_on_literals))]
+    pub fn options(&self) -> FsOptions
+        ensures { fs_options_bits result ≡ options_of self.now }
+    {
+        FsOptions::from_bits_truncate(self.options)
+    }
+}
+
+/// What came of a request (`nizwarf_told`).
+#[repr(C)]
+#[derive(Clone, Copy)]
+pub struct ToldData {
+    /// The length of the reply in bytes, 0 where there is none.
+    pub len: u64,
+    /// How many of its bytes are there to be copied out: all, but of a READ the header's 16 at
+    /// most.
+    pub put: u64,
+    /// The options from now on.
+    pub options: u64,
+    /// The node of which a lookup is to be given back, or 0.
+    pub give_back: u64,
+    /// How many items of a directory are in the reply.
+    pub taken: u64,
+    /// The number of the request that an INTERRUPT means, or 0.
+    pub interrupts: u64,
+}
+
+impl ToldData {
+    /// Nothing is told.
+    pub const NOTHING: ToldData = ToldData {
+        len: 0,
+        put: 0,
+        options: 0,
+        give_back: 0,
+        taken: 0,
+        interrupts: 0,
+    };
+}

@@ -1,0 +1,34 @@
+//! Messages as lines of text.
+
+ghost use Rattle.std.specs.Prelude.{◌≡◌, ◌<◌, codes, length};
+ghost use Rattle.fuse_print.specs.Lines.{HasLine, IsLine};
+
+use bitflags::Flags;
+use fuse_flags::FsOptions;
+use fuse_print::Message;
+
+/// Writes a request as a line over the first bytes of `text`, as many as fit before a 0. `options` are
+/// those that are agreed on.
+///
+/// Answers how many bytes the whole line has. It has nothing but printable ASCII.
+#[unsafe(no_mangle)]
+pub extern "C" fn nizwarf_print_request_at(request: &[u8], options: u64, text: &mut [u8]) -> usize
+    ensures line { 0 < length text.old → IsLine result text.old text.new }
+    ensures no_header { length request.now < 40 →
+        HasLine (codes "refused=DecodeMessage") result text.old text.new }
+{
+    let options = FsOptions::from_bits_truncate(options);
+    Message::Request(request, options).write_line(text)
+}
+
+/// The same of the reply to a request, of which the first 48 bytes are enough.
+#[unsafe(no_mangle)]
+pub extern "C" fn nizwarf_print_reply_at(request: &[u8], reply: &[u8], text: &mut [u8]) -> usize
+    ensures line { 0 < length text.old → IsLine result text.old text.new }
+    ensures none { length reply.now ≡ 0 →
+        HasLine (codes "-> no reply") result text.old text.new }
+    ensures no_header { 0 < length reply.now → length reply.now < 16 →
+        HasLine (codes "-> refused=DecodeMessage") result text.old text.new }
+{
+    Message::Reply(request, reply).write_line(text)
+}

@@ -1,0 +1,16 @@
+-- A handle of taken memory goes from thread to thread, as the memory does.
+use denote.Param.Send.{IsSend}
+use Rattle.std.proofs.alloc.Global.TheSendSync as heap
+use Rattle.nizwarf_tree.specs.contracts.memory.Memory as Memory
+use Rattle.nizwarf_tree.proofs.memory.Memory.TheSendSync.{the_send}
+use Rattle.nizwarf_tree.specs.contracts.taken.Taken.{the_row}
+use Rattle.nizwarf_tree.proofs.Crosses.{held_keyless}
+
+pub send : IsSend the_row
+send = record {
+  owned = λ h vs. (
+    (λ vss. (tt, (tt, (heap.the_field_send.owned _ vss.1.0, tt)))),
+    held_keyless Memory.the_row the_send h.alloc h.at h.value,
+  );
+  leaving = λ k d w. tt;
+}

@@ -1,0 +1,96 @@
+//! How requests of rows are answered.
+
+ghost use Rattle.std.specs.Prelude.{◌≡◌, ◌⊎◌, ℕ, List, drop};
+ghost use Rattle.fs_trait.specs.Calls.{Answer};
+ghost use Rattle.door_calls.specs.declared.call.kind.TheConstants as kind;
+ghost use Rattle.door_further.specs.Further.{Short};
+ghost use Rattle.nizwarf_tree.specs.Files.{row_answer};
+ghost use Rattle.nizwarf_tree.specs.Offered.{AsksRow, what_asked};
+ghost use Rattle.nizwarf_tree.specs.Served.{Refused, RowInC, SaysText};
+
+use crate::files::{MOST_TEXT, answer_row};
+use crate::instance::Instance;
+use crate::offered::row_limits;
+use c_rooms::codes::OUT_OF_MEMORY;
+use door_calls::{AnswerData, CallData};
+use door_further::answer_offered;
+use door_further::laws::{
+    a_short_request_is_one_offered_turn, asked_and_answered_is_one_offered_turn,
+};
+use fuse_grammar::Error;
+use std::alloc::Global;
+
+impl Instance {
+    /// Answers a call of a row, as the file system does.
+    pub fn answer_row(&mut self, alloc: Global, call: &CallData, total: usize) -> (i32, usize)
+        requires text { call.now.answer ≡ kind.TEXT }
+        requires room { call.now.room ≡ total }
+        ensures { (request : List ℕ) → AsksRow self.old.server total request call.now →
+            RowInC self.old.server request total
+            result.0 result.1 (drop self.new.start self.new.room.items) self.new.shown
+            self.new.server
+            ⊎ Refused self.old.server request result.0 result.1 self.new.shown self.new.server }
+    {
+        let mut text = [0; MOST_TEXT];
+        match answer_row(self.server.fs(), call, &mut text) {
+            Ok(len) => self.reply(alloc, call, &AnswerData::default(), &text[..len], total),
+            Err(errno) => {
+                let failed = AnswerData {
+                    error: errno.get(),
+                    ..AnswerData::default()
+                };
+                self.reply(alloc, call, &failed, &[], total)
+            }
+        }
+    }
+
+    // Replies to a call of a row what the data and the text say.
+    fn reply(
+        &mut self,
+        alloc: Global,
+        call: &CallData,
+        answer: &AnswerData,
+        text: &[u8],
+        total: usize,
+    ) -> (i32, usize)
+        requires text { call.now.answer ≡ kind.TEXT }
+        requires room { call.now.room ≡ total }
+        ensures { (request : List ℕ) → AsksRow self.old.server total request call.now →
+            SaysText call.now answer.now text.now (row_answer self.old.server.fs call.now) →
+            RowInC self.old.server request total
+            result.0 result.1 (drop self.new.start self.new.room.items) self.new.shown
+            self.new.server
+            ⊎ Refused self.old.server request result.0 result.1 self.new.shown self.new.server }
+    {
+        asked_and_answered_is_one_offered_turn();
+        self.shown = 0;
+        let Some(mut writer) = self.lend_room(alloc, total) else {
+            return (OUT_OF_MEMORY, 0);
+        };
+        let limits = row_limits(&self.server);
+        let came = answer_offered(limits, call, answer, text, &[], &mut writer);
+        self.keep_room(alloc, writer.into_segments(), total);
+        match came {
+            Some(answered) => self.end(&answered.outcome, total),
+            // (there was all the room that was told)
+            None => (OUT_OF_MEMORY, 0),
+        }
+    }
+
+    /// Refuses a request of a row whose record, or what it says that follows, is cut.
+    pub fn refuse_short(&mut self, alloc: Global, total: usize) -> (i32, usize)
+        ensures { (request : List ℕ) → what_asked self.old.server.limits request ≡ Short →
+            RowInC self.old.server request total
+            result.0 result.1 (drop self.new.start self.new.room.items) self.new.shown
+            self.new.server
+            ⊎ Refused self.old.server request result.0 result.1 self.new.shown self.new.server }
+    {
+        a_short_request_is_one_offered_turn();
+        self.shown = 0;
+        let Some(writer) = self.lend_room(alloc, total) else {
+            return (OUT_OF_MEMORY, 0);
+        };
+        self.keep_room(alloc, writer.into_segments(), total);
+        self.end(&Err(Error::DecodeMessage), total)
+    }
+}

@@ -1,0 +1,185 @@
+//! Requests and replies as bytes, the servers that tests hand them to, and the texts of errors.
+
+use fs_mock::{Recorder, Script};
+use fuse_server::descriptor_utils::{Reader, Writer};
+use fuse_server::filesystem::FileSystem;
+use fuse_server::server::Server;
+use std::alloc::{AllocError, Global};
+use std::fmt::{Debug, Display};
+use std::test::Fail;
+
+/// What came of a request that was not refused: the reply's length, and the bytes of the room
+/// afterwards.
+pub type Outcome = (usize, Vec<u8>);
+
+/// A request with this opcode and node, and these bytes behind its header. Its `len` counts all of
+/// them, its `unique` is 9, and all else in the header is 0.
+pub fn request(alloc: Global, opcode: u8, node: u8, behind: &[u8]) -> Result<Vec<u8>, AllocError> {
+    let mut header = [0; 40];
+    header[..8].copy_from_slice(&(40 + behind.len()).to_le_bytes());
+    header[4] = opcode;
+    header[8] = 9;
+    header[16] = node;
+    let mut all = Vec::from_slice(alloc, &header)?;
+    all.extend_from_slice(behind)?;
+    Ok(all)
+}
+
+/// That what a test looked at holds. Where it could not be looked at, the failure says why.
+pub fn holds<E: Into<Fail>>(looked: Result<bool, E>) -> Result<(), Fail> {
+    match looked {
+        Ok(true) => Ok(()),
+        Ok(false) => Err(Fail::from("it does not hold")),
+        Err(error) => Err(error.into()),
+    }
+}
+
+/// That no row of a table is wrong. The failure names the first that is, or says why they could not
+/// be looked at.
+pub fn none_is_wrong<T: Debug + Drop, E: Into<Fail>>(
+    looked: Result<Option<T>, E>,
+) -> Result<(), Fail> {
+    match looked {
+        Ok(None) => Ok(()),
+        Ok(Some(wrong)) => Err(Fail::from(wrong)),
+        Err(error) => Err(error.into()),
+    }
+}
+
+/// Segments of these lengths, in which each byte is this one.
+pub fn filled(alloc: Global, lengths: &[usize], byte: u8) -> Result<Vec<Vec<u8>>, AllocError> {
+    let mut segments = Vec::new(alloc);
+    for length in lengths {
+        segments.push(vec![in alloc; byte; *length]?)?;
+    }
+    Ok(segments)
+}
+
+/// Whether segments have these bytes.
+pub fn are(segments: &[Vec<u8>], want: &[&[u8]]) -> bool {
+    if segments.len() != want.len() {
+        return false;
+    }
+    for i in 0..want.len() {
+        if segments[i].as_slice() != want[i] {
+            return false;
+        }
+    }
+    true
+}
+
+/// The bytes of segments, one after another.
+pub fn joined(alloc: Global, segments: &[Vec<u8>]) -> Result<Vec<u8>, AllocError> {
+    let mut all = Vec::new(alloc);
+    for segment in segments {
+        all.extend_from_slice(segment)?;
+    }
+    Ok(all)
+}
+
+/// Whether an error has this text.
+pub fn has_text<E: Display>(alloc: Global, error: &E, text: &str) -> Result<bool, AllocError> {
+    let shown = format!(in alloc; "{error}")?;
+    Ok(shown.as_str() == text)
+}
+
+/// Whether each error has its text.
+pub fn have_texts<E: Display>(alloc: Global, rows: &[(E, &str)]) -> Result<bool, AllocError> {
+    for (error, text) in rows {
+        if !has_text(alloc, error, text)? {
+            return Ok(false);
+        }
+    }
+    Ok(true)
+}
+
+/// A message: its opcode, its node, and the bytes behind its header.
+pub type Message<'a> = (u8, u8, &'a [u8]);
+
+/// Hands a server a message with a room of segments of these lengths, without a zero in them, of
+/// which the first `held` bytes are held.
+pub fn handle<F: FileSystem>(
+    alloc: Global,
+    server: &mut Server<F>,
+    (opcode, node, behind): Message<'_>,
+    room: &[usize],
+    held: usize,
+) -> Result<Outcome, Fail> {
+    let request = request(alloc, opcode, node, behind)?;
+    handle_request(alloc, server, &request, room, held)
+}
+
+/// A writer over a room of segments of these lengths, of which the first `held` bytes are held.
+pub fn writer_over(alloc: Global, room: &[usize], held: usize) -> Result<Writer, Fail> {
+    let mut writer = Writer::new(alloc, filled(alloc, room, 0xaa)?)?;
+    writer.hold(held)?;
+    Ok(writer)
+}
+
+/// The same of a request.
+fn handle_request<F: FileSystem>(
+    alloc: Global,
+    server: &mut Server<F>,
+    request: &[u8],
+    room: &[usize],
+    held: usize,
+) -> Result<Outcome, Fail> {
+    let mut writer = writer_over(alloc, room, held)?;
+    let len = hand_over(alloc, server, request, &mut writer)?;
+    Ok((len, joined(alloc, &writer.into_segments())?))
+}
+
+/// How long the reply to a request is that a server puts into a writer.
+fn hand_over<F: FileSystem>(
+    alloc: Global,
+    server: &mut Server<F>,
+    request: &[u8],
+    writer: &mut Writer,
+) -> Result<usize, Fail> {
+    let pieces = [request];
+    let reader = Reader::new(alloc, &pieces)?;
+    Ok(server.handle_message(alloc, reader, writer)?)
+}
+
+/// A server over a recorder of `n` places.
+pub fn server_over<F: Drop>(
+    alloc: Global,
+    inner: F,
+    n: usize,
+) -> Result<Server<Recorder<F>>, AllocError> {
+    match Recorder::new(alloc, inner, n) {
+        Ok(recorder) => Ok(Server::new(recorder, 4096)),
+        Err(_) => Err(AllocError),
+    }
+}
+
+/// A server over a script, with a note of each call.
+pub type ScriptServer = Server<Recorder<Script>>;
+
+/// A server over a script, with places for `n` notes.
+pub fn script_server(alloc: Global, script: Script, n: usize) -> Result<ScriptServer, AllocError> {
+    server_over(alloc, script, n)
+}
+
+/// `handle` of such a server. It is a function of its own, so that it is proved once for all tests.
+pub fn handle_by_script(
+    alloc: Global,
+    server: &mut ScriptServer,
+    message: Message<'_>,
+    room: &[usize],
+    held: usize,
+) -> Result<Outcome, Fail> {
+    handle(alloc, server, message, room, held)
+}
+
+/// The reply of such a server to a message with a room of so many bytes in one piece.
+pub fn reply_by_script(
+    alloc: Global,
+    server: &mut ScriptServer,
+    message: Message<'_>,
+    room: usize,
+) -> Result<Vec<u8>, Fail> {
+    let (len, mut room) = handle_by_script(alloc, server, message, &[room], 0)?;
+    room.truncate(len);
+    Ok(room)
+}

@@ -1,0 +1,123 @@
+//! A session: the lines of a text, answered one after another.
+
+use crate::corpus::push_corpus;
+use fuse_server::server::Server;
+use std::alloc::Global;
+use std::cell::RefCell;
+use std::collections::VecDeque;
+use std::io;
+use test_corpus::try_calls;
+use test_seeded::{SeededFs, Told, parse_told};
+use text_run::{
+    Line, RunError, answer_to, lines_before_requests, lines_of, parse_line, server_for, write_all,
+};
+
+/// What a line with an answer begins with.
+const ANSWER: &[u8] = b"answer ";
+
+/// The line that has the corpus tried.
+const CORPUS: &[u8] = b"corpus";
+
+/// The line behind which all others are requests to which memory can be refused.
+const REFUSALS: &[u8] = b"refusals";
+
+/// What a line of the input says.
+#[derive(Drop)]
+enum Said {
+    /// A request and the rooms for its reply.
+    Request(Line),
+    /// The answer of a call that is still to come.
+    Answer(Told),
+    /// The corpus of hostile messages is to be tried.
+    Corpus,
+    /// Nothing to do.
+    Comment,
+}
+
+/// Answers each line of `text` before the first bad one, or before the line `refusals`, and then
+/// writes the answers and the calls to `output`. The first line may set the server's limit, and has
+/// no answer then. For a bad line `bad line N` is written after them, where N counts all lines, and
+/// [`RunError::BadLine`] answered. Behind the line `refusals` comes what `try_calls` writes.
+pub fn run<W: io::Write + Drop>(alloc: Global, text: &[u8], mut output: W) -> Result<(), RunError> {
+    let lines = lines_of(alloc, text)?;
+    let (session, rest) = before_refusals(&lines);
+    let mut answers = String::new(alloc);
+    let outcome = answer_all(alloc, session, &mut answers);
+    write_all(&mut output, answers.as_str())?;
+    outcome?;
+    match rest {
+        Some(rest) => try_calls(alloc, rest, session.len().saturating_add(1), output),
+        None => Ok(()),
+    }
+}
+
+// The lines before the line `refusals`, and those behind it, if there is one.
+fn before_refusals<'l, 'a>(lines: &'l [&'a [u8]]) -> (&'l [&'a [u8]], Option<&'l [&'a [u8]]>) {
+    match lines.iter().position(|line| *line == REFUSALS) {
+        Some(at) => match lines.split_at_checked(at) {
+            Some((session, rest)) => (session, rest.get(1..)),
+            None => (lines, None),
+        },
+        None => (lines, None),
+    }
+}
+
+// Answers each line before the first bad one.
+fn answer_all(alloc: Global, lines: &[&[u8]], answers: &mut String) -> Result<(), RunError> {
+    let told = RefCell::new(VecDeque::new(alloc));
+    let mut server = server_for(SeededFs::new(alloc, &told), lines);
+    let before = lines_before_requests(lines);
+    for (index, line) in lines.iter().enumerate().skip(before) {
+        match read_line(alloc, line)? {
+            Some(Said::Request(request)) => {
+                push_answer(alloc, &mut server, &request, answers)?;
+            }
+            Some(Said::Answer(answer)) => {
+                if let Ok(mut told) = told.try_borrow_mut() {
+                    told.push_back(answer)?;
+                }
+            }
+            Some(Said::Corpus) => push_corpus(alloc, answers)?,
+            Some(Said::Comment) => {}
+            None => {
+                let number = index + 1;
+                writeln!(answers, "bad line {number}")?;
+                return Err(RunError::BadLine(number));
+            }
+        }
+    }
+    Ok(())
+}
+
+// Reads a line, given without its newline. It is `None` where the line has none of the forms.
+fn read_line(alloc: Global, line: &[u8]) -> Result<Option<Said>, RunError> {
+    if line.starts_with(b"#") {
+        return Ok(Some(Said::Comment));
+    }
+    if line == CORPUS {
+        return Ok(Some(Said::Corpus));
+    }
+    if let Some(told) = line.strip_prefix(ANSWER) {
+        return Ok(parse_told(alloc, told)?.map(Said::Answer));
+    }
+    Ok(parse_line(alloc, line)?.map(Said::Request))
+}
+
+// Appends the server's answer to a request, and the calls that it made.
+fn push_answer(
+    alloc: Global,
+    server: &mut Server<SeededFs<'_>>,
+    request: &Line,
+    answers: &mut String,
+) -> Result<(), RunError> {
+    let noted = server.fs().notes().text().len();
+    answers.push_str(answer_to(alloc, server, request)?.as_str())?;
+    let notes = server.fs().notes();
+    if notes.lacks() {
+        return Err(RunError::OutOfMemory);
+    }
+    if let Some(new) = notes.text().get(noted..) {
+        answers.push_str(new)?;
+    }
+    Ok(())
+}

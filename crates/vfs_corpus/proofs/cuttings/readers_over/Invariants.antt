@@ -1,9 +1,0 @@
-use Rattle.std.proofs.Common.{◌≡◌, ◌≤◌, length, vec_len}
-use Rattle.vfs_corpus.proofs.cuttings.readers_over.Given as goal
-
-abbrev pub invariant-loop-count : goal.invariant-loop-count
-invariant-loop-count l =
-    record {
-      count : vec_len l.readers ≡ l.count-index;
-      within : l.start ≤ length l.fn.pieces;
-    }

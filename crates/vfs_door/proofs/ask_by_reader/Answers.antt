@@ -1,8 +1,0 @@
-use Rattle.vfs_door.proofs.Leaving.{held_on}
-use Rattle.vfs_door.proofs.ask_by_reader.Goals as goal
-
-pub returns-clause-keeps : goal.returns-clause-keeps
-returns-clause-keeps c n holds =
-    held_on n c.args.handle.now.value c.put.new.self.value c.in-Some-memory_of.memory.value c.ask_segments-code.new.memory
-    c.in-Some-memory_of.ensures.kept c.put.ensures
-    (λ has. c.ask_segments-code.ensures.keeps n (rw c.deref_mut.ensures.value has)) holds

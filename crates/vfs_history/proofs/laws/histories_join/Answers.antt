@@ -1,5 +1,0 @@
-use Rattle.vfs_history.proofs.Going.{join}
-use Rattle.vfs_history.proofs.laws.histories_join.Goals as goal
-
-pub returns : goal.returns
-returns g c = join g.F.FileSystem.allows g.F.DirIter.DirectoryIterator.gives

@@ -1,5 +1,0 @@
-use Rattle.vfs_history.proofs.Going.{is_cut}
-use Rattle.vfs_history.proofs.laws.history_is_cut.Goals as goal
-
-pub returns : goal.returns
-returns g c = is_cut g.F.FileSystem.allows g.F.DirIter.DirectoryIterator.gives

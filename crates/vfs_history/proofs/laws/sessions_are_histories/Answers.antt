@@ -1,5 +1,0 @@
-use Rattle.vfs_history.proofs.Sessions.{of_session}
-use Rattle.vfs_history.proofs.laws.sessions_are_histories.Goals as goal
-
-pub returns : goal.returns
-returns g c = of_session g.F.FileSystem.allows g.F.DirIter.DirectoryIterator.gives

@@ -1,7 +1,0 @@
-use Rattle.vfs_history.proofs.Calling.{served_one}
-use Rattle.vfs_history.proofs.uses.serve_one.Goals as goal
-
-pub returns : goal.returns
-returns g c =
-    served_one g.F.FileSystem.allows g.F.DirIter.DirectoryIterator.gives
-    c.history_goes_on.ensures.served c.history_keeps_books.ensures _ _ _ _ _ c.serve.ensures.served

@@ -1,5 +1,0 @@
-use Rattle.vfs_in_flight.proofs.OneTurn.{are_one_turn}
-use Rattle.vfs_in_flight.proofs.laws.asked_and_answered_is_one_turn.Goals as goal
-
-pub returns : goal.returns
-returns c = are_one_turn

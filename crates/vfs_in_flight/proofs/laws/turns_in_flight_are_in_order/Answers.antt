@@ -1,5 +1,0 @@
-use Rattle.vfs_in_flight.proofs.Flight.{in_order}
-use Rattle.vfs_in_flight.proofs.laws.turns_in_flight_are_in_order.Goals as goal
-
-pub returns : goal.returns
-returns c = in_order

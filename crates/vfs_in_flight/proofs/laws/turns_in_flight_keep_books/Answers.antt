@@ -1,5 +1,0 @@
-use Rattle.vfs_in_flight.proofs.Flight.{keep_books}
-use Rattle.vfs_in_flight.proofs.laws.turns_in_flight_keep_books.Goals as goal
-
-pub returns : goal.returns
-returns c = keep_books

@@ -1,5 +1,0 @@
-use Rattle.vfs_in_flight.proofs.Telling.{told_is_call}
-use Rattle.vfs_in_flight.proofs.laws.what_is_told_is_the_call.Goals as goal
-
-pub returns : goal.returns
-returns c = told_is_call

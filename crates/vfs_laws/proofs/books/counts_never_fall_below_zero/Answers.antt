@@ -1,5 +1,0 @@
-use Rattle.vfs_laws.proofs.InOrder.{never_below, are_each_turns}
-use Rattle.vfs_laws.proofs.books.counts_never_fall_below_zero.Goals as goal
-
-pub returns : goal.returns
-returns c = λ limits options after n turns some are within. never_below n some limits turns (are_each_turns limits options turns after are) within

@@ -1,5 +1,0 @@
-use Rattle.vfs_laws.proofs.OneTurn.{turn_books}
-use Rattle.vfs_laws.proofs.books.each_turn_balances.Goals as goal
-
-pub returns : goal.returns
-returns c = λ limits options after n t some turn. turn_books n limits options t after some turn

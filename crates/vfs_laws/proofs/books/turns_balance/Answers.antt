@@ -1,5 +1,0 @@
-use Rattle.vfs_laws.proofs.InOrder.{turns_books, are_each_turns}
-use Rattle.vfs_laws.proofs.books.turns_balance.Goals as goal
-
-pub returns : goal.returns
-returns c = λ limits options after n turns some are. turns_books n some limits turns (are_each_turns limits options turns after are)

@@ -1,5 +1,0 @@
-use Rattle.vfs_laws.proofs.WrittenBlocks.{extensions_after-written}
-use Rattle.vfs_laws.proofs.extensions.written_extensions_are_found.Goals as goal
-
-pub returns : goal.returns
-returns c options names values = extensions_after-written options names values

@@ -1,5 +1,0 @@
-use Rattle.vfs_laws.proofs.WrittenBlocks.{extensions_after-group}
-use Rattle.vfs_laws.proofs.extensions.written_groups_are_found.Goals as goal
-
-pub returns : goal.returns
-returns c options group names = extensions_after-group options group names

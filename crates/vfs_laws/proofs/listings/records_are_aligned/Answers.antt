@@ -1,5 +1,0 @@
-use Rattle.vfs_grammar.proofs.Dirents.{length-record_bytes}
-use Rattle.vfs_laws.proofs.listings.records_are_aligned.Goals as goal
-
-pub returns-clause-length : goal.returns-clause-length
-returns-clause-length c = length-record_bytes

@@ -1,5 +1,0 @@
-use Rattle.vfs_laws.proofs.EachTurn.{destroyed}
-use Rattle.vfs_laws.proofs.turns.destroy_leaves_no_options.Goals as goal
-
-pub returns : goal.returns
-returns c = λ limits options after answer t turn e. destroyed limits options after answer t turn e

@@ -1,5 +1,0 @@
-use Rattle.vfs_laws.proofs.EachTurn.{enough_memory}
-use Rattle.vfs_laws.proofs.turns.memory_is_wanted_for_copies.Goals as goal
-
-pub returns : goal.returns
-returns c = λ limits options after t turn o. enough_memory limits options after t turn o

@@ -1,5 +1,0 @@
-use Rattle.vfs_laws.proofs.EachTurn.{memory_wanted}
-use Rattle.vfs_laws.proofs.turns.memory_is_wanted_for_whole_tails.Goals as goal
-
-pub returns : goal.returns
-returns c = λ limits options after t turn o. memory_wanted limits options after t o turn

@@ -1,5 +1,0 @@
-use Rattle.vfs_laws.proofs.EachTurn.{agrees}
-use Rattle.vfs_laws.proofs.turns.options_are_agreed.Goals as goal
-
-pub returns : goal.returns
-returns c = λ limits options after offered want t turn e. agrees limits options after offered want t turn e

@@ -1,5 +1,0 @@
-use Rattle.vfs_laws.proofs.EachTurn.{kept}
-use Rattle.vfs_laws.proofs.turns.other_requests_keep_the_options.Goals as goal
-
-pub returns : goal.returns
-returns c = λ limits options after t turn no_init no_destroy. kept limits options after t turn no_init no_destroy

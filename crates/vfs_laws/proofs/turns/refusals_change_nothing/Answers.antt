@@ -1,5 +1,0 @@
-use Rattle.vfs_laws.proofs.EachTurn.{nothing_changed}
-use Rattle.vfs_laws.proofs.turns.refusals_change_nothing.Goals as goal
-
-pub returns : goal.returns
-returns c = λ limits options after t e turn o n. nothing_changed limits options after t e turn o n

@@ -1,5 +1,0 @@
-use Rattle.vfs_laws.proofs.EachTurn.{begins}
-use Rattle.vfs_laws.proofs.turns.replies_begin_with_their_header.Goals as goal
-
-pub returns : goal.returns
-returns c = λ limits options after n t turn o some. begins limits options after n t turn o some

@@ -1,5 +1,0 @@
-use Rattle.vfs_laws.proofs.Cutting.{cut_off}
-use Rattle.vfs_laws.proofs.turns.unfit_replies_are_cut_off.Goals as goal
-
-pub returns : goal.returns
-returns c = λ limits options after t turn o. cut_off limits options after t turn o

@@ -1,5 +1,0 @@
-use Rattle.vfs_laws.proofs.Lines.{refused_is}
-use Rattle.vfs_laws.proofs.uses.listings.a_directory_that_is_refused.Goals as goal
-
-pub returns : goal.returns
-returns c = refused_is

@@ -1,5 +1,0 @@
-use Rattle.std.proofs.Common.{rules}
-use Rattle.vfs_nodes.proofs.node.Node.set_attr.Goals as goal
-
-pub returns : goal.returns
-returns c = search rules

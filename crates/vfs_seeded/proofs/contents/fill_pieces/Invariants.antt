@@ -1,5 +1,0 @@
-use Rattle.vfs_views.specs.Views.{IsSameRoom}
-use Rattle.vfs_seeded.proofs.contents.fill_pieces.Given as goal
-
-abbrev pub invariant-loop-i : goal.invariant-loop-i
-invariant-loop-i l = IsSameRoom l.fn.view l.view

@@ -1,4 +1,0 @@
-use Rattle.vfs_tree.proofs.calls.TreeFsFileSystem.symlink.Goals as goal
-
-pub returns : goal.returns
-returns c = rw c.to_bytes.ensures at c.make.ensures

@@ -1,9 +1,0 @@
-use Rattle.std.proofs.Common.{◌∙◌, ◌++◌, ℕ, List, [], ap}
-use Rattle.vfs_uses.proofs.DirectoryCallers.{seen-readdir}
-use Rattle.vfs_uses.proofs.server.read_one_record.Goals as goal
-
-pub returns : goal.returns
-returns g c =
-    let same = c.in-Ok.ensures.ok.0 ∙ ap (λ (l : List ℕ). l ++ []) c.as_slice.ensures in
-    seen-readdir g.F.FileSystem.allows g.F.DirIter.DirectoryIterator.gives c.args.server.now c.args.w.now c.handle_message.result
-    c.handle_message.new.w c.handle_message.new.self (rw same at c.handle_message.ensures.directories) c.requires.limit c.requires.passed c.requires.room

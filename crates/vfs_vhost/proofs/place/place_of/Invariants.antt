@@ -1,5 +1,0 @@
-use Rattle.vfs_vhost.specs.Places.{NoneHas}
-use Rattle.vfs_vhost.proofs.place.place_of.Given as goal
-
-abbrev pub invariant-loop-i : goal.invariant-loop-i
-invariant-loop-i l = NoneHas l.view l.address l.len l.regions l.i
