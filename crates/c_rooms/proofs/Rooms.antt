@@ -16,7 +16,7 @@ only_room rest room one =
     let none : rest ≡ [] = nil_from_length rest (omega (arith, n, m, one)) in
     rw none (sym (append-nil room.items))
 
--- of a room whose last bytes alone are not passed over, so many are left
+-- of a room whose last bytes alone are not passed over, that many are left
 pub end_left : (room : Vec ℕ Global) (total : ℕ) → total ≤ vec_len room
     → length (drop (vec_len room - total) (flat_bytes (contents (room ∷ [])))) ≡ total
 end_left room total within =

@@ -51,7 +51,7 @@ abbrev pub length_of : Result ℕ Error → ℕ
 length_of (Ok len) = len
 length_of (Err error) = 0
 
--- how many bytes of a room of so many are there to be copied out: the reply's; and all of them where
+-- how many bytes of a room of that many are there to be copied out: the reply's; and all of them where
 -- the reply was too long for the room, and the room has space for its header of 16 bytes
 abbrev pub shown_of : Result ℕ Error → (room : ℕ) → ℕ
 shown_of (Ok len) room = len

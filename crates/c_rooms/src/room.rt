@@ -50,7 +50,7 @@ fn end_of(alloc: Global, list: Vec<Vec<u8>>, room: Vec<u8>, total: usize) -> Opt
 }
 
 /// A writer with `total` bytes left, the last ones of this memory, which grows where it has less;
-/// the list is what the memory stands in. `None` where there is no memory.
+/// the list is what the memory is in. `None` where there is no memory.
 pub fn lend(alloc: Global, list: Vec<Vec<u8>>, room: Vec<u8>, total: usize) -> Option<Writer>
     ensures left { IfSome result (λ w. length w.left ≡ total) }
     ensures one { IfSome result (λ w. length w.lengths ≡ 1) }

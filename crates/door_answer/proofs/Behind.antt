@@ -1,12 +1,12 @@
--- A reply whose header alone is put: its data stand behind the header already, in the writer's room or further
--- behind.
+-- A reply whose header alone is put: its data come after the header already, in the writer's room or further
+-- after.
 use Rattle.std.proofs.Common.{◌≡◌, ◌≤◌, ◌+◌, ◌∙◌, ℕ, List, ◌++◌, length, take, drop, Option, Result, Ok, refl, ap, sym, arith, append_assoc, length-append, length-take, length-drop}
 use Rattle.std.proofs.lemmas.List.{take_at, drop-append-le, take-append-drop}
 use Rattle.fuse_wire.specs.Fields.{bytes_of}
 use Rattle.fuse_wire.specs.Records.{out_header}
 use Rattle.fuse_segments.specs.Written.{Written, whole, wrote}
-use Rattle.fuse_messages.specs.Rooms.{data_header, Replies, with_behind}
-use Rattle.fuse_messages.proofs.Rooms.{whole_behind}
+use Rattle.fuse_messages.specs.Rooms.{data_header, Replies, with_after}
+use Rattle.fuse_messages.proofs.Rooms.{whole_after}
 use Rattle.fuse_grammar.specs.Reply.{Bytes, OpenBehind, body_reply, fault_reply}
 use Rattle.fuse_grammar.specs.declared.error.Error.{Error}
 use Rattle.fuse_grammar.proofs.Rooms.{length-header, length-body_reply, length-fault_reply, put_outcome-fits, put_room-fits}
@@ -14,12 +14,12 @@ use Rattle.fuse_grammar.proofs.Rooms.{length-header, length-body_reply, length-f
 abbrev header : (count unique : ℕ) → List ℕ
 header count unique = bytes_of out_header (data_header (Ok count) unique)
 
--- all bytes of a writer into which a header was written, with more room behind
+-- all bytes of a writer into which a header was written, with more room after
 header_whole : (old : Written) (head behind : List ℕ) → length head ≡ 16 → 16 ≤ length old.left
-    → whole (with_behind (wrote old head) behind) ≡ old.passed ++ (head ++ drop 16 (old.left ++ behind))
+    → whole (with_after (wrote old head) behind) ≡ old.passed ++ (head ++ drop 16 (old.left ++ behind))
 header_whole old head behind n h = rw (n, drop-append-le 16 old.left behind h) (append_assoc old.passed head (drop 16 old.left ++ behind))
 
--- the data behind a header, and what stands behind them
+-- the data after a header, and what comes after them
 data_stand : (count unique : ℕ) (rest : List ℕ) → count ≤ length rest
     → header count unique ++ rest ≡ body_reply (take count rest) unique ++ drop count rest
 data_stand count unique rest h =
@@ -28,7 +28,7 @@ data_stand count unique rest h =
 
 pub data_replied : (old new : Written) (behind : List ℕ) (count unique : ℕ) → 16 ≤ length old.left
     → 16 + count ≤ length (old.left ++ behind) → new ≡ wrote old (header count unique)
-    → Replies (OpenBehind (body_reply (take count (drop 16 (old.left ++ behind))) unique)) (with_behind old behind) (Ok (16 + count)) (with_behind new behind)
+    → Replies (OpenBehind (body_reply (take count (drop 16 (old.left ++ behind))) unique)) (with_after old behind) (Ok (16 + count)) (with_after new behind)
 data_replied old new behind count unique room fits e =
     let rest = drop 16 (old.left ++ behind) in
     let h = header count unique in
@@ -40,7 +40,7 @@ data_replied old new behind count unique room fits e =
     record {
       room_after = h ++ rest;
       leaves = record {
-        kept = ap (λ (w : Written). whole (with_behind w behind)) e ∙ header_whole old h behind n room;
+        kept = ap (λ (w : Written). whole (with_after w behind)) e ∙ header_whole old h behind n room;
         same_length = same;
         same_segments = ap (λ (w : Written). w.lengths) e;
       };
@@ -53,24 +53,24 @@ data_replied old new behind count unique room fits e =
     }
 
 pub data_kept : (old new : Written) (behind : List ℕ) (count unique : ℕ) → 16 ≤ length old.left → new ≡ wrote old (header count unique)
-    → (head : List ℕ) × (length head ≡ 16) × (whole (with_behind new behind) ≡ old.passed ++ (head ++ drop 16 (old.left ++ behind)))
+    → (head : List ℕ) × (length head ≡ 16) × (whole (with_after new behind) ≡ old.passed ++ (head ++ drop 16 (old.left ++ behind)))
 data_kept old new behind count unique room e =
     let n = length-header (data_header (Ok count) unique) in
-    (header count unique, n, ap (λ (w : Written). whole (with_behind w behind)) e ∙ header_whole old (header count unique) behind n room)
+    (header count unique, n, ap (λ (w : Written). whole (with_after w behind)) e ∙ header_whole old (header count unique) behind n room)
 
--- a reply that fits, with what stands behind it and further behind
+-- a reply that fits, with what comes after it and further after
 fault_whole : (old new : Written) (behind reply : List ℕ) (outcome : Result ℕ Error) → length reply ≡ 16 → 16 ≤ length old.left
-    → Replies (Bytes reply) old outcome new → whole (with_behind new behind) ≡ old.passed ++ (reply ++ drop 16 (old.left ++ behind))
+    → Replies (Bytes reply) old outcome new → whole (with_after new behind) ≡ old.passed ++ (reply ++ drop 16 (old.left ++ behind))
 fault_whole old new behind reply outcome n room w =
     let put : w.room_after ≡ reply ++ drop 16 old.left = rw (← n) (w.says.leaves ∙ put_room-fits reply old.left (omega (arith, n, room))) in
-    whole_behind new behind
+    whole_after new behind
     ∙ ap (λ (x : List ℕ). x ++ behind) (w.leaves.kept ∙ ap (λ (x : List ℕ). old.passed ++ x) put)
     ∙ append_assoc old.passed (reply ++ drop 16 old.left) behind
     ∙ ap (λ (x : List ℕ). old.passed ++ x) (append_assoc reply (drop 16 old.left) behind ∙ ap (λ (x : List ℕ). reply ++ x) (sym (drop-append-le 16 old.left behind room)))
 
 pub fault_replied : (old new : Written) (behind : List ℕ) (fault : Option ℕ) (unique : ℕ) (outcome : Result ℕ Error) → 16 ≤ length old.left
     → Replies (Bytes (fault_reply fault unique)) old outcome new
-    → Replies (OpenBehind (fault_reply fault unique)) (with_behind old behind) outcome (with_behind new behind)
+    → Replies (OpenBehind (fault_reply fault unique)) (with_after old behind) outcome (with_after new behind)
 fault_replied old new behind fault unique outcome room w =
     let reply = fault_reply fault unique in
     let n : length reply ≡ 16 = length-fault_reply fault unique in
@@ -93,7 +93,7 @@ fault_replied old new behind fault unique outcome room w =
 
 pub fault_kept : (old new : Written) (behind : List ℕ) (fault : Option ℕ) (unique : ℕ) (outcome : Result ℕ Error) → 16 ≤ length old.left
     → Replies (Bytes (fault_reply fault unique)) old outcome new
-    → (head : List ℕ) × (length head ≡ 16) × (whole (with_behind new behind) ≡ old.passed ++ (head ++ drop 16 (old.left ++ behind)))
+    → (head : List ℕ) × (length head ≡ 16) × (whole (with_after new behind) ≡ old.passed ++ (head ++ drop 16 (old.left ++ behind)))
 fault_kept old new behind fault unique outcome room w =
     let n = length-fault_reply fault unique in
     (fault_reply fault unique, n, fault_whole old new behind (fault_reply fault unique) outcome n room w)

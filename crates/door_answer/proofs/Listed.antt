@@ -20,17 +20,17 @@ use Rattle.door_answer.specs.Listing.{listing_told, IsListed}
 use Rattle.door_answer.specs.declared.answered.Answered.{Answered}
 
 -- records were put, and perhaps the beginning of one more
-records_behind : (old held new : Written) (records beyond : List ℕ) → held ≡ held_over old 16 → 16 ≤ length old.left → Puts held (records ++ beyond) new
+records_after : (old held new : Written) (records beyond : List ℕ) → held ≡ held_over old 16 → 16 ≤ length old.left → Puts held (records ++ beyond) new
     → PutsBehindHeader old records new
-records_behind old held new records beyond e enough puts = record {
+records_after old held new records beyond e enough puts = record {
   beyond = beyond;
   enough = enough;
   moves = subst (λ (w : Written). Moves w (records ++ beyond) new) e (moves_of held new (records ++ beyond) puts);
 }
 
 -- nothing was put
-none_behind : (old held new : Written) → held ≡ held_over old 16 → 16 ≤ length old.left → new ≡ held → PutsBehindHeader old [] new
-none_behind old held new e enough same = record {
+none_after : (old held new : Written) → held ≡ held_over old 16 → 16 ≤ length old.left → new ≡ held → PutsBehindHeader old [] new
+none_after old held new e enough same = record {
   beyond = [];
   enough = enough;
   moves = subst (λ (w : Written). Moves w [] new) e (rw same (record {
@@ -88,7 +88,7 @@ module _ (call : CallData) (a : AnswerData) (items : List ItemData) (old held mi
         read = inl (record { fault = fault; events_are = refl; records_are = refl; answer_is = e });
         offered = (failed, none);
         fits = kind [] call.size counted;
-        replied = replied old [] call.size (none_behind old held mid holds enough same) counted;
+        replied = replied old [] call.size (none_after old held mid holds enough same) counted;
         same_options = same_options;
         none_given = none_given;
       }
@@ -111,7 +111,7 @@ module _ (call : CallData) (a : AnswerData) (items : List ItemData) (old held mi
         read = inr (record { takings = events; events_are = refl; listing = listing });
         offered = (none, r.offered, r.taken_is);
         fits = kind records call.size counted;
-        replied = replied old records call.size (records_behind old held mid records _ holds enough r.puts) counted;
+        replied = replied old records call.size (records_after old held mid records _ holds enough r.puts) counted;
         same_options = same_options;
         none_given = none_given;
       }

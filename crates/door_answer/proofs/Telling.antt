@@ -5,7 +5,7 @@ use Rattle.std.proofs.lemmas.Bool.Decides.{nat_tests}
 use Rattle.fuse_segments.specs.Written.{Written}
 use Rattle.fs_trait.specs.Calls.{Call, kind_of, Answer, Options, Kind, Quiet, Told, Untold, Data, Agreements, Entries, TimedAttributes, Openings, Creations, Capacities, Texts, TextsOrCounts, Offsets, Writes, Iterators, Faults}
 use Rattle.fs_trait.specs.Calls as call
-use Rattle.fuse_messages.specs.Rooms.{Replies, with_behind}
+use Rattle.fuse_messages.specs.Rooms.{Replies, with_after}
 use Rattle.fuse_grammar.specs.Listing.{Listing}
 use Rattle.fuse_grammar.specs.Options.{agreed, options_after}
 use Rattle.fuse_grammar.specs.Reply.{Reply, Echo, reply_of}
@@ -87,8 +87,8 @@ list_short space room size same h =
 
 module _ (limits : Limits) (told : CallData) (a : AnswerData) (text : List ℕ) (items : List ItemData) (old new : Written) where
   is_answered : (came : Answered) (echo : Echo) (c : Call) (behind : List ℕ) → TellsEcho told echo → TellsCall told c
-      → IsAnswered limits told (kind_of c) a text (with_behind old behind) came (with_behind new behind)
-      → CallIsAnswered limits echo c told.options a text (with_behind old behind) came (with_behind new behind)
+      → IsAnswered limits told (kind_of c) a text (with_after old behind) came (with_after new behind)
+      → CallIsAnswered limits echo c told.options a text (with_after old behind) came (with_after new behind)
   is_answered came echo c behind e t h =
       let same = told_reply limits told echo came.options (kind_of c) h.answer e in
       let space : ℕ = length (old.left ++ behind) in
@@ -96,7 +96,7 @@ module _ (limits : Limits) (told : CallData) (a : AnswerData) (text : List ℕ) 
         answer = h.answer;
         said = h.said;
         fits = h.comes.0;
-        replied = subst (λ (r : Reply). Replies r (with_behind old behind) came.outcome (with_behind new behind)) same h.comes.1;
+        replied = subst (λ (r : Reply). Replies r (with_after old behind) came.outcome (with_after new behind)) same h.comes.1;
         options_are = h.comes.2 ∙ told_options told c h.answer t.number t.offer;
         given_is = h.comes.3 ∙ ap (λ (r : Reply). unwrap_or (unseen space r (node_answered (kind_of c) h.answer)) 0) same;
         kept = h.kept;
@@ -110,7 +110,7 @@ module _ (limits : Limits) (told : CallData) (a : AnswerData) (text : List ℕ) 
 
   call_answered : (result : Option Answered) (echo : Echo) (c : Call) (behind : List ℕ) → TellsEcho told echo → TellsCall told c → kind_of c ≢ Iterators
       → length old.left + length behind ≡ told.room → AnswersCall limits (Some (kind_of c)) told a text old result new
-      → MatchOption result (IsShort (kind_of c) (length old.left) (length behind)) (λ came. CallIsAnswered limits echo c told.options a text (with_behind old behind) came (with_behind new behind))
+      → MatchOption result (IsShort (kind_of c) (length old.left) (length behind)) (λ came. CallIsAnswered limits echo c told.options a text (with_after old behind) came (with_after new behind))
   call_answered None echo c behind e t other room h = call_short (kind_of c) (length behind) other room h.0
   call_answered (Some came) echo c behind e t other room h = is_answered came echo c behind e t (h.1 behind room)
 

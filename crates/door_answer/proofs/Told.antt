@@ -4,7 +4,7 @@ use Rattle.fuse_wire.specs.Fields.{bytes_of}
 use Rattle.fuse_wire.specs.Records.{out_header}
 use Rattle.fuse_segments.specs.Written.{Written, wrote}
 use Rattle.fs_trait.specs.Calls.{Kind, Data, Answer, IsFault, read_answer}
-use Rattle.fuse_messages.specs.Rooms.{data_header, Replies, with_behind}
+use Rattle.fuse_messages.specs.Rooms.{data_header, Replies, with_after}
 use Rattle.fuse_grammar.specs.Reply.{Bytes, fault_reply}
 use Rattle.fuse_grammar.specs.declared.limits.Limits.{Limits}
 use Rattle.door_calls.specs.declared.call.CallData.{CallData}
@@ -13,10 +13,10 @@ use Rattle.door_answer.specs.Said.{FitsData, IsSaid}
 use Rattle.door_answer.specs.Kinds.{kind_told}
 use Rattle.door_answer.specs.Answering.{can_answer, AnswersCall, Comes, KeepsData, IsAnswered}
 use Rattle.door_answer.specs.declared.answered.Answered.{Answered}
-use Rattle.fuse_messages.proofs.Rooms.{with_none_behind}
+use Rattle.fuse_messages.proofs.Rooms.{with_none_after}
 use Rattle.door_answer.proofs.Behind.{data_replied, data_kept, fault_replied, fault_kept}
 
--- in all the room that was told, nothing stands behind
+-- in all the room that was told, nothing comes after
 pub answered : (limits : Limits) (call : CallData) (kind : Kind) (a : AnswerData) (text : List ℕ) (old : Written) (came : Answered) (new : Written) (answer : Answer)
     → kind_told call.answer call.size ≡ Some kind → length old.left ≡ call.room → can_answer (Some kind) call (length old.left) ≡ true
     → IsSaid a text old.left kind answer → Comes limits call kind answer old came new → KeepsData kind old new
@@ -26,7 +26,7 @@ answered limits call kind a text old came new answer told room can said comes ke
       can,
       λ behind all.
           let none : length behind ≡ 0 = omega (arith, room, all) in
-          rw (with_none_behind old behind none, with_none_behind new behind none)
+          rw (with_none_after old behind none, with_none_after new behind none)
           (record { answer = answer; said = said; comes = comes; kept = kept }),
     )
 
@@ -40,7 +40,7 @@ pub read_answered : (limits : Limits) (call : CallData) (a : AnswerData) (text :
     (λ count. (came.outcome ≡ Ok (16 + count)) × (new ≡ wrote old (bytes_of out_header (data_header (Ok count) call.unique))))
     (λ fault. IsFault fault × Replies (Bytes (fault_reply fault call.unique)) old came.outcome new)
     → (behind : List ℕ) → length old.left + length behind ≡ call.room
-    → IsAnswered limits call (Data call.size) a text (with_behind old behind) came (with_behind new behind)
+    → IsAnswered limits call (Data call.size) a text (with_after old behind) came (with_after new behind)
 read_answered limits call a text old new came (Ok count) room fits said plain put behind all =
     let whole : length (old.left ++ behind) ≡ call.room = length-append old.left behind ∙ all in
     let bytes = take a.count (drop 16 (old.left ++ behind)) in

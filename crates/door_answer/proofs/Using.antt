@@ -13,7 +13,7 @@ use Rattle.fs_trait.specs.Calls.{Call, kind_of, Getattr, Lookup, Init, Answer, F
 use Rattle.fs_trait.specs.Values.{entry_out_of}
 use Rattle.fs_trait.specs.declared.entry.Context.{Context}
 use Rattle.fs_trait.specs.declared.entry.Entry.{Entry}
-use Rattle.fuse_messages.specs.Rooms.{Replies, with_behind}
+use Rattle.fuse_messages.specs.Rooms.{Replies, with_after}
 use Rattle.fuse_grammar.specs.Options.{agreed, options_after}
 use Rattle.fuse_grammar.specs.Reply.{Bytes, Echo, reply_of, fault_reply, body_reply}
 use Rattle.fuse_grammar.specs.Room.{unseen}
@@ -28,15 +28,15 @@ use Rattle.door_calls.specs.declared.data.AnswerData.{AnswerData}
 use Rattle.door_answer.specs.Said.{IsSaid}
 use Rattle.door_answer.specs.Told.{IsShort, TellsEcho, TellsCall, CallIsAnswered, AnswersEachCall}
 use Rattle.door_answer.specs.declared.answered.Answered.{Answered}
-use Rattle.fuse_messages.proofs.Rooms.{with_none_behind}
+use Rattle.fuse_messages.proofs.Rooms.{with_none_after}
 
 module _ (limits : Limits) (told : CallData) (a : AnswerData) (text : List ℕ) (old new : Written) (echo : Echo) (c : Call) where
-  at_end : (came : Answered) → CallIsAnswered limits echo c told.options a text (with_behind old []) came (with_behind new [])
+  at_end : (came : Answered) → CallIsAnswered limits echo c told.options a text (with_after old []) came (with_after new [])
       → CallIsAnswered limits echo c told.options a text old came new
-  at_end came h = rw (with_none_behind old [] refl, with_none_behind new [] refl) at h
+  at_end came h = rw (with_none_after old [] refl, with_none_after new [] refl) at h
 
   by_result : (result : Option Answered) → (IsShort (kind_of c) (length old.left) 0 → ⊥)
-      → MatchOption result (IsShort (kind_of c) (length old.left) 0) (λ came. CallIsAnswered limits echo c told.options a text (with_behind old []) came (with_behind new []))
+      → MatchOption result (IsShort (kind_of c) (length old.left) 0) (λ came. CallIsAnswered limits echo c told.options a text (with_after old []) came (with_after new []))
       → MatchOption result ⊥ (λ came. CallIsAnswered limits echo c told.options a text old came new)
   by_result None enough h = enough h
   by_result (Some came) enough h = at_end came h

@@ -3,7 +3,7 @@ use Rattle.std.specs.Prelude.{◌≡◌, ◌==◌, ◌&&◌, if◌then◌else◌
 use Rattle.fuse_wire.specs.Records.{out_header}
 use Rattle.fuse_segments.specs.Written.{Written, whole}
 use Rattle.fs_trait.specs.Calls.{Kind, Quiet, Data, Agreements, Iterators, Answer, Options, IsAnswer}
-use Rattle.fuse_messages.specs.Rooms.{Replies, with_behind}
+use Rattle.fuse_messages.specs.Rooms.{Replies, with_after}
 use Rattle.fuse_grammar.specs.Options.{agreed}
 use Rattle.fuse_grammar.specs.Records.{size_of}
 use Rattle.fuse_grammar.specs.Reply.{Echo, reply_of}
@@ -45,7 +45,7 @@ Comes limits call kind answer old came new =
     (node_answered kind answer)) 0)
     × (came.taken ≡ 0)
 
--- behind the place of the reply's header, where the data of a READ stand, nothing changes
+-- after the place of the reply's header, where the data of a READ stand, nothing changes
 abbrev pub KeepsData : Kind → (old new : Written) → Type 0
 KeepsData (Data size) old new =
     (header : List ℕ) × (length header ≡ size_of out_header)
@@ -71,7 +71,7 @@ can_answer (Some Iterators) call space =
 can_answer (Some kind) call space = space == call.room
 
 -- What came of the answer to a call of this kind but READDIR, where one can be answered: the reply,
--- whatever stands behind the first bytes of a READ's room. Where none can, nothing was put.
+-- whatever comes after the first bytes of a READ's room. Where none can, nothing was put.
 abbrev pub AnswersCall : Limits → Option Kind → CallData → AnswerData → (text : List ℕ) → (old : Written)
     → Option Answered → (new : Written) → Type 0
 AnswersCall limits kind call a text old None new =
@@ -80,7 +80,7 @@ AnswersCall limits None call a text old (Some came) new = ⊥
 AnswersCall limits (Some kind) call a text old (Some came) new =
     (can_answer (Some kind) call (length old.left) ≡ true)
     × ((behind : List ℕ) → length old.left + length behind ≡ call.room
-    → IsAnswered limits call kind a text (with_behind old behind) came (with_behind new behind))
+    → IsAnswered limits call kind a text (with_after old behind) came (with_after new behind))
 
 -- the same of READDIR and READDIRPLUS
 abbrev pub AnswersDirectory : CallData → AnswerData → (items : List ItemData) → (old : Written)

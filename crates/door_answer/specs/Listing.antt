@@ -30,7 +30,7 @@ listing_told call = record {
 }
 
 -- It was not opened, by the fault that was answered; or it was read from the items that were offered, of
--- which so many are in the reply.
+-- which that many are in the reply.
 abbrev pub IsOfferedBy : AnswerData → (items : List ItemData) → (l : Listing) → (events : List Event)
     → (records : List ℕ) → (answer : Result ℕ (Option ℕ)) → IsRead l events records answer
     → (taken : ℕ) → Type 0

@@ -60,7 +60,7 @@ pub record AddsItem (plus : Bool) (max : ℕ) (i : ItemData) (old : Written) (re
   pub is_got : IsGot plus line
   pub adds : AddsGot max (length old.left) line.got line.item old result new
 
--- A directory was read from these items, which were offered: their records were put, and behind them
+-- A directory was read from these items, which were offered: their records were put, and after them
 -- perhaps the beginning of one more.
 pub record ReadsOffered (plus : Bool) (size : ℕ) (items : List ItemData) (old : Written)
     (answer : Result ℕ (Option ℕ)) (taken : ℕ) (new : Written) : Type 0 where

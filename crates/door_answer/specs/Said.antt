@@ -9,7 +9,7 @@ use Rattle.door_calls.specs.Values.{IsFaultOf, attr_of, entry_out_for, statistic
 use Rattle.door_calls.specs.declared.data.AnswerData.{AnswerData}
 use Rattle.fuse_grammar.specs.Records.{size_of}
 
--- so many bytes of data can be in the reply to a READ of this size, for which there is this space
+-- that many bytes of data can be in the reply to a READ of this size, for which there is this space
 pub record FitsData (size space count : ℕ) : Type 0 where
   pub asked_for : count ≤ size
   pub room_for : size_of out_header + count ≤ space
@@ -25,7 +25,7 @@ abbrev pub IsFailed : AnswerData → (fault : Option ℕ) → Type 0
 IsFailed a fault = (a.error ≢ pos 0) × IsFaultOf a.error fault
 
 -- The value of an answer to a call of this kind. The text stands beside the answer, and the data of a READ
--- in the room, behind the place of the reply's header.
+-- in the room, after the place of the reply's header.
 abbrev pub IsValue : AnswerData → (text room : List ℕ) → Kind → Answer → Type 0
 IsValue a text room Told Done = ⊤
 IsValue a text room Untold Done = ⊤

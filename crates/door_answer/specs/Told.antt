@@ -4,7 +4,7 @@ use Rattle.fuse_wire.specs.Records.{out_header}
 use Rattle.fuse_segments.specs.Written.{Written}
 use Rattle.fs_trait.specs.Calls.{Call, Init, Kind, kind_of, Answer, IsAnswer, Data, Iterators, read_answer}
 use Rattle.fs_trait.specs.Runs.{Event}
-use Rattle.fuse_messages.specs.Rooms.{Replies, with_behind}
+use Rattle.fuse_messages.specs.Rooms.{Replies, with_after}
 use Rattle.fuse_grammar.specs.Listing.{Listing}
 use Rattle.fuse_grammar.specs.Options.{options_after}
 use Rattle.fuse_grammar.specs.Records.{size_of}
@@ -64,12 +64,12 @@ pub record CallIsAnswered (limits : Limits) (echo : Echo) (call : Call) (options
   pub none_taken : came.taken ≡ 0
 
 -- The room of a writer is too short for an answer: of a READ for the header; else it is not all that was
--- told at the call, of which so much stands behind.
+-- told at the call, of which that much comes after.
 abbrev pub IsShort : Kind → (space behind : ℕ) → Type 0
 IsShort (Data size) space behind = space < size_of out_header
 IsShort kind space behind = 0 < behind
 
--- Each call that these data tell was answered, whatever stands behind the writer's room up to the room that
+-- Each call that these data tell was answered, whatever comes after the writer's room up to the room that
 -- was told at the call; only where the writer's is too short it wasn't.
 abbrev pub AnswersEachCall : Limits → CallData → AnswerData → (text : List ℕ) → (old : Written)
     → Option Answered → (new : Written) → Type 0
@@ -78,11 +78,11 @@ AnswersEachCall limits told a text old result new =
     → TellsEcho told echo → TellsCall told call → kind_of call ≢ Iterators
     → length old.left + length behind ≡ told.room
     → MatchOption result (IsShort (kind_of call) (length old.left) (length behind)) (λ came.
-    CallIsAnswered limits echo call told.options a text (with_behind old behind) came
-    (with_behind new behind))
+    CallIsAnswered limits echo call told.options a text (with_after old behind) came
+    (with_after new behind))
 
 -- A directory was read from the items that were offered: its records are the reply, by the rule of rooms,
--- and so many of the items are in it.
+-- and that many of the items are in it.
 pub record ListingIsAnswered (limits : Limits) (echo : Echo) (listing : Listing) (options : ℕ)
     (a : AnswerData) (items : List ItemData) (old : Written) (came : Answered) (new : Written) : Type 0
   where

@@ -28,7 +28,7 @@ use fuse_messages::{hold_header, reply_data};
 use fuse_segments::Writer;
 use fuse_wire::{AttrOut, ByteValued, EntryOut, OutHeader};
 
-/// Whether so many bytes are left, and the first segment has them all. No promise stands on it: what is put is
+/// Whether that many bytes are left, and the first segment has them all. No promise stands on it: what is put is
 /// the same.
 #[inline(always)]
 fn fits_in_one(w: &Writer, len: usize) -> bool {
@@ -136,7 +136,7 @@ fn answer_told(
     }
 }
 
-/// Answers a READ, whose data stand behind the place of the reply's header: that alone is put.
+/// Answers a READ, whose data come after the place of the reply's header: that alone is put.
 fn answer_read(call: &CallData, answer: &AnswerData, w: &mut Writer) -> Option<Answered>
     ensures answers { (limits : Limits) (text : List ℕ) →
         AnswersCall limits (Some (Data call.now.size)) call.now answer.now text w.old result w.new }
@@ -240,7 +240,7 @@ fn answer_kind(
 }
 
 /// Answers a call: puts the reply into the room that `w` has left. Of a READ the header alone is
-/// put, and what stands behind it is not touched: there the data are.
+/// put, and what comes after it is not touched: there the data are.
 ///
 /// `text` is the text of a link, the value of an extended attribute, or the names of all, where the
 /// answer is one. `items` are those of a directory from the offset that was asked for, one after

@@ -22,7 +22,7 @@ pub(crate) struct Listed {
 }
 
 impl Listed {
-    /// So many bytes of records, of so many items.
+    /// So many bytes of records, of that many items.
     fn of(written: usize, taken: usize) -> Listed
         ensures { result ≡ record { answer = Ok written; taken = taken } }
     {
@@ -114,7 +114,7 @@ fn add_item(
     add_anywhere(offered, name, plus, max, w)
 }
 
-/// What is answered where an item fails behind so many bytes of records, of so many items.
+/// What is answered where an item fails after that many bytes of records, of that many items.
 fn tell(plus: bool, written: usize, taken: usize, fault: Fault) -> Listed
     ensures answer { result.answer ≡ answer_at plus written (Fails fault) }
     ensures taken { result.taken ≡ taken_by result.answer taken }

@@ -232,7 +232,7 @@ pub(crate) fn put_written(call: &CallData, said: Said<u32>, w: &mut Writer) -> A
     Answered::plain(call, reply_written(said, call.unique, w))
 }
 
-/// Puts the header of a reply with so many bytes of data, which stand behind its place already.
+/// Puts the header of a reply with that many bytes of data, which come after its place already.
 fn put_header(count: u32, unique: u64, w: &mut Writer) -> Result<usize>
     requires short { count < 2 ^ 32 - 16 }
     requires room { 16 ≤ length w.old.left }
@@ -248,7 +248,7 @@ fn put_header(count: u32, unique: u64, w: &mut Writer) -> Result<usize>
     Ok(OutHeader::SIZE + count as usize)
 }
 
-/// Replies so many bytes of data, which stand behind the place of their header already, or the
+/// Replies that many bytes of data, which come after the place of their header already, or the
 /// fault. The header alone is put.
 pub(crate) fn put_data(call: &CallData, said: Said<u32>, w: &mut Writer) -> Answered
     requires short { IfOk said (λ count. count < 2 ^ 32 - 16) }

@@ -76,7 +76,7 @@ fn agree(limits: Limits, call: &CallData, want: u64, w: &mut Writer) -> Option<A
     answer(limits, call, &wanted, &[], &[], w)
 }
 
-/// Answers a READ whose data stand in the room already, behind the place of the header: they stay, whatever is said of
+/// Answers a READ whose data are in the room already, after the place of the header: they stay, whatever is said of
 /// them.
 fn read_data(limits: Limits, call: &CallData, said: &AnswerData, w: &mut Writer) -> Option<Answered>
     requires limits { AreLimits limits }

@@ -184,7 +184,7 @@ pub(crate) fn value(answer: &AnswerData, text: &[u8]) -> Result<Option<u32>, Fau
     Ok(None)
 }
 
-/// How many bytes of data there are, where the reply to a READ can have so many, and else EIO.
+/// How many bytes of data there are, where the reply to a READ can have that many, and else EIO.
 fn data_count(call: &CallData, answer: &AnswerData) -> Result<u32, Fault>
     ensures { MatchResult result
         (λ count. (count ≡ answer.now.count)

@@ -57,7 +57,7 @@ tells_at_once terms h rest o told_call fits within other known no_init no_readdi
     (tells_call request options terms.room writer writer_after h terms.len o
     (ask_opcode terms.limits options terms.room o h rest) told_call is n)
 
--- ---- bytes of a header, and others behind them
+-- ---- bytes of a header, and others after them
 
 header_whole : (short : Bool) (v h : InHeader) → (if short then Err DecodeMessage else Ok v) ≡ Ok h → v ≡ h
 header_whole true v h e = absurd (let a = e in cc)

@@ -1,4 +1,4 @@
--- The context of blocks stands behind the header of the first block of one context.
+-- The context of blocks comes after the header of the first block of one context.
 use Rattle.std.proofs.Common.{◌≡◌, ◌≢◌, ◌∙◌, ◌+◌, ◌-◌, ◌==◌, ◌||◌, ◌≤◌, ◌<◌, ℕ, zero, suc, Bool, true, false, not, if◌then◌else◌, is_some, nat_lt, List, [], ◌∷◌, length, take, drop, position, Option, None, Some, Result, Ok, Err, refl, ap, sym, arith, length-take, length-drop}
 use Rattle.std.proofs.lemmas.Bool.Decides.{nat_tests}
 use Rattle.std.proofs.lemmas.List.{drop-drop}
@@ -13,7 +13,7 @@ use Rattle.fs_trait.specs.Values.{ExtensionValues}
 use Rattle.fs_trait.specs.Places.{cut_at}
 use Rattle.fuse_grammar.specs.Extensions.{error_or, name_and_value, context_in, security_context_in, group_in, Block, block_in, cut_on, cut_of_most, cut_of, has_option, no_extensions, Received, receive_kind, receive_all, received_at_end, extensions_in}
 use Rattle.fuse_grammar.specs.Words.{block_size, reads_extensions, nothing_received, with_context, with_group, receive, extensions_of}
-use Rattle.fuse_grammar.specs.FormParts.{value_behind}
+use Rattle.fuse_grammar.specs.FormParts.{value_after}
 use Rattle.fuse_grammar.specs.Records.{record_of}
 use Rattle.fuse_grammar.specs.declared.error.Error.{Error}
 use Rattle.fuse_grammar.specs.declared.error.Error.TheVariants.{DecodeMessage, InvalidHeaderLength}
@@ -22,7 +22,7 @@ use Rattle.door_ask.proofs.Cutting.{is_nul, stands_in, dropped, first_nul_in, el
 
 -- ---- a context in a body
 
--- a first and a second part of a beginning of what is behind a place stand there
+-- a first and a second part of a beginning of what is after a place are there
 both_within : (q : List ℕ) (at n : ℕ) (tail : List ℕ) (c : List ℕ × List ℕ) → tail ≡ take n (drop at q) → 0 < length c.1 → Both tail c.0 c.1 → ContextAt q at c
 both_within q at n tail c is some b =
     let d = length c.0 + 1 in
@@ -60,7 +60,7 @@ value_cut size bytes i false c at s e =
       sized = omega (arith, ap length second, length-take size (drop (i + 1) bytes), enough);
     }
 
-value_in_cut : (size : ℕ) (bytes : List ℕ) (p : Option ℕ) (c : List ℕ × List ℕ) → position is_nul bytes ≡ p → value_behind size (cut_at bytes p) ≡ Ok c → Sized size bytes c
+value_in_cut : (size : ℕ) (bytes : List ℕ) (p : Option ℕ) (c : List ℕ × List ℕ) → position is_nul bytes ≡ p → value_after size (cut_at bytes p) ≡ Ok c → Sized size bytes c
 value_in_cut size bytes None c at e = absurd (let a = e in cc)
 value_in_cut size bytes (Some i) c at e = value_cut size bytes i (nat_lt (length (drop (i + 1) bytes)) size) c at refl e
 
@@ -76,7 +76,7 @@ sized_size : (size : ℕ) (b : Bool) (body : List ℕ) (c : List ℕ × List ℕ
 sized_size size true body c z e = absurd (let a = e in cc)
 sized_size size false body c z e = (positive size false z refl, value_sized size (drop 8 body) c e)
 
--- the context of a body stands behind its record, where the body is a beginning of what is behind a place
+-- the context of a body comes after its record, where the body is a beginning of what is after a place
 context_stands : (q : List ℕ) (at n : ℕ) (body : List ℕ) (c : List ℕ × List ℕ) → body ≡ take n (drop at q) → context_in body ≡ Ok c → ContextAt q (at + 8) c
 context_stands q at n body c is e =
     let o = or_ok (record_of secctx body) _ c e in
@@ -186,7 +186,7 @@ first_block left block e =
     cut_block left o.0 (nat_lt o.0.size 8) (nat_lt (length left) o.0.size) block refl refl o.2
     (sym (whole_header (nat_lt (length left) 8) left (value_of ext_header left) o.0 o.1))
 
--- what is received with it, and the blocks behind it
+-- what is received with it, and the blocks after it
 pub record Next (options : ℕ) (received : Received) (left : List ℕ) (ext : ExtensionValues) : Type 0 where
   pub block : Block
   pub first : First left block
@@ -271,7 +271,7 @@ no_context options n received more (Some SupGroups) body is other h none =
     let same : with_group received o.0 ≡ more = same_ok _ more o.2 in
     sym (ap (λ (r : Received). r.values.context) same) ∙ none
 
--- the blocks behind one of another type
+-- the blocks after one of another type
 pub skipped : (options : ℕ) (left : List ℕ) (ext : ExtensionValues) (c : List ℕ × List ℕ) → Left options left ext → ext.context ≡ Some c
     → (value_of ext_header left).ext_type ≢ 1 → Left options (drop (block_size left) left) ext
 skipped options left ext c l s other =
@@ -285,7 +285,7 @@ skipped options left ext c l s other =
       rest = n.rest;
     }
 
--- the context stands in one of this type
+-- the context is in one of this type
 pub stands_here : (options : ℕ) (q left : List ℕ) (at : ℕ) (ext : ExtensionValues) (c : List ℕ × List ℕ) → left ≡ drop at q → Left options left ext → ext.context ≡ Some c
     → (value_of ext_header left).ext_type ≡ 1 → ContextAt q (at + 8 + 8) c
 stands_here options q left at ext c is l s one =

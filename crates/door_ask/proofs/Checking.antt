@@ -176,7 +176,7 @@ module _ (wanted : Type 0) (q : List ℕ) (options interrupts room : ℕ) (write
       (replied result (fault_reply (Some eproto) h.unique) (length-fault_reply (Some eproto) h.unique))
       (λ t. (ap (checked_of room) t.0, t.1))))
 
--- our version has so many bytes
+-- our version has that many bytes
 version_size : length (bytes_of init_out version_out) ≡ 64
 unfolding little
 version_size = refl
@@ -226,13 +226,13 @@ pub is_later : (major : ℕ) → KERNEL_VERSION < major → (nat_lt major KERNEL
 is_later major later = (grind (arith, nat_tests, later), grind (arith, nat_tests, later))
 
 -- of a request with this header
-pub judges_behind : (wanted : Type 0) (q : List ℕ) (options interrupts room : ℕ) (writer writer_after : Written)
+pub judges_after : (wanted : Type 0) (q : List ℕ) (options interrupts room : ℕ) (writer writer_after : Written)
     (none : length writer.left ≡ 0) (told : CallData) (limits : Limits) (result : Asked) (h : InHeader) (rest : List ℕ)
     → record_of in_header q ≡ Ok h → drop (size_of in_header) q ≡ rest
     → EndsShort (ask_header limits options room h rest)
     → Tells wanted q options interrupts room (ask_header limits options room h rest) writer result writer_after told
     → Judges wanted q options interrupts room (ask_header limits options room h rest) (checked_of room result) told
-judges_behind wanted q options n room writer writer_after none told limits result h rest first behind short tells =
+judges_after wanted q options n room writer writer_after none told limits result h rest first behind short tells =
     let asks : ask limits options room q ≡ ask_header limits options room h rest = rw (first, behind) refl in
     subst (λ (a : Ask). Judges wanted q options n room a (checked_of room result) told) asks
     (judges wanted q options n room writer writer_after none told limits result

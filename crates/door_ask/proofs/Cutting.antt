@@ -1,4 +1,4 @@
--- Names and values stand in the tail that they are read from.
+-- Names and values are in the tail that they are read from.
 use Rattle.std.proofs.Common.{◌≡◌, ◌∙◌, ◌+◌, ◌-◌, ◌==◌, ◌<◌, ℕ, zero, suc, Bool, true, false, if◌then◌else◌, nat_lt, List, [], ◌∷◌, length, take, drop, position, Option, None, Some, Result, Ok, Err, refl, ap, sym, arith, length-take, length-drop}
 use Rattle.std.proofs.lemmas.Grind.{common_steps}
 use Rattle.std.proofs.lemmas.List.{get_or-take, take_min, take_all}
@@ -12,7 +12,7 @@ use Rattle.fs_trait.specs.Places.{name_to, cut_at}
 use Rattle.fuse_grammar.specs.Extensions.{error_or, extensions_in}
 use Rattle.fuse_grammar.specs.Forms.{tail_of, two_names_in, value_in, extended_in, link_in_tail}
 use Rattle.fuse_grammar.specs.Words.{name_in}
-use Rattle.fuse_grammar.specs.FormParts.{name_or_refusal, both_or_refusal, second_or_refusal, sized_or_refusal, extended_or_refusal, behind_name, link_or_refusal}
+use Rattle.fuse_grammar.specs.FormParts.{name_or_refusal, both_or_refusal, second_or_refusal, sized_or_refusal, extended_or_refusal, after_name, link_or_refusal}
 use Rattle.fuse_grammar.specs.Records.{size_of}
 use Rattle.fuse_grammar.specs.declared.error.Error.{Error}
 
@@ -29,11 +29,11 @@ prefix (suc a) zero ys = refl
 prefix (suc a) (suc n) [] = refl
 prefix (suc a) (suc n) (y ∷ ys) = ap (λ (zs : List ℕ). y ∷ zs) (prefix a n ys)
 
--- a beginning of a beginning stands there
+-- a beginning of a beginning is there
 pub stands_in : (a n : ℕ) (x ys : List ℕ) → x ≡ take a (take n ys) → x ≡ take (length x) ys
 stands_in a n x ys e = e ∙ prefix a n ys ∙ ap (λ (zs : List ℕ). take (length zs) ys) (sym e)
 
--- what is behind a place in a beginning is a beginning of what is behind that place
+-- what is after a place in a beginning is a beginning of what is after that place
 pub dropped : (d n : ℕ) (ys : List ℕ) → (k : ℕ) × (drop d (take n ys) ≡ take k (drop d ys))
 dropped zero n ys = (n, refl)
 dropped (suc d) zero ys = (0, refl)
@@ -80,7 +80,7 @@ tail_stands h size behind tail e =
     let b = else_ok (nat_lt (length behind) (h.len - (size_of in_header + size))) _ _ tail a in
     (h.len - (size_of in_header + size), sym (same_ok _ tail b))
 
--- a name of bytes, whose first 0 stands at this place
+-- a name of bytes, whose first 0 is at this place
 name_at : (bytes : List ℕ) (p : Option ℕ) (name : List ℕ) → name_to bytes p ≡ Some name → (j : ℕ) × (name ≡ take j bytes) × (p ≡ Some j)
 name_at bytes None name e = absurd (let a = e in cc)
 name_at bytes (Some i) name e = pick (i + 1 == length bytes) e
@@ -96,7 +96,7 @@ refused_name (Some x) name e = let a = e in cc
 long : (tail : List ℕ) (i : ℕ) → position is_nul tail ≡ Some i → length (take i tail) ≡ i
 long tail i e = let p = (position-Some is_nul tail i 0 e).0 in length-take i tail ∙ omega (arith, p)
 
--- what stands before the first 0 is as long as that is far
+-- what is before the first 0 is as long as that is far
 ends_at : (bytes name : List ℕ) (i : ℕ) → position is_nul bytes ≡ Some i → name ≡ take i bytes → position is_nul bytes ≡ Some (length name)
 ends_at bytes name i at is = at ∙ ap Some (sym (ap length is ∙ long bytes i at))
 
@@ -114,7 +114,7 @@ named bytes name e =
 pub name_stands : (tail name : List ℕ) → name_in tail ≡ Ok name → Named tail name
 name_stands tail name e = named tail name (refused_name _ name e)
 
--- two parts of a tail: the first ends at its first 0, and the second is behind it
+-- two parts of a tail: the first ends at its first 0, and the second is after it
 pub record Both (tail first second : List ℕ) : Type 0 where
   pub n : ℕ
   pub within : length first < length tail
@@ -122,7 +122,7 @@ pub record Both (tail first second : List ℕ) : Type 0 where
   pub ended : position is_nul tail ≡ Some (length first)
   pub second_is : second ≡ take n (drop (length first + 1) tail)
 
--- two names, of which the second ends at the first 0 behind the first
+-- two names, of which the second ends at the first 0 after the first
 pub record BothNames (tail first second : List ℕ) : Type 0 where
   pub parts : Both tail first second
   pub ended : position is_nul (drop (length first + 1) tail) ≡ Some (length second)
@@ -166,7 +166,7 @@ value_at size tail (Some i) at x e =
 pub value_stands : (size : ℕ) (tail : List ℕ) (x : List ℕ × List ℕ) → value_in size tail ≡ Ok x → Both tail x.0 x.1
 value_stands size tail x e = value_at size tail (position is_nul tail) refl x e
 
--- a name at the front of bytes, and the extensions behind it
+-- a name at the front of bytes, and the extensions after it
 pub record Extended (options : ℕ) (bytes name : List ℕ) (ext : ExtensionValues) : Type 0 where
   pub i : ℕ
   pub within : length name < length bytes
@@ -175,7 +175,7 @@ pub record Extended (options : ℕ) (bytes name : List ℕ) (ext : ExtensionValu
   pub says : extensions_in options (drop (length name + 1) bytes) ≡ Ok ext
 
 extended_at : (options : ℕ) (bytes : List ℕ) (p : Option ℕ) → position is_nul bytes ≡ p → (ext : ExtensionValues) (x : List ℕ × ExtensionValues)
-    → extensions_in options (behind_name (cut_at bytes p)) ≡ Ok ext → extended_or_refusal (cut_at bytes p) ext ≡ Ok x → Extended options bytes x.0 x.1
+    → extensions_in options (after_name (cut_at bytes p)) ≡ Ok ext → extended_or_refusal (cut_at bytes p) ext ≡ Ok x → Extended options bytes x.0 x.1
 extended_at options bytes None at ext x says e = absurd (let a = e in cc)
 extended_at options bytes (Some i) at ext x says e =
     let same : (take i bytes, ext) ≡ x = same_ok _ x e in
@@ -192,10 +192,10 @@ extended_at options bytes (Some i) at ext x says e =
 pub extended_stands : (options : ℕ) (bytes : List ℕ) (x : List ℕ × ExtensionValues) → extended_in options bytes ≡ Ok x → Extended options bytes x.0 x.1
 extended_stands options [] x e = absurd (let a = e in cc)
 extended_stands options (b ∷ bytes) x e =
-    let o = or_ok (extensions_in options (behind_name (first_name (b ∷ bytes)))) _ x e in
+    let o = or_ok (extensions_in options (after_name (first_name (b ∷ bytes)))) _ x e in
     extended_at options (b ∷ bytes) (position is_nul (b ∷ bytes)) refl o.0 x o.1 o.2
 
--- a link's name and its text, and the extensions behind them
+-- a link's name and its text, and the extensions after them
 pub record Linked (options : ℕ) (tail name text : List ℕ) (ext : ExtensionValues) : Type 0 where
   pub parts : BothNames tail name text
   pub within : length text < length (drop (length name + 1) tail)

@@ -28,9 +28,9 @@ use Rattle.door_calls.specs.Shapes.{nothing, shape_of, unplaced}
 use Rattle.door_calls.specs.declared.call.CallData.{CallData}
 use Rattle.fuse_server.specs.MemoryByPieces.{MayWantBehind}
 use Rattle.door_ask.specs.Asked.{IsNameIn, IsTold, Stand, Tells}
-use Rattle.door_ask.specs.Contexts.{ContextAt, GivesTailOf, PlacesContext, StandsInBlocks, blocks_of, blocks_place, may_have_context, sum_or_most, tail_behind, with_context_at}
+use Rattle.door_ask.specs.Contexts.{ContextAt, GivesTailOf, PlacesContext, StandsInBlocks, blocks_of, blocks_place, may_have_context, sum_or_most, tail_after, with_context_at}
 use Rattle.door_ask.specs.Noting.{IsNoted, NotedAndTold}
-use Rattle.door_ask.specs.Parts.{place_behind, told_with}
+use Rattle.door_ask.specs.Parts.{place_after, told_with}
 use Rattle.door_ask.specs.declared.asked.Asked.{Asked}
 use Rattle.door_ask.specs.declared.asked.Asked.TheVariants as asked
 use Rattle.door_ask.proofs.Cutting.{dropped, first_nul_in, is_nul, or_ok, same_ok, stands_in, tail_stands}
@@ -65,9 +65,9 @@ module _ (wanted : Type 0) (q : List ℕ) (options room : ℕ) (writer : Written
   refused_record may (Ok x) tail_in next g = refused_tail may (tail_in x) (next x) g
 
   pub refused_with_tail : wanted → (limits : Limits) (space : ℕ) (h : InHeader) (rest : List ℕ) (o : Opcode) → may_have_context options o ≡ true
-      → GivesTailOf (Err e) (tail_behind o h rest) → Refused (ask_opcode limits options space o h rest)
+      → GivesTailOf (Err e) (tail_after o h rest) → Refused (ask_opcode limits options space o h rest)
   refused_with_tail wants limits space h rest o may =
-      of_four (λ o. GivesTailOf (Err e) (tail_behind o h rest) → Refused (ask_opcode limits options space o h rest))
+      of_four (λ o. GivesTailOf (Err e) (tail_after o h rest) → Refused (ask_opcode limits options space o h rest))
       (λ g. refused_tail wants (tail_of h 0 rest) _ g)
       (λ g. refused_record wants (record_of mknod_in rest) _ _ g)
       (λ g. refused_record wants (record_of mkdir_in rest) _ _ g)
@@ -99,17 +99,17 @@ module _ (q : List ℕ) (h : InHeader) (head : size_of in_header ≤ length q) (
   tail_long : (at : ℕ) (tail : List ℕ) (n : ℕ) → tail ≡ take n (drop at q) → length tail ≤ length q - at
   tail_long at tail n is = omega (arith, ap length is, length-take n (drop at q), length-drop at q)
 
-  name_end : (at : ℕ) (name tail : List ℕ) (n : ℕ) → tail ≡ take n (drop at q) → length name < length tail → place_behind at (unplaced name) ≡ at + (length name + 1)
+  name_end : (at : ℕ) (name tail : List ℕ) (n : ℕ) → tail ≡ take n (drop at q) → length name < length tail → place_after at (unplaced name) ≡ at + (length name + 1)
   name_end at name tail n is within = omega (arith, tail_long at tail n is, within, long, small)
 
   skip : (at : ℕ) (name tail : List ℕ) (n : ℕ) → tail ≡ take n (drop at q) → length name < length tail
-      → drop (place_behind at (unplaced name) - at) tail ≡ drop (length name + 1) tail
+      → drop (place_after at (unplaced name) - at) tail ≡ drop (length name + 1) tail
   skip at name tail n is within = ap (λ k. drop k tail) (omega (arith, name_end at name tail n is within))
 
-  -- what stands in the end of a tail stands in the request
-  stand_behind : (at : ℕ) (blocks : List ℕ) (k place : ℕ) (xs : List ℕ) → blocks ≡ take k (drop at q) → 0 < length blocks
+  -- what is in the end of a tail is in the request
+  stand_after : (at : ℕ) (blocks : List ℕ) (k place : ℕ) (xs : List ℕ) → blocks ≡ take k (drop at q) → 0 < length blocks
       → Stand blocks (record { at = place; len = length xs }) xs → Stand q (record { at = at + place; len = length xs }) xs
-  stand_behind at blocks k place xs is some s =
+  stand_after at blocks k place xs is some s =
       let all : length blocks ≤ length q - at = omega (arith, ap length is, length-take k (drop at q), length-drop at q) in
       let d = dropped place k (drop at q) in
       let e : xs ≡ take (length xs) (take d.0 (drop place (drop at q))) =
@@ -120,12 +120,12 @@ module _ (q : List ℕ) (h : InHeader) (head : size_of in_header ≤ length q) (
       }
 
   -- a name too
-  name_behind : (at : ℕ) (blocks : List ℕ) (k place : ℕ) (xs : List ℕ) → blocks ≡ take k (drop at q)
+  name_after : (at : ℕ) (blocks : List ℕ) (k place : ℕ) (xs : List ℕ) → blocks ≡ take k (drop at q)
       → IsNameIn blocks (record { at = place; len = length xs }) xs → IsNameIn q (record { at = at + place; len = length xs }) xs
-  name_behind at blocks k place xs is s =
+  name_after at blocks k place xs is s =
       let all : length blocks ≤ length q - at = omega (arith, ap length is, length-take k (drop at q), length-drop at q) in
       let d = dropped place k (drop at q) in
-      let stands = stand_behind at blocks k place xs is (omega (arith, s.within))
+      let stands = stand_after at blocks k place xs is (omega (arith, s.within))
       (record { within = omega (arith, s.within); bytes_are = s.bytes_are }) in
       record {
         within = omega (arith, s.within, all);
@@ -136,21 +136,21 @@ module _ (q : List ℕ) (h : InHeader) (head : size_of in_header ≤ length q) (
 
   context_placed : (at : ℕ) (name tail : List ℕ) (n : ℕ) → tail ≡ take n (drop at q) → length name < length tail → (place : ℕ) (c : List ℕ × List ℕ)
       → ContextAt (drop (length name + 1) tail) place c
-      → IsNameIn q (record { at = sum_or_most (place_behind at (unplaced name)) place; len = length c.0 }) c.0
-      × Stand q (record { at = place_behind (sum_or_most (place_behind at (unplaced name)) place) (unplaced c.0); len = length c.1 }) c.1
+      → IsNameIn q (record { at = sum_or_most (place_after at (unplaced name)) place; len = length c.0 }) c.0
+      × Stand q (record { at = place_after (sum_or_most (place_after at (unplaced name)) place) (unplaced c.0); len = length c.1 }) c.1
   context_placed at name tail n is within place c there =
       let d = length name + 1 in
       let k = dropped d n (drop at q) in
       let blocks : drop d tail ≡ take k.0 (drop (at + d) q) = ap (drop d) is ∙ k.1 ∙ ap (take k.0) (drop-drop d at q) in
       let long_blocks : length (drop d tail) ≤ length q - (at + d) = omega (arith, ap length blocks, length-take k.0 (drop (at + d) q), length-drop (at + d) q) in
       let some : 0 < length (drop d tail) = omega (arith, there.value.within, there.some) in
-      let first : sum_or_most (place_behind at (unplaced name)) place ≡ at + d + place =
+      let first : sum_or_most (place_after at (unplaced name)) place ≡ at + d + place =
       omega (arith, name_end at name tail n is within, there.name.within, long_blocks, some, long, small) in
-      let second : place_behind (at + d + place) (unplaced c.0) ≡ at + d + (place + (length c.0 + 1)) =
+      let second : place_after (at + d + place) (unplaced c.0) ≡ at + d + (place + (length c.0 + 1)) =
       omega (arith, there.value.within, there.some, long_blocks, some, long, small) in
       rw (first, second) (
-        name_behind (at + d) (drop d tail) k.0 place c.0 blocks there.name,
-        stand_behind (at + d) (drop d tail) k.0 (place + (length c.0 + 1)) c.1 blocks some there.value,
+        name_after (at + d) (drop d tail) k.0 place c.0 blocks there.name,
+        stand_after (at + d) (drop d tail) k.0 (place + (length c.0 + 1)) c.1 blocks some there.value,
       )
 
   abbrev mknod_of : MknodIn → (name : List ℕ) → ExtensionValues → Call
@@ -212,7 +212,7 @@ module _ (q : List ℕ) (h : InHeader) (head : size_of in_header ≤ length q) (
       let k = dropped d n (drop 40 q) in
       let behind : drop d tail ≡ take k.0 (drop (40 + d) q) = ap (drop d) is ∙ k.1 ∙ ap (take k.0) (drop-drop d 40 q) in
       let last = name_end (40 + d) text (drop d tail) k.0 behind within in
-      let blocks : drop (place_behind (40 + d) (unplaced text) - 40) tail ≡ drop (length text + 1) (drop d tail) =
+      let blocks : drop (place_after (40 + d) (unplaced text) - 40) tail ≡ drop (length text + 1) (drop d tail) =
       ap (λ m. drop m tail) (omega (arith, last)) ∙ sym (drop-drop (length text + 1) d tail) in
       let there : ContextAt (drop (length text + 1) (drop d tail)) place c =
       (rw (end, blocks) at stands) options (record { context = Some c; group = group }) c says refl in
@@ -225,10 +225,10 @@ module _ (q : List ℕ) (h : InHeader) (head : size_of in_header ≤ length q) (
   abbrev None_listed : Echo → Listing → Type 0
   None_listed echo l = ⊥
 
-  pub held_by_opcode : (o : Opcode) → may_have_context options o ≡ true → (tail : List ℕ) → tail_behind o h rest ≡ Ok tail
+  pub held_by_opcode : (o : Opcode) → may_have_context options o ≡ true → (tail : List ℕ) → tail_after o h rest ≡ Ok tail
       → OfCall (CallHas o tail) None_listed (ask_opcode limits options space o h rest)
   held_by_opcode o may =
-      of_four (λ o. (tail : List ℕ) → tail_behind o h rest ≡ Ok tail → OfCall (CallHas o tail) None_listed (ask_opcode limits options space o h rest))
+      of_four (λ o. (tail : List ℕ) → tail_after o h rest ≡ Ok tail → OfCall (CallHas o tail) None_listed (ask_opcode limits options space o h rest))
       (λ tail e. form_shown q h head (CallHas opcode.Symlink tail) None_listed (form_of limits options space h opcode.Symlink) (λ r name text ext tail2 whole s within says.
       let same : tail2 ≡ tail = same_ok tail2 tail (sym whole ∙ e) in
       let t = tail_stands h 0 rest tail e in

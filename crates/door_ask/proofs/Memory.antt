@@ -16,7 +16,7 @@ use Rattle.fuse_grammar.specs.declared.limits.Limits.{Limits}
 use Rattle.fuse_grammar.specs.declared.error.Error.{Error}
 use Rattle.fuse_grammar.specs.declared.error.Error.TheVariants.{DecodeMessage, OutOfMemory}
 use Rattle.laws_turns.proofs.EachTurn.{enough_memory}
-use Rattle.fuse_messages.specs.Rooms.{Replies, with_behind}
+use Rattle.fuse_messages.specs.Rooms.{Replies, with_after}
 use Rattle.door_calls.specs.declared.call.CallData.{CallData}
 use Rattle.door_ask.specs.Asked.{IsEnough, IsFinished, Tells}
 use Rattle.door_ask.specs.Memory.{LacksNoMemory}
@@ -102,6 +102,6 @@ lacks_no_memory wanted none q limits options interrupts room writer writer_after
     let zeros : List ℕ = replicate (room - length writer.left) 0 in
     let n : length zeros ≡ room - length writer.left = length-replicate (room - length writer.left) 0 in
     let sum : length writer.left + length zeros ≡ room = omega (arith, n, not_more (length writer.left) room enough) in
-    lacks_no_memory_of wanted none q limits options interrupts room (with_behind writer zeros) (with_behind writer_after zeros) told result
+    lacks_no_memory_of wanted none q limits options interrupts room (with_after writer zeros) (with_after writer_after zeros) told result
     (length-append writer.left zeros ∙ sum)
     (told_in_room wanted q limits options interrupts room writer writer_after told zeros result sum enough t)

@@ -22,7 +22,7 @@ use Rattle.fs_trait.specs.Values.{context_of, ExtensionValues}
 use Rattle.fuse_grammar.specs.Ask.{form_of, has_flag, if_set}
 use Rattle.fuse_grammar.specs.Words.{ask_opcode, name_in, behind}
 use Rattle.fuse_grammar.specs.Extensions.{extensions_in}
-use Rattle.fuse_grammar.specs.Forms.{Ask, Ends, Asks, Lists, WithMemory, Without, Record, refused_or, within, tail_of, two_names_in, value_in, extended_in, link_in_tail, pairs_in, pairs_of, space_behind_header, Layout, layout_size, layout_record, Form, NoTail, NameTail, TwoNames, NameAndValue, NameAndExtensions, LinkAndExtensions, Pairs, WithRest, IntoRoom, Directories, Versions, Silent, NotServed, ask_form}
+use Rattle.fuse_grammar.specs.Forms.{Ask, Ends, Asks, Lists, WithMemory, Without, Record, refused_or, within, tail_of, two_names_in, value_in, extended_in, link_in_tail, pairs_in, pairs_of, space_after_header, Layout, layout_size, layout_record, Form, NoTail, NameTail, TwoNames, NameAndValue, NameAndExtensions, LinkAndExtensions, Pairs, WithRest, IntoRoom, Directories, Versions, Silent, NotServed, ask_form}
 use Rattle.fuse_grammar.specs.Listing.{Listing}
 use Rattle.fuse_grammar.specs.Reply.{Echo, echo_of}
 use Rattle.fuse_grammar.specs.Records.{record_of, size_of}
@@ -33,24 +33,24 @@ use Rattle.door_calls.specs.Shapes.{context_name_of, context_value_of, shape_of,
 use Rattle.door_calls.specs.declared.call.CallData.{CallData}
 use Rattle.door_ask.specs.Asked.{IsContextPlaced, IsNameIn, IsTold, Stand, long_range, told_of, told_of_listing, without_places}
 use Rattle.door_ask.specs.Contexts.{may_have_context}
-use Rattle.door_ask.specs.Parts.{parts_of, with_parts, place_behind}
+use Rattle.door_ask.specs.Parts.{parts_of, with_parts, place_after}
 use Rattle.door_ask.proofs.Blocks.{no_contexts}
 use Rattle.door_ask.proofs.Cutting.{is_nul, stands_in, dropped, first_nul_in, tail_stands, name_stands, Both, BothNames, names_stand, value_stands, extended_stands, link_stands}
 
--- these bytes stand at this place
+-- these bytes are at this place
 abbrev pub Stands : (request : List ℕ) → (at : ℕ) → (bytes : List ℕ) → Type 0
 Stands q at bytes = Stand q (record { at = at; len = length bytes }) bytes
 
--- this name stands at this place
+-- this name is at this place
 abbrev pub NameStands : (request : List ℕ) → (at : ℕ) → (name : List ℕ) → Type 0
 NameStands q at name = IsNameIn q (record { at = at; len = length name }) name
 
--- a name, and bytes behind its 0
+-- a name, and bytes after its 0
 pub record StandBoth (q : List ℕ) (at : ℕ) (first second : List ℕ) : Type 0 where
   pub front : NameStands q at first
   pub back : Stands q (at + (length first + 1)) second
 
--- two names, one behind the other
+-- two names, one after the other
 pub record NamesStand (q : List ℕ) (at : ℕ) (first second : List ℕ) : Type 0 where
   pub front : NameStands q at first
   pub back : NameStands q (at + (length first + 1)) second
@@ -62,8 +62,8 @@ pub record SpelledAt (q : List ℕ) (at count : ℕ) (pairs : List (ℕ × ℕ))
   pub spelled : pairs ≡ pairs_of count (drop at q)
 
 -- where a record of this layout ends
-abbrev pub behind_record : {R : Type 0} → Layout R → ℕ
-behind_record layout = size_of in_header + layout_size layout
+abbrev pub after_record : {R : Type 0} → Layout R → ℕ
+after_record layout = size_of in_header + layout_size layout
 
 -- a fact of the call that is asked for, or of the directory that is to be read
 abbrev pub OfCall : (Echo → Call → Type 0) → (Echo → Listing → Type 0) → Ask → Type 0
@@ -102,21 +102,21 @@ module _ (q : List ℕ) (h : InHeader) (head : size_of in_header ≤ length q) (
   abbrev pub Shown : Form → Type 0
   Shown (NoTail {R} layout above call) = (r : R) → P (echo_of h) (call r)
   Shown (NameTail {R} layout above call) =
-      (r : R) (name : List ℕ) → NameStands q (behind_record layout) name → P (echo_of h) (call r name)
+      (r : R) (name : List ℕ) → NameStands q (after_record layout) name → P (echo_of h) (call r name)
   Shown (TwoNames {R} layout call) =
-      (r : R) (first second : List ℕ) → NamesStand q (behind_record layout) first second → P (echo_of h) (call r first second)
+      (r : R) (first second : List ℕ) → NamesStand q (after_record layout) first second → P (echo_of h) (call r first second)
   Shown (NameAndValue {R} layout size call) =
-      (r : R) (name value : List ℕ) → StandBoth q (behind_record layout) name value → P (echo_of h) (call r name value)
+      (r : R) (name value : List ℕ) → StandBoth q (after_record layout) name value → P (echo_of h) (call r name value)
   Shown (NameAndExtensions {R} layout options call) =
       (r : R) (name : List ℕ) (ext : ExtensionValues) (tail : List ℕ) → tail_of h (layout_size layout) (behind layout (drop (size_of in_header) q)) ≡ Ok tail
-      → NameStands q (behind_record layout) name → length name < length tail → extensions_in options (drop (length name + 1) tail) ≡ Ok ext → P (echo_of h) (call r name ext)
+      → NameStands q (after_record layout) name → length name < length tail → extensions_in options (drop (length name + 1) tail) ≡ Ok ext → P (echo_of h) (call r name ext)
   Shown (LinkAndExtensions {R} layout options call) =
       (r : R) (name text : List ℕ) (ext : ExtensionValues) (tail : List ℕ) → tail_of h (layout_size layout) (behind layout (drop (size_of in_header) q)) ≡ Ok tail
-      → NamesStand q (behind_record layout) name text → length text < length (drop (length name + 1) tail)
+      → NamesStand q (after_record layout) name text → length text < length (drop (length name + 1) tail)
       → extensions_in options (drop (length text + 1) (drop (length name + 1) tail)) ≡ Ok ext → P (echo_of h) (call r name text ext)
   Shown (Pairs {R} layout above count call) =
-      (r : R) (pairs : List (ℕ × ℕ)) → SpelledAt q (behind_record layout) (count r) pairs → P (echo_of h) (call r pairs)
-  Shown (WithRest {R} layout call) = (r : R) → behind_record layout ≤ length q → P (echo_of h) (call r (drop (behind_record layout) q))
+      (r : R) (pairs : List (ℕ × ℕ)) → SpelledAt q (after_record layout) (count r) pairs → P (echo_of h) (call r pairs)
+  Shown (WithRest {R} layout call) = (r : R) → after_record layout ≤ length q → P (echo_of h) (call r (drop (after_record layout) q))
   Shown (IntoRoom {R} layout space call) = (r : R) → P (echo_of h) (call r (space - size_of out_header))
   Shown (Directories {R} layout above space listing) = (r : R) (n : ℕ) → L (echo_of h) (listing r n)
   Shown Versions = ⊥
@@ -137,7 +137,7 @@ module _ (q : List ℕ) (h : InHeader) (head : size_of in_header ≤ length q) (
   abbrev rest : List ℕ
   rest = drop (size_of in_header) q
 
-  pub place : {R : Type 0} (layout : Layout R) → behind layout rest ≡ drop (behind_record layout) q
+  pub place : {R : Type 0} (layout : Layout R) → behind layout rest ≡ drop (after_record layout) q
   place layout = drop-drop (layout_size layout) (size_of in_header) q
 
   -- a record that is whole ends within the request
@@ -150,20 +150,20 @@ module _ (q : List ℕ) (h : InHeader) (head : size_of in_header ≤ length q) (
   layout_fits (Without v) r e = omega arith
   layout_fits (Record t) r e = whole_table (nat_lt (length rest) (size_of t)) (size_of t) (length rest) (value_of t rest) r refl e
 
-  pub ends : {R : Type 0} (layout : Layout R) (r : R) → layout_record layout rest ≡ Ok r → behind_record layout ≤ length q
+  pub ends : {R : Type 0} (layout : Layout R) (r : R) → layout_record layout rest ≡ Ok r → after_record layout ≤ length q
   ends layout r e = omega (arith, head, layout_fits layout r e, length-drop (size_of in_header) q)
 
   -- a tail ends within the request
-  pub tail_ends : {R : Type 0} (layout : Layout R) (tail : List ℕ) → behind_record layout ≤ length q
-      → tail_of h (layout_size layout) (behind layout rest) ≡ Ok tail → behind_record layout + length tail ≤ length q
+  pub tail_ends : {R : Type 0} (layout : Layout R) (tail : List ℕ) → after_record layout ≤ length q
+      → tail_of h (layout_size layout) (behind layout rest) ≡ Ok tail → after_record layout + length tail ≤ length q
   tail_ends layout tail end whole =
       let t = tail_stands h (layout_size layout) (behind layout rest) tail whole in
-      omega (arith, end, ap length t.1, length-take t.0 (behind layout rest), ap length (place layout), length-drop (behind_record layout) q)
+      omega (arith, end, ap length t.1, length-take t.0 (behind layout rest), ap length (place layout), length-drop (after_record layout) q)
 
-  -- the first name of the tail stands behind the record
-  first_stands : {R : Type 0} (layout : Layout R) (tail x : List ℕ) (a : ℕ) → behind_record layout ≤ length q
+  -- the first name of the tail comes after the record
+  first_stands : {R : Type 0} (layout : Layout R) (tail x : List ℕ) (a : ℕ) → after_record layout ≤ length q
       → tail_of h (layout_size layout) (behind layout rest) ≡ Ok tail → x ≡ take a tail → position is_nul tail ≡ Some (length x)
-      → NameStands q (behind_record layout) x
+      → NameStands q (after_record layout) x
   first_stands layout tail x a end whole e ends =
       let t = tail_stands h (layout_size layout) (behind layout rest) tail whole in
       record {
@@ -173,17 +173,17 @@ module _ (q : List ℕ) (h : InHeader) (head : size_of in_header ≤ length q) (
             ∙ first_nul_in t.0 (behind layout rest) (length x) (ap (position is_nul) (sym t.1) ∙ ends);
       }
 
-  both_stand : {R : Type 0} (layout : Layout R) (tail first second : List ℕ) → behind_record layout ≤ length q
+  both_stand : {R : Type 0} (layout : Layout R) (tail first second : List ℕ) → after_record layout ≤ length q
       → tail_of h (layout_size layout) (behind layout rest) ≡ Ok tail
-      → Both tail first second → StandBoth q (behind_record layout) first second
+      → Both tail first second → StandBoth q (after_record layout) first second
   both_stand layout tail first second end whole b =
       let t = tail_stands h (layout_size layout) (behind layout rest) tail whole in
       let d = length first + 1 in
       let k = dropped d t.0 (behind layout rest) in
       let e : second ≡ take b.n (take k.0 (drop d (behind layout rest))) = b.second_is ∙ ap (λ (xs : List ℕ). take b.n (drop d xs)) t.1 ∙ ap (take b.n) k.1 in
       let s = stands_in b.n k.0 second (drop d (behind layout rest)) e in
-      let at : drop d (behind layout rest) ≡ drop (behind_record layout + d) q =
-      ap (drop d) (place layout) ∙ drop-drop d (behind_record layout) q in
+      let at : drop d (behind layout rest) ≡ drop (after_record layout + d) q =
+      ap (drop d) (place layout) ∙ drop-drop d (after_record layout) q in
       let long = tail_ends layout tail end whole in
       record {
         front = first_stands layout tail first (length first) end whole b.first_is b.ended;
@@ -193,15 +193,15 @@ module _ (q : List ℕ) (h : InHeader) (head : size_of in_header ≤ length q) (
         };
       }
 
-  names_stand_in : {R : Type 0} (layout : Layout R) (tail first second : List ℕ) → behind_record layout ≤ length q
+  names_stand_in : {R : Type 0} (layout : Layout R) (tail first second : List ℕ) → after_record layout ≤ length q
       → tail_of h (layout_size layout) (behind layout rest) ≡ Ok tail
-      → BothNames tail first second → NamesStand q (behind_record layout) first second
+      → BothNames tail first second → NamesStand q (after_record layout) first second
   names_stand_in layout tail first second end whole b =
       let t = tail_stands h (layout_size layout) (behind layout rest) tail whole in
       let d = length first + 1 in
       let k = dropped d t.0 (behind layout rest) in
-      let at : drop d (behind layout rest) ≡ drop (behind_record layout + d) q =
-      ap (drop d) (place layout) ∙ drop-drop d (behind_record layout) q in
+      let at : drop d (behind layout rest) ≡ drop (after_record layout + d) q =
+      ap (drop d) (place layout) ∙ drop-drop d (after_record layout) q in
       let cut : take k.0 (drop d (behind layout rest)) ≡ drop d tail = sym (ap (drop d) t.1 ∙ k.1) in
       let s = both_stand layout tail first second end whole b.parts in
       let last = (position-Some is_nul (drop d tail) (length second) 0 b.ended).0 in
@@ -221,19 +221,19 @@ module _ (q : List ℕ) (h : InHeader) (head : size_of in_header ≤ length q) (
   spelled_in true count bytes pairs b e = absurd (let a = e in cc)
   spelled_in false count bytes pairs b e = (grind (arith, nat_tests, b), let a = e in cc)
 
-  pairs_spell : {R : Type 0} (layout : Layout R) (count : ℕ) (pairs : List (ℕ × ℕ)) → behind_record layout ≤ length q → pairs_in count (behind layout rest) ≡ Ok pairs
-      → SpelledAt q (behind_record layout) count pairs
+  pairs_spell : {R : Type 0} (layout : Layout R) (count : ℕ) (pairs : List (ℕ × ℕ)) → after_record layout ≤ length q → pairs_in count (behind layout rest) ≡ Ok pairs
+      → SpelledAt q (after_record layout) count pairs
   pairs_spell layout count pairs end e =
       let s = spelled_in (nat_lt (length (behind layout rest)) (count * 16)) count (behind layout rest) pairs refl e in
       record {
         many = ap length s.1 ∙ length-pairs_of count (behind layout rest);
-        within = omega (arith, end, s.0, ap length (place layout), length-drop (behind_record layout) q);
+        within = omega (arith, end, s.0, ap length (place layout), length-drop (after_record layout) q);
         spelled = s.1 ∙ ap (pairs_of count) (place layout);
       }
 
-  behind_header : (b : Bool) (space n : ℕ) → (if b then Err EncodeMessage else Ok (space - size_of out_header)) ≡ Ok n → n ≡ space - size_of out_header
-  behind_header true space n e = absurd (let a = e in cc)
-  behind_header false space n e = let a = e in cc
+  after_header : (b : Bool) (space n : ℕ) → (if b then Err EncodeMessage else Ok (space - size_of out_header)) ≡ Ok n → n ≡ space - size_of out_header
+  after_header true space n e = absurd (let a = e in cc)
+  after_header false space n e = let a = e in cc
 
   pub form_shown : (form : Form) → Shown form → Of (ask_form h rest form)
   form_shown (NoTail layout above call) s =
@@ -258,9 +258,9 @@ module _ (q : List ℕ) (h : InHeader) (head : size_of in_header ≤ length q) (
   form_shown (WithRest layout call) s =
       part (layout_record layout rest) _ (λ r is. rw (place layout) (s r (ends layout r is)))
   form_shown (IntoRoom layout space call) s =
-      part (layout_record layout rest) _ (λ r is. part (space_behind_header space) _ (λ n fits. rw (behind_header (nat_lt space (size_of out_header)) space n fits) (s r)))
+      part (layout_record layout rest) _ (λ r is. part (space_after_header space) _ (λ n fits. rw (after_header (nat_lt space (size_of out_header)) space n fits) (s r)))
   form_shown (Directories layout above space listing) s =
-      part (layout_record layout rest) _ (λ r is. limit (above r) _ (part (space_behind_header space) _ (λ n fits. s r n)))
+      part (layout_record layout rest) _ (λ r is. limit (above r) _ (part (space_after_header space) _ (λ n fits. s r n)))
   form_shown Versions s = absurd s
   form_shown Silent s = tt {0}
   form_shown NotServed s = tt {0}
@@ -287,13 +287,13 @@ module _ (q : List ℕ) (h : InHeader) (head : size_of in_header ≤ length q) (
   ListingIs = ListingIsTold q h options space len
 
   -- the place of the second part
-  second_place : (at n : ℕ) (first : List ℕ) → at + (length first + 1) + n ≤ length q → place_behind at (unplaced first) ≡ at + (length first + 1)
+  second_place : (at n : ℕ) (first : List ℕ) → at + (length first + 1) + n ≤ length q → place_after at (unplaced first) ≡ at + (length first + 1)
   second_place at n first within = omega (arith, within, long, small)
 
-  second : (at : ℕ) (one other : List ℕ) → StandBoth q at one other → Stands q (place_behind at (unplaced one)) other
+  second : (at : ℕ) (one other : List ℕ) → StandBoth q at one other → Stands q (place_after at (unplaced one)) other
   second at one other b = rw (second_place at (length other) one b.back.within) b.back
 
-  second_name : (at : ℕ) (one other : List ℕ) → NamesStand q at one other → NameStands q (place_behind at (unplaced one)) other
+  second_name : (at : ℕ) (one other : List ℕ) → NamesStand q at one other → NameStands q (place_after at (unplaced one)) other
   second_name at one other b = rw (second_place at (length other) one (omega (arith, b.back.within))) b.back
 
   rest_is : (at : ℕ) → length (drop at q) ≡ len - at
@@ -410,7 +410,7 @@ module _ (q : List ℕ) (h : InHeader) (head : size_of in_header ≤ length q) (
   table opcode.RemoveMapping not_init not_readdir not_plus lacks = tt {0}
   table _ not_init not_readdir not_plus lacks = λ r. record { numbers = refl; places = tt {0} }
 
-  -- the call or the listing that the bytes behind a header ask for is told
+  -- the call or the listing that the bytes after a header ask for is told
   pub told_by_opcode : (o : Opcode) → o ≢ opcode.Init → o ≢ opcode.Readdir → o ≢ opcode.Readdirplus → may_have_context options o ≡ false
       → OfCall (CallIs o) (ListingIs o) (ask_opcode limits options space o h (drop (size_of in_header) q))
   told_by_opcode o not_init not_readdir not_plus lacks = form_shown q h head (CallIs o) (ListingIs o) (form_of limits options space h o) (table o not_init not_readdir not_plus lacks)

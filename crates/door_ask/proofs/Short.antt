@@ -19,14 +19,14 @@ use Rattle.fuse_grammar.specs.declared.error.Error.{Error}
 use Rattle.fuse_grammar.specs.declared.error.Error.TheVariants.{DecodeMessage, EncodeMessage, OutOfMemory}
 use Rattle.fuse_grammar.proofs.Rooms.{length-fault_reply, length-body_reply}
 use Rattle.laws_turns.proofs.Table.{Shows, form_shown, limit_shown}
-use Rattle.fuse_messages.specs.Rooms.{Replies, IsShortReply, with_behind}
-use Rattle.fuse_messages.proofs.Rooms.{replies_behind, with_none_behind}
+use Rattle.fuse_messages.specs.Rooms.{Replies, IsShortReply, with_after}
+use Rattle.fuse_messages.proofs.Rooms.{replies_after, with_none_after}
 use Rattle.door_calls.specs.declared.call.CallData.{CallData}
 use Rattle.door_ask.specs.Asked.{IsAsked, IsEnough, IsFinished, LiesWithin, Tells, longest_reply}
 use Rattle.door_ask.specs.declared.asked.Asked.{Asked}
 use Rattle.door_ask.specs.declared.asked.Asked.TheVariants as asked
 
--- where a request ends without a call, what comes back has at most so many bytes
+-- where a request ends without a call, what comes back has at most that many bytes
 abbrev pub IsShort : Ask → Type 0
 IsShort (Ends reply) = IsShortReply longest_reply reply
 IsShort (Asks echo call) = Unit {0}
@@ -73,38 +73,38 @@ is_short limits options space request =
     (λ h. ask_header limits options space h (drop (size_of in_header) request))
     (short_header limits options space (value_of in_header request) (drop (size_of in_header) request))
 
--- ---- the room goes on behind what the writer has
+-- ---- the room goes on after what the writer has
 
--- either there is no more room behind, or a short reply fits before it
-enough_behind : (left behind room : ℕ) → left + behind ≡ room → IsEnough left room → (behind ≡ 0) ⊎ (longest_reply ≤ left)
-enough_behind left behind room sum (inl all) = inl (omega (arith, sum, all))
-enough_behind left behind room sum (inr enough) = inr enough.0
+-- either there is no more room after, or a short reply fits before it
+enough_after : (left behind room : ℕ) → left + behind ≡ room → IsEnough left room → (behind ≡ 0) ⊎ (longest_reply ≤ left)
+enough_after left behind room sum (inl all) = inl (omega (arith, sum, all))
+enough_after left behind room sum (inr enough) = inr enough.0
 
 module _ (wanted : Type 0) (q : List ℕ) (options interrupts room : ℕ) (writer writer_after : Written) (told : CallData) (behind : List ℕ)
     (enough : (length behind ≡ 0) ⊎ (longest_reply ≤ length writer.left)) where
-  finished_behind : (result : Asked) (reply : Reply) → IsShortReply longest_reply reply
+  finished_after : (result : Asked) (reply : Reply) → IsShortReply longest_reply reply
       → IsFinished reply interrupts writer result writer_after told
-      → IsFinished reply interrupts (with_behind writer behind) result (with_behind writer_after behind) told
-  finished_behind (asked.Finished outcome interrupted) reply short f =
-      (replies_behind longest_reply reply writer writer_after outcome behind enough short f.0, f.1, f.2)
-  finished_behind asked.Call reply short f = absurd f
+      → IsFinished reply interrupts (with_after writer behind) result (with_after writer_after behind) told
+  finished_after (asked.Finished outcome interrupted) reply short f =
+      (replies_after longest_reply reply writer writer_after outcome behind enough short f.0, f.1, f.2)
+  finished_after asked.Call reply short f = absurd f
 
   told_behind : (a : Ask) (result : Asked) → IsShort a → Tells wanted q options interrupts room a writer result writer_after told
-      → Tells wanted q options interrupts room a (with_behind writer behind) result (with_behind writer_after behind) told
-  told_behind (Ends reply) result short t = finished_behind result reply short t
+      → Tells wanted q options interrupts room a (with_after writer behind) result (with_after writer_after behind) told
+  told_behind (Ends reply) result short t = finished_after result reply short t
   told_behind (Asks echo call) result short t = t
   told_behind (Lists echo l) result short t = t
   told_behind (WithMemory rest) result short (inl t) = inl (told_behind rest result short t)
-  told_behind (WithMemory rest) result short (inr t) = inr (t.0, finished_behind result (Refusal OutOfMemory) tt t.1)
+  told_behind (WithMemory rest) result short (inr t) = inr (t.0, finished_after result (Refusal OutOfMemory) tt t.1)
 
 -- so what is told in the beginning of a room is told in all of it
 pub told_in_room : (wanted : Type 0) (q : List ℕ) (limits : Limits) (options interrupts room : ℕ) (writer writer_after : Written) (told : CallData) (behind : List ℕ) (result : Asked)
     → length writer.left + length behind ≡ room → IsEnough (length writer.left) room
     → Tells wanted q options interrupts room (ask limits options room q) writer result writer_after told
-    → Tells wanted q options interrupts room (ask limits options room q) (with_behind writer behind) result (with_behind writer_after behind) told
+    → Tells wanted q options interrupts room (ask limits options room q) (with_after writer behind) result (with_after writer_after behind) told
 told_in_room wanted q limits options interrupts room writer writer_after told behind result sum enough t =
     told_behind wanted q options interrupts room writer writer_after told behind
-    (enough_behind (length writer.left) (length behind) room sum enough) (ask limits options room q) result (is_short limits options room q) t
+    (enough_after (length writer.left) (length behind) room sum enough) (ask limits options room q) result (is_short limits options room q) t
 
 -- ---- a reply lies within what the writer has left
 
@@ -146,8 +146,8 @@ usual = record { page_size = 4096; max_buffer = 1048576 }
 -- where the writer has all of the room
 pub told_in_all : (limits : Limits) (options room : ℕ) (q : List ℕ) (writer writer_after : Written) (told : CallData) (result : Asked)
     → ((behind : List ℕ) → length writer.left + length behind ≡ room
-    → IsAsked limits options q (with_behind writer behind) result (with_behind writer_after behind) told)
+    → IsAsked limits options q (with_after writer behind) result (with_after writer_after behind) told)
     → room ≡ length writer.left → IsAsked limits options q writer result writer_after told
 told_in_all limits options room q writer writer_after told result is all =
-    subst (λ (w : Written). IsAsked limits options q w result writer_after told) (with_none_behind writer [] refl)
-    (subst (λ (w : Written). IsAsked limits options q (with_behind writer []) result w told) (with_none_behind writer_after [] refl) (is [] (omega (arith, all))))
+    subst (λ (w : Written). IsAsked limits options q w result writer_after told) (with_none_after writer [] refl)
+    (subst (λ (w : Written). IsAsked limits options q (with_after writer []) result w told) (with_none_after writer_after [] refl) (is [] (omega (arith, all))))

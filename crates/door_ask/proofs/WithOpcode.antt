@@ -1,4 +1,4 @@
--- The header of a request with another opcode, and what stands behind it.
+-- The header of a request with another opcode, and what comes after it.
 use Rattle.std.proofs.Common.{◌≡◌, ◌≤◌, ◌<◌, ◌^◌, ◌∙◌, ℕ, Bool, true, false, List, ◌∷◌, ◌+◌, ◌-◌, ◌++◌, length, take, drop, min, nat_lt, if◌then◌else◌, Result, Ok, Err, refl, ap, sym, arith, length-append, length-drop}
 use Rattle.std.proofs.lemmas.List.{length-take}
 use Rattle.std.proofs.lemmas.Bool.Decides.{nat_tests}
@@ -12,7 +12,7 @@ use Rattle.fuse_grammar.specs.declared.error.Error.TheVariants.{DecodeMessage}
 use Rattle.door_ask.specs.WithOpcode.{with_opcode}
 use Rattle.door_ask.proofs.Memory.{read_header_is}
 
--- the first four bytes make a number, whatever stands behind them
+-- the first four bytes make a number, whatever comes after them
 first_number : (a b c d : ℕ) (x y : List ℕ) → number 4 (a ∷ b ∷ c ∷ d ∷ x) ≡ number 4 (a ∷ b ∷ c ∷ d ∷ y)
 unfolding number
 first_number a b c d x y = refl

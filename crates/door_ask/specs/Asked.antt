@@ -42,7 +42,7 @@ data_of_call (Write ctx inode handle bytes size offset lock_owner delayed kill_p
 data_of_call (BatchForget ctx pairs) = record { at = 0; len = length pairs * pair_size }
 data_of_call call = (shape_of call).data
 
--- a call as data, without the places of its names and values: what of it stands in the request with this
+-- a call as data, without the places of its names and values: what of it is in the request with this
 -- echo, the options that were agreed on when it was asked, and the room for its reply
 abbrev pub told_of : (options room : ℕ) → Echo → Call → CallData
 told_of options room echo call = record (shape_of call) {
@@ -92,7 +92,7 @@ pub record Stand (request : List ℕ) (range : Range) (bytes : List ℕ) : Type 
   pub within : range.at + range.len ≤ length request
   pub bytes_are : bytes_in request range ≡ bytes
 
--- This range lies within the request, and has this name there: the first 0 from there on is the byte behind the
+-- This range lies within the request, and has this name there: the first 0 from there on is the byte after the
 -- range. So a name that lies in one piece is a string of C where it lies.
 pub record IsNameIn (request : List ℕ) (range : Range) (name : List ℕ) : Type 0 where
   pub within : range.at + range.len < length request
@@ -104,14 +104,14 @@ pub record Spell (request : List ℕ) (range : Range) (pairs : List (ℕ × ℕ)
   pub within : range.at + range.len ≤ length request
   pub pairs_are : pairs_of (length pairs) (bytes_in request range) ≡ pairs
 
--- the name and the value of a context, where there is one, stand in the ranges of the request that are told
+-- the name and the value of a context, where there is one, are in the ranges of the request that are told
 abbrev pub IsContextPlaced : (request : List ℕ) → Option (List ℕ × List ℕ) → CallData → Type 0
 IsContextPlaced q None told = ⊤
 IsContextPlaced q (Some context) told =
     IsNameIn q told.context_name context.0 × Stand q told.context context.1
 
--- The names and the value of a call stand in the ranges of the request that are told, each name, and the text
--- of a SYMLINK, with a 0 behind it; and the pairs of a BATCH_FORGET are those that these bytes spell.
+-- The names and the value of a call are in the ranges of the request that are told, each name, and the text
+-- of a SYMLINK, with a 0 after it; and the pairs of a BATCH_FORGET are those that these bytes spell.
 abbrev pub ArePlaced : (request : List ℕ) → Call → CallData → Type 0
 ArePlaced q (Lookup ctx parent name) told = IsNameIn q told.name name
 ArePlaced q (Symlink ctx text parent name ext) told =
@@ -156,7 +156,7 @@ IsFinished reply interrupts writer (asked.Finished outcome interrupted) writer_a
     Replies reply writer outcome writer_after × (interrupted ≡ interrupts) × (told ≡ nothing)
 IsFinished reply interrupts writer asked.Call writer_after told = ⊥
 
--- what is told of a request that asks this, for which memory may be wanted so, with so much room for a
+-- what is told of a request that asks this, for which memory may be wanted so, with that much room for a
 -- reply
 abbrev pub Tells : (wanted : Type 0) → (request : List ℕ) → (options interrupts room : ℕ) → Ask
     → (writer : Written) → Asked → (writer_after : Written) → CallData → Type 0
@@ -180,13 +180,13 @@ abbrev pub interrupt_number : ℕ
 interrupt_number = number_of Interrupt
 
 -- the request that one with this header interrupts, and 0 where it interrupts none
-abbrev pub interrupted_behind : Limits → InHeader → (rest : List ℕ) → ℕ
-interrupted_behind limits h rest =
+abbrev pub interrupted_after : Limits → InHeader → (rest : List ℕ) → ℕ
+interrupted_after limits h rest =
     if nat_lt (max_len limits) h.len then 0
     else if h.opcode == interrupt_number then unique_or_none (record_of interrupt_in rest) else 0
 
 abbrev pub interrupted_or_none : Limits → Result InHeader Error → (rest : List ℕ) → ℕ
-interrupted_or_none limits (Ok h) rest = interrupted_behind limits h rest
+interrupted_or_none limits (Ok h) rest = interrupted_after limits h rest
 interrupted_or_none limits (Err error) rest = 0
 
 -- the request that a request interrupts, and 0 where it interrupts none
@@ -194,7 +194,7 @@ abbrev pub interrupted_by : Limits → (request : List ℕ) → ℕ
 interrupted_by limits q =
     interrupted_or_none limits (record_of in_header q) (drop (size_of in_header) q)
 
--- What is told of a request, with so much room for a reply, under these limits and agreed options: the call
+-- What is told of a request, with that much room for a reply, under these limits and agreed options: the call
 -- that the grammar says, where it says one; and else that the request is finished, as the grammar says.
 -- When memory may be wanted isn't said here.
 abbrev pub IsAsked : Limits → (options : ℕ) → (request : List ℕ) → (writer : Written) → Asked

@@ -16,7 +16,7 @@ use Rattle.fuse_grammar.specs.declared.error.Error.TheVariants.{EncodeMessage, O
 use Rattle.door_calls.specs.Shapes.{nothing}
 use Rattle.door_calls.specs.declared.call.CallData.{CallData}
 use Rattle.fuse_server.specs.MemoryByPieces.{MayWantBehind}
-use Rattle.door_ask.specs.Asked.{IsTold, interrupted_behind, interrupted_by, told_of_listing}
+use Rattle.door_ask.specs.Asked.{IsTold, interrupted_after, interrupted_by, told_of_listing}
 use Rattle.door_ask.specs.Memory.{MayWant}
 use Rattle.door_ask.specs.declared.asked.Asked.{Asked}
 use Rattle.door_ask.specs.declared.asked.Asked.TheVariants as asked
@@ -24,7 +24,7 @@ use Rattle.door_ask.specs.declared.asked.Terms.{Terms}
 use Rattle.door_ask.specs.declared.checked.Checked.{Checked}
 use Rattle.door_ask.specs.declared.checked.Checked.TheVariants as checked
 
--- a reply of so many bytes is due: so it is refused where there is less room
+-- a reply of that many bytes is due: so it is refused where there is less room
 abbrev pub answered : (room interrupts len : ℕ) → Checked
 answered room interrupts len =
     if nat_lt room len then checked.Refused EncodeMessage else checked.Finished interrupts
@@ -36,7 +36,7 @@ judged room interrupts NoReply = checked.Finished interrupts
 judged room interrupts (Bytes reply) = answered room interrupts (length reply)
 judged room interrupts (OpenBehind reply) = answered room interrupts (length reply)
 
--- what is said of a request that asks this, for which memory may be wanted so, with so much room for a reply
+-- what is said of a request that asks this, for which memory may be wanted so, with that much room for a reply
 abbrev pub Judges : (wanted : Type 0) → (request : List ℕ) → (options interrupts room : ℕ) → Ask → Checked
     → CallData → Type 0
 Judges wanted q options interrupts room (Ends reply) result told =
@@ -66,12 +66,12 @@ checked_of room asked.Call = checked.Call
 checked_of room (asked.Finished (Ok len) interrupts) = checked.Finished interrupts
 checked_of room (asked.Finished (Err error) interrupts) = refused_as room interrupts error
 
--- what is said of a request with this header, behind which a reader stands
+-- what is said of a request with this header, after which a reader stands
 abbrev pub JudgesHeader : Terms → InHeader → Unread → Checked → CallData → Type 0
 JudgesHeader terms h r result told =
     (request : List ℕ) → length request ≡ terms.len → record_of in_header request ≡ Ok h
     → drop (size_of in_header) request ≡ r.left
     → Judges
     (MayWantBehind terms.limits (fs_options_bits terms.options) terms.room (opcode_of h.opcode) h r.pieces)
-    request (fs_options_bits terms.options) (interrupted_behind terms.limits h r.left) terms.room
+    request (fs_options_bits terms.options) (interrupted_after terms.limits h r.left) terms.room
     (ask_header terms.limits (fs_options_bits terms.options) terms.room h r.left) result told

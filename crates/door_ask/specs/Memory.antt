@@ -18,7 +18,7 @@ MayWant limits options space u =
     MayWantBehind limits options space (opcode_of (header_of u.left).opcode) (header_of u.left)
     (lengths_from (size_of in_header) u.pieces)
 
--- memory may be wanted for a request with these bytes, of which those behind the header lie in these pieces
+-- memory may be wanted for a request with these bytes, of which those after the header lie in these pieces
 abbrev pub MayWantBehindHeader : Limits → (options space : ℕ) → (request : List ℕ) → (pieces : List ℕ) → Type 0
 MayWantBehindHeader limits options space q pieces =
     MayWantBehind limits options space (opcode_of (header_of q).opcode) (header_of q) pieces

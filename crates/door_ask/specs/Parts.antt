@@ -13,7 +13,7 @@ use Rattle.door_calls.specs.declared.call.Range.{Range}
 use Rattle.door_ask.specs.declared.parts.Parts.{Parts}
 use Rattle.door_ask.specs.declared.parts.Parts.TheVariants.{Nowhere, Name, Names, NameAndValue, Pairs, Rest, Room}
 
--- the parts of a request of this opcode, under these options: behind its record, if it has one
+-- the parts of a request of this opcode, under these options: after its record, if it has one
 abbrev pub parts_of : (options : ℕ) → Opcode → Parts
 parts_of options opcode.Lookup = Name (size_of in_header)
 parts_of options opcode.Symlink = Names (size_of in_header)
@@ -37,21 +37,21 @@ parts_of options opcode = Nowhere
 abbrev pub placed_at : (at : ℕ) → Range → Range
 placed_at at range = record { at = at; len = range.len }
 
--- the place behind a name that begins here, and behind its 0, or the greatest number
-abbrev pub place_behind : (at : ℕ) → Range → ℕ
-place_behind at name = min (min (at + name.len) (2 ^ 64 - 1) + 1) (2 ^ 64 - 1)
+-- the place after a name that begins here, and after its 0, or the greatest number
+abbrev pub place_after : (at : ℕ) → Range → ℕ
+place_after at name = min (min (at + name.len) (2 ^ 64 - 1) + 1) (2 ^ 64 - 1)
 
--- a call with its parts, of a request of so many bytes, with so much room for the reply
+-- a call with its parts, of a request of that many bytes, with that much room for the reply
 abbrev pub with_parts : (length room : ℕ) → Parts → CallData → CallData
 with_parts length room Nowhere c = c
 with_parts length room (Name at) c = record c { name = placed_at at c.name }
 with_parts length room (Names at) c = record c {
   name = placed_at at c.name;
-  other_name = placed_at (place_behind at c.name) c.other_name;
+  other_name = placed_at (place_after at c.name) c.other_name;
 }
 with_parts length room (NameAndValue at) c = record c {
   name = placed_at at c.name;
-  «data» = placed_at (place_behind at c.name) c.data;
+  «data» = placed_at (place_after at c.name) c.data;
 }
 with_parts length room (Pairs at) c = record c {
   «data» = record { at = at; len = min (c.length * pair_size) (2 ^ 64 - 1) };

@@ -14,7 +14,7 @@ use Rattle.fuse_server.specs.MemoryByPieces.{MayWantBehind}
 use Rattle.door_calls.specs.declared.call.CallData.{CallData}
 use Rattle.door_ask.specs.declared.asked.Asked.{Asked}
 use Rattle.door_ask.specs.declared.asked.Terms.{Terms}
-use Rattle.door_ask.specs.Asked.{Tells, interrupted_behind}
+use Rattle.door_ask.specs.Asked.{Tells, interrupted_after}
 
 -- What is told of a request that asks this, whose header is followed by these bytes.
 abbrev pub TellsBehind : Terms → (wanted : Type 0) → (interrupts : ℕ) → InHeader → (rest : List ℕ) → Ask
@@ -25,13 +25,13 @@ TellsBehind terms wanted interrupts h rest a writer result writer_after told =
     → Tells wanted request (fs_options_bits terms.options) interrupts terms.room a writer result writer_after
     told
 
--- What is told of a request with this header, behind which a reader stands.
+-- What is told of a request with this header, after which a reader stands.
 abbrev pub TellsOfHeader : Terms → InHeader → Unread → (writer : Written) → Asked → (writer_after : Written)
     → CallData → Type 0
 TellsOfHeader terms h r writer result writer_after told =
     TellsBehind terms
     (MayWantBehind terms.limits (fs_options_bits terms.options) terms.room (opcode_of h.opcode) h r.pieces)
-    (interrupted_behind terms.limits h r.left) h r.left
+    (interrupted_after terms.limits h r.left) h r.left
     (ask_header terms.limits (fs_options_bits terms.options) terms.room h r.left)
     writer result writer_after told
 

@@ -3,7 +3,7 @@ use Rattle.std.specs.Prelude.{ℕ, List, ◌++◌, take, drop}
 use Rattle.fuse_wire.specs.Fields.{little}
 use Rattle.fuse_segments.specs.Unread.{Unread}
 
--- the bytes of a request with this number in place of its opcode, which stands in place 4
+-- the bytes of a request with this number in place of its opcode, which is in place 4
 abbrev pub with_opcode : (opcode : ℕ) → (request : List ℕ) → List ℕ
 with_opcode opcode q = take 4 q ++ (little 4 opcode ++ drop 8 q)
 

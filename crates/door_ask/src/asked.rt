@@ -6,7 +6,7 @@ ghost use Rattle.fuse_flags.specs.Numbers.{opcode_of};
 ghost use Rattle.fuse_flags.specs.declared.opcode.Opcode.{Opcode};
 ghost use Rattle.fuse_wire.specs.Records.{in_header};
 ghost use Rattle.fuse_wire_more.specs.Locks.{interrupt_in};
-ghost use Rattle.fuse_messages.specs.Rooms.{with_behind};
+ghost use Rattle.fuse_messages.specs.Rooms.{with_after};
 ghost use Rattle.fuse_grammar.specs.Ask.{ask};
 ghost use Rattle.fuse_grammar.specs.Words.{ask_header, ask_opcode};
 ghost use Rattle.fuse_grammar.specs.Limits.{AreLimits, max_len};
@@ -19,7 +19,7 @@ ghost use Rattle.door_ask.specs.Memory.{LacksNoMemory, MayWant};
 ghost use Rattle.door_ask.specs.Noting.{IsNoted, NotedAndTold};
 ghost use Rattle.door_ask.specs.Terms.{TellsOfHeader, TellsOfOpcode};
 ghost use Rattle.door_ask.specs.Parts.{told_with};
-ghost use Rattle.door_ask.specs.Asked.{IsAsked, IsEnough, LiesWithin, Tells, interrupted_behind, interrupted_by, unique_or_none};
+ghost use Rattle.door_ask.specs.Asked.{IsAsked, IsEnough, LiesWithin, Tells, interrupted_after, interrupted_by, unique_or_none};
 
 use crate::clear::{clear_numbers, clear_places};
 use crate::contexts::{may_have_context, place_context, read_tail_of, refusal_of_tail};
@@ -103,8 +103,8 @@ pub fn ask(
     requires limits { AreLimits limits }
     requires enough { IsEnough (length w.old.left) room }
     ensures asked { (behind : List ℕ) → length w.old.left + length behind ≡ room →
-        IsAsked limits (fs_options_bits options) r.entry.left (with_behind w.old behind) result
-        (with_behind w.new behind) call.new }
+        IsAsked limits (fs_options_bits options) r.entry.left (with_after w.old behind) result
+        (with_after w.new behind) call.new }
     ensures within { LiesWithin (length w.old.left) result }
 
     // It is refused for want of memory only where its tail is cut, it may have a context, or it has pairs.
@@ -142,7 +142,7 @@ pub(crate) fn ask_request(
                 len,
                 room,
             };
-            ask_behind(terms, Request { alloc, header, r }, w, call)
+            ask_after(terms, Request { alloc, header, r }, w, call)
         }
         Err(error) => Asked::finished(Err(error)),
     }
@@ -150,7 +150,7 @@ pub(crate) fn ask_request(
 
 // What a request with this header asks.
 #[inline(always)]
-pub(crate) fn ask_behind(
+pub(crate) fn ask_after(
     terms: Terms,
     q: Request<'_, '_>,
     w: &mut Writer,

@@ -10,7 +10,7 @@ ghost use Rattle.door_calls.specs.Shapes.{nothing};
 ghost use Rattle.door_ask.specs.Checked.{IsChecked, Judges, JudgesHeader, answered as answered_in, checked_of};
 ghost use Rattle.door_ask.specs.WithOpcode.{unread_with_opcode};
 
-use crate::asked::{Asked, LONGEST_REPLY, Terms, ask_behind};
+use crate::asked::{Asked, LONGEST_REPLY, Terms, ask_after};
 use crate::clear::{clear_numbers, clear_places};
 use crate::init::ask_of_version;
 use door_calls::CallData;
@@ -48,7 +48,7 @@ fn answered(room: usize, interrupts: u64, len: usize) -> Checked
 
 impl Checked {
     // What a request is that came to this without room for a reply, if that is a header alone, where there would be
-    // so much room.
+    // that much room.
     fn of(asked: &Asked, room: usize) -> Checked
         ensures { result ≡ checked_of room asked.now }
     {
@@ -97,7 +97,7 @@ fn check_version(
     )
 }
 
-// What an INIT with this header is, behind which `r` stands.
+// What an INIT with this header is, after which `r` stands.
 fn check_init(
     alloc: Global,
     header: &InHeader,
@@ -135,7 +135,7 @@ fn is_init(limits: Limits, header: &InHeader) -> bool
 }
 
 // What a request with this header is.
-fn check_behind(terms: Terms, q: Request<'_, '_>, call: &mut CallData) -> Checked
+fn check_after(terms: Terms, q: Request<'_, '_>, call: &mut CallData) -> Checked
     requires limits { AreLimits terms.limits }
     requires fits { terms.len < 2 ^ 64 }
     requires none { call.old ≡ nothing }
@@ -146,7 +146,7 @@ fn check_behind(terms: Terms, q: Request<'_, '_>, call: &mut CallData) -> Checke
         return check_init(q.alloc, q.header, terms.options, q.r, room, call);
     }
     let mut nowhere = Writer::empty(q.alloc);
-    Checked::of(&ask_behind(terms, q, &mut nowhere, call), room)
+    Checked::of(&ask_after(terms, q, &mut nowhere, call), room)
 }
 
 /// What the request is that `r` has left, with the options that are agreed on and `room` bytes of room for a
@@ -178,7 +178,7 @@ pub fn check(
                 len,
                 room,
             };
-            check_behind(terms, Request { alloc, header, r }, call)
+            check_after(terms, Request { alloc, header, r }, call)
         }
         Err(error) => Checked::Refused(error),
     }
@@ -211,7 +211,7 @@ pub fn check_as(
                 len,
                 room,
             };
-            check_behind(terms, Request { alloc, header, r }, call)
+            check_after(terms, Request { alloc, header, r }, call)
         }
         Err(error) => Checked::Refused(error),
     }

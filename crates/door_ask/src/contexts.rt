@@ -2,9 +2,9 @@
 
 ghost use Rattle.std.specs.Prelude.{◌≡◌, Err, drop};
 ghost use Rattle.fuse_flags.specs.Flags.{fs_options_bits};
-ghost use Rattle.door_ask.specs.Contexts.{GivesTailOf, PlacesContext, StandsInBlocks, last_name, may_have_context, tail_behind};
+ghost use Rattle.door_ask.specs.Contexts.{GivesTailOf, PlacesContext, StandsInBlocks, last_name, may_have_context, tail_after};
 
-use crate::parts::place_behind;
+use crate::parts::place_after;
 use bitflags::Flags;
 use door_calls::{CallData, Range};
 use fuse_flags::{FsOptions, Opcode};
@@ -19,7 +19,7 @@ use std::alloc::Global;
 /// The type of a block of one context.
 const ONE_CONTEXT: u32 = 1;
 
-/// The place of the name of the context in these blocks, which are one behind the other, where they
+/// The place of the name of the context in these blocks, which are one after the other, where they
 /// have one.
 fn context_place(blocks: &[u8]) -> usize
     ensures { StandsInBlocks blocks.now result }
@@ -53,7 +53,7 @@ pub fn may_have_context(opcode: Opcode, options: FsOptions) -> bool
     }
 }
 
-/// The tail of a request that may have a context, behind whose header `r` stands: the bytes that its
+/// The tail of a request that may have a context, after whose header `r` stands: the bytes that its
 /// names and its blocks lie in. It is refused as the request is.
 pub fn read_tail_of<'a>(
     opcode: Opcode,
@@ -61,7 +61,7 @@ pub fn read_tail_of<'a>(
     header: &InHeader,
     r: &mut Reader<'a>,
 ) -> Result<Tail<'a>>
-    ensures { GivesTailOf result (tail_behind opcode header.now r.old.left) }
+    ensures { GivesTailOf result (tail_after opcode header.now r.old.left) }
 {
     match opcode {
         Opcode::Mknod => {
@@ -80,7 +80,7 @@ pub fn read_tail_of<'a>(
     }
 }
 
-/// The last name or text of a call, behind which its blocks stand.
+/// The last name or text of a call, after which its blocks stand.
 fn last_name(opcode: Opcode, call: &CallData) -> Range
     ensures { result ≡ last_name opcode call.now }
 {
@@ -95,17 +95,17 @@ fn last_name(opcode: Opcode, call: &CallData) -> Range
 pub fn place_context(opcode: Opcode, tail: &[u8], call: &mut CallData)
     ensures { PlacesContext opcode tail.now call.old call.new }
 {
-    let place = place_behind(last_name(opcode, call));
-    let blocks = bytes_behind(tail, place.saturating_sub(call.name.at));
+    let place = place_after(last_name(opcode, call));
+    let blocks = bytes_after(tail, place.saturating_sub(call.name.at));
     let at = place.saturating_add(context_place(blocks) as u64);
     if call.context.len != 0 {
         call.context_name.at = at;
-        call.context.at = place_behind(call.context_name);
+        call.context.at = place_after(call.context_name);
     }
 }
 
 /// The bytes from this place on, none where it is past the end.
-fn bytes_behind(bytes: &[u8], place: u64) -> &[u8]
+fn bytes_after(bytes: &[u8], place: u64) -> &[u8]
     ensures { result.now ≡ drop place bytes.now }
 {
     if place > bytes.len() as u64 {
@@ -121,7 +121,7 @@ pub fn refusal_of_tail(
     header: &InHeader,
     r: &mut Reader<'_>,
 ) -> Error
-    ensures { GivesTailOf (Err result) (tail_behind opcode header.now r.old.left) }
+    ensures { GivesTailOf (Err result) (tail_after opcode header.now r.old.left) }
 {
     match read_tail_of(opcode, alloc, header, r) {
         Ok(_) => Error::OutOfMemory,

@@ -112,7 +112,7 @@ pub fn note_getattr(mut q: Request<'_, '_>, call: &mut CallData) -> Result<usize
     Ok(0)
 }
 
-/// Notes the READ that a request asks for, with so much room for its reply, or says why it asks for
+/// Notes the READ that a request asks for, with that much room for its reply, or says why it asks for
 /// none.
 pub fn note_read(room: usize, mut q: Request<'_, '_>, call: &mut CallData) -> Result<usize>
     requires { call.old ≡ nothing }

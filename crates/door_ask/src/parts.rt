@@ -1,11 +1,11 @@
-//! Where the names and values of a call stand in its request.
+//! Where the names and values of a call are in its request.
 
 ghost use Rattle.std.specs.Prelude.{◌≡◌, ◌+◌, ◌≤◌};
 ghost use Rattle.fuse_flags.specs.Flags.{fs_options_bits};
 ghost use Rattle.fuse_segments.specs.declared.record.TheConstants.{LARGEST_RECORD};
 ghost use Rattle.fuse_wire.specs.Records.{in_header};
 ghost use Rattle.fuse_grammar.specs.Records.{size_of};
-ghost use Rattle.door_ask.specs.Parts.{parts_of, place_behind, with_parts};
+ghost use Rattle.door_ask.specs.Parts.{parts_of, place_after, with_parts};
 
 use bitflags::Flags;
 use door_calls::{CallData, Range};
@@ -23,9 +23,9 @@ pub enum Parts {
     Nowhere,
     /// A name.
     Name(u64),
-    /// A name, and another behind it.
+    /// A name, and another after it.
     Names(u64),
-    /// A name, and a value behind it.
+    /// A name, and a value after it.
     NameAndValue(u64),
     /// Pairs of a node and a count.
     Pairs(u64),
@@ -35,7 +35,7 @@ pub enum Parts {
     Room,
 }
 
-// Where the parts behind a record of this size begin.
+// Where the parts after a record of this size begin.
 fn behind(size: usize) -> u64
     requires { size ≤ LARGEST_RECORD }
     ensures { result ≡ size_of in_header + size }
@@ -80,11 +80,11 @@ impl Parts {
             Parts::Name(at) => call.name.at = at,
             Parts::Names(at) => {
                 call.name.at = at;
-                call.other_name.at = place_behind(call.name);
+                call.other_name.at = place_after(call.name);
             }
             Parts::NameAndValue(at) => {
                 call.name.at = at;
-                call.data.at = place_behind(call.name);
+                call.data.at = place_after(call.name);
             }
             Parts::Pairs(at) => {
                 let len = call.length.saturating_mul(ForgetOne::SIZE as u64);
@@ -99,9 +99,9 @@ impl Parts {
     }
 }
 
-/// The place behind a name and its 0.
-pub fn place_behind(name: Range) -> u64
-    ensures { result ≡ place_behind name.at name }
+/// The place after a name and its 0.
+pub fn place_after(name: Range) -> u64
+    ensures { result ≡ place_after name.at name }
 {
     name.at.saturating_add(name.len).saturating_add(1)
 }

@@ -3,13 +3,13 @@
 
 ghost use Rattle.std.specs.Prelude.{◌≡◌, ◌<◌, ◌^◌, ◌+◌, ◌++◌, ℕ, List, length};
 ghost use Rattle.fuse_flags.specs.Flags.{fs_options_bits};
-ghost use Rattle.fuse_messages.specs.Rooms.{with_behind};
+ghost use Rattle.fuse_messages.specs.Rooms.{with_after};
 ghost use Rattle.fuse_grammar.specs.Ask.{ask};
 ghost use Rattle.fuse_grammar.specs.Limits.{AreLimits};
 ghost use Rattle.door_ask.specs.Asked.{IsAsked, IsEnough, LiesWithin, Tells, interrupted_by};
 ghost use Rattle.door_ask.specs.Memory.{LacksNoMemory, MayWantBehindHeader};
 
-use crate::asked::{Asked, Terms, ask_behind};
+use crate::asked::{Asked, Terms, ask_after};
 use crate::at_once::record_in;
 use crate::clear::{clear_numbers, clear_places};
 use door_calls::CallData;
@@ -20,7 +20,7 @@ use fuse_segments::{Reader, Writer};
 use fuse_wire::{ByteValued, InHeader};
 use std::alloc::Global;
 
-/// What the request asks that has these bytes as its header, and behind it those that `r` has left:
+/// What the request asks that has these bytes as its header, and after it those that `r` has left:
 /// [`ask`](crate::ask) of all of them.
 #[inline(always)]
 pub fn ask_rest(
@@ -39,7 +39,7 @@ pub fn ask_rest(
     requires enough { IsEnough (length w.old.left) room }
     ensures asked { (behind : List ℕ) → length w.old.left + length behind ≡ room →
         IsAsked limits (fs_options_bits options) (head.now ++ r.entry.left)
-        (with_behind w.old behind) result (with_behind w.new behind) call.new }
+        (with_after w.old behind) result (with_after w.new behind) call.new }
     ensures within { LiesWithin (length w.old.left) result }
     ensures memory { ¬ (MayWantBehindHeader limits (fs_options_bits options) room (head.now ++ r.entry.left)
         r.entry.pieces) → LacksNoMemory result }
@@ -83,7 +83,7 @@ fn ask_request_rest(
                 len,
                 room,
             };
-            ask_behind(terms, Request { alloc, header, r }, w, call)
+            ask_after(terms, Request { alloc, header, r }, w, call)
         }
         Err(_) => unreachable!(),
     }

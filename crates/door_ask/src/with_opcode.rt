@@ -2,14 +2,14 @@
 
 ghost use Rattle.std.specs.Prelude.{◌≡◌, ◌+◌, ℕ, List, length};
 ghost use Rattle.fuse_flags.specs.Flags.{fs_options_bits};
-ghost use Rattle.fuse_messages.specs.Rooms.{with_behind};
+ghost use Rattle.fuse_messages.specs.Rooms.{with_after};
 ghost use Rattle.fuse_grammar.specs.Ask.{ask};
 ghost use Rattle.fuse_grammar.specs.Limits.{AreLimits};
 ghost use Rattle.door_ask.specs.Asked.{IsAsked, IsEnough, LiesWithin, Tells, interrupted_by};
 ghost use Rattle.door_ask.specs.Memory.{LacksNoMemory, MayWant};
 ghost use Rattle.door_ask.specs.WithOpcode.{unread_with_opcode, with_opcode as with_opcode_of};
 
-use crate::asked::{Asked, Terms, ask_behind};
+use crate::asked::{Asked, Terms, ask_after};
 use crate::clear::{clear_numbers, clear_places};
 use door_calls::CallData;
 use fuse_flags::FsOptions;
@@ -34,7 +34,7 @@ pub fn ask_as(
     requires enough { IsEnough (length w.old.left) room }
     ensures asked { (behind : List ℕ) → length w.old.left + length behind ≡ room →
         IsAsked limits (fs_options_bits options) (with_opcode_of opcode r.entry.left)
-        (with_behind w.old behind) result (with_behind w.new behind) call.new }
+        (with_after w.old behind) result (with_after w.new behind) call.new }
     ensures within { LiesWithin (length w.old.left) result }
     ensures memory { ¬ (MayWant limits (fs_options_bits options) room (unread_with_opcode opcode r.entry)) →
         LacksNoMemory result }
@@ -74,7 +74,7 @@ pub(crate) fn ask_request_as(
                 len,
                 room,
             };
-            ask_behind(terms, Request { alloc, header, r }, w, call)
+            ask_after(terms, Request { alloc, header, r }, w, call)
         }
         Err(error) => Asked::finished(Err(error)),
     }

@@ -121,7 +121,7 @@ pub struct AnswerData {
 pub struct ItemData<'a> {
     /// The number of the node, which counts no lookup.
     pub ino: u64,
-    /// Where a reading that goes on behind this item begins.
+    /// Where a reading that goes on after this item begins.
     pub offset: u64,
     /// The name with the 0 that ends it.
     pub name: &'a [u8],
@@ -136,7 +136,7 @@ pub struct ItemData<'a> {
 /// The most nanoseconds beside whole seconds.
 const MOST_NANOSECONDS: u32 = 999_999_999;
 
-// How long so many seconds and nanoseconds are.
+// How long that many seconds and nanoseconds are.
 fn duration(seconds: u64, nanoseconds: u32) -> Duration
     ensures whole { whole_seconds result ≡ seconds }
     ensures beyond { nanoseconds_beyond result ≡ min nanoseconds most_nanoseconds }

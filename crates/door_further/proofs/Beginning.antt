@@ -16,7 +16,7 @@ use Rattle.fuse_grammar.specs.Records.{record_of, size_of}
 use Rattle.fuse_grammar.specs.declared.error.Error.{Error}
 use Rattle.fuse_grammar.specs.declared.limits.Limits.{Limits}
 use Rattle.door_calls.specs.declared.call.CallData.{CallData}
-use Rattle.door_further.specs.Further.{What, Ordinary, Short, Row, Unnamed, Tells, row_of, what_behind, what_of}
+use Rattle.door_further.specs.Further.{What, Ordinary, Short, Row, Unnamed, Tells, row_of, what_after, what_of}
 use Rattle.door_further.specs.declared.row.Further.{Further}
 use Rattle.door_further.specs.declared.row.Further.TheVariants as further
 
@@ -51,19 +51,19 @@ module _ (q : List ℕ) (long : 96 ≤ length q) where
       ) refl
 
   what_front : (offers : ℕ) (limits : Limits) (len : ℕ)
-      → what_behind offers limits (record_of in_header (take 96 q)) (drop 40 (take 96 q)) len
-      ≡ what_behind offers limits (record_of in_header q) (drop 40 q) len
+      → what_after offers limits (record_of in_header (take 96 q)) (drop 40 (take 96 q)) len
+      ≡ what_after offers limits (record_of in_header q) (drop 40 q) len
   what_front offers limits len =
-      ap (λ (r : Result InHeader Error). what_behind offers limits r (drop 40 (take 96 q)) len)
+      ap (λ (r : Result InHeader Error). what_after offers limits r (drop 40 (take 96 q)) len)
       (record_front in_header 0 (omega arith)) ∙ by (record_of in_header q) where
-        by : (r : Result InHeader Error) → what_behind offers limits r (drop 40 (take 96 q)) len
-            ≡ what_behind offers limits r (drop 40 q) len
+        by : (r : Result InHeader Error) → what_after offers limits r (drop 40 (take 96 q)) len
+            ≡ what_after offers limits r (drop 40 q) len
         by (Err error) = refl
         by (Ok h) = rw (row_front offers h len) refl
 
 front_by : (offers : ℕ) (limits : Limits) (q : List ℕ) (n : ℕ) (short : Bool) → nat_lt (length q) 96 ≡ short
     → n ≡ min (length q) 96
-    → what_behind offers limits (record_of in_header (take n q)) (drop 40 (take n q)) (length q)
+    → what_after offers limits (record_of in_header (take n q)) (drop 40 (take n q)) (length q)
     ≡ what_of offers limits q
 front_by offers limits q n true short is =
     let less : length q < 96 = grind (arith, nat_tests, short) in
@@ -76,7 +76,7 @@ front_by offers limits q n false short is =
 
 -- the first bytes that were copied, of a request that goes on or not
 pub front : (offers : ℕ) (limits : Limits) (q : List ℕ) (n : ℕ) (behind : List ℕ) → n ≡ min (length q) 96
-    → what_behind offers limits (record_of in_header (take n (take n q ++ behind)))
+    → what_after offers limits (record_of in_header (take n (take n q ++ behind)))
     (drop 40 (take n (take n q ++ behind))) (length q)
     ≡ what_of offers limits q
 front offers limits q n behind is =

@@ -3,7 +3,7 @@ use Rattle.std.proofs.Common.{◌≡◌, ◌∙◌, ◌+◌, ◌++◌, ℕ, pos,
 use Rattle.std.proofs.lemmas.List.{append-nil}
 use Rattle.fuse_segments.specs.Written.{Written}
 use Rattle.fs_trait.specs.Calls.{Answer, Failed, Text, Texts}
-use Rattle.fuse_messages.specs.Rooms.{with_behind}
+use Rattle.fuse_messages.specs.Rooms.{with_after}
 use Rattle.fuse_grammar.specs.Reply.{body_reply}
 use Rattle.fuse_grammar.specs.Words.{put_outcome}
 use Rattle.fuse_grammar.specs.declared.limits.Limits.{Limits}
@@ -23,8 +23,8 @@ fits lock room size left =
 
 module _ (limits : Limits) (a : AnswerData) (lock : List ℕ) (old new : Written) (fine : a.error ≡ pos 0)
     (size : length lock ≡ 24) (left : length old.left ≡ 4096) where
-  by : (answer : Answer) (came : Answered) → IsSaid a lock (with_behind old []).left Texts answer
-      → Comes limits (getlk_asked 0 4096) Texts answer (with_behind old []) came (with_behind new [])
+  by : (answer : Answer) (came : Answered) → IsSaid a lock (with_after old []).left Texts answer
+      → Comes limits (getlk_asked 0 4096) Texts answer (with_after old []) came (with_after new [])
       → came.outcome ≡ Ok 40
   by (Text bytes) came said comes =
       comes.1.says.says

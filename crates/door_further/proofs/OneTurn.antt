@@ -3,7 +3,7 @@ use Rattle.std.proofs.Common.{◌≡◌, ◌+◌, ◌++◌, ◌∙◌, ℕ, List
 use Rattle.fuse_segments.specs.Written.{Written, Leaves}
 use Rattle.fs_trait.specs.Calls.{Answer, Kind, Told, Texts, Offsets, Writes, Quiet, IsAnswer}
 use Rattle.fs_trait.specs.Runs.{Event}
-use Rattle.fuse_messages.specs.Rooms.{Replies, with_behind}
+use Rattle.fuse_messages.specs.Rooms.{Replies, with_after}
 use Rattle.fuse_wire.specs.Records.{in_header}
 use Rattle.fuse_grammar.specs.Reply.{reply_of}
 use Rattle.fuse_grammar.specs.Records.{record_of}
@@ -67,7 +67,7 @@ RowTurns row =
     (answer_offered (told_under options room row) a text) text items old (Some came) new
     → length old.left + length behind ≡ room
     → IsRowAnswered limits (told_under options room row) (row_kind row.answer)
-    (answer_offered (told_under options room row) a text) text (with_behind old behind) came (with_behind new behind)
+    (answer_offered (told_under options room row) a text) text (with_after old behind) came (with_after new behind)
 
 each_row : OfEachRow RowTurns
 each_row = record {
@@ -100,8 +100,8 @@ module _ (limits : Limits) (offers options : ℕ) (request : List ℕ) (asked_in
     (by_kind : Answers limits (kind_told told.answer told.size) told (answer_offered told a text) text items old
     (Some came) new)
     (calls : AnswersEachCall limits told (answer_offered told a text) text old (Some came) new)
-    (listings : AnswersEachListing limits told (answer_offered told a text) items (with_behind old behind) (Some came)
-    (with_behind new behind)) where
+    (listings : AnswersEachListing limits told (answer_offered told a text) items (with_after old behind) (Some came)
+    (with_after new behind)) where
   -- what is to be shown of a request that asks this
   record Turned (what : What) : Type 0 where
     events : List Event
@@ -110,9 +110,9 @@ module _ (limits : Limits) (offers options : ℕ) (request : List ℕ) (asked_in
     happened :
         HappenedOffered limits options request what told (answer_offered told a text) text items (old.left ++ behind)
         came events row
-    leaves : Leaves (with_behind old behind) room_after (with_behind new behind)
+    leaves : Leaves (with_after old behind) room_after (with_after new behind)
     follows :
-        FollowsOffered (offered_turn offers request (with_behind old behind) events came room_after row) limits options
+        FollowsOffered (offered_turn offers request (with_after old behind) events came room_after row) limits options
         what came.options
 
   turned_row : (row : CallData) → RowTurns row → told ≡ told_under options (length asked_in.left) row → Turned (Row row)
@@ -124,7 +124,7 @@ module _ (limits : Limits) (offers options : ℕ) (request : List ℕ) (asked_in
       subst (λ (c : CallData). Answers limits (kind_told c.answer c.size) c (answer_offered c a text) text items old
       (Some came) new) e by_kind in
       let r = turns options space limits a text items old came new behind x (sym (length-append old.left behind)) in
-      let b = came_back _ (with_behind old behind) (with_behind new behind) came.outcome r.replied in
+      let b = came_back _ (with_after old behind) (with_after new behind) came.outcome r.replied in
       record {
         events = [];
         row = Some (told, r.answer);

@@ -20,7 +20,7 @@ use Rattle.door_calls.specs.declared.call.CallData.{CallData}
 use Rattle.door_calls.specs.declared.call.kind.TheConstants as kind
 use Rattle.door_calls.specs.declared.call.number.TheConstants as number
 use Rattle.door_further.specs.declared.offers.TheConstants as row
-use Rattle.door_further.specs.Further.{What, Ordinary, Short, Row, Unnamed, asks_row, bmap_told, copy_told, if_whole, ioctl_place, ioctl_told, lock_told, notify_place, notify_told, or_short, poll_told, row_of, statx_told, what_behind}
+use Rattle.door_further.specs.Further.{What, Ordinary, Short, Row, Unnamed, asks_row, bmap_told, copy_told, if_whole, ioctl_place, ioctl_told, lock_told, notify_place, notify_told, or_short, poll_told, row_of, statx_told, what_after}
 
 module _ (P : CallData → Type 0) where
   -- it holds of the call that a request asks for, where it asks for one of a row
@@ -96,6 +96,6 @@ module _ (P : CallData → Type 0) where
 
     -- so it holds of the call of a row that is asked for
     pub of_what : (offers : ℕ) (limits : Limits) (h : Result InHeader Error) (rest : List ℕ) (len : ℕ)
-        → OfRow (what_behind offers limits h rest len)
+        → OfRow (what_after offers limits h rest len)
     of_what offers limits (Err error) rest len = tt {0}
     of_what offers limits (Ok h) rest len = by_limit (nat_lt (max_len limits) h.len) offers h rest len

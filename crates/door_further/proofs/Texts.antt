@@ -13,7 +13,7 @@ fitting error true test none = refl
 fitting error false test none = absurd (let e = rw none at test in cc)
 
 module _ (told : CallData) (is : (told.answer == kind.TEXT) ≡ true) (a : AnswerData) (text : List ℕ) where
-  -- a text that is said stands in the place of none that doesn't fit
+  -- a text that is said is in the place of none that doesn't fit
   by : (unfit : Bool) → is_unfit told a text ≡ unfit → (answer_offered told a text).error ≡ pos 0
       → fits told text ≡ true
   by true test none = absurd (let e = rw test at none in cc)

@@ -44,7 +44,7 @@ abbrev pub or_short : {R : Type 0} → Result R Error → (R → What) → What
 or_short (Err error) next = Short
 or_short (Ok r) next = next r
 
--- the call of a request that has so many bytes, and says that it has at least these
+-- the call of a request that has that many bytes, and says that it has at least these
 abbrev pub if_whole : (least len : ℕ) → CallData → What
 if_whole least len told = if nat_le least len then Row told else Short
 
@@ -140,7 +140,7 @@ copy_told h r = record (told_of number.COPY_64 kind.OFFSET h) {
 abbrev pub asks_row : (offers : ℕ) → InHeader → (number row : ℕ) → Bool
 asks_row offers h number row = h.opcode == number && has_flag offers row
 
--- The further table: what a request with this header asks, which has so many bytes, and these behind the
+-- The further table: what a request with this header asks, which has that many bytes, and these after the
 -- header.
 abbrev pub row_of : (offers : ℕ) → InHeader → (rest : List ℕ) → (len : ℕ) → What
 row_of offers h rest len =
@@ -168,15 +168,15 @@ row_of offers h rest len =
     else Ordinary
 
 -- the same of a header that may not be whole, or may say too much: virtiofsd's table refuses it
-abbrev pub what_behind : (offers : ℕ) → Limits → Result InHeader Error → (rest : List ℕ) → (len : ℕ) → What
-what_behind offers limits (Err error) rest len = Ordinary
-what_behind offers limits (Ok h) rest len =
+abbrev pub what_after : (offers : ℕ) → Limits → Result InHeader Error → (rest : List ℕ) → (len : ℕ) → What
+what_after offers limits (Err error) rest len = Ordinary
+what_after offers limits (Ok h) rest len =
     if nat_lt (max_len limits) h.len then Ordinary else row_of offers h rest len
 
 -- what these bytes ask by the rows that are offered
 abbrev pub what_of : (offers : ℕ) → Limits → (request : List ℕ) → What
 what_of offers limits q =
-    what_behind offers limits (record_of in_header q) (drop (size_of in_header) q) (length q)
+    what_after offers limits (record_of in_header q) (drop (size_of in_header) q) (length q)
 
 -- a call with the options that were agreed on when it was asked, and the room for its reply
 abbrev pub told_under : (options room : ℕ) → CallData → CallData

@@ -3,7 +3,7 @@ use Rattle.std.specs.Prelude.{◌≡◌, ◌++◌, ℕ, List, [], length, Option
 use Rattle.fuse_segments.specs.Written.{Written, Leaves}
 use Rattle.fs_trait.specs.Calls.{Answer}
 use Rattle.fs_trait.specs.Runs.{Event}
-use Rattle.fuse_messages.specs.Rooms.{with_behind}
+use Rattle.fuse_messages.specs.Rooms.{with_after}
 use Rattle.fuse_grammar.specs.Ask.{ask}
 use Rattle.fuse_grammar.specs.declared.error.Error.TheVariants.{DecodeMessage}
 use Rattle.fuse_grammar.specs.declared.limits.Limits.{Limits}
@@ -85,7 +85,7 @@ pub record IsAnsweredOffered (limits : Limits) (offers options : ℕ) (request :
       IsOfferedTurn limits options (offered_turn offers request old events came room_after row) came.options
 
 -- A request was asked by both tables with this room, and a call told; and that was answered in as much room, of a
--- READ perhaps without the bytes behind the first ones.
+-- READ perhaps without the bytes after the first ones.
 pub record IsAskedAndAnswered (limits : Limits) (offers options : ℕ) (request : List ℕ)
     (asked_in after : Written) (told : CallData) (a : AnswerData) (text : List ℕ) (items : List ItemData)
     (old : Written) (behind : List ℕ) (came : Answered) (new : Written) : Type 0 where
@@ -94,7 +94,7 @@ pub record IsAskedAndAnswered (limits : Limits) (offers options : ℕ) (request 
   pub by_kind : Answers limits (kind_told told.answer told.size) told a text items old (Some came) new
   pub call : AnswersEachCall limits told a text old (Some came) new
   pub listing :
-      AnswersEachListing limits told a items (with_behind old behind) (Some came) (with_behind new behind)
+      AnswersEachListing limits told a items (with_after old behind) (Some came) (with_after new behind)
 
 -- each such request is one turn, whose answer is that of the data, or EIO where a text doesn't fit
 abbrev pub AreOneOfferedTurn : Type 0
@@ -105,4 +105,4 @@ AreOneOfferedTurn =
     → IsAskedAndAnswered limits offers options request asked_in after told (answer_offered told a text) text
     items old behind came new
     → IsAnsweredOffered limits offers options request told (answer_offered told a text) text items
-    (with_behind old behind) came (with_behind new behind)
+    (with_after old behind) came (with_after new behind)

@@ -76,7 +76,7 @@ ioctl_asked options room = record nothing {
   size = 4;
 }
 
--- a text says that an IOCTL is to be asked again, with so many places of input and of output
+-- a text says that an IOCTL is to be asked again, with that many places of input and of output
 abbrev pub SaysAgain : (text : List ℕ) → (in_iovs out_iovs : ℕ) → Type 0
 SaysAgain text in_iovs out_iovs =
     (out : IoctlOut) × (record_of ioctl_out text ≡ Ok out) × (out.flags ≡ IOCTL_RETRY)

@@ -27,7 +27,7 @@ pub const IOCTL_MAX_IOV: u64 = 256;
 /// The number of EIO.
 pub const EIO: i32 = 5;
 
-// Whether a text answers an IOCTL that may have so much output.
+// Whether a text answers an IOCTL that may have that much output.
 fn fits_ioctl(out_size: u32, text: &[u8]) -> bool
     ensures { result ≡ fits_ioctl_of out_size text.now }
 {

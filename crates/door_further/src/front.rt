@@ -29,7 +29,7 @@ pub fn copy_front(request: &[&[u8]], front: &mut [u8]) -> usize
     len
 }
 
-/// Whether a request has at least so many bytes.
+/// Whether a request has at least that many bytes.
 pub fn is_as_long(request: &[&[u8]], least: u64) -> bool
     ensures { result ≡ nat_le least (length (flat_bytes (segments_of request.now))) }
 {

@@ -11,7 +11,7 @@ ghost use Rattle.fuse_segments.specs.Segments.{segments_of, flat_bytes};
 ghost use Rattle.fuse_grammar.specs.Limits.{AreLimits};
 ghost use Rattle.fuse_grammar.specs.Records.{record_of, size_of};
 ghost use Rattle.door_further.specs.declared.row.Further.TheVariants.{Row as IsRow};
-ghost use Rattle.door_further.specs.Further.{Row, Tells, bmap_told, copy_told, if_whole, ioctl_place, ioctl_told, lock_told, notify_place, notify_told, or_short, poll_told, row_of, statx_told, told_of, told_under, what_behind, what_of};
+ghost use Rattle.door_further.specs.Further.{Row, Tells, bmap_told, copy_told, if_whole, ioctl_place, ioctl_told, lock_told, notify_place, notify_told, or_short, poll_told, row_of, statx_told, told_of, told_under, what_after, what_of};
 
 use crate::front::{copy_front, is_as_long};
 use crate::offers;
@@ -211,7 +211,7 @@ fn ask_ioctl(h: &InHeader, rest: &[u8], request: &[&[u8]], call: &mut CallData) 
     }
 }
 
-// Puts a call in its place, if its request has at least so many bytes.
+// Puts a call in its place, if its request has at least that many bytes.
 fn tell_if_whole(least: u64, request: &[&[u8]], told: CallData, call: &mut CallData) -> Further
     ensures { Tells (if_whole least (length (flat_bytes (segments_of request.now))) told) (λ c. c)
         result call.old call.new }
@@ -269,7 +269,7 @@ fn ask_copy(h: &InHeader, rest: &[u8], call: &mut CallData) -> Further
     }
 }
 
-// What a request with this header asks, with these bytes behind it, at least those of the longest record.
+// What a request with this header asks, with these bytes after it, at least those of the longest record.
 fn ask_row(
     offers: u32,
     h: &InHeader,
@@ -324,7 +324,7 @@ fn ask_front(
     call: &mut CallData,
 ) -> Further
     requires { AreLimits limits }
-    ensures { Tells (what_behind offers limits (record_of in_header front.now)
+    ensures { Tells (what_after offers limits (record_of in_header front.now)
         (drop (size_of in_header) front.now) (length (flat_bytes (segments_of request.now)))) (λ c. c)
         result call.old call.new }
 {
@@ -350,7 +350,7 @@ fn ask_offered(offers: u32, limits: Limits, request: &[&[u8]], call: &mut CallDa
 }
 
 /// What the request in these segments asks, of which any may be empty, by the rows that are offered: a call,
-/// which is told in `call` with these options and so many bytes of room for its reply; or else `call` is as it
+/// which is told in `call` with these options and that many bytes of room for its reply; or else `call` is as it
 /// was.
 ///
 /// Nothing takes memory. Where nothing is offered, nothing is looked at.

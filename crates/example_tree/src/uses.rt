@@ -70,8 +70,8 @@ fn nodes_of_docs(ctx: Context) -> Result<[Option<u64>; 2], Fault>
     Ok([node(it.next()), node(it.next())])
 }
 
-/// What is read of `docs` behind its second item: `a.txt`, and then the end.
-fn nodes_behind_dots(ctx: Context) -> Result<[Option<u64>; 2], Fault>
+/// What is read of `docs` after its second item: `a.txt`, and then the end.
+fn nodes_after_dots(ctx: Context) -> Result<[Option<u64>; 2], Fault>
     ensures { result ≡ Ok (Some 4 ∷ None ∷ []) }
 {
     let mut fs = ReadOnly { tree: Docs };

@@ -57,7 +57,7 @@ missing_other held n from (suc k) behind =
     let here = ap (λ t. cond {A = ℕ} t 0 1) (holds_other held n from (omega arith)) in
     omega (arith, here, missing_other held n (from + 1) k (omega arith))
 
--- of so many pages those are added that are missing
+-- of that many pages those are added that are missing
 pub length-with_pages : (held : List ℕ) (n count : ℕ)
     → length (with_pages held n count) ≡ length held + missing held n count
 length-with_pages held n zero = omega arith
@@ -84,7 +84,7 @@ reach_from held free n (suc k) =
     by false true same fewer = omega arith
     by false false same fewer = omega (arith, fewer)
 
--- where all can be held it is the one behind them
+-- where all can be held it is the one after them
 pub reach_all : (held : List ℕ) (free n count : ℕ) → count ≤ free
     → reach held free n count ≡ n + count
 reach_all held free n zero room = omega arith

@@ -17,7 +17,7 @@ use Rattle.fs_trait.specs.TransferLaws.{goes_within}
 use Rattle.fs_contents.specs.Pages.{Pages, byte_at, byte_over, holds, with_page, with_pages}
 use Rattle.fs_contents.specs.Filling.{Fills}
 use Rattle.fs_contents.specs.declared.transfer.Counting.{Counting}
-use Rattle.fs_contents.proofs.Held.{over_in, over_before, over_behind, at_itself, grown_by, page_new, page_there}
+use Rattle.fs_contents.proofs.Held.{over_in, over_before, over_after, at_itself, grown_by, page_new, page_there}
 
 -- ---- bytes over bytes
 
@@ -26,10 +26,10 @@ pub over_none : (at : ℕ) (old : ℕ → ℕ) (k : ℕ) → byte_over at [] old
 over_none at old k =
     ⊎_elim
     (λ (before : k < at). over_before at [] old k before)
-    (λ (behind : at ≤ k). over_behind at [] old k (omega arith))
+    (λ (behind : at ≤ k). over_after at [] old k (omega arith))
     (cases_lt k at)
 
--- more bytes behind those that were written
+-- more bytes after those that were written
 pub over_more : (at next : ℕ) (a b : List ℕ) (f g : ℕ → ℕ) (k : ℕ) → next ≡ at + length a
     → g k ≡ byte_over at a f k → byte_over next b g k ≡ byte_over at (a ++ b) f k
 over_more at next a b f g k is same =
@@ -52,8 +52,8 @@ over_more at next a b f g k is same =
     ∙ sym (get_or-append_right a b (length a) (k - at) 0 refl (omega arith))
     ∙ sym (over_in at (a ++ b) f k (omega arith) (omega arith)))
     (λ (out : next + length b ≤ k).
-    over_behind next b g k out ∙ same ∙ over_behind at a f k (omega arith)
-    ∙ sym (over_behind at (a ++ b) f k (omega arith)))
+    over_after next b g k out ∙ same ∙ over_after at a f k (omega arith)
+    ∙ sym (over_after at (a ++ b) f k (omega arith)))
     (cases_lt k (next + length b)))
     (cases_lt k next)
 
@@ -240,7 +240,7 @@ page_in held n =
     ap (λ ks. holds ks n) (sym (page_new held n free)) ∙ inserted held n)
     (cases_Bool (holds held n))
 
--- each of so many pages is held then
+-- each of that many pages is held then
 pub pages_in : (held : List ℕ) (n k q : ℕ) → n ≤ q → q < n + k → holds (with_pages held n k) q ≡ true
 pages_in held n zero q from to = absurd (omega arith)
 pages_in held n (suc k) q from to =
@@ -272,7 +272,7 @@ front_size view i =
       length-append (concat (take i view)) (concat (drop i view)),
     )
 
--- and with so many bytes of the next piece
+-- and with that many bytes of the next piece
 pub front_part : (view : List (List ℕ)) (i n k : ℕ) (piece : List ℕ) → i < length view
     → piece ≡ get_or view i [] → n ≡ length (concat (take i view)) → k ≤ length piece
     → take (n + k) (concat view) ≡ concat (take i view) ++ take k piece

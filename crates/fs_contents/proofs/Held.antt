@@ -144,8 +144,8 @@ module _ (at : ℕ) (bs : List ℕ) (old : ℕ → ℕ) (k : ℕ) where
       cond-false (nat_le at k && nat_lt k (at + length bs)) (get_or bs (k - at) 0) (old k)
       (and_left (nat_le at k) (nat_lt k (at + length bs)) (lt-leb at k before))
 
-  pub over_behind : at + length bs ≤ k → byte_over at bs old k ≡ old k
-  over_behind behind =
+  pub over_after : at + length bs ≤ k → byte_over at bs old k ≡ old k
+  over_after behind =
       cond-false (nat_le at k && nat_lt k (at + length bs)) (get_or bs (k - at) 0) (old k)
       (and_right (nat_le at k) (nat_lt k (at + length bs)) (le-ltb k (at + length bs) behind))
 
@@ -173,11 +173,11 @@ list_over from bs xs i fits =
     ∙ get_or-drop from xs (length bs + (i - from - length bs)) 0
     ∙ ap (λ j. get_or xs j 0)
     (let same : from + (length bs + (i - from - length bs)) ≡ i = omega arith in same)
-    ∙ sym (over_behind from bs (λ i. get_or xs i 0) i (omega arith)))
+    ∙ sym (over_after from bs (λ i. get_or xs i 0) i (omega arith)))
     (cases_lt (i - from) (length bs)))
     (cases_lt i from)
 
--- and where they reach behind its end
+-- and where they reach after its end
 pub list_on : (from : ℕ) (bs xs : List ℕ) (i : ℕ) → length xs < from + length bs
     → get_or ((take from xs ++ replicate (from - length xs) 0) ++ bs) i 0
     ≡ byte_over from bs (λ i. get_or xs i 0) i
@@ -206,7 +206,7 @@ list_on from bs xs i past =
     sym (over_in from bs (λ i. get_or xs i 0) i at (omega arith)))
     (λ (behind : length bs ≤ i - from).
     get_or_past bs (i - from) 0 behind ∙ sym (get_or_past xs i 0 (omega arith))
-    ∙ sym (over_behind from bs (λ i. get_or xs i 0) i (omega arith)))
+    ∙ sym (over_after from bs (λ i. get_or xs i 0) i (omega arith)))
     (cases_lt (i - from) (length bs)))
     (cases_lt i from)
 
@@ -229,8 +229,8 @@ over_moved at page from bs xs old place is rest here same =
     ∙ ap (λ j. get_or bs j 0) (let e : i - from ≡ place - at = omega arith in e)
     ∙ sym (over_in at bs old place (omega arith) (omega arith)))
     (λ (past : from + length bs ≤ i).
-    over_behind from bs inner i past ∙ sym same
-    ∙ sym (over_behind at bs old place (omega arith)))
+    over_after from bs inner i past ∙ sym same
+    ∙ sym (over_after at bs old place (omega arith)))
     (cases_lt i (from + length bs)))
     (cases_lt i from)
 
@@ -258,7 +258,7 @@ bytes_put old new at page from v w bs was is others number rest fits put place =
     (others (place / 4096) (is_at_other page (place / 4096) apart))
     ∙ ⊎_elim
     (λ (before : place < at). sym (over_before at bs (byte_at old) place before))
-    (λ (behind : at ≤ place). sym (over_behind at bs (byte_at old) place (omega arith)))
+    (λ (behind : at ≤ place). sym (over_after at bs (byte_at old) place (omega arith)))
     (cases_lt place at))
     (cases_eq page (place / 4096))
 
@@ -380,10 +380,10 @@ part_zero pages at i none fits =
 
 -- ---- the last page
 
-pub none_behind : (es : Pages) (last page : ℕ)
+pub none_after : (es : Pages) (last page : ℕ)
     → ((q : ℕ) → IsSome (lookup (is_at (nat_cmp q)) es) → is_lt (nat_cmp last q) ≡ false)
     → last < page → (q : ℕ) → nat_lt q page ≡ false → lookup (is_at (nat_cmp q)) es ≡ None
-none_behind es last page most below q fails = by (lookup (is_at (nat_cmp q)) es) refl
+none_after es last page most below q fails = by (lookup (is_at (nat_cmp q)) es) refl
   where
     by : (o : Option (Vec ℕ Global)) → lookup (is_at (nat_cmp q)) es ≡ o
         → lookup (is_at (nat_cmp q)) es ≡ None

@@ -8,7 +8,7 @@ use Rattle.fs_contents.specs.Pages.{Pages, byte_at}
 use Rattle.fs_contents.specs.Reading.{ReadsSome}
 
 module _ (count room off : ℕ) (low : off + count < 2 ^ 64) where
-  -- reads in a row move what is there, one part behind the other
+  -- reads in a row move what is there, one part after the other
   read_goes : (moved : ℕ) (old : Pages) (row : List (List ℕ × Pages)) (new : Pages)
       → Goes (reads_of ReadsSome) count room off moved old row new
       → (new ≡ old)

@@ -12,7 +12,7 @@ use Rattle.std.proofs.lemmas.Bool.{both_ways, cases_lt, cond-true, cond-false, a
 use Rattle.std.proofs.lemmas.List.{ext_get_or, get_or_append_left, get_or-append_right, get_or-take, get_or-drop, length-replicate}
 use Rattle.fs_contents.specs.Pages.{Pages, byte_at, byte_over, is_outside}
 use Rattle.fs_contents.specs.Contents.{bytes_of, contents_of, punched, zeroed}
-use Rattle.fs_contents.proofs.Held.{over_in, over_before, over_behind, zeros_at}
+use Rattle.fs_contents.proofs.Held.{over_in, over_before, over_after, zeros_at}
 use Rattle.fs_contents.proofs.Shown.{length-bytes_of, shown, both}
 
 -- ---- pages that stay and pages that go
@@ -21,8 +21,8 @@ outside_before : (first last n : ℕ) → n < first → is_outside first last n 
 outside_before first last n before =
     ap not (and_left (nat_le first n) (nat_lt n last) (lt-leb first n before))
 
-outside_behind : (first last n : ℕ) → last ≤ n → is_outside first last n ≡ true
-outside_behind first last n behind =
+outside_after : (first last n : ℕ) → last ≤ n → is_outside first last n ≡ true
+outside_after first last n behind =
     ap not (and_right (nat_le first n) (nat_lt n last) (le-ltb n last behind))
 
 inside : (first last n : ℕ) → first ≤ n → n < last → is_outside first last n ≡ false
@@ -37,7 +37,7 @@ between first last n is = (
       (λ (from : first ≤ n). from) (cases_lt n first),
   ⊎_elim (λ (to : n < last). to)
       (λ (behind : last ≤ n).
-      absurd (both_ways (is_outside first last n) is (outside_behind first last n behind)))
+      absurd (both_ways (is_outside first last n) is (outside_after first last n behind)))
       (cases_lt n last),
 )
 
@@ -86,11 +86,11 @@ module _ (at n : ℕ) (old : ℕ → ℕ) (k : ℕ) where
       over_in at (replicate n 0) old k from (omega (arith, length-replicate {A = ℕ} n 0))
       ∙ zeros_at (replicate n 0) n (k - at) refl
 
-  zeros_behind : at + n ≤ k → byte_over at (replicate n 0) old k ≡ old k
-  zeros_behind behind =
-      over_behind at (replicate n 0) old k (omega (arith, length-replicate {A = ℕ} n 0))
+  zeros_after : at + n ≤ k → byte_over at (replicate n 0) old k ≡ old k
+  zeros_after behind =
+      over_after at (replicate n 0) old k (omega (arith, length-replicate {A = ℕ} n 0))
 
--- zeros stand in place of so many bytes, and the others are as they were
+-- zeros are in place of that many bytes, and the others are as they were
 pub record IsZeroed (old new : ℕ → ℕ) (off len : ℕ) : Type 0 where
   pub zeros : (k : ℕ) → off ≤ k → k < off + len → new k ≡ 0
   pub before : (k : ℕ) → k < off → new k ≡ old k
@@ -102,7 +102,7 @@ pub over_zeroed : (old new : ℕ → ℕ) (off len : ℕ)
 over_zeroed old new off len over = record {
   zeros = λ k from to. over k ∙ zeros_in off len old k from to;
   before = λ k less. over k ∙ over_before off (replicate len 0) old k less;
-  behind = λ k more. over k ∙ zeros_behind off len old k more;
+  behind = λ k more. over k ∙ zeros_after off len old k more;
 }
 
 pub zeroed_over : (old new : ℕ → ℕ) (off len : ℕ) → IsZeroed old new off len
@@ -112,7 +112,7 @@ zeroed_over old new off len zeroed k =
     (λ (less : k < off). zeroed.before k less ∙ sym (over_before off (replicate len 0) old k less))
     (λ (from : off ≤ k).
     ⊎_elim (λ (to : k < off + len). zeroed.zeros k from to ∙ sym (zeros_in off len old k from to))
-    (λ (more : off + len ≤ k). zeroed.behind k more ∙ sym (zeros_behind off len old k more))
+    (λ (more : off + len ≤ k). zeroed.behind k more ∙ sym (zeros_after off len old k more))
     (cases_lt k (off + len)))
     (cases_lt k off)
 
@@ -140,7 +140,7 @@ module _ (old cut : ℕ → ℕ) (off len first : ℕ) (begins : first ≡ div_c
   zeroed_within new none over = record {
     zeros = λ k from to. over k ∙ zeros_in off len cut k from to;
     before = λ k less. over k ∙ over_before off (replicate len 0) cut k less ∙ same k;
-    behind = λ k more. over k ∙ zeros_behind off len cut k more ∙ same k;
+    behind = λ k more. over k ∙ zeros_after off len cut k more ∙ same k;
   }
     where
       same : (k : ℕ) → cut k ≡ old k
@@ -149,10 +149,10 @@ module _ (old cut : ℕ → ℕ) (off len first : ℕ) (begins : first ≡ div_c
           (⊎_elim
           (λ (before : k / 4096 < first). outside_before first ((off + len) / 4096) (k / 4096) before)
           (λ (behind : first ≤ k / 4096).
-          outside_behind first ((off + len) / 4096) (k / 4096) (omega arith))
+          outside_after first ((off + len) / 4096) (k / 4096) (omega arith))
           (cases_lt (k / 4096) first))
 
-  -- some do, and zeros were written before and behind these
+  -- some do, and zeros were written before and after these
   pub zeroed_around : (front new : ℕ → ℕ) → first ≤ (off + len) / 4096
       → ((k : ℕ) → front k ≡ byte_over off (replicate (first * 4096 - off) 0) cut k)
       → ((k : ℕ) → new k
@@ -166,7 +166,7 @@ module _ (old cut : ℕ → ℕ) (off len first : ℕ) (begins : first ≡ div_c
         (λ (later : first * 4096 ≤ k).
         ⊎_elim
         (λ (whole : k < (off + len) / 4096 * 4096).
-        ahead k whole ∙ fore k ∙ zeros_behind off (first * 4096 - off) cut k (omega arith) ∙ kept k
+        ahead k whole ∙ fore k ∙ zeros_after off (first * 4096 - off) cut k (omega arith) ∙ kept k
         ∙ cond-false (is_outside first ((off + len) / 4096) (k / 4096)) (old k) 0
         (inside first ((off + len) / 4096) (k / 4096) (omega arith) (omega arith)))
         (λ (tail : (off + len) / 4096 * 4096 ≤ k).
@@ -179,9 +179,9 @@ module _ (old cut : ℕ → ℕ) (off len first : ℕ) (begins : first ≡ div_c
         ∙ stays k (outside_before first ((off + len) / 4096) (k / 4096) (omega arith));
     behind = λ k more.
         aft k
-        ∙ zeros_behind ((off + len) / 4096 * 4096) ((off + len) % 4096) front k (omega arith)
-        ∙ fore k ∙ zeros_behind off (first * 4096 - off) cut k (omega arith)
-        ∙ stays k (outside_behind first ((off + len) / 4096) (k / 4096) (omega arith));
+        ∙ zeros_after ((off + len) / 4096 * 4096) ((off + len) % 4096) front k (omega arith)
+        ∙ fore k ∙ zeros_after off (first * 4096 - off) cut k (omega arith)
+        ∙ stays k (outside_after first ((off + len) / 4096) (k / 4096) (omega arith));
   }
     where
       ahead : (k : ℕ) → k < (off + len) / 4096 * 4096 → new k ≡ front k
@@ -191,10 +191,10 @@ module _ (old cut : ℕ → ℕ) (off len first : ℕ) (begins : first ≡ div_c
 
 -- ---- contents
 
--- zeros stay behind the end
-pub zeroed_behind : (old new : ℕ → ℕ) (size off len : ℕ) → IsZeroed old new off len
+-- zeros stay after the end
+pub zeroed_after : (old new : ℕ → ℕ) (size off len : ℕ) → IsZeroed old new off len
     → ((k : ℕ) → size ≤ k → old k ≡ 0) → (k : ℕ) → size ≤ k → new k ≡ 0
-zeroed_behind old new size off len zeroed zero k past =
+zeroed_after old new size off len zeroed zero k past =
     ⊎_elim (λ (before : k < off). zeroed.before k before ∙ zero k past)
     (λ (from : off ≤ k).
     ⊎_elim (λ (to : k < off + len). zeroed.zeros k from to)

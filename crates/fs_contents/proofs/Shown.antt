@@ -9,7 +9,7 @@ use Rattle.fuse_views.specs.Segments.{with_bytes_at}
 use Rattle.fs_trait.specs.Bytes.{lengthened}
 use Rattle.fs_contents.specs.Pages.{Pages, byte_at, byte_over, with_pages}
 use Rattle.fs_contents.specs.Contents.{Contents, AreZeroBehind, bytes_of, contents_of, resized, allocated, written, pages_over}
-use Rattle.fs_contents.proofs.Held.{zeros_at, over_in, over_before, over_behind, list_over}
+use Rattle.fs_contents.proofs.Held.{zeros_at, over_in, over_before, over_after, list_over}
 
 pub length-bytes_of : (pages : Pages) (size : ℕ) → length (bytes_of pages size) ≡ size
 length-bytes_of pages size = length-map-range_with_len (byte_at pages) 0 size
@@ -18,10 +18,10 @@ pub shown : (pages : Pages) (size i : ℕ) → i < size → get_or (bytes_of pag
 shown pages size i within =
     get_or-map-range_with_len (byte_at pages) 0 size i i 0 within (omega arith)
 
--- with zeros behind the end too
-shown_behind : (pages : Pages) (size k i : ℕ) → AreZeroBehind pages size
+-- with zeros after the end too
+shown_after : (pages : Pages) (size k i : ℕ) → AreZeroBehind pages size
     → get_or (bytes_of pages size ++ replicate k 0) i 0 ≡ byte_at pages i
-shown_behind pages size k i zero =
+shown_after pages size k i zero =
     let size_is = length-bytes_of pages size in
     ⊎_elim
     (λ (within : i < size).
@@ -142,7 +142,7 @@ over_same at w f g i same =
     ⊎_elim
     (λ (to : i < at + length w). over_in at w f i from to ∙ sym (over_in at w g i from to))
     (λ (behind : at + length w ≤ i).
-    over_behind at w f i behind ∙ same ∙ sym (over_behind at w g i behind))
+    over_after at w f i behind ∙ same ∙ sym (over_after at w g i behind))
     (cases_lt i (at + length w)))
     (cases_lt i at)
 
@@ -164,7 +164,7 @@ bytes_written old new was off bs zero over =
     (λ i inside.
     shown new (max was end) i (omega arith) ∙ over i
     ∙ sym (with_bytes_over off bs xs i fits
-    ∙ over_same off bs (λ i. get_or xs i 0) (byte_at old) i (shown_behind old was k i zero)))
+    ∙ over_same off bs (λ i. get_or xs i 0) (byte_at old) i (shown_after old was k i zero)))
 
 pub contents_written : (old held new : Pages) (was off : ℕ) (bs : List ℕ) → 0 < length bs
     → AreZeroBehind old was
@@ -180,7 +180,7 @@ contents_written old held new was off (b ∷ bs) some zero kept same keys over =
     over place ∙ over_same off (b ∷ bs) (byte_at held) (byte_at old) place (same place)))
     (keys ∙ kept)
 
--- ---- zeros behind them
+-- ---- zeros after them
 
 pub contents_allocated : (old new : Pages) (was off len least : ℕ) → AreZeroBehind old was
     → keys_of new ≡ with_pages (keys_of old) (off / 4096) (pages_over off len)
@@ -195,5 +195,5 @@ contents_allocated old new was off len least zero kept same =
     both _ _ _ _
     (ext_get_or 0 (bytes_of new (max was least)) (bytes_of old was ++ replicate k 0) (omega arith)
     (λ i inside.
-    shown new (max was least) i (omega arith) ∙ same i ∙ sym (shown_behind old was k i zero)))
+    shown new (max was least) i (omega arith) ∙ same i ∙ sym (shown_after old was k i zero)))
     kept

@@ -9,7 +9,7 @@ use Rattle.fs_trait.specs.Bytes as flat
 use Rattle.fs_contents.specs.Pages.{Pages, byte_at, first_from, is_outside, with_pages, missing, reach}
 
 -- the bytes, whatever holds them, and the numbers of the pages that are held, in order. A page has 4096
--- bytes; it may lie behind the end
+-- bytes; it may lie after the end
 pub record Contents : Type 0 where
   pub bytes : List ℕ
   pub held : List ℕ
@@ -17,7 +17,7 @@ pub record Contents : Type 0 where
 abbrev pub no_contents : Contents
 no_contents = record { bytes = []; held = [] }
 
--- cut off behind so many bytes, or zeros up to so many, which take no page
+-- cut off after that many bytes, or zeros up to that many, which take no page
 abbrev pub resized : Contents → (size : ℕ) → Contents
 resized c size = record {
   bytes = take size c.bytes ++ replicate (size - length c.bytes) 0;
@@ -25,7 +25,7 @@ resized c size = record {
       else filter (λ n. nat_lt n (div_ceil size 4096)) c.held;
 }
 
--- how many pages so many bytes from off on lie in
+-- how many pages that many bytes from off on lie in
 abbrev pub pages_over : (off len : ℕ) → ℕ
 pages_over off len = div_ceil (off + len) 4096 - off / 4096
 
@@ -38,7 +38,7 @@ pub record Lacks (c : Contents) (off len : ℕ) : Type 0 where
   pub some : 0 < len
   pub pages : 0 < lacking c off len
 
--- where so many bytes end, the first place from off on in this page or behind it
+-- where that many bytes end, the first place from off on in this page or after it
 abbrev pub place_in : (size off : ℕ) → (page : Option ℕ) → Option ℕ
 place_in size off None = None
 place_in size off (Some n) =
@@ -54,26 +54,26 @@ hole_from c off =
     min (length c.bytes)
     (max off (4096 * reach c.held 0 (off / 4096) (pages_over off (length c.bytes - off))))
 
--- the pages that so many bytes from off on lie in are held; zeros are added where there are fewer bytes than
--- at least so many
+-- the pages that that many bytes from off on lie in are held; zeros are added where there are fewer bytes than
+-- at least that many
 abbrev pub allocated : Contents → (off len least : ℕ) → Contents
 allocated c off len least = record {
   bytes = flat.lengthened c.bytes least;
   held = with_pages c.held (off / 4096) (pages_over off len);
 }
 
--- zeros in place of so many bytes from off on, as far as there are bytes; the pages that lie in them whole go
+-- zeros in place of that many bytes from off on, as far as there are bytes; the pages that lie in them whole go
 abbrev pub punched : Contents → (off len : ℕ) → Contents
 punched c off len = record {
   bytes = take off c.bytes ++ (replicate (min len (length c.bytes - off)) 0 ++ drop (off + len) c.bytes);
   held = filter (is_outside (div_ceil off 4096) ((off + len) / 4096)) c.held;
 }
 
--- zeros in place of so many bytes from off on, as far as there are bytes; their pages stay
+-- zeros in place of that many bytes from off on, as far as there are bytes; their pages stay
 abbrev pub zeroed : Contents → (off len : ℕ) → Contents
 zeroed c off len = record c { bytes = (punched c off len).bytes }
 
--- what FALLOCATE makes of so many bytes from off on: a hole by mode 3 (PUNCH_HOLE with KEEP_SIZE); else their
+-- what FALLOCATE makes of that many bytes from off on: a hole by mode 3 (PUNCH_HOLE with KEEP_SIZE); else their
 -- pages are held, the file reaches to their end, unless by KEEP_SIZE (1), and they are zeros by ZERO_RANGE (16)
 abbrev pub fallocated : (mode off len : ℕ) → Contents → Contents
 fallocated mode off len c =
@@ -107,6 +107,6 @@ bytes_of pages size = map (byte_at pages) (range_with_len 0 size)
 abbrev pub contents_of : Pages → (size : ℕ) → Contents
 contents_of pages size = record { bytes = bytes_of pages size; held = keys_of pages }
 
--- zeros stand behind the end
+-- zeros come after the end
 abbrev pub AreZeroBehind : Pages → (size : ℕ) → Type 0
 AreZeroBehind pages size = (place : ℕ) → size ≤ place → byte_at pages place ≡ 0

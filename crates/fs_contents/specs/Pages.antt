@@ -1,4 +1,4 @@
--- Pages of 4096 bytes, by their numbers. Behind the bytes that one has are zeros, and one that is not held has
+-- Pages of 4096 bytes, by their numbers. After the bytes that one has are zeros, and one that is not held has
 -- none.
 use Rattle.std.specs.Prelude.{◌≤◌, ◌^◌, ◌+◌, ◌-◌, ◌/◌, ◌%◌, ◌&&◌, ◌==◌, nat_le, nat_lt, not, ℕ, zero, suc, Bool, List, [], ◌∷◌, length, slice_index, Option, Some, None, IfSome, if◌then◌else◌, Vec, vec_capacity}
 use Rattle.std.specs.List.{list_any, find}
@@ -28,7 +28,7 @@ abbrev pub byte_over : (at : ℕ) → List ℕ → (old : ℕ → ℕ) → (plac
 byte_over at bytes old k =
     if nat_le at k && nat_lt k (at + length bytes) then slice_index bytes (k - at) else old k
 
--- a page that is held: it has room for 4096 bytes, and behind those that it has are zeros
+-- a page that is held: it has room for 4096 bytes, and after those that it has are zeros
 pub record IsPage (page : Vec ℕ Global) : Type 0 where
   pub within : length page.items ≤ 4096
   pub room : 4096 ≤ vec_capacity page
@@ -36,7 +36,7 @@ pub record IsPage (page : Vec ℕ Global) : Type 0 where
 abbrev pub ArePages : Pages → Type 0
 ArePages pages = (n : ℕ) → IfSome (lookup (is_at (nat_cmp n)) pages) (λ page. IsPage page)
 
--- what holds of pages: each is one, and they are not more than so many, which no memory has room for
+-- what holds of pages: each is one, and they are not more than that many, which no memory has room for
 pub record AreSound (pages : Pages) : Type 0 where
   pub each : ArePages pages
   pub few : length pages ≤ 2 ^ 50
@@ -59,17 +59,17 @@ is_outside first end n = not (nat_le first n && nat_lt n end)
 abbrev pub with_page : (held : List ℕ) → (page : ℕ) → List ℕ
 with_page held n = if holds held n then held else insert_key nat_cmp held n
 
--- these pages, and so many from one on
+-- these pages, and that many from one on
 abbrev pub with_pages : (held : List ℕ) → (page count : ℕ) → List ℕ
 with_pages held n zero = held
 with_pages held n (suc k) = with_pages (with_page held n) (n + 1) k
 
--- how many of so many pages, from one on, are not among these
+-- how many of that many pages, from one on, are not among these
 abbrev pub missing : (held : List ℕ) → (page count : ℕ) → ℕ
 missing held n zero = 0
 missing held n (suc k) = (if holds held n then 0 else 1) + missing held (n + 1) k
 
--- the first of so many pages, from one on, that can't be held where so many more can be, or the one behind
+-- the first of that many pages, from one on, that can't be held where that many more can be, or the one after
 -- them
 abbrev pub reach : (held : List ℕ) → (free page count : ℕ) → ℕ
 reach held free n zero = n

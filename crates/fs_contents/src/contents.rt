@@ -78,7 +78,7 @@ impl Contents {
         self.pages.count() as u64
     }
 
-    /// How many of the pages that so many bytes from `offset` on lie in are not held.
+    /// How many of the pages that that many bytes from `offset` on lie in are not held.
     pub fn lacking(&self, offset: u64, length: u64) -> u64
         requires { offset + length < 2 ^ 64 }
         ensures { result ≡ lacking self.now offset length }
@@ -93,7 +93,7 @@ impl Contents {
         missing
     }
 
-    /// Up to which place bytes from `offset` on can be written, at most `length`, where so many
+    /// Up to which place bytes from `offset` on can be written, at most `length`, where that many
     /// pages more can be held.
     pub fn reach(&self, offset: u64, length: u64, free: u64) -> u64
         requires { offset + length < 2 ^ 64 - 4096 }
@@ -103,7 +103,7 @@ impl Contents {
         self.stop(first, end, free) * PAGE as u64
     }
 
-    // The first of these pages that can't be held where so many more can be, or the end.
+    // The first of these pages that can't be held where that many more can be, or the end.
     fn stop(&self, first: u64, end: u64, free: u64) -> u64
         requires { first ≤ end }
         ensures stop { result ≡ reach self.now.held free first (end - first) }
@@ -125,7 +125,7 @@ impl Contents {
         end
     }
 
-    /// Cuts off what is behind so many bytes, and lets its pages go, or adds zeros, which take none.
+    /// Cuts off what is after that many bytes, and lets its pages go, or adds zeros, which take none.
     pub fn resize(&mut self, size: u64)
         ensures { self.new ≡ resized self.old size }
     {
@@ -161,7 +161,7 @@ impl Contents {
         page.saturating_mul(PAGE as u64).max(offset).min(size)
     }
 
-    /// FALLOCATE of so many bytes from `offset` on: makes a hole of them by `PUNCH_HOLE`; else holds their pages,
+    /// FALLOCATE of that many bytes from `offset` on: makes a hole of them by `PUNCH_HOLE`; else holds their pages,
     /// makes the file reach to their end, unless by `KEEP_SIZE`, and makes zeros of them by `ZERO_RANGE`.
     /// ENOMEM where a page is not held and there is no memory for it, and all stays.
     pub fn fallocate(
@@ -189,7 +189,7 @@ impl Contents {
         Ok(())
     }
 
-    // Holds the pages that so many bytes from `offset` on lie in, and adds zeros where there are fewer
+    // Holds the pages that that many bytes from `offset` on lie in, and adds zeros where there are fewer
     // bytes than `least`. ENOMEM where a page is not held and there is no memory for it, and all stays.
     fn allocate(&mut self, alloc: Global, offset: u64, length: u64, least: u64) -> Result<(), Fault>
         requires { offset + length < 2 ^ 64 }
@@ -203,7 +203,7 @@ impl Contents {
         Ok(())
     }
 
-    // Makes zeros of so many bytes from `offset` on, as far as there are bytes, and lets the pages go
+    // Makes zeros of that many bytes from `offset` on, as far as there are bytes, and lets the pages go
     // that lie in them whole.
     fn punch(&mut self, offset: u64, length: u64)
         requires { offset + length < 2 ^ 64 }
@@ -220,7 +220,7 @@ impl Contents {
         self.pages.zero(last * PAGE as u64, end % PAGE as u64);
     }
 
-    // Makes zeros of so many bytes from `offset` on, as far as there are bytes. Their pages stay.
+    // Makes zeros of that many bytes from `offset` on, as far as there are bytes. Their pages stay.
     fn zero(&mut self, offset: u64, length: u64)
         requires { offset + length < 2 ^ 64 }
         ensures { self.new ≡ zeroed self.old offset length }
@@ -272,7 +272,7 @@ impl Contents {
     }
 }
 
-// The first page that so many bytes from `offset` on lie in, and the one behind the last.
+// The first page that that many bytes from `offset` on lie in, and the one after the last.
 fn span(offset: u64, length: u64) -> (u64, u64)
     requires { offset + length < 2 ^ 64 }
     ensures first { result.0 ≡ offset / 4096 }

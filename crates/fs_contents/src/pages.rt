@@ -83,7 +83,7 @@ impl Pages {
         }
     }
 
-    /// Holds so many pages from one on, those that were not held with zeros. ENOMEM where there is no
+    /// Holds that many pages from one on, those that were not held with zeros. ENOMEM where there is no
     /// memory for these, and all stays.
     pub(crate) fn hold(&mut self, alloc: Global, page: u64, count: u64) -> Result<(), Fault>
         requires { page + count < 2 ^ 64 }
@@ -159,7 +159,7 @@ impl Pages {
         }
     }
 
-    /// The bytes from a place on, of its page and at most so many.
+    /// The bytes from a place on, of its page and at most that many.
     pub(crate) fn part(&self, at: u64, most: usize) -> &[u8]
         ensures some { 0 < most → 0 < length result.now }
         ensures within { length result.now ≤ most }
@@ -217,7 +217,7 @@ impl Pages {
         done
     }
 
-    /// Writes so many zeros from a place on, within its page.
+    /// Writes that many zeros from a place on, within its page.
     pub(crate) fn zero(&mut self, at: u64, count: u64)
         requires { at % 4096 + count ≤ 4096 }
         ensures keys { keys_of self.new ≡ keys_of self.old }
@@ -229,7 +229,7 @@ impl Pages {
         }
     }
 
-    /// Writes so many zeros from a place on, whatever pages they lie in.
+    /// Writes that many zeros from a place on, whatever pages they lie in.
     pub(crate) fn zero_all(&mut self, at: u64, count: u64)
         requires { at + count < 2 ^ 64 }
         ensures keys { keys_of self.new ≡ keys_of self.old }
@@ -285,7 +285,7 @@ fn first_key(mut pages: Range<'_, u64, Vec<u8>>) -> Option<u64>
     }
 }
 
-// The bytes of a page from a place on, at most so many, or zeros where there are none.
+// The bytes of a page from a place on, at most that many, or zeros where there are none.
 fn piece(page: &[u8], from: usize, most: usize) -> &[u8]
     requires { most ≤ 4096 }
     ensures some { 0 < most → 0 < length result.now }

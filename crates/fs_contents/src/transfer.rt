@@ -124,7 +124,7 @@ impl PositionedFile for Counting {
     }
 }
 
-/// How many bytes are left, at most so many. None is taken.
+/// How many bytes are left, at most that many. None is taken.
 pub(crate) fn count_left<R: ZeroCopyReader>(r: &mut R, most: usize) -> usize
     ensures taken { R.takes r.old [] r.new }
     ensures left { R.left r.new ≡ R.left r.old }
@@ -135,8 +135,8 @@ pub(crate) fn count_left<R: ZeroCopyReader>(r: &mut R, most: usize) -> usize
     file.total
 }
 
-/// Writes so many bytes of `r` over those of the pages, from a place on. The pages are held, and
-/// so many bytes are left.
+/// Writes that many bytes of `r` over those of the pages, from a place on. The pages are held, and
+/// that many bytes are left.
 pub(crate) fn fill<R: ZeroCopyReader>(pages: &mut Pages, r: &mut R, count: usize, off: u64)
     requires held { (place : ℕ) → off ≤ place → place < off + count
         → holds (keys_of pages.old) (place / 4096) ≡ true }

@@ -15,7 +15,7 @@ place_left : (b : Bool) (notes : List Note) (note : Note) (after : List Note) (w
 place_left true notes note after was is added kept unset = (cc, added)
 place_left false notes note after was is added kept unset = cc
 
--- a call's note stands between the notes before it and those of the calls behind it
+-- a call's note is between the notes before it and those of the calls after it
 noted : {S : Type 0} (s m t : Recorded S) (note : Note) (rest : List Note)
     → IsNoted s note m → m.missed ≡ false → t.notes ≡ m.notes ++ rest
     → (s.missed ≡ false) × (t.notes ≡ s.notes ++ note ∷ rest)

@@ -16,7 +16,7 @@ item_said item = record {
 abbrev pub items_said : List ScriptItem → List Item
 items_said items = map item_said items
 
--- a reading of a directory: the items that are left, and those that come behind them, again and
+-- a reading of a directory: the items that are left, and those that come after them, again and
 -- again
 pub record Reading : Type 0 where
   pub left : List Item

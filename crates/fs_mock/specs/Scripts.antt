@@ -17,7 +17,7 @@ abbrev pub fails : Option ℕ → ℕ → Bool
 fails None call = false
 fails (Some failing) call = failing == call
 
--- what a file answers that is to move so many bytes: its fault at the call that is to fail, else as
+-- what a file answers that is to move that many bytes: its fault at the call that is to fail, else as
 -- many as it moves a call at most
 abbrev pub script_answer : ScriptFile → ℕ → Result ℕ (Option ℕ)
 script_answer file len =

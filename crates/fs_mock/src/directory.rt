@@ -16,7 +16,7 @@ use std::rc::Rc;
 pub struct ScriptItem {
     /// The number of the node.
     pub ino: u64,
-    /// Where a reading that goes on behind the item begins.
+    /// Where a reading that goes on after the item begins.
     pub offset: u64,
     /// The kind of file, as the `d_type` of `readdir(3)`.
     pub type_: u32,
@@ -56,7 +56,7 @@ impl Model for ScriptDirectory {
 }
 
 impl ScriptDirectory {
-    /// A directory of these items, which ends behind the last. Want of memory is ENOMEM.
+    /// A directory of these items, which ends after the last. Want of memory is ENOMEM.
     pub fn new(alloc: Global, items: Vec<ScriptItem>) -> Result<ScriptDirectory, Fault>
         ensures made { IfOk result (λ directory. directory ≡ record {
           left = items_said items.items;
@@ -67,7 +67,7 @@ impl ScriptDirectory {
         ScriptDirectory::of(alloc, items, false)
     }
 
-    /// A directory without end: behind the last item the first one comes again. Without an item it
+    /// A directory without end: after the last item the first one comes again. Without an item it
     /// ends all the same. Want of memory is ENOMEM.
     pub fn endless(alloc: Global, items: Vec<ScriptItem>) -> Result<ScriptDirectory, Fault>
         ensures made { IfOk result (λ directory. directory ≡ record {

@@ -22,7 +22,7 @@ pub struct Note {
     /// The number of the opcode: 12 for each rename, whichever of the two requests asked for it.
     pub call: u32,
     /// The first node that the call was told of, or 0 where it was told of none (`batch_forget`
-    /// too, whose nodes stand in its pairs).
+    /// too, whose nodes are in its pairs).
     pub node: u64,
     /// How many lookups a `forget` took back, or how many pairs a `batch_forget` had, else 0.
     pub count: u64,

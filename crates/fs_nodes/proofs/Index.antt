@@ -41,7 +41,7 @@ module _ {X : Type 0} where
 
 -- ---- by place and by name
 
--- behind a link no other has its name
+-- after a link no other has its name
 others_named : (link : ℕ × Link) (links : List (ℕ × Link)) (name : List ℕ)
     → AllByRecursion (IsBehind link.0 link.1.name) links → is_named name link ≡ true
     → AllByRecursion (λ other. is_named name other ≡ false) links
@@ -207,10 +207,10 @@ places_relinked P name child links all =
     every_map (λ link. P link.0) (λ link. P link.0) (relinked name child)
     (λ y b. subst P (sym (relinked_place links name child y)) b) links all
 
-pub behind_added : (next : ℕ) (link : Link) (links : List (ℕ × Link)) → 0 < next
+pub after_added : (next : ℕ) (link : Link) (links : List (ℕ × Link)) → 0 < next
     → AllByRecursion (λ link. next < link.0) links
     → AllByRecursion (λ link. next - 1 < link.0) ((next, link) ∷ links)
-behind_added next link links some behind = (
+after_added next link links some behind = (
   omega (arith, some),
   every_weaker (λ other. next < other.0) (λ other. next - 1 < other.0)
       (λ other b. omega (arith, b)) links behind,

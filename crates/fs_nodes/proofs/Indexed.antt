@@ -9,7 +9,7 @@ use Rattle.fs_nodes.specs.Children.{Link, is_named, directories_of, relinked}
 use Rattle.fs_nodes.specs.Index.{AreIndexed, place_of, place_named}
 use Rattle.fs_nodes.specs.declared.children.Child.{Child}
 use Rattle.fs_nodes.proofs.Finds.{every_filter}
-use Rattle.fs_nodes.proofs.Index.{inserted_first, removed_first, found_by_place, removed_by_place, set_by_place, order_added, order_filtered, order_relinked, behind_added, places_relinked, fewer_links, one_for, one_at_most, directories_some, counted, directories_removed, directories_set}
+use Rattle.fs_nodes.proofs.Index.{inserted_first, removed_first, found_by_place, removed_by_place, set_by_place, order_added, order_filtered, order_relinked, after_added, places_relinked, fewer_links, one_for, one_at_most, directories_some, counted, directories_removed, directories_set}
 use Rattle.fs_nodes.proofs.Places.{place_added, place_added_other, place_removed, place_removed_other, place_relinked}
 
 module _ (links : List (ℕ × Link)) (places : BTreeMap (Vec ℕ Global) ℕ) (next directories : ℕ)
@@ -183,7 +183,7 @@ module _ (links : List (ℕ × Link)) (places : BTreeMap (Vec ℕ Global) ℕ) (
         let same : all ≡ more = sym (link_added child more is) in
         subst (λ (l : List (ℕ × Link)). AreIndexed l changed (next - 1) sum) same (record {
           order = order_added name links next child old.order old.behind none;
-          behind = behind_added next link links some old.behind;
+          behind = after_added next link links some old.behind;
           within = (old.room, old.within);
           room = omega (arith, old.room);
           index = index_changed places changed (place_named links) old.index name (Some next)

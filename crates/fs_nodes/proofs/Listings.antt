@@ -1,4 +1,4 @@
--- The items of a directory behind an offset, one by one.
+-- The items of a directory after an offset, one by one.
 use Rattle.std.proofs.Common.{◌≡◌, ℕ, zero, suc, Bool, true, false, cond, ◌&&◌, List, [], ◌∷◌, ◌++◌, map, take, filter, nat_lt, ◌==◌, nat_cmp, is_lt, Less, Equal, Greater, refl, sym, ap, ◌∙◌, ⊎_elim}
 use Rattle.std.specs.declared.ops.Bound.TheVariants.{Excluded, Unbounded}
 use Rattle.std.specs.BTreeMap.Range.{entries_between}
@@ -29,7 +29,7 @@ take_of_take zero xs ys = refl
 take_of_take (suc n) [] ys = refl
 take_of_take (suc n) (x ∷ xs) ys = ap (λ l. x ∷ l) (take_of_take n xs ys)
 
--- the places behind an offset
+-- the places after an offset
 behind_is : (off : ℕ) (links : List (ℕ × Link))
     → entries_between nat_cmp (Excluded off) Unbounded links
     ≡ filter (λ link. nat_lt off link.0) links
@@ -52,14 +52,14 @@ abbrev pub items_in : (number : ℕ) → Node → List Item
 items_in n node = dot_items n node.parent ++ map link_item node.children.links
 
 module _ (n off most : ℕ) (directory : Node) where
-  abbrev all_behind : List Item
-  all_behind = filter (λ item. nat_lt off item.offset) (items_in n directory)
+  abbrev all_after : List Item
+  all_after = filter (λ item. nat_lt off item.offset) (items_in n directory)
 
-  -- the first two, and the links behind the offset
+  -- the first two, and the links after the offset
   pub listing_begins : (items : List Item) (left : List (ℕ × Link))
       → items ≡ take most (filter (λ item. nat_lt off item.offset) (dot_items n directory.parent))
       → left ≡ entries_between nat_cmp (Excluded off) Unbounded directory.children.links
-      → take most (items ++ map link_item left) ≡ take most all_behind
+      → take most (items ++ map link_item left) ≡ take most all_after
   listing_begins items left dots links =
       let p = λ (item : Item). nat_lt off item.offset in
       let first = filter p (dot_items n directory.parent) in

@@ -15,7 +15,7 @@ place_named links name = option_map (λ link. link.0) (find (is_named name) link
 abbrev pub place_of : BTreeMap (Vec ℕ Global) ℕ → (name : List ℕ) → Option ℕ
 place_of places name = get_by (λ key. slice_cmp nat_cmp name key.items) places
 
--- a link that lies behind a place and has another name
+-- a link that lies after a place and has another name
 abbrev pub IsBehind : (place : ℕ) → (name : List ℕ) → (ℕ × Link) → Type 0
 IsBehind place name link = (place < link.0) × (is_named name link ≡ false)
 
@@ -24,7 +24,7 @@ abbrev pub AreInOrder : List (ℕ × Link) → Type 0
 AreInOrder [] = ⊤
 AreInOrder (link ∷ links) = AllByRecursion (IsBehind link.0 link.1.name) links × AreInOrder links
 
--- what holds of the links and the index of a directory: the places are in order, behind that of the next
+-- what holds of the links and the index of a directory: the places are in order, after that of the next
 -- name and below 2 ^ 63, the index has each name that is there and no other, and directories are counted
 pub record AreIndexed
     (links : List (ℕ × Link)) (places : BTreeMap (Vec ℕ Global) ℕ) (next directories : ℕ)

@@ -17,9 +17,9 @@ dot_items n parent =
     record { ino = n; offset = 1; type_ = 4; name = codes "." }
     ∷ record { ino = parent; offset = 2; type_ = 4; name = codes ".." } ∷ []
 
--- the items of a directory behind an offset, itself, the one above, and its names, each at its place; at most as
--- many as so many bytes have place for: a record has 24 and more
-abbrev pub items_behind : (number : ℕ) → Node → (off size : ℕ) → List Item
-items_behind n node off size =
+-- the items of a directory after an offset, itself, the one above, and its names, each at its place; at most as
+-- many as that many bytes have place for: a record has 24 and more
+abbrev pub items_after : (number : ℕ) → Node → (off size : ℕ) → List Item
+items_after n node off size =
     take (size / 24 + 1) (filter (λ item. nat_lt off item.offset)
     (dot_items n node.parent ++ map link_item node.children.links))

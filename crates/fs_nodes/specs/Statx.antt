@@ -15,10 +15,10 @@ device_major device = device / 2 ^ 8 % 2 ^ 12
 abbrev pub device_minor : (device : ℕ) → ℕ
 device_minor device = device / 2 ^ 20 * 2 ^ 8 + device % 2 ^ 8
 
--- The record, of a node with these attributes that was made then, on which a client may rely for so many seconds:
+-- The record, of a node with these attributes that was made then, on which a client may rely for that many seconds:
 -- how long (attr_valid, its nanoseconds, no flags, spare), and `struct fuse_statx`: what is told (STATX_BASIC_STATS
 -- and STATX_BTIME), blksize, no attributes, nlink, uid, gid, mode, ino, size, blocks, no attributes that may be
--- there, atime, btime, ctime, mtime, each with nothing behind it, the device's numbers, those of no file system, and
+-- there, atime, btime, ctime, mtime, each with nothing after it, the device's numbers, those of no file system, and
 -- what is spare.
 abbrev pub statx_fields : Attr → (btime : Time) → (lasting : ℕ) → List Field
 statx_fields attr btime lasting =

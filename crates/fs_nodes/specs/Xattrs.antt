@@ -11,7 +11,7 @@ use Rattle.std.specs.declared.alloc.Global.{Global}
 abbrev pub Xattr : Type 0
 Xattr = List ℕ × List ℕ
 
--- each name is below those behind it, by its bytes: so there is none twice
+-- each name is below those after it, by its bytes: so there is none twice
 abbrev pub AreInOrder : List Xattr → Type 0
 AreInOrder xattrs = IsStrictlySortedBy (slice_cmp nat_cmp) (keys_of xattrs)
 
@@ -34,7 +34,7 @@ without_xattr xattrs name = remove_entry (is_at (slice_cmp nat_cmp name)) xattrs
 abbrev pub with_xattr : List Xattr → (name value : List ℕ) → List Xattr
 with_xattr xattrs name value = insert_entry (slice_cmp nat_cmp) xattrs name value
 
--- a name as it is listed, with a 0 behind it. One of `trusted.` is not listed to others than root
+-- a name as it is listed, with a 0 after it. One of `trusted.` is not listed to others than root
 abbrev pub listed : (to_other : Bool) → (name : List ℕ) → List ℕ
 listed to_other name =
     if not to_other || not (starts_with nat_eq name (codes "trusted.")) then name ++ 0 ∷ [] else []

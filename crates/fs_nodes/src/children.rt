@@ -97,7 +97,7 @@ impl Children {
         self.next > LAST_DOT
     }
 
-    /// The names behind a place, in order of their places.
+    /// The names after a place, in order of their places.
     pub(crate) fn links(&self) -> &BTreeMap<u64, Link>
         ensures { result.now.entries ≡ self.now.links }
     {

@@ -20,7 +20,7 @@ const SET_XFLAGS: u32 = 0x401c_5820;
 const RECORD: u32 = 16;
 
 impl Node {
-    /// How many bytes an IOCTL of it is answered, of which so many may be output: its record and its output.
+    /// How many bytes an IOCTL of it is answered, of which that many may be output: its record and its output.
     pub fn ioctl_len(&self, cmd: u32, out_size: u32) -> Result<u32, Errno>
         ensures ok { OnOk result (ioctl_refusal cmd out_size self.now ≡ None) }
         ensures len { IfOk result (λ len. len ≡ 16 + output_of cmd) }

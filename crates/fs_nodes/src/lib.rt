@@ -20,7 +20,7 @@ mod xattrs;
 pub use children::{Child, Children};
 pub use held::{Held, first_held, is_idle};
 pub use kind::Kind;
-pub use listing::entries_behind;
+pub use listing::entries_after;
 pub use node::{Node, Time, is_other};
 pub use refusals::{
     check_contents, check_namespace, directory, holds_names, is_directory, is_improper, no_device,

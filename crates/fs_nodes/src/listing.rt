@@ -4,7 +4,7 @@ ghost use Rattle.std.specs.Prelude.{◌≡◌, ◌<◌, IfOk, IfErr, Some, nat_l
 ghost use Rattle.std.specs.List.{filter};
 ghost use Rattle.fuse_flags.specs.Numbers.{enomem};
 ghost use Rattle.fs_trait.specs.Values.{item, name_text};
-ghost use Rattle.fs_nodes.specs.Listing.{dot_items, items_behind};
+ghost use Rattle.fs_nodes.specs.Listing.{dot_items, items_after};
 
 use crate::children::Child;
 use crate::node::Node;
@@ -19,16 +19,16 @@ const DIRECTORY: u32 = 4;
 /// How many bytes a record of a directory has at least.
 const LEAST_RECORD: usize = 24;
 
-/// What a directory holds behind an offset, at most as much as `size` bytes of records have place
+/// What a directory holds after an offset, at most as much as `size` bytes of records have place
 /// for. ENOMEM where there is no memory for it.
-pub fn entries_behind(
+pub fn entries_after(
     alloc: Global,
     number: u64,
     directory: &Node,
     offset: u64,
     size: u32,
 ) -> Result<EntryList, Fault>
-    ensures ok { IfOk result (λ items. items ≡ items_behind number directory.now offset size) }
+    ensures ok { IfOk result (λ items. items ≡ items_after number directory.now offset size) }
     ensures err { IfErr result (λ fault. fault ≡ Some enomem) }
 {
     let most = size as usize / LEAST_RECORD + 1;
@@ -49,7 +49,7 @@ pub fn entries_behind(
     Ok(entries)
 }
 
-// The entries of a directory itself and of the one above that lie behind an offset, at most `most`.
+// The entries of a directory itself and of the one above that lie after an offset, at most `most`.
 // ENOMEM where there is no memory for them.
 fn dot_entries(
     alloc: Global,

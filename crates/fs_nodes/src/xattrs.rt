@@ -129,7 +129,7 @@ impl Xattrs {
         }
     }
 
-    /// How many bytes the names have, with a 0 behind each: those of `trusted.` not to others than root.
+    /// How many bytes the names have, with a 0 after each: those of `trusted.` not to others than root.
     pub fn names_len(&self, to_other: bool) -> u32
         ensures length { result ≡ length (name_list to_other self.now) }
         ensures most { result ≤ MOST_BYTES }
@@ -141,7 +141,7 @@ impl Xattrs {
         length as u32
     }
 
-    /// The names, with a 0 behind each: those of `trusted.` not to others than root. ENOMEM where there
+    /// The names, with a 0 after each: those of `trusted.` not to others than root. ENOMEM where there
     /// is no memory for them.
     pub fn names(&self, alloc: Global, to_other: bool) -> Result<Vec<u8>, Fault>
         ensures { MatchResult result
@@ -171,7 +171,7 @@ fn is_listed(to_other: bool, name: &[u8]) -> bool
     !to_other || !name.starts_with(b"trusted.")
 }
 
-// How many bytes a name has where it is listed, with a 0 behind it.
+// How many bytes a name has where it is listed, with a 0 after it.
 fn listed_len(to_other: bool, name: &[u8]) -> usize
     ensures { result ≡ length (listed to_other name.now) }
 {
@@ -182,7 +182,7 @@ fn listed_len(to_other: bool, name: &[u8]) -> usize
     }
 }
 
-// Adds a name where it is listed, and a 0 behind it.
+// Adds a name where it is listed, and a 0 after it.
 fn push_name(names: &mut Vec<u8>, to_other: bool, name: &[u8]) -> Result<(), Fault>
     ensures ok { OnOk result (names.new.items ≡ names.old.items ++ listed to_other name.now) }
     ensures err { IfErr result (λ fault. fault ≡ Some enomem) }

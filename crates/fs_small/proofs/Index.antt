@@ -31,7 +31,7 @@ module _ (files : List Stored) (order : AllPairs ComesBefore files) (node : ℕ)
       (λ over. let more = above k none (ltb-false k n over) within in omega (arith, more, e))
       (cases_Bool (nat_lt k n))))
 
-  -- what is known of one place tells of all before it, or behind it
+  -- what is known of one place tells of all before it, or after it
   pub all_before : (i : ℕ) (file : Stored) → i < length files → file ≡ get_or files i file
       → file.node < node → (k : ℕ) (d : Stored) → k < i + 1 → (get_or files k d).node < node
   all_before i file within is less k d below =
@@ -47,10 +47,10 @@ module _ (files : List Stored) (order : AllPairs ComesBefore files) (node : ℕ)
       omega (arith, there, same, less))
       (cases_Bool (nat_lt k i))
 
-  pub all_behind : (i : ℕ) (file : Stored) → i < length files → file ≡ get_or files i file
+  pub all_after : (i : ℕ) (file : Stored) → i < length files → file ≡ get_or files i file
       → node < file.node
       → (k : ℕ) (d : Stored) → i ≤ k → k < length files → node < (get_or files k d).node
-  all_behind i file within is more k d from within' =
+  all_after i file within is more k d from within' =
       let here = get_or_read files i file within is d in
       let same = ap (λ (f : Stored). f.node) here in
       ⊎_elim

@@ -19,7 +19,7 @@ slice_get-file_items offset (f ∷ fs) (suc place) file is =
     let here : offset + 1 + place ≡ offset + suc place = omega arith in
     slice_get-file_items (offset + 1) fs place file is ∙ ap (λ o. Some (file_item o file)) here
 
--- the files come behind `.` and `..`
+-- the files come after `.` and `..`
 pub slice_get-root_items : (files : List Stored) (place : ℕ) (file : Stored) → 2 ≤ place
     → slice_get files (place - 2) ≡ Some file
     → slice_get (root_items files) place ≡ Some (file_item (place + 1) file)
@@ -36,7 +36,7 @@ length-file_items : (offset : ℕ) (files : List Stored)
 length-file_items offset [] = refl
 length-file_items offset (f ∷ fs) = ap suc (length-file_items (offset + 1) fs)
 
--- behind the items that are skipped an item more
+-- after the items that are skipped an item more
 pub items_more : (all items : List Item) (off place : ℕ) (item : Item)
     → take off all ++ items ≡ take place all → slice_get all place ≡ Some item
     → take off all ++ (items ++ item ∷ []) ≡ take (place + 1) all
@@ -45,7 +45,7 @@ items_more all items off place item so_far is =
     ∙ ap (λ x. take place all ++ x ∷ []) (sym (get_or_from_slice_get all place item item is))
     ∙ sym (take_more all place item (slice_get_within all place item is))
 
--- the items behind those that are skipped, at the end
+-- the items after those that are skipped, at the end
 pub items_whole : (files : List Stored) (items : List Item) (off place : ℕ)
     → length files + 2 ≤ place
     → take off (root_items files) ++ items ≡ take place (root_items files)

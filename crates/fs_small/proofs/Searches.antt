@@ -65,7 +65,7 @@ module _ {X : Type 0} (p : X → Bool) (xs : List X) where
       let past : length xs ≤ position_or_len p xs = grind (arith, common_steps) in
       fails_before_first p xs k d (omega arith)
 
-  -- ---- behind one more
+  -- ---- after one more
 
   pub find_pushed : (x : X) → position p xs ≡ None → p x ≡ true
       → find p (xs ++ x ∷ []) ≡ Some x

@@ -6,7 +6,7 @@ use Rattle.fuse_wire.specs.declared.attributes.Attr.{Attr}
 use Rattle.fs_trait.specs.declared.entry.Entry.{Entry}
 use Rattle.fs_small.specs.Tables.{Named}
 
--- the attributes of a node of this kind and permissions, with so many names and bytes
+-- the attributes of a node of this kind and permissions, with that many names and bytes
 abbrev pub attr_of : (node mode nlink size : ℕ) → Attr
 attr_of node mode nlink size =
     record {
@@ -28,11 +28,11 @@ attr_of node mode nlink size =
       flags = 0;
     }
 
--- the attributes of a directory that all may read and search, with so many names
+-- the attributes of a directory that all may read and search, with that many names
 abbrev pub directory_attr : (node nlink : ℕ) → Attr
 directory_attr node nlink = attr_of node 0o40555 nlink 0
 
--- the attributes of a file of so many bytes that all may read, with one name
+-- the attributes of a file of that many bytes that all may read, with one name
 abbrev pub file_attr : (node size : ℕ) → Attr
 file_attr node size = attr_of node 0o100444 1 size
 

@@ -128,7 +128,7 @@ with_contents [] place bytes = []
 with_contents (file ∷ files) zero bytes = record file { contents = bytes } ∷ files
 with_contents (file ∷ files) (suc place) bytes = file ∷ with_contents files place bytes
 
--- bytes of the file at this place are put into a reply, from off on and at most so many: all of
+-- bytes of the file at this place are put into a reply, from off on and at most that many: all of
 -- these that are there; or there is no such file
 abbrev pub AnswersRead : Stock → Option ℕ → (off most : ℕ) → Answer → Type 0
 AnswersRead stock (Some place) off most answer =
@@ -171,7 +171,7 @@ root_items files =
 abbrev pub reading_refusal : (node : ℕ) → ℕ
 reading_refusal node = if node == 1 then enomem else enotdir
 
--- a reading of this node is an iterator over what the root holds now, but for so many items at the
+-- a reading of this node is an iterator over what the root holds now, but for that many items at the
 -- beginning; or it is refused
 abbrev pub OpensRoot : Stock → (node off : ℕ) → Handed (List Item) → Type 0
 OpensRoot stock node off (Iterator items) =

@@ -41,7 +41,7 @@ abbrev pub read_of : Option (List ℕ) → (refusal room size off : ℕ) → Ans
 read_of (Some bytes) refusal room size off = Put (part_of bytes off (most_put room size))
 read_of None refusal room size off = Failed (Some refusal)
 
--- an item as a reading gives it: a later one goes on behind its offset
+-- an item as a reading gives it: a later one goes on after its offset
 abbrev pub item_at : (offset : ℕ) → Named → Item
 item_at offset named = record {
   ino = named.node;
@@ -55,13 +55,13 @@ abbrev pub items_from : (offset : ℕ) → List Named → List Item
 items_from offset [] = []
 items_from offset (item ∷ items) = item_at offset item ∷ items_from (offset + 1) items
 
--- what is read of a directory behind an offset: all items but as many at the beginning
-abbrev pub items_behind : List Named → (offset : ℕ) → List Item
-items_behind items offset = items_from (offset + 1) (drop offset items)
+-- what is read of a directory after an offset: all items but as many at the beginning
+abbrev pub items_after : List Named → (offset : ℕ) → List Item
+items_after items offset = items_from (offset + 1) (drop offset items)
 
--- a reading of these items behind an offset, or why the node has none
+-- a reading of these items after an offset, or why the node has none
 abbrev pub OpensItems : Option (List Named) → (refusal offset : ℕ) → Handed (List Item) → Type 0
-OpensItems (Some items) refusal offset (Iterator left) = left ≡ items_behind items offset
+OpensItems (Some items) refusal offset (Iterator left) = left ≡ items_after items offset
 OpensItems None refusal offset (Plain answer) = answer ≡ Failed (Some refusal)
 OpensItems _ _ _ _ = ⊥
 

@@ -19,11 +19,11 @@ impl<T: ReadTree> Model for TreeEntries<T> {
     ghost use Rattle.std.specs.Prelude.{List};
     ghost use Rattle.fs_trait.specs.Values.{Item};
     ghost use Rattle.fs_small.specs.Tables.{items_of};
-    ghost use Rattle.fs_small.specs.ReadOnly.{items_behind};
+    ghost use Rattle.fs_small.specs.ReadOnly.{items_after};
 
     ghost Value = { List Item };
 
-    ghost view = { λ it. items_behind (items_of (T.tables it.tree) it.node) it.next };
+    ghost view = { λ it. items_after (items_of (T.tables it.tree) it.node) it.next };
 }
 
 impl<T: ReadTree> DirectoryIterator for TreeEntries<T> {

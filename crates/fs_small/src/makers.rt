@@ -33,7 +33,7 @@ pub fn name_in(bytes: &[u8]) -> CStr<'_>
     }
 }
 
-/// A directory of this name, which stands in `name` with a 0 behind it.
+/// A directory of this name, which is in `name` with a 0 after it.
 pub fn directory_item(node: u64, name: &[u8]) -> TreeItem<'_>
     requires { IsSome (name_of name.now) }
     ensures node { result.node ≡ node }
@@ -47,7 +47,7 @@ pub fn directory_item(node: u64, name: &[u8]) -> TreeItem<'_>
     }
 }
 
-/// A file of this name, which stands in `name` with a 0 behind it.
+/// A file of this name, which is in `name` with a 0 after it.
 pub fn file_item(node: u64, name: &[u8]) -> TreeItem<'_>
     requires { IsSome (name_of name.now) }
     ensures node { result.node ≡ node }
@@ -61,7 +61,7 @@ pub fn file_item(node: u64, name: &[u8]) -> TreeItem<'_>
     }
 }
 
-/// The attributes of a directory that all may read and search, with so many names: 2, and one more
+/// The attributes of a directory that all may read and search, with that many names: 2, and one more
 /// for each directory in it.
 pub fn directory_attr(node: u64, nlink: u32) -> Attr
     ensures { result ≡ makers.directory_attr node nlink }
@@ -69,14 +69,14 @@ pub fn directory_attr(node: u64, nlink: u32) -> Attr
     node_attr(node, S_IFDIR | 0o555, nlink, 0)
 }
 
-/// The attributes of a file of so many bytes that all may read, with one name.
+/// The attributes of a file of that many bytes that all may read, with one name.
 pub fn file_attr(node: u64, size: u64) -> Attr
     ensures { result ≡ makers.file_attr node size }
 {
     node_attr(node, S_IFREG | 0o444, 1, size)
 }
 
-/// The attributes of a node of this kind and permissions, with so many names and bytes. It belongs
+/// The attributes of a node of this kind and permissions, with that many names and bytes. It belongs
 /// to user and group 0, and all its times are 0.
 #[inline(always)]
 pub fn node_attr(node: u64, mode: u32, nlink: u32, size: u64) -> Attr

@@ -14,7 +14,7 @@ const MOST_BYTES: usize = 65_536;
 /// A file of at most 65,536 bytes, which are kept in memory.
 ///
 /// A read moves what is there, and nothing at or past the end. A write moves what ends within the
-/// limit, and nothing at or past it; where it begins behind the end, zeros fill the gap.
+/// limit, and nothing at or past it; where it begins after the end, zeros fill the gap.
 #[derive(Debug, Drop)]
 pub struct MemFile {
     bytes: Vec<u8>,

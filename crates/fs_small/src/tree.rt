@@ -45,7 +45,7 @@ pub trait ReadTree: Copy {
     fn is_directory(&self, node: u64) -> bool
         ensures { IsTrue result ↔ IsSome ((tables self.now).items node) };
 
-    /// The item at this place of a directory, counted from 0, or `None` behind the last one.
+    /// The item at this place of a directory, counted from 0, or `None` after the last one.
     fn item(&self, node: u64, place: u64) -> Option<TreeItem<'_>>
         ensures item { found_item result ≡ slice_get (items_of (tables self.now) node) place }
         ensures few { IfSome result (λ _. place < 2 ^ 64 - 1) };

@@ -13,7 +13,7 @@ module _ {S I N : Type 0}
   abbrev pub pairs_of : List (N × ℕ) → List (ℕ × ℕ)
   pairs_of xs = map (λ p. (value p.0, p.1)) xs
 
-  -- one more `forget` behind a run of them
+  -- one more `forget` after a run of them
   pub forgets_more : (ctx : Context) (xs : List (N × ℕ)) (inode : N) (count : ℕ) (old middle new : S)
       → ForgetsEach allows gives ctx (pairs_of xs) old middle
       → allows middle (Forget ctx (value inode) count) (Plain Done) new

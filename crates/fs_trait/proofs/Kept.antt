@@ -1,4 +1,4 @@
--- The items of entries whose names stand one behind the other, with one more.
+-- The items of entries whose names stand one after the other, with one more.
 use Rattle.std.proofs.Common.{◌≡◌, ◌≢◌, ◌<◌, ◌≤◌, ◌-◌, ℕ, suc, List, [], ◌∷◌, ◌++◌, length, take, drop, get_or, slice_range, refl, sym, ap, ◌∙◌, subst, arith, length-append, ⊎_elim, nat_lt, true, false}
 use Rattle.std.proofs.Math.Seq.{drop-append_seam}
 use Rattle.std.proofs.lemmas.Bool.{cases_Bool, ltb-true, ltb-false}
@@ -7,7 +7,7 @@ use Rattle.fs_trait.specs.Values.{Item}
 use Rattle.fs_trait.specs.Listing.{items_from, AreInTurn, IsEntryList}
 use Rattle.fs_trait.specs.declared.listing.Kept.{Kept}
 
--- a name is the same with more bytes behind all of them
+-- a name is the same with more bytes after all of them
 slice_left : (names text : List ℕ) (a b : ℕ) → a ≤ b → b ≤ length names
     → slice_range (names ++ text) a b ≡ slice_range names a b
 slice_left names text a b rise within =
@@ -15,7 +15,7 @@ slice_left names text a b rise within =
     ap (take (b - a)) (drop-append-le a names text (omega arith))
     ∙ take-append-le (b - a) (drop a names) text (omega (arith, long))
 
--- and what stands behind them is the last one
+-- and what comes after them is the last one
 slice_right : (names text : List ℕ) (a b : ℕ) → a ≡ length names → b ≡ length (names ++ text)
     → slice_range (names ++ text) a b ≡ text
 slice_right names text a b begins ends =

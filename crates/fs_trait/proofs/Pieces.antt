@@ -4,7 +4,7 @@ use Rattle.std.proofs.lemmas.List.{take_all, take_min, take-append-le, drop-drop
 use Rattle.fuse_views.specs.Segments.{with_bytes_at}
 use Rattle.fs_trait.specs.Bytes.{lengthened, written}
 
--- the beginning of two lists, one behind the other
+-- the beginning of two lists, one after the other
 take-append : (k : ℕ) (xs ys : List ℕ) → take k (xs ++ ys) ≡ take k xs ++ take (k - length xs) ys
 take-append zero xs ys = let none : zero - length xs ≡ zero = omega arith in rw none refl
 take-append (suc k) [] ys = let all : suc k - zero ≡ suc k = omega arith in rw all refl

@@ -23,7 +23,7 @@ first_zero_is_place bytes (Some i) first =
     (λ k lt. false_from_ne_true _ (first.0.before k (omega arith) lt)) (λ _. first.1) in
     grind (arith, common_steps)
 
--- what stands before the first 0 has none
+-- what is before the first 0 has none
 pub text_has_no_nul : (bytes : List ℕ) (i : ℕ) → position (λ b. b == 0) bytes ≡ Some i
     → (k : ℕ) → k < length (take i bytes) → get_or (take i bytes) k 0 ≡ 0 → ⊥
 text_has_no_nul bytes i e k h z =
@@ -34,14 +34,14 @@ text_has_no_nul bytes i e k h z =
     let t : (0 == 0) ≡ false = rw same at f in
     cc
 
--- the first 0 of a text without one and a 0 behind it
+-- the first 0 of a text without one and a 0 after it
 first_nul_at : (text : List ℕ) → ((k : ℕ) → k < length text → get_or text k 0 ≢ 0)
     → position_or_len (λ b. b == 0) (text ++ 0 ∷ []) ≡ length text
 first_nul_at text h =
     position_or_len_is (λ b. b == 0) (text ++ 0 ∷ []) (length text) 0 (grind (arith, common_steps))
     (λ k lt. let ne = h k lt in rw get_or_append_left (grind (arith, nat_tests))) (λ _. rw (get_or_at text 0 [] 0 (length text) refl) refl)
 
--- a text and a 0 behind it are found to be a name
+-- a text and a 0 after it are found to be a name
 pub name_is_found : (bytes text : List ℕ) → IsName bytes text → name_of bytes ≡ Some text
 name_is_found bytes text n =
     let at = first_nul_at text n.1 in
@@ -61,6 +61,6 @@ name_from_place bytes text (Some i) p e =
     let same : bytes ≡ text ++ 0 ∷ [] = cc in
     (same, λ k l z. text_has_no_nul bytes i p k (rw before l) (rw before z))
 
--- what is found to be a name is its text and a 0 behind it
+-- what is found to be a name is its text and a 0 after it
 pub found_is_name : (bytes text : List ℕ) → name_of bytes ≡ Some text → IsName bytes text
 found_is_name bytes text = name_from_place bytes text (position (λ b. b == 0) bytes) refl

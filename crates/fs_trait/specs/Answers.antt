@@ -141,7 +141,7 @@ pub data Kind : Type 0 where
   Told : Kind
   -- that it was done, which is not replied
   Untold : Kind
-  -- bytes that were put into the reply, at most so many
+  -- bytes that were put into the reply, at most that many
   Data : (size : ℕ) → Kind
   -- options
   Agreements : Kind
@@ -178,7 +178,7 @@ abbrev pub FitsEntry : Entry → Type 0
 FitsEntry entry = Fit entry_out.widths (entry_out.fields (entry_out_of entry))
 
 -- a handle's number, or 0 where there is no handle, and the bits of how to use it are within their
--- widths in the reply, of 8 and 4 bytes; 4 bytes behind them are padding
+-- widths in the reply, of 8 and 4 bytes; 4 bytes after them are padding
 abbrev pub FitsOpening : Option ℕ → ℕ → Type 0
 FitsOpening handle opening = Fit (8 ∷ 4 ∷ 4 ∷ []) (unwrap_or handle 0 ∷ opening ∷ 0 ∷ [])
 

@@ -3,11 +3,11 @@ use Rattle.std.specs.Prelude.{◌≡◌, ◌<◌, ◌^◌, ◌+◌, ◌-◌, ℕ
 use Rattle.fuse_flags.specs.Numbers.{enomem}
 use Rattle.fuse_views.specs.Segments.{with_bytes_at}
 
--- the bytes from place off on, at most so many
+-- the bytes from place off on, at most that many
 abbrev pub part_of : List ℕ → (off most : ℕ) → List ℕ
 part_of bytes off most = take most (drop off bytes)
 
--- a read of at most so many bytes: those that are there are moved, all of them
+-- a read of at most that many bytes: those that are there are moved, all of them
 pub record Reads
     (old : List ℕ) (off room : ℕ) (answer : Result ℕ (Option ℕ)) (moved new : List ℕ) : Type 0 where
   pub answered : answer ≡ Ok (length moved)
@@ -30,7 +30,7 @@ pub record PutsPart
 abbrev pub fitting : (most off : ℕ) → List ℕ → List ℕ
 fitting most off bytes = take (most - off) bytes
 
--- at least so many bytes: zeros behind the end where there are fewer
+-- at least that many bytes: zeros after the end where there are fewer
 abbrev pub lengthened : List ℕ → ℕ → List ℕ
 lengthened old len = old ++ replicate (len - length old) 0
 

@@ -18,7 +18,7 @@ abbrev pub WritesFile :
 WritesFile old bytes off answer new =
     Writes old.most (bytes_held old) bytes off answer (bytes_held new) × Keeps old new
 
--- a read from off on, into so much room
+-- a read from off on, into that much room
 abbrev pub ReadsFile :
     (old : BytesMut) (off room : ℕ) → Result ℕ (Option ℕ) → (moved : List ℕ) → (new : BytesMut)
     → Type 0

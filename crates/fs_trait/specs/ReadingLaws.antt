@@ -13,7 +13,7 @@ own_length n xs ys e =
     e ∙ sym (take_min n ys) ∙ ap (λ k. take k ys) (sym (ap length e ∙ length-take n ys))
 
 module _ (count room off : ℕ) where
-  -- reads in a row move what is there, one part behind the other
+  -- reads in a row move what is there, one part after the other
   read_goes :
       (moved : ℕ) (old : List ℕ) (row : List (List ℕ × List ℕ)) (new : List ℕ)
       → Goes (reads_of Reads) count room off moved old row new

@@ -15,7 +15,7 @@ module _ {S I : Type 0} (allows : S → Call → Handed I → S → Type 0)
   run-any_iterator it s (OpenedDirectory call ∷ es) t r = r
   run-any_iterator it s (Taken item ∷ es) t r = absurd (let e = r.2 in cc)
 
-  -- a run, and behind it one that begins with no iterator at hand
+  -- a run, and after it one that begins with no iterator at hand
   pub run-join : RunsJoin allows gives
   run-join it s m t [] fs p r =
       subst (λ (z : S). IsRun allows gives it z fs t) p (run-any_iterator it m fs t r)

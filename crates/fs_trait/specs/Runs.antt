@@ -28,7 +28,7 @@ module _ {S I : Type 0}
       (before after : I) × (it ≡ Some before)
       × gives before item after × IsRun (Some after) old es new
 
-  -- a run, and behind it one that begins with no iterator at hand, are a run
+  -- a run, and after it one that begins with no iterator at hand, are a run
   abbrev pub RunsJoin : Type 0
   RunsJoin =
       (it : Option I) (first middle last : S) (before after : List Event)

@@ -52,7 +52,7 @@ module _ {F : Type 0}
       let long = ap length t.bytes_are ∙ length-append (bytes_moved t.row) (last_bytes t.ending) in
       omega (arith, g.0, g.1, l, long)
 
-  -- where it answers a number, so many bytes were moved
+  -- where it answers a number, that many bytes were moved
   transfer_told :
       (old : F) (bytes : List ℕ) (n : ℕ) (new : F)
       → Transfers calls count left off old bytes (Ok n) new → n ≡ length bytes
@@ -82,7 +82,7 @@ module _ {F : Type 0}
       sum_by-cons (λ (x : List ℕ × F). length x.0) c cs in
       omega (arith, rest, sum)
 
-  -- where it answers a number, the position behind what was moved is below 2 ^ 64
+  -- where it answers a number, the position after what was moved is below 2 ^ 64
   pub transfer_below :
       (old : F) (bytes : List ℕ) (result : Result ℕ (Option ℕ)) (new : F) → off < 2 ^ 64
       → Transfers calls count left off old bytes result new

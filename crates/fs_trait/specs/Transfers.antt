@@ -13,7 +13,7 @@ reads_of gives before old at len (Ok part) new = gives old at len (Ok (length pa
 reads_of gives before old at len (Err fault) new = gives old at len (Err fault) [] new
 
 -- a call of a file that is written to, where these bytes are to be moved: it is lent the next of
--- them, behind those that were moved before, and what it moves is their beginning
+-- them, after those that were moved before, and what it moves is their beginning
 abbrev pub writes_of :
     {F : Type 0} → (F → List ℕ → ℕ → Option WritevFlags → Result ℕ (Option ℕ) → F → Type 0)
     → List ℕ → Option WritevFlags
@@ -32,7 +32,7 @@ pub data Ending : Type 0 where
   Stuck : Ending
   -- the last call failed
   Broken : (fault : Option ℕ) → Ending
-  -- the last call moved these bytes, and the position behind them is past 2 ^ 64 - 1
+  -- the last call moved these bytes, and the position after them is past 2 ^ 64 - 1
   Past : (part : List ℕ) → Ending
 
 -- the bytes that the last call moved, where the ending has one that moved any
@@ -42,7 +42,7 @@ last_bytes Stuck = []
 last_bytes (Broken fault) = []
 last_bytes (Past part) = part
 
--- what a transfer answers that ends so, where the calls before moved so many bytes
+-- what a transfer answers that ends so, where the calls before moved that many bytes
 abbrev pub outcome : ℕ → Ending → Result ℕ (Option ℕ)
 outcome moved Finished = Ok moved
 outcome moved Stuck = Ok moved
@@ -68,7 +68,7 @@ module _ {F : Type 0}
   view_len moved = min count left - moved
 
   -- the next call of the file, where something is still to be moved: its view has just that, at the
-  -- position behind what was moved
+  -- position after what was moved
   abbrev pub CallsFile : ℕ → F → Result (List ℕ) (Option ℕ) → F → Type 0
   CallsFile moved old answer new =
       (0 < view_len moved) × calls moved old (off + moved) (view_len moved) answer new
@@ -95,7 +95,7 @@ module _ {F : Type 0}
   Ends moved old (Past part) new =
       MovesSome moved old part new × (2 ^ 64 ≤ off + moved + length part)
 
-  -- a transfer: calls that moved bytes and an ending; the bytes that were moved, one behind the
+  -- a transfer: calls that moved bytes and an ending; the bytes that were moved, one after the
   -- other; and what is answered
   pub record Transfers
       (old : F) (bytes : List ℕ) (result : Result ℕ (Option ℕ)) (new : F) : Type 0 where

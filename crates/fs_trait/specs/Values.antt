@@ -23,7 +23,7 @@ abbrev pub name_of : List ℕ → Option (List ℕ)
 name_of bytes = option_and_then (λ i. if i + 1 == length bytes then Some (take i bytes) else None)
     (position (λ b. b == 0) bytes)
 
--- the bytes of a name, without the 0 behind them
+-- the bytes of a name, without the 0 after them
 abbrev pub name_text : CStr → List ℕ
 name_text name = name.bytes.now
 
@@ -31,7 +31,7 @@ name_text name = name.bytes.now
 abbrev pub IsName : List ℕ → List ℕ → Type 0
 IsName bytes text = (bytes ≡ text ++ 0 ∷ []) × ((k : ℕ) → k < length text → slice_index text k ≢ 0)
 
--- the text of the first name in a byte list, and what follows the 0 behind it, where there is a 0
+-- the text of the first name in a byte list, and what follows the 0 after it, where there is a 0
 abbrev pub first_name : List ℕ → Option (List ℕ × List ℕ)
 first_name bytes = option_map (λ i. (take i bytes, drop (i + 1) bytes)) (position (λ b. b == 0) bytes)
 
@@ -71,7 +71,7 @@ pub record ExtensionValues : Type 0 where
   pub context : Option (List ℕ × List ℕ)
   pub group : Option ℕ
 
--- the name of a security context, without the 0 behind it, and its value
+-- the name of a security context, without the 0 after it, and its value
 abbrev pub context_values : SecContext → List ℕ × List ℕ
 context_values context = (context.name, context.secctx.items)
 
@@ -100,6 +100,6 @@ abbrev pub item_of : Option DirEntry → Option Item
 item_of None = None
 item_of (Some e) = Some (item e)
 
--- P holds of the value behind a mutable reference once what was lent of it has come back
+-- P holds of the value after a mutable reference once what was lent of it has come back
 abbrev pub Rests : (R : RattleType) → MutBor R.Denot → (R.Denot → Type 0) → Fml
 Rests R s P = follows_so R R s.ghost_name none (λ _ _. ⊤) P

@@ -16,7 +16,7 @@ length-with_bytes_at : (at : ℕ) (w xs : List ℕ) → at + length w ≤ length
 unfolding with_bytes_at
 length-with_bytes_at at w xs h = simp (length-append, length-take, length-drop) (omega arith)
 
--- bytes that are lengthened are at least so many
+-- bytes that are lengthened are at least that many
 length-lengthened : (xs : List ℕ) (len : ℕ) → length (lengthened xs len) ≡ max (length xs) len
 length-lengthened xs len = simp (length-append, length-replicate) (omega arith)
 
@@ -105,7 +105,7 @@ module _ (count off : ℕ) (left : List ℕ) (flags : Option WritevFlags) where
       ap (λ k. take k left) (omega arith) ∙ take_min count left in
       rw (add-zero off, lent) at h
 
-  -- behind the first call that moved something, one that has bytes to move begins at the limit
+  -- after the first call that moved something, one that has bytes to move begins at the limit
   at_limit : (most : ℕ) (part : List ℕ) (m : ℕ) → m ≡ length part
       → length part ≡ length (fitting most off (take count left))
       → m < min count (length left) → most ≤ off + m

@@ -58,7 +58,7 @@ impl PositionedFile for Bytes<'_> {
     }
 }
 
-// The bytes from place `off` on, at most so many.
+// The bytes from place `off` on, at most that many.
 fn part(bytes: &[u8], off: u64, most: usize) -> &[u8]
     ensures { result.now ≡ take most (drop off bytes.now) }
 {

@@ -17,7 +17,7 @@ const BLOCK: usize = 4096;
 /// A file of bytes that are kept in a vector, and are written up to a limit.
 ///
 /// A read moves what is there, and nothing at or past the end. A write moves what ends within the
-/// limit, and nothing at or past it; where it begins behind the end, zeros fill the gap.
+/// limit, and nothing at or past it; where it begins after the end, zeros fill the gap.
 #[derive(Drop)]
 pub struct BytesMut<'a> {
     /// The bytes.
@@ -118,7 +118,7 @@ fn take_pieces(room: &mut [u8], view: &Slices<'_>)
 }
 
 /// Takes up to `size` bytes from `r`, writes those into `bytes`, from `offset` on, that end within
-/// `most`, and answers how many these are. Where `offset` is behind the end, zeros fill the gap.
+/// `most`, and answers how many these are. Where `offset` is after the end, zeros fill the gap.
 /// `Errno::ENOMEM` where `bytes` would become longer and there is no memory for it: then they stay.
 ///
 /// A [`write`](crate::FileSystem::write) of contents in memory is one call of it.

@@ -11,7 +11,7 @@ use crate::name::CStr;
 pub struct DirEntry<'a> {
     /// The number of the node, which counts no lookup.
     pub ino: u64,
-    /// Where a reading that goes on behind this item begins.
+    /// Where a reading that goes on after this item begins.
     pub offset: u64,
     /// The kind of file, as the `d_type` of `readdir(3)`.
     pub type_: u32,

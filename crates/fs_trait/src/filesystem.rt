@@ -352,7 +352,7 @@ pub trait FileSystem {
             self.new }
         ensures short { KeepsTextShort (getxattr_answer result) };
 
-    /// The names of the extended attributes of a node, of at most `size` bytes with a 0 behind
+    /// The names of the extended attributes of a node, of at most `size` bytes with a 0 after
     /// each, or where `size` is 0 how many bytes they have (LISTXATTR). Longer ones are ERANGE.
     /// More than 4,294,967,279 bytes are never answered, as for `readlink`.
     fn listxattr(
@@ -413,7 +413,7 @@ pub trait FileSystem {
 
     /// Answers what gives the items of a directory (READDIR, READDIRPLUS). `offset` is 0 at the
     /// beginning of the directory, or that of an item that was given before: the reading goes on
-    /// behind it. `handle` is that of the `opendir`, and says nothing where that answered none.
+    /// after it. `handle` is that of the `opendir`, and says nothing where that answered none.
     ///
     /// `size` is how many bytes of records the reply may have. Items are taken until one doesn't
     /// fit in there; a reply without records says that the directory has ended. READDIRPLUS calls

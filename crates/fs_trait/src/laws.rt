@@ -8,7 +8,7 @@ ghost use Rattle.fs_trait.specs.Runs.{IsRun, Called, OpenedDirectory, Taken, Run
 
 use crate::filesystem::FileSystem;
 
-/// Runs are joined by putting one list behind the other.
+/// Runs are joined by putting one list after the other.
 ///
 /// Where a run leads from one state to a second, and another, which begins with no iterator at
 /// hand, from there to a third, the events of the first and then those of the second are those of a

@@ -10,7 +10,7 @@ use fuse_flags::{Errno, Fault};
 use std::alloc::Global;
 use std::marker::Model;
 
-// An item, but for its name: that stands before `end`, from the end of the name before it on.
+// An item, but for its name: that is before `end`, from the end of the name before it on.
 #[derive(Clone, Copy)]
 struct Kept {
     ino: u64,
@@ -25,7 +25,7 @@ struct Kept {
 /// and hands the list back: as an iterator it gives each of them once, and then the end. What
 /// happens in the directory meanwhile does not change it.
 ///
-/// All names lie in one vector, one behind the other, so that an item takes no allocation of its
+/// All names lie in one vector, one after the other, so that an item takes no allocation of its
 /// own.
 #[derive(Drop)]
 pub struct EntryList {
@@ -71,7 +71,7 @@ impl EntryList {
         self.entries.len() - self.given
     }
 
-    /// Adds an item behind the others, with a copy of its name. `Errno::ENOMEM` where there is no
+    /// Adds an item after the others, with a copy of its name. `Errno::ENOMEM` where there is no
     /// memory for it: then the list stays.
     pub fn push(&mut self, added: DirEntry<'_>) -> Result<(), Fault>
         ensures ok { OnOk result (self.new ≡ self.old ++ item added.entry ∷ []) }

@@ -1,6 +1,6 @@
 //! Names of files as requests carry them.
 //!
-//! A name travels as its bytes and a 0 behind them. Nothing is asked of the bytes but that none
+//! A name travels as its bytes and a 0 after them. Nothing is asked of the bytes but that none
 //! of them is 0: they need be no text, and `.`, `..`, a slash and the empty name are names too.
 
 ghost use Rattle.std.specs.Prelude.{◌≡◌, ◌≢◌, ℕ, ◌<◌, ◌==◌, length, slice_index, position};
@@ -33,7 +33,7 @@ impl<'a> CStr<'a> {
     ghost use Rattle.fs_trait.specs.Values.{name_of, name_text};
 
     /// The name in these bytes: all but the last, where the last is 0 and no other is. `None`
-    /// where there is no 0, where one stands before the end, and for no bytes at all. A single 0
+    /// where there is no 0, where one is before the end, and for no bytes at all. A single 0
     /// is the empty name.
     #[tactic(auto, using(crate::proofs::Texts::text_has_no_nul))]
     pub fn from_bytes_with_nul(bytes: &'a [u8]) -> Option<CStr<'a>>
@@ -62,7 +62,7 @@ impl<'a> CStr<'a> {
         Some(CStr::before_nul(bytes, nul))
     }
 
-    /// The name before the first 0 in these bytes, which stands at `nul`. It is not looked for
+    /// The name before the first 0 in these bytes, which is at `nul`. It is not looked for
     /// again.
     #[tactic(auto, using(crate::proofs::Texts::text_has_no_nul))]
     pub fn before_nul(bytes: &'a [u8], nul: usize) -> CStr<'a>
@@ -81,7 +81,7 @@ impl<'a> CStr<'a> {
         CStr { bytes }
     }
 
-    /// The bytes of the name, without the 0 behind them.
+    /// The bytes of the name, without the 0 after them.
     pub fn to_bytes(self) -> &'a [u8]
         ensures { result.now ≡ name_text self.entry }
     {

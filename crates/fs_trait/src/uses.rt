@@ -1,4 +1,4 @@
-//! Small callers, with what follows for them from the public contracts alone. The others stand in
+//! Small callers, with what follows for them from the public contracts alone. The others are in
 //! `test_uses`; these are here since an edit of this crate must be refused at the first, and the
 //! others are beside what they call.
 
@@ -28,7 +28,7 @@ fn bytes_of_a_read<F: FileSystem, W: ZeroCopyWriter>(
     fs.read(ctx, inode, handle, w, size, 0, None, 0)
 }
 
-/// Three bytes from place 2 on, where one is there and the limit is 4: two are written, behind a
+/// Three bytes from place 2 on, where one is there and the limit is 4: two are written, after a
 /// zero in the gap.
 fn two_of_three<R: ZeroCopyReader>(bytes: &mut Vec<u8>, r: &mut R) -> Result<u32, Fault>
     requires held { bytes.old.items ≡ codes "a" }

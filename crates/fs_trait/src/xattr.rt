@@ -14,7 +14,7 @@ pub enum GetxattrReply {
 /// What `listxattr` answers.
 #[derive(Drop)]
 pub enum ListxattrReply {
-    /// The names of the attributes, each with a 0 behind it, in any order.
+    /// The names of the attributes, each with a 0 after it, in any order.
     Names(Vec<u8>),
     /// How many bytes these names have, where the size that is asked for is 0.
     Count(u32),

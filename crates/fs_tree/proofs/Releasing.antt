@@ -35,16 +35,16 @@ less n m is = subst (λ r. MatchOrdering r (n < m) (n ≡ m) (m < n)) is (ranks 
 
 -- ---- one node more is done
 
--- all behind a number
-whole_behind : (n m : ℕ) → n ≤ m → (es : List (ℕ × Node))
+-- all after a number
+whole_after : (n m : ℕ) → n ≤ m → (es : List (ℕ × Node))
     → AllByRecursion (λ k. nat_cmp m k ≡ Less) (map (λ e. e.0) es) → behind (Some n) es ≡ es
-whole_behind n m up [] all = refl
-whole_behind n m up (e ∷ es) all =
+whole_after n m up [] all = refl
+whole_after n m up (e ∷ es) all =
     let above : n < e.0 = omega (arith, less m e.0 all.0, up) in
     cond-true (nat_lt n e.0) (e ∷ behind (Some n) es) (behind (Some n) es) (is_below n e.0 above)
-    ∙ ap (λ (l : List (ℕ × Node)). e ∷ l) (whole_behind n m up es all.1)
+    ∙ ap (λ (l : List (ℕ × Node)). e ∷ l) (whole_after n m up es all.1)
 
--- what is behind a number has greater ones
+-- what is after a number has greater ones
 first_above : (es : List (ℕ × Node)) (n k : ℕ) (x : Node) (rest : List (ℕ × Node))
     → behind (Some n) es ≡ (k, x) ∷ rest → n < k
 first_above [] n k x rest is = cc is
@@ -60,22 +60,22 @@ first_above (e ∷ es) n k x rest is =
     (sym (cond-false (nat_lt n e.0) (e ∷ behind (Some n) es) (behind (Some n) es) fails) ∙ is))
     (cases_Bool (nat_lt n e.0))
 
--- behind the first of those that are behind a number are the others
-pub next_behind : (es : List (ℕ × Node)) → IsStrictlySortedBy nat_cmp (map (λ e. e.0) es)
+-- after the first of those that are after a number are the others
+pub next_after : (es : List (ℕ × Node)) → IsStrictlySortedBy nat_cmp (map (λ e. e.0) es)
     → (number : Option ℕ) (k : ℕ) (x : Node) (rest : List (ℕ × Node))
     → behind number es ≡ (k, x) ∷ rest → behind (Some k) es ≡ rest
-next_behind [] sorted None k x rest is = cc is
-next_behind [] sorted (Some n) k x rest is = cc is
-next_behind (e ∷ es) sorted None k x rest is =
+next_after [] sorted None k x rest is = cc is
+next_after [] sorted (Some n) k x rest is = cc is
+next_after (e ∷ es) sorted None k x rest is =
     let here : e.0 ≡ k = cc is in
     let others : es ≡ rest = cc is in
     let head = sorted_head nat_cmp e.0 (map (λ e. e.0) es) sorted in
     subst (λ (n : ℕ). behind (Some n) (e ∷ es) ≡ es) here
     (cond-false (nat_lt e.0 e.0) (e ∷ behind (Some e.0) es) (behind (Some e.0) es)
     (not_below e.0 e.0 (omega arith))
-    ∙ whole_behind e.0 e.0 (omega arith) es head)
+    ∙ whole_after e.0 e.0 (omega arith) es head)
     ∙ others
-next_behind (e ∷ es) sorted (Some n) k x rest is =
+next_after (e ∷ es) sorted (Some n) k x rest is =
     let head = sorted_head nat_cmp e.0 (map (λ e. e.0) es) sorted in
     let tail = sorted_tail nat_cmp e.0 (map (λ e. e.0) es) sorted in
     ⊎_elim
@@ -88,26 +88,26 @@ next_behind (e ∷ es) sorted (Some n) k x rest is =
     subst (λ (m : ℕ). behind (Some m) (e ∷ es) ≡ es) here
     (cond-false (nat_lt e.0 e.0) (e ∷ behind (Some e.0) es) (behind (Some e.0) es)
     (not_below e.0 e.0 (omega arith))
-    ∙ whole_behind e.0 e.0 (omega arith) es head)
-    ∙ sym (whole_behind n e.0 up es head) ∙ others)
+    ∙ whole_after e.0 e.0 (omega arith) es head)
+    ∙ sym (whole_after n e.0 up es head) ∙ others)
     (λ fails.
     let later : behind (Some n) es ≡ (k, x) ∷ rest =
     sym (cond-false (nat_lt n e.0) (e ∷ behind (Some n) es) (behind (Some n) es) fails) ∙ is in
     let up = first_above es n k x rest later in
     cond-false (nat_lt k e.0) (e ∷ behind (Some k) es) (behind (Some k) es)
     (not_below k e.0 (omega (arith, ltb-false n e.0 fails, up)))
-    ∙ next_behind es tail (Some n) k x rest later)
+    ∙ next_after es tail (Some n) k x rest later)
     (cases_Bool (nat_lt n e.0))
 
--- ---- the first behind a number
+-- ---- the first after a number
 
 between_all : (es : List (ℕ × Node)) → entries_between nat_cmp Unbounded Unbounded es ≡ es
 between_all [] = refl
 between_all (e ∷ es) = ap (λ (l : List (ℕ × Node)). e ∷ l) (between_all es)
 
-between_behind : (n : ℕ) (es : List (ℕ × Node))
+between_after : (n : ℕ) (es : List (ℕ × Node))
     → entries_between nat_cmp (Excluded n) Unbounded es ≡ behind (Some n) es
-between_behind n es =
+between_after n es =
     filter_agree (λ e. is_lt (nat_cmp n e.0) && true) (λ e. nat_lt n e.0) (λ e. same n e.0) es
   where
     same : (a b : ℕ) → (is_lt (nat_cmp a b) && true) ≡ nat_lt a b
@@ -130,10 +130,10 @@ pub held_behind : (number : Option ℕ) (n : ℕ) (es given : List (ℕ × Node)
     → given ≡ entries_between nat_cmp (Excluded n) Unbounded es
     → first_held given ≡ first_held (behind number es)
 held_behind number n es given some is =
-    ap first_held (is ∙ between_behind n es)
+    ap first_held (is ∙ between_after n es)
     ∙ ap (λ (o : Option ℕ). first_held (behind o es)) (sym some)
 
--- ---- a node that is changed or goes is not behind itself
+-- ---- a node that is changed or goes is not after itself
 
 module _ (n : ℕ) where
   here_fails : (k : ℕ) → is_at (nat_cmp n) k ≡ true → nat_lt n k ≡ false
@@ -234,7 +234,7 @@ found_head e es k x here this =
     (ap (is_at (nat_cmp k)) here ∙ at_itself k)
     ∙ ap (λ (node : Node). Some node) this
 
--- the first of those that are behind a number is found
+-- the first of those that are after a number is found
 found_behind : (es : List (ℕ × Node)) (number : Option ℕ) (k : ℕ) (x : Node) (rest : List (ℕ × Node))
     → behind number es ≡ (k, x) ∷ rest → lookup (is_at (nat_cmp k)) es ≡ Some x
 found_behind [] None k x rest is = cc is
@@ -300,7 +300,7 @@ module _ (first s : State) (sorted : IsStrictlySortedBy nat_cmp (map (λ e. e.0)
       → IsLeft first s at → is_idle e.1 ≡ true
       → (behind (Some e.0) s.nodes ≡ es) × IsLeft first s (Some e.0)
   skip at e es is left idle =
-      let next : behind (Some e.0) s.nodes ≡ es = next_behind s.nodes sorted at e.0 e.1 es is in (
+      let next : behind (Some e.0) s.nodes ≡ es = next_after s.nodes sorted at e.0 e.1 es is in (
         next,
         (done_more first s s at e.0 e.1.lookups e.1 left refl
             (is ∙ ap (λ (l : List (ℕ × Node)). e ∷ l) (sym next))
@@ -331,7 +331,7 @@ module _ (first s : State) (sorted : IsStrictlySortedBy nat_cmp (map (λ e. e.0)
       let pair : (e.0, e.1.lookups) ≡ (n, count) = cc in
       let number : e.0 ≡ n = ap (λ (p : ℕ × ℕ). p.0) pair in
       let lookups : count ≡ e.1.lookups = sym (ap (λ (p : ℕ × ℕ). p.1) pair) in
-      let next : behind (Some e.0) s.nodes ≡ es = next_behind s.nodes sorted at e.0 e.1 es is in
+      let next : behind (Some e.0) s.nodes ≡ es = next_after s.nodes sorted at e.0 e.1 es is in
       record {
         at = at;
         node = e.1;

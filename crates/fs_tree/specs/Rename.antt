@@ -16,7 +16,7 @@ use Rattle.fs_tree.specs.State.{State, node_at, change, lead, with_new, unnamed,
 abbrev pub parent_of : Option Node → ℕ
 parent_of node = option_map_or (λ node. node.parent) node 1
 
--- whether a directory is this node or lies below it, looked for so many steps up: a way that is longer
+-- whether a directory is this node or lies below it, looked for that many steps up: a way that is longer
 -- than there are nodes counts for one
 abbrev pub is_below : State → (steps number directory : ℕ) → Bool
 is_below s zero n directory = true

@@ -11,7 +11,7 @@ use Rattle.fs_trait.specs.Calls.{Call, Init, Lookup, Forget, BatchForget, Getatt
 use Rattle.fs_contents.specs.Pages.{reach}
 use Rattle.fs_contents.specs.Contents.{fallocated, data_from, hole_from, lacking, pages_over}
 use Rattle.fs_nodes.specs.Children.{is_directory, is_file, is_link}
-use Rattle.fs_nodes.specs.Listing.{items_behind}
+use Rattle.fs_nodes.specs.Listing.{items_after}
 use Rattle.fs_nodes.specs.Node.{attr_of, lasting, entry_of, kind_by_mode, new_node, picked, set_attr, rewritten, truncates, is_other, opened, overwritten, accessed}
 pub use Rattle.fs_nodes.specs.Refusals.{contents_refusal, namespace_refusal}
 use Rattle.fs_nodes.specs.Xattrs.{xattr_named, xattr_bytes, with_xattr, without_xattr, name_list}
@@ -68,7 +68,7 @@ released s = all_forgotten s (map (λ e. (e.0, e.1.lookups)) s.nodes)
 
 -- ---- MKDIR, MKNOD, CREATE, TMPFILE, SYMLINK, LINK, UNLINK, RMDIR
 
--- why nothing of this name, with a text of so many bytes, can be made in this directory
+-- why nothing of this name, with a text of that many bytes, can be made in this directory
 abbrev pub make_refusal : State → (parent : ℕ) → (name : List ℕ) → (size : ℕ) → Option ℕ
 make_refusal s parent name size =
     option_or (name_refusal s parent name) (first_of
@@ -121,7 +121,7 @@ taken_out s parent name child = unnamed (lead s parent name true None) child.nod
 abbrev pub longest : State → ℕ
 longest s = min s.limits.file (2 ^ 63 - 1)
 
--- up to which place a file can have bytes from off on, at most so many, in pages that are held or can be
+-- up to which place a file can have bytes from off on, at most that many, in pages that are held or can be
 abbrev pub most_size : State → (off len : ℕ) → Node → ℕ
 most_size s off len node = min (longest s)
     (4096 * reach node.contents.held (room_of s / 4096) (off / 4096) (pages_over off len))
@@ -138,7 +138,7 @@ fallocate_refusal s mode off len node =
 
 -- ---- SETXATTR, GETXATTR, LISTXATTR, REMOVEXATTR
 
--- a text is answered to one who has place for so many bytes, or its length to one who has none
+-- a text is answered to one who has place for that many bytes, or its length to one who has none
 abbrev pub tells : State → (size : ℕ) → Option (List ℕ) → Outcome
 tells s size None = Refused enodata
 tells s size (Some text) =
@@ -256,7 +256,7 @@ outcome s (Removexattr _ n name) = with_it (node_at s n) (λ node.
     (done (with_resized s n node (record node { xattrs = without_xattr node.xattrs name; ctime = s.now }))))
 outcome s (Readdir _ n _ size off) = with_it (node_at s n) (λ node.
     unless (first_of ((not (is_directory node.kind), enotdir) ∷ []))
-    (Tried true (Iterator (items_behind n node off size)) (with_node s n (accessed s.now node))))
+    (Tried true (Iterator (items_after n node off size)) (with_node s n (accessed s.now node))))
 outcome s (Opendir _ _ _) = if bit_and s.offered 0x1000000 == 0x1000000 then Refused enosys
     else Answered (Plain (Opened None 10)) s
 outcome s (Fsync _ _ _ _) = done s

@@ -10,7 +10,7 @@ use crate::changes::PAGE;
 use crate::fs::TreeFs;
 use bitflags::Flags;
 use fs_nodes::{
-    Kind, check_contents, check_namespace, directory, entries_behind, is_other, is_same, no_place,
+    Kind, check_contents, check_namespace, directory, entries_after, is_other, is_same, no_place,
     too_big,
 };
 use fs_trait::{
@@ -525,7 +525,7 @@ impl FileSystem for TreeFs {
         if !node.kind.is_directory() {
             return Err(Some(Errno::ENOTDIR));
         }
-        let entries = entries_behind(alloc, inode, node, offset, size)?;
+        let entries = entries_after(alloc, inode, node, offset, size)?;
         node.touch_atime(now);
         Ok(entries)
     }

@@ -22,7 +22,7 @@ impl TreeFs {
         self.limits.file.min(i64::MAX as u64)
     }
 
-    /// Up to which place a file can have bytes from `offset` on, at most so many, in pages that are
+    /// Up to which place a file can have bytes from `offset` on, at most that many, in pages that are
     /// held or can be.
     pub(crate) fn most_size(&self, node: &Node, offset: u64, len: u64) -> u64
         requires { offset < 2 ^ 63 → offset + len < 2 ^ 64 - 4096 }

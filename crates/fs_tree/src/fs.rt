@@ -159,7 +159,7 @@ impl TreeFs {
         self.inodes >= self.limits.nodes || self.next == u64::MAX
     }
 
-    // Whether a node with so many bytes can be made under this name.
+    // Whether a node with that many bytes can be made under this name.
     fn check_make(&self, parent: u64, name: &[u8], size: u64) -> Result<(), Errno>
         ensures ok { OnOk result (make_refusal self.entry.now parent name.now size ≡ None) }
         ensures inodes { OnOk result (self.entry.now.inodes < 2 ^ 64 - 1) }
@@ -367,7 +367,7 @@ impl TreeFs {
         }
     }
 
-    /// Drops a node that takes so many bytes.
+    /// Drops a node that takes that many bytes.
     pub(crate) fn drop_node(&mut self, number: u64, weight: u64)
         ensures { self.new ≡ record self.old {
           nodes = remove_entry (is_at (nat_cmp number)) self.old.nodes;
@@ -381,7 +381,7 @@ impl TreeFs {
         self.inodes = self.inodes.saturating_sub(1);
     }
 
-    /// Says that a node that took so many bytes takes others now.
+    /// Says that a node that took that many bytes takes others now.
     pub(crate) fn reweigh(&mut self, before: u64, after: u64)
         requires { after - before ≤ room_of self.old }
         ensures { self.new ≡ record self.old {

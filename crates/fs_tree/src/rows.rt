@@ -13,7 +13,7 @@ use fuse_flags::Errno;
 pub const MOST_TEXT: usize = STATX_LEN;
 
 impl TreeFs {
-    /// STATX of a node: the answer stands in all of `text`. ENOENT where there is no such node.
+    /// STATX of a node: the answer is in all of `text`. ENOENT where there is no such node.
     pub fn statx(&self, inode: u64, text: &mut [u8]) -> Result<(), Errno>
         requires { length text.old ≡ MOST_TEXT }
         ensures ok { OnOk result (statx_answer self.entry.now inode ≡ Text text.new) }

@@ -1,4 +1,4 @@
--- The flag sets as numbers: the bits of a set, and those that are known. Names stand in FlagTables.
+-- The flag sets as numbers: the bits of a set, and those that are known. Names are in FlagTables.
 use Rattle.std.specs.Prelude.{ℕ, ◌+◌, ◌^◌}
 use Rattle.fuse_flags.specs.declared.fs_options.FsOptions.{FsOptions}
 use Rattle.fuse_flags.specs.declared.setattr_valid.SetattrValid.{SetattrValid}

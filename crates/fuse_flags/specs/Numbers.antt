@@ -94,7 +94,7 @@ IsOpcode n = (1 ≤ n) × (n ≤ 51) × (n ≢ 7) × (n ≢ 19)
 
 -- ---- extensions
 
--- the kind of an extension's type, where it has one: below 32 so many contexts, at 32 groups
+-- the kind of an extension's type, where it has one: below 32 that many contexts, at 32 groups
 abbrev pub ext_type_of : ℕ → Option ExtType
 ext_type_of n = if nat_lt n 32 then Some (SecCtx n) else if n == 32 then Some SupGroups else None
 
@@ -112,7 +112,7 @@ enoent = 2
 abbrev pub eio : ℕ
 eio = 5
 
--- there is nothing there, behind the end of a file say
+-- there is nothing there, after the end of a file say
 abbrev pub enxio : ℕ
 enxio = 6
 

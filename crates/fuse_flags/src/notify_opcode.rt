@@ -1,6 +1,6 @@
 //! What a notification says.
 
-/// The kind of a message that the server sends unasked: `enum fuse_notify_code`, which stands in
+/// The kind of a message that the server sends unasked: `enum fuse_notify_code`, which is in
 /// the place of the error in its header.
 #[derive(Clone, Copy, Debug)]
 pub enum NotifyOpcode {

@@ -80,7 +80,7 @@ pub enum Opcode {
     Bmap = 37,
     /// Closes the session.
     Destroy = 38,
-    /// A command to the device behind a file.
+    /// A command to the device after a file.
     Ioctl = 39,
     /// What an open file is ready for.
     Poll = 40,

@@ -1,4 +1,4 @@
--- Bytes that are cut into blocks: the first block, and those behind it.
+-- Bytes that are cut into blocks: the first block, and those after it.
 use Rattle.std.proofs.Common.{◌≡◌, ◌-◌, ◌<◌, ◌≤◌, ℕ, zero, suc, List, [], ◌∷◌, length, take, drop, Bool, true, false, if◌then◌else◌, None, Result, Ok, Err, refl, ap, sym, ◌∙◌, arith, length-drop, ltb-false}
 use Rattle.std.specs.Prelude.{nat_lt}
 use Rattle.fuse_wire.specs.Fields.{value_of}
@@ -36,7 +36,7 @@ block_in-has bytes b e =
     (λ r. record { ext_type = r.ext_type; body = take (r.size - 8) (drop 8 bytes) }) b e in
     record { header = omega (arith, ltb-false, h.0); whole = omega (arith, ltb-false, h.1) }
 
--- what stands behind a fault isn't looked at
+-- what comes after a fault isn't looked at
 cut_on-same : (r : Result Block Error) (x y : Cut) → ((b : Block) → r ≡ Ok b → x ≡ y) → cut_on r x ≡ cut_on r y
 cut_on-same (Err error) x y same = refl
 cut_on-same (Ok b) x y same = ap (cut_on (Ok b)) (same b refl)
@@ -98,7 +98,7 @@ extensions_of-block options r bytes b is =
     let has : HasBlock bytes = block_in-has bytes b is in
     rw (cut_of-some bytes (omega arith), is) (error_or-error_or (receive options r b) _ _)
 
--- behind a block that is well
+-- after a block that is well
 pub says-more : (options : ℕ) (r more : Received) (bytes rest : List ℕ) (b : Block) (all : Result ExtensionValues Error)
     → extensions_of options r (cut_of bytes) ≡ all → block_in bytes ≡ Ok b → rest ≡ drop (block_size bytes) bytes
     → receive options r b ≡ Ok more → extensions_of options more (cut_of rest) ≡ all

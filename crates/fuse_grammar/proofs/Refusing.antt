@@ -10,7 +10,7 @@ use Rattle.fuse_wire.specs.Records.{ext_header, secctx, supp_groups}
 use Rattle.fs_trait.specs.Values.{ExtensionValues, first_name}
 use Rattle.fuse_grammar.specs.Extensions.{error_or, name_and_value, context_in, security_context_in, group_in, Block, block_in, Cut, cut_on, cut_of_most, cut_of, has_option, Received, receive_kind, receive_all, received_at_end, extensions_in}
 use Rattle.fuse_grammar.specs.Words.{block_size, reads_extensions, nothing_received, with_context, with_group, receive}
-use Rattle.fuse_grammar.specs.FormParts.{value_behind, behind_name, extended_or_refusal, link_or_refusal}
+use Rattle.fuse_grammar.specs.FormParts.{value_after, after_name, extended_or_refusal, link_or_refusal}
 use Rattle.fuse_grammar.specs.Forms.{extended_in, link_in_tail}
 use Rattle.fuse_grammar.specs.Records.{size_of, record_of}
 use Rattle.fuse_grammar.specs.declared.error.Error.{Error}
@@ -49,7 +49,7 @@ of_record t bytes = tested (nat_lt (length bytes) (size_of t)) (Err DecodeMessag
 
 -- ---- one body
 
-of_value : (size : ℕ) (name : Option (List ℕ × List ℕ)) → IsRefused (value_behind size name)
+of_value : (size : ℕ) (name : Option (List ℕ × List ℕ)) → IsRefused (value_after size name)
 of_value size None = tt
 of_value size (Some cut) = tested (nat_lt (length cut.1) size) (Err DecodeMessage) (Ok (cut.0, take size cut.1)) tt tt
 
@@ -138,7 +138,7 @@ pub of_extended : (options : ℕ) (bytes : List ℕ) → IsRefused (extended_in 
 of_extended options [] = tt
 of_extended options (b ∷ bytes) =
     let part = first_name (b ∷ bytes) in
-    onward (extensions_in options (behind_name part)) _ (of_extensions options (behind_name part)) (of_extended_name part)
+    onward (extensions_in options (after_name part)) _ (of_extensions options (after_name part)) (of_extended_name part)
 
 of_link_or_refusal : (options : ℕ) (part : Option (List ℕ × List ℕ)) → IsRefused (link_or_refusal options part)
 of_link_or_refusal options None = tt

@@ -150,7 +150,7 @@ module _ (limits : Limits) (options room_len : ℕ) (h : InHeader) where
   form_of TmpFile = NoTail no_record never (λ r. call.Tmpfile)
 
 module _ (limits : Limits) (options room_len : ℕ) where
-  -- what the bytes behind a header ask, by its opcode; a number that is none is ENOSYS
+  -- what the bytes after a header ask, by its opcode; a number that is none is ENOSYS
   abbrev pub ask_number : Option Opcode → InHeader → (rest : List ℕ) → Ask
   ask_number None h rest = faulted enosys h
   ask_number (Some opcode) h rest = ask_form h rest (form_of limits options room_len h opcode)

@@ -15,7 +15,7 @@ use Rattle.fuse_grammar.specs.Turn.{Turn, events_in}
 use Rattle.fuse_grammar.specs.declared.error.Error.{Error}
 use Rattle.fuse_flags.specs.declared.opcode.Opcode.TheVariants as opcode
 
--- how often a node stands in a list
+-- how often a node is in a list
 abbrev pub times : (n : ℕ) → List ℕ → ℕ
 times n nodes = count_by (λ node. node == n) nodes
 
@@ -71,25 +71,25 @@ sent n events = sum_by (sent_by n) events
 abbrev pub opcode_in : (request : List ℕ) → Option Opcode
 opcode_in request = opcode_of (value_of in_header request).opcode
 
--- the node of the entry behind the header of a reply
-abbrev pub node_behind : (reply : List ℕ) → ℕ
-node_behind reply = (value_of entry_out (drop (size_of out_header) reply)).nodeid
+-- the node of the entry after the header of a reply
+abbrev pub node_after : (reply : List ℕ) → ℕ
+node_after reply = (value_of entry_out (drop (size_of out_header) reply)).nodeid
 
--- the nodes of the entries behind the header of a reply, by its request's opcode
-abbrev pub nodes_behind : Option Opcode → (reply : List ℕ) → List ℕ
-nodes_behind (Some opcode.Lookup) reply = node_behind reply ∷ []
-nodes_behind (Some opcode.Symlink) reply = node_behind reply ∷ []
-nodes_behind (Some opcode.Mknod) reply = node_behind reply ∷ []
-nodes_behind (Some opcode.Mkdir) reply = node_behind reply ∷ []
-nodes_behind (Some opcode.Link) reply = node_behind reply ∷ []
-nodes_behind (Some opcode.Create) reply = node_behind reply ∷ []
-nodes_behind (Some opcode.Readdirplus) reply = nodes_in (drop (size_of out_header) reply)
-nodes_behind _ reply = []
+-- the nodes of the entries after the header of a reply, by its request's opcode
+abbrev pub nodes_after : Option Opcode → (reply : List ℕ) → List ℕ
+nodes_after (Some opcode.Lookup) reply = node_after reply ∷ []
+nodes_after (Some opcode.Symlink) reply = node_after reply ∷ []
+nodes_after (Some opcode.Mknod) reply = node_after reply ∷ []
+nodes_after (Some opcode.Mkdir) reply = node_after reply ∷ []
+nodes_after (Some opcode.Link) reply = node_after reply ∷ []
+nodes_after (Some opcode.Create) reply = node_after reply ∷ []
+nodes_after (Some opcode.Readdirplus) reply = nodes_in (drop (size_of out_header) reply)
+nodes_after _ reply = []
 
 -- the nodes that a reply delivers: none where its header says an error, in the four bytes from place
 -- 4 on
 abbrev pub delivered_nodes : Option Opcode → (reply : List ℕ) → List ℕ
-delivered_nodes opcode reply = if number 4 (drop 4 reply) == 0 then nodes_behind opcode reply else []
+delivered_nodes opcode reply = if number 4 (drop 4 reply) == 0 then nodes_after opcode reply else []
 
 -- what a request's bytes give back, by its opcode, as pairs of a node and a count
 abbrev pub forgets_in : Option Opcode → (request : List ℕ) → List (ℕ × ℕ)
@@ -102,7 +102,7 @@ forgets_in (Some opcode.BatchForget) request =
     (drop (size_of in_header + size_of batch_forget_in) request)
 forgets_in _ request = []
 
--- how often a node stands in the reply at the front of this room, as long as the outcome says:
+-- how often a node is in the reply at the front of this room, as long as the outcome says:
 -- never after an error or 0
 abbrev pub delivered_by : (n : ℕ) → Option Opcode → Result ℕ Error → (room_after : List ℕ) → ℕ
 delivered_by n opcode (Ok m) room_after =

@@ -36,7 +36,7 @@ abbrev pub EndsWhole : (plus : Bool) (ctx : Context) (parent : ℕ) → List Eve
 EndsWhole plus ctx parent events lines =
     events ≡ flat_map (line_events ctx parent plus) lines ++ stop_events ctx parent plus End
 
--- the reading ended with an item that got what it should, and whose record, put behind these bytes,
+-- the reading ended with an item that got what it should, and whose record, put after these bytes,
 -- would pass `size`
 pub record EndsFull
     (plus : Bool) (ctx : Context) (parent size : ℕ)

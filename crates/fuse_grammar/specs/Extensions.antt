@@ -1,4 +1,4 @@
--- The extensions of a request that makes a node: blocks, one behind the other, and what they say.
+-- The extensions of a request that makes a node: blocks, one after the other, and what they say.
 use Rattle.std.specs.Prelude.{◌-◌, ◌==◌, ◌||◌, ◌&&◌, not, ℕ, zero, suc, bit_and, Bool, true, false, List, [], ◌∷◌, length, take, drop, is_some, nat_lt, if◌then◌else◌, Option, Some, None, Result, Ok, Err, ok_or}
 use Rattle.fuse_flags.specs.Numbers.{ext_type_of}
 use Rattle.fuse_flags.specs.Flags.{security_ctx, create_supp_group}
@@ -18,13 +18,13 @@ error_or (Ok part) next = next part
 
 -- ---- one body
 
--- a name, which runs through the first 0, and the `size` bytes behind it; more is ignored
+-- a name, which runs through the first 0, and the `size` bytes after it; more is ignored
 abbrev pub name_and_value : (size : ℕ) → (bytes : List ℕ) → Result (List ℕ × List ℕ) Error
 name_and_value size [] = Err MissingParameter
 name_and_value size (b ∷ bytes) = error_or (ok_or (first_name (b ∷ bytes)) DecodeMessage) (λ cut.
     if nat_lt (length cut.1) size then Err DecodeMessage else Ok (cut.0, take size cut.1))
 
--- the name and the value of the context that bytes begin with: behind a record with the size of the
+-- the name and the value of the context that bytes begin with: after a record with the size of the
 -- value, which isn't 0
 abbrev pub context_in : (bytes : List ℕ) → Result (List ℕ × List ℕ) Error
 context_in bytes = error_or (record_of secctx bytes) (λ r.
@@ -47,7 +47,7 @@ group_in body = error_or (record_of supp_groups body) (λ r.
 
 -- ---- blocks
 
--- a block: its type, and the body behind its header
+-- a block: its type, and the body after its header
 pub record Block : Type 0 where
   pub ext_type : ℕ
   pub body : List ℕ
@@ -62,7 +62,7 @@ block_in bytes = error_or (record_of ext_header bytes) (λ r.
       body = take (r.size - size_of ext_header) (drop (size_of ext_header) bytes);
     }))
 
--- what bytes are: blocks, one behind the other, and the error of what is left then, which begins
+-- what bytes are: blocks, one after the other, and the error of what is left then, which begins
 -- with no block, if something is left
 pub record Cut : Type 0 where
   pub blocks : List Block
@@ -123,7 +123,7 @@ receive_all options received (block ∷ blocks) =
     error_or (receive_kind options received (ext_type_of block.ext_type) block.body) (λ more.
     receive_all options more blocks)
 
--- the values, if nothing is left behind the blocks and, where contexts were agreed on, a block of
+-- the values, if nothing is left after the blocks and, where contexts were agreed on, a block of
 -- contexts came, of none too
 abbrev pub received_at_end : (options : ℕ) → Option Error → Received → Result ExtensionValues Error
 received_at_end options (Some error) received = Err error
@@ -131,7 +131,7 @@ received_at_end options None received =
     if has_option options security_ctx && not received.has_contexts then Err MissingExtension
     else Ok received.values
 
--- The extensions that bytes are: the error of the first bad block, or else of what is left behind
+-- The extensions that bytes are: the error of the first bad block, or else of what is left after
 -- the blocks; or that no block of contexts came, though they were agreed on; or their values. Where
 -- neither kind is agreed on nothing is read.
 unfoldable pub extensions_in : (options : ℕ) → (bytes : List ℕ) → Result ExtensionValues Error

@@ -30,8 +30,8 @@ sized_or_refusal size parts =
     if length part.1 == size then Ok part else Err (InvalidXattrSize (size, length part.1)))
 
 -- what follows the first name, where a 0 ends it, and else nothing
-abbrev pub behind_name : Option (List ℕ × List ℕ) → List ℕ
-behind_name parts = unwrap_or (option_map (λ part. part.1) parts) []
+abbrev pub after_name : Option (List ℕ × List ℕ) → List ℕ
+after_name parts = unwrap_or (option_map (λ part. part.1) parts) []
 
 -- the first name with these extensions, or the refusal of one that no 0 ends
 abbrev pub extended_or_refusal : Option (List ℕ × List ℕ) → ExtensionValues
@@ -39,7 +39,7 @@ abbrev pub extended_or_refusal : Option (List ℕ × List ℕ) → ExtensionValu
 extended_or_refusal parts extensions =
     error_or (ok_or parts InvalidCString) (λ part. Ok (part.0, extensions))
 
--- a name, and the text with extensions behind it, or the refusal of what has none
+-- a name, and the text with extensions after it, or the refusal of what has none
 abbrev pub link_or_refusal : (options : ℕ) → Option (List ℕ × List ℕ)
     → Result (List ℕ × List ℕ × ExtensionValues) Error
 link_or_refusal options parts =
@@ -50,8 +50,8 @@ link_or_refusal options parts =
 abbrev pub flags2_in : Result InitInExt Error → Result ℕ Error
 flags2_in second = error_or second (λ r. Ok r.flags2)
 
--- the name and the value of a context, where the name is found and `size` bytes are behind it
-abbrev pub value_behind : (size : ℕ) → Option (List ℕ × List ℕ) → Result (List ℕ × List ℕ) Error
-value_behind size name =
+-- the name and the value of a context, where the name is found and `size` bytes are after it
+abbrev pub value_after : (size : ℕ) → Option (List ℕ × List ℕ) → Result (List ℕ × List ℕ) Error
+value_after size name =
     error_or (ok_or name DecodeMessage) (λ cut.
     if nat_lt (length cut.1) size then Err DecodeMessage else Ok (cut.0, take size cut.1))

@@ -1,4 +1,4 @@
--- The forms of requests: what stands behind the header, and in which order it is refused.
+-- The forms of requests: what comes after the header, and in which order it is refused.
 use Rattle.std.specs.Prelude.{ℕ, zero, suc, ◌+◌, ◌*◌, ◌-◌, ◌==◌, bit_and, [], ◌∷◌, Bool, false, List, length, take, drop, nat_lt, if◌then◌else◌, Some, Result, Ok, Err, ok_or, option_map, unwrap_or}
 use Rattle.fuse_flags.specs.Numbers.{enomem, enosys, eproto}
 use Rattle.fuse_flags.specs.Flags.{init_ext}
@@ -75,7 +75,7 @@ abbrev pub link_in_tail : (options : ℕ) → (tail : List ℕ)
 link_in_tail options tail = error_or (ok_or (first_name tail) MissingParameter) (λ part.
     error_or (extended_in options part.1) (λ text. Ok (part.0, text.0, text.1)))
 
--- so many pairs of a node and a count
+-- that many pairs of a node and a count
 abbrev pub pairs_of : (count : ℕ) → (bytes : List ℕ) → List (ℕ × ℕ)
 pairs_of zero bytes = []
 pairs_of (suc count) bytes =
@@ -88,10 +88,10 @@ pairs_in count bytes =
     if nat_lt (length bytes) (count * size_of forget_one) then Err DecodeMessage
     else Ok (pairs_of count bytes)
 
--- the space that a room leaves behind the header of a reply, or the refusal of one that is too
+-- the space that a room leaves after the header of a reply, or the refusal of one that is too
 -- small for the header
-abbrev pub space_behind_header : (room_len : ℕ) → Result ℕ Error
-space_behind_header room_len =
+abbrev pub space_after_header : (room_len : ℕ) → Result ℕ Error
+space_after_header room_len =
     if nat_lt room_len (size_of out_header) then Err EncodeMessage
     else Ok (room_len - size_of out_header)
 
@@ -112,7 +112,7 @@ ask_version h r flags2 =
     else Asks (record (echo_of h) { max_readahead = r.max_readahead })
     (call.Init (options_offered r.flags flags2))
 
--- the record behind a header: none, with this value in its place, or one of this table
+-- the record after a header: none, with this value in its place, or one of this table
 pub data Layout (R : Type 0) : Type 0 where
   Without : R → Layout R
   Record : Table R → Layout R
@@ -171,7 +171,7 @@ module _ (h : InHeader) (rest : List ℕ) where
       refused_or (tail_of h (layout_size layout) (drop (layout_size layout) rest)) (λ tail.
       WithMemory (next r tail)))
 
-  -- What a request of each form asks, by the bytes behind its header: in which order it is refused,
+  -- What a request of each form asks, by the bytes after its header: in which order it is refused,
   -- and where it wants memory for what it may want it for.
   abbrev pub ask_form : Form → Ask
   ask_form (NoTail layout above call) =
@@ -195,10 +195,10 @@ module _ (h : InHeader) (rest : List ℕ) where
   ask_form (WithRest layout call) = refused_or (layout_record layout rest) (λ r.
       Asks (echo_of h) (call r (drop (layout_size layout) rest)))
   ask_form (IntoRoom layout room_len call) = refused_or (layout_record layout rest) (λ r.
-      refused_or (space_behind_header room_len) (λ for_data. Asks (echo_of h) (call r for_data)))
+      refused_or (space_after_header room_len) (λ for_data. Asks (echo_of h) (call r for_data)))
   ask_form (Directories layout above room_len listing) =
       refused_or (layout_record layout rest) (λ r. within (above r) h
-      (refused_or (space_behind_header room_len) (λ for_records.
+      (refused_or (space_after_header room_len) (λ for_records.
       Lists (echo_of h) (listing r for_records))))
   ask_form Versions = refused_or (record_of init_in_compat rest) (λ r.
       refused_or (second_flags r.flags (drop (size_of init_in_compat) rest)) (ask_version h r))

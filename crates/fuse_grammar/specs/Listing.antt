@@ -172,7 +172,7 @@ verdict max space (Ok entry) i =
 
 -- ---- the whole
 
--- these lines are written behind so many bytes of records: no stop applies to any of them, and
+-- these lines are written after that many bytes of records: no stop applies to any of them, and
 -- each has what its item gets, within its widths
 abbrev pub AreWritten : (plus : Bool) (size space written : ℕ) → List Line → Type 0
 AreWritten plus size space written [] = ⊤
@@ -180,20 +180,20 @@ AreWritten plus size space written (l ∷ ls) =
     (verdict (size - written) (space - written) l.got l.item ≡ Fits) × IsGot plus l × FitsGot l.got
     × AreWritten plus size space (written + line_len l) ls
 
--- the stop applies behind so many bytes of records
+-- the stop applies after that many bytes of records
 abbrev pub Stops : (plus : Bool) (size space written : ℕ) → Stop → Type 0
 Stops plus size space written End = ⊤
 Stops plus size space written (At l) =
     IsGot plus l × (verdict (size - written) (space - written) l.got l.item ≢ Fits)
 
--- What is answered behind so many bytes of records, by what became of the last item: how many they
+-- What is answered after that many bytes of records, by what became of the last item: how many they
 -- are. But where it failed, READDIR answers the fault, and READDIRPLUS too where nothing was
 -- written.
 abbrev pub answer_at : (plus : Bool) (written : ℕ) → Verdict → Result ℕ (Option ℕ)
 answer_at plus written (Fails fault) = if plus && nat_lt 0 written then Ok written else Err fault
 answer_at plus written _ = Ok written
 
--- what is answered at a stop behind so many bytes of records
+-- what is answered at a stop after that many bytes of records
 abbrev pub answer_of : (plus : Bool) (size space written : ℕ) → Stop → Result ℕ (Option ℕ)
 answer_of plus size space written End = Ok written
 answer_of plus size space written (At l) =

@@ -6,11 +6,11 @@ use Rattle.fuse_grammar.specs.Listing.{dirent_len}
 use Rattle.fuse_grammar.specs.Records.{size_of}
 
 -- how long the record with an entry is that the bytes begin with: an `EntryOut`, and a `Dirent` with
--- its name, whose length stands in the `Dirent`
+-- its name, whose length is in the `Dirent`
 abbrev pub len_at_front : List ℕ → ℕ
 len_at_front bytes = size_of entry_out + dirent_len (value_of direntplus bytes).dirent.namelen
 
--- the nodes of the records that the bytes begin with, one after another, at most so many. They end
+-- the nodes of the records that the bytes begin with, one after another, at most that many. They end
 -- where no whole record follows
 abbrev pub nodes_of : (most : ℕ) → List ℕ → List ℕ
 nodes_of zero bytes = []

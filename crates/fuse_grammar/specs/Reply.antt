@@ -16,15 +16,15 @@ use Rattle.fuse_grammar.specs.Records.{size_of}
 use Rattle.fuse_grammar.specs.declared.limits.Limits.{Limits}
 use Rattle.fuse_grammar.specs.declared.error.Error.{Error}
 
--- What comes back of a request: an error, with no byte put; nothing; these bytes, behind which
--- the room stays as it was; or these bytes, behind which the room is open.
+-- What comes back of a request: an error, with no byte put; nothing; these bytes, after which
+-- the room stays as it was; or these bytes, after which the room is open.
 pub data Reply : Type 0 where
   Refusal : (error : Error) → Reply
   NoReply : Reply
   Bytes : (reply : List ℕ) → Reply
   OpenBehind : (reply : List ℕ) → Reply
 
--- What is kept of a request behind its call: what the reply repeats, which is the client's number
+-- What is kept of a request after its call: what the reply repeats, which is the client's number
 -- and, of INIT alone, the read-ahead; and the caller, for whom an entry is given back.
 pub record Echo : Type 0 where
   pub unique : ℕ
@@ -41,7 +41,7 @@ fault_reply fault unique =
     bytes_of out_header
     (record { len = size_of out_header; error = pos 0 -ℤ pos (unwrap_or fault eio); unique = unique })
 
--- a reply with a body behind its header
+-- a reply with a body after its header
 abbrev pub body_reply : (body : List ℕ) → (unique : ℕ) → List ℕ
 body_reply body unique =
     bytes_of out_header
@@ -74,7 +74,7 @@ init_out_of limits max_readahead options = record version_out {
 }
 
 -- The body of the reply to an answer, by what it is: nothing where it says that something was done.
--- A fault has none, and that of INIT doesn't stand in its answer alone.
+-- A fault has none, and that of INIT doesn't are in its answer alone.
 abbrev pub body_of : Answer → List ℕ
 body_of Done = []
 body_of (Put bytes) = bytes
@@ -102,7 +102,7 @@ answer_reply body unique _ = body_reply body unique
 
 -- What comes back of a call of this kind with this answer, where these are the options after it:
 -- nothing of one that answers nothing, and where one was done of which only a fault is told; of READ
--- and of a directory the reply, a fault too, behind which the room is open; and else the reply.
+-- and of a directory the reply, a fault too, after which the room is open; and else the reply.
 abbrev pub reply_of : Limits → Echo → (options : ℕ) → Kind → Answer → Reply
 reply_of limits echo options Agreements answer = Bytes (answer_reply
     (bytes_of init_out (init_out_of limits echo.max_readahead options)) echo.unique answer)

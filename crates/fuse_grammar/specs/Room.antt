@@ -4,7 +4,7 @@ use Rattle.fuse_grammar.specs.Reply.{Reply, Refusal, NoReply, Bytes, OpenBehind}
 use Rattle.fuse_grammar.specs.declared.error.Error.{Error}
 use Rattle.fuse_grammar.specs.declared.error.Error.TheVariants.{EncodeMessage}
 
--- The reply was put into the room. One that fits stands there, before the old bytes behind it, and
+-- The reply was put into the room. One that fits is there, before the old bytes after it, and
 -- the outcome is its length; of another there is as much as the room has, and the outcome is
 -- EncodeMessage.
 pub record IsPut (reply room : List ℕ) (outcome : Result ℕ Error) (room_after : List ℕ) : Type 0 where
@@ -15,7 +15,7 @@ pub record IsPut (reply room : List ℕ) (outcome : Result ℕ Error) (room_afte
       ≡ (if nat_le (length reply) (length room) then reply ++ drop (length reply) room
       else take (length room) reply)
 
--- the reply stands at the beginning of the room, which it fits; the bytes behind it are any
+-- the reply is at the beginning of the room, which it fits; the bytes after it are any
 pub record IsPutOpen (reply room : List ℕ) (outcome : Result ℕ Error) (room_after : List ℕ)
     : Type 0 where
   pub says : outcome ≡ Ok (length reply)

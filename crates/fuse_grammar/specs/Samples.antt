@@ -46,7 +46,7 @@ not_served_reply =
 abbrev pub ten_of_done_reply : List ℕ
 ten_of_done_reply = 0x10 ∷ 0 ∷ 0 ∷ 0 ∷ 0 ∷ 0 ∷ 0 ∷ 0 ∷ 9 ∷ 0 ∷ []
 
--- so many zeros
+-- that many zeros
 abbrev pub zeros : (count : ℕ) → List ℕ
 zeros count = replicate count 0
 

@@ -69,7 +69,7 @@ namelen_place = 144
 
 -- ---- books
 
--- so many pairs of a node and a count, that bytes begin with
+-- that many pairs of a node and a count, that bytes begin with
 abbrev pub pairs_at : (count : ℕ) → (bytes : List ℕ) → List (ℕ × ℕ)
 pairs_at count bytes = pairs_of count bytes
 
@@ -108,7 +108,7 @@ abbrev pub behind : {R : Type 0} → Layout R → (rest : List ℕ) → List ℕ
 behind layout rest = drop (layout_size layout) rest
 
 module _ (limits : Limits) (options room_len : ℕ) where
-  -- what the bytes behind a header ask, by its opcode
+  -- what the bytes after a header ask, by its opcode
   abbrev pub ask_opcode : Opcode → InHeader → (rest : List ℕ) → Ask
   ask_opcode opcode h rest = ask_form h rest (form_of limits options room_len h opcode)
 
@@ -147,12 +147,12 @@ abbrev pub receive : (options : ℕ) → Received → Block → Result Received 
 receive options received block =
     receive_kind options received (ext_type_of block.ext_type) block.body
 
--- the extensions that a cut says, where so much was received before
+-- the extensions that a cut says, where that much was received before
 abbrev pub extensions_of : (options : ℕ) → Received → Cut → Result ExtensionValues Error
 extensions_of options received cut =
     error_or (receive_all options received cut.blocks) (received_at_end options cut.error)
 
--- the extensions behind the first `skip` bytes, which must be there where extensions are read
+-- the extensions after the first `skip` bytes, which must be there where extensions are read
 abbrev pub extensions_after :
     (options skip : ℕ) → (bytes : List ℕ) → Result ExtensionValues Error
 extensions_after options skip bytes =
@@ -198,7 +198,7 @@ abbrev pub put_outcome : (reply room : List ℕ) → Result ℕ Error
 put_outcome reply room =
     if nat_le (length reply) (length room) then Ok (length reply) else Err EncodeMessage
 
--- the room afterwards: the reply and the old bytes behind it, or as much of the reply as there is
+-- the room afterwards: the reply and the old bytes after it, or as much of the reply as there is
 -- room for
 abbrev pub put_room : (reply room : List ℕ) → List ℕ
 put_room reply room =

@@ -1,5 +1,5 @@
 //! The written grammar: what a request asks by its bytes, the calls and the reply that follow, what
-//! stands in the room, and the books of lookups and forgets. It stands in `specs`, and the promise
+//! is in the room, and the books of lookups and forgets. It is in `specs`, and the promise
 //! of a server is made in its words.
 //!
 //! Of code it has the errors by which a request is refused, and the sizes that a server goes by.

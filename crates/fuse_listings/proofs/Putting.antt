@@ -40,7 +40,7 @@ puts_by old new bytes n result puts whole long =
       );
     }
 
--- what stands behind an `EntryOut` and a `Dirent` of 128 and 24 bytes is what stands behind the
+-- what comes after an `EntryOut` and a `Dirent` of 128 and 24 bytes is what comes after the
 -- `Dirent` alone
 pub same_padding : (n : ℕ) → next_multiple_of (152 + n) 8 - (152 + n) ≡ dirent_len n - (24 + n)
 same_padding n = omega arith
@@ -51,7 +51,7 @@ pub dirent_parts : (i : Item) (name : List ℕ) → name ≡ i.name
 unfolding dirent_bytes
 dirent_parts i name e = rw e refl
 
--- the same behind an entry
+-- the same after an entry
 pub direntplus_parts : (entry : Entry) (i : Item) (name : List ℕ) → name ≡ i.name
     → bytes_of direntplus (record { entry_out = entry_out_of entry; dirent = dirent_of i })
     ++ (name ++ replicate (next_multiple_of (152 + length name) 8 - (152 + length name)) 0) ≡ record_bytes (Some entry) i

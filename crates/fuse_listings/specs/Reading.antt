@@ -34,7 +34,7 @@ abbrev pub cut_by : Verdict → (space : ℕ) → List ℕ → List ℕ
 cut_by (Fails None) space bytes = take space bytes
 cut_by _ space bytes = []
 
--- what stands behind so many bytes of records though it does not count: the beginning of the record
+-- what comes after that many bytes of records though it does not count: the beginning of the record
 -- of the last item, where the room was too small for it
 abbrev pub cut_short : (size space written : ℕ) → Stop → List ℕ
 cut_short size space written End = []
@@ -98,7 +98,7 @@ module _ {S I : Type 0}
     (allows : S → Call → Handed I → S → Type 0) (gives : I → Option Item → I → Type 0)
     (ctx : Context) where
   -- A directory is read from an iterator: there is a run whose events are those of a listing, and
-  -- its records are put into the room. Behind them stands the beginning of one more where the room
+  -- its records are put into the room. After them stands the beginning of one more where the room
   -- was too small for it.
   pub record ReadsItems
       (plus : Bool) (parent size : ℕ) (it : I)
@@ -129,7 +129,7 @@ module _ {S I : Type 0}
           (λ fault. (result ≡ Err fault) × (new ≡ middle) × (writer_after ≡ writer))
 
   -- the same in events: there is a run, which begins with no iterator at hand, and its events are
-  -- those of a whole READDIR or READDIRPLUS. What stands behind the records isn't said
+  -- those of a whole READDIR or READDIRPLUS. What comes after the records isn't said
   pub record RunsDirectory
       (plus : Bool) (parent handle size offset : ℕ)
       (old : S) (writer : Written) (result : Result ℕ (Option ℕ)) (new : S) (writer_after : Written) : Type 0

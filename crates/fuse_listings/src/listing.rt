@@ -145,7 +145,7 @@ fn add_line<F: FileSystem>(
     }
 }
 
-/// What is answered where an entry fails behind this many bytes of records.
+/// What is answered where an entry fails after this many bytes of records.
 fn tell(plus: bool, written: usize, fault: Fault) -> Result<usize, Fault>
     ensures { result ≡ answer_at plus written (Fails fault) }
 {
@@ -192,7 +192,7 @@ fn read_items<F: FileSystem>(
 /// Answers how many bytes of records there are. A fault of `readdir` is answered as it is, and
 /// nothing is put. The fault of an entry is answered by READDIR whatever was put before, and by
 /// READDIRPLUS only where nothing was: what it put are entries that it looked up, and the client
-/// must have them. Where the room was too small for a record, its beginning stands behind those
+/// must have them. Where the room was too small for a record, its beginning comes after those
 /// that count.
 pub fn read_directory<F: FileSystem>(
     fs: &mut F,

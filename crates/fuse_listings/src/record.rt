@@ -15,23 +15,23 @@ use fuse_segments::Writer;
 use fuse_wire::{ByteValued, Dirent, Direntplus, EntryOut};
 use std::io;
 
-/// How many zeros stand behind `len` bytes of a record, up to a multiple of 8.
+/// How many zeros come after `len` bytes of a record, up to a multiple of 8.
 #[inline(always)]
-fn zeros_behind(len: usize) -> u8
+fn zeros_after(len: usize) -> u8
     ensures zeros { result ≡ next_multiple_of len 8 - len }
     ensures few { result < 8 }
 {
     ((8 - len % 8) % 8) as u8
 }
 
-/// How long a record is with so many bytes in front of this name.
+/// How long a record is with that many bytes in front of this name.
 #[inline(always)]
-fn len_behind(front: usize, name: &[u8]) -> usize
+fn len_after(front: usize, name: &[u8]) -> usize
     requires { front < 2 ^ 32 }
     ensures { result ≡ next_multiple_of (front + length name.now) 8 }
 {
     let len = front + name.len();
-    len + zeros_behind(len) as usize
+    len + zeros_after(len) as usize
 }
 
 /// How long the record of an entry with this name is, where `plus` with an `EntryOut`.
@@ -41,9 +41,9 @@ pub fn record_len(name: &[u8], plus: bool) -> usize
     ensures with_entry { plus ≡ true → result ≡ 128 + dirent_len (length name.now) }
 {
     if plus {
-        len_behind(Direntplus::SIZE, name)
+        len_after(Direntplus::SIZE, name)
     } else {
-        len_behind(Dirent::SIZE, name)
+        len_after(Dirent::SIZE, name)
     }
 }
 
@@ -68,7 +68,7 @@ fn put_dirent(w: &mut Writer, dir_entry: DirEntry<'_>) -> io::Result<()>
     ensures { PutsBeginning w.old (dirent_bytes (item dir_entry.entry)) result w.new }
 {
     let name = dir_entry.name.to_bytes();
-    let zeros = zeros_behind(Dirent::SIZE + name.len());
+    let zeros = zeros_after(Dirent::SIZE + name.len());
     w.write_padded(dirent_of(dir_entry), name, zeros)
 }
 
@@ -85,7 +85,7 @@ fn put_direntplus(w: &mut Writer, dir_entry: DirEntry<'_>, entry: &Entry) -> io:
         dirent: dirent_of(dir_entry),
     };
     let name = dir_entry.name.to_bytes();
-    let zeros = zeros_behind(Direntplus::SIZE + name.len());
+    let zeros = zeros_after(Direntplus::SIZE + name.len());
     w.write_padded(record, name, zeros)
 }
 
@@ -99,7 +99,7 @@ pub(crate) fn add_plain(w: &mut Writer, max: usize, dir_entry: DirEntry<'_>) -> 
     if name.len() > u32::MAX as usize {
         return Err(Some(Errno::EOVERFLOW));
     }
-    let len = len_behind(Dirent::SIZE, name);
+    let len = len_after(Dirent::SIZE, name);
     if len > max {
         return Ok(0);
     }
@@ -125,7 +125,7 @@ pub(crate) fn add_plus(
     if name.len() > u32::MAX as usize {
         return Err(Some(Errno::EOVERFLOW));
     }
-    let plus_len = len_behind(Direntplus::SIZE, name);
+    let plus_len = len_after(Direntplus::SIZE, name);
     if plus_len > max {
         return Ok(0);
     }

@@ -20,7 +20,7 @@ whole-filled old mid bytes head n h =
     let same : length head ≡ length place = omega (arith, n, h.enough, length-take 16 old.left) in
     rw (h.moves.passed, h.moves.held_at, with_bytes_at-append old.passed place (bytes ++ h.beyond) head same) (simp append_assoc)
 
--- a reply that the header begins, with the bytes or without them, and what stands behind it
+-- a reply that the header begins, with the bytes or without them, and what comes after it
 replied_by : (old mid new : Written) (bytes head reply behind : List ℕ) (len : ℕ) → length head ≡ 16
     → (h : PutsBehindHeader old bytes mid) → new ≡ held_filled mid head
     → head ++ (bytes ++ (h.beyond ++ mid.left)) ≡ reply ++ behind → len ≡ length reply → Replies (OpenBehind reply) old (Ok len) new

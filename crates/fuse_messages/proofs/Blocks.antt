@@ -69,7 +69,7 @@ unfolding extensions_in
 extensions_after-read options skip bytes h long =
     read (nat_lt (length bytes) skip) (reads_extensions options) _ _ _ (le-ltb (length bytes) skip long) h
 
--- what is found in it is what is found behind what is skipped
+-- what is found in it is what is found after what is skipped
 pub gives-after : (options skip : ℕ) (bytes : List ℕ) (x : Result Extensions Error) → reads_extensions options ≡ true
     → skip ≤ length bytes
     → GivesValue (MayHoldContext options) extension_values_of x

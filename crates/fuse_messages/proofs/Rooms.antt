@@ -10,7 +10,7 @@ use Rattle.fuse_grammar.specs.Words.{put_outcome, put_room}
 use Rattle.fuse_grammar.specs.Reply.{Reply, Refusal, NoReply, Bytes, OpenBehind}
 use Rattle.fuse_grammar.proofs.Rooms.{put_outcome-fits, put_room-fits}
 use Rattle.fuse_grammar.specs.declared.error.Error.{Error}
-use Rattle.fuse_messages.specs.Rooms.{bytes_of_option, size_of_option, Replies, IsShortReply, with_behind}
+use Rattle.fuse_messages.specs.Rooms.{bytes_of_option, size_of_option, Replies, IsShortReply, with_after}
 
 -- the bytes of a writer into which as much of a reply was written as there is room for
 written_room : (old : Written) (reply : List ℕ) (fits : Bool) → nat_le (length reply) (length old.left) ≡ fits → Leaves old (put_room reply old.left) (wrote old (take (length old.left) reply))
@@ -51,19 +51,19 @@ wrote_none w body e =
     let none : take (length w.left) body ≡ [] = nil_from_length _ (omega (arith, e, length-take (length w.left) body)) in
     rw none (rw (append-nil w.passed) refl)
 
--- ---- a room that goes on behind what a writer has left
+-- ---- a room that goes on after what a writer has left
 
--- where none is behind
-pub with_none_behind : (w : Written) (behind : List ℕ) → length behind ≡ 0 → with_behind w behind ≡ w
-with_none_behind w behind e = rw (nil_from_length behind e, append-nil w.left) refl
+-- where none is after
+pub with_none_after : (w : Written) (behind : List ℕ) → length behind ≡ 0 → with_after w behind ≡ w
+with_none_after w behind e = rw (nil_from_length behind e, append-nil w.left) refl
 
--- all bytes of the writer, and those behind
-pub whole_behind : (w : Written) (behind : List ℕ) → whole (with_behind w behind) ≡ whole w ++ behind
-whole_behind w behind = sym (append_assoc w.passed w.left behind)
+-- all bytes of the writer, and those after
+pub whole_after : (w : Written) (behind : List ℕ) → whole (with_after w behind) ≡ whole w ++ behind
+whole_after w behind = sym (append_assoc w.passed w.left behind)
 
 -- a reply that fits before it
 fits_before : (reply : List ℕ) (old new : Written) (outcome : Result ℕ Error) (behind : List ℕ) → length reply ≤ length old.left
-    → Replies (Bytes reply) old outcome new → Replies (Bytes reply) (with_behind old behind) outcome (with_behind new behind)
+    → Replies (Bytes reply) old outcome new → Replies (Bytes reply) (with_after old behind) outcome (with_after new behind)
 fits_before reply old new outcome behind fits w =
     let more : length reply ≤ length (old.left ++ behind) = omega (arith, fits, length-append old.left behind) in
     let here = w.says.leaves ∙ put_room-fits reply old.left fits in
@@ -74,7 +74,7 @@ fits_before reply old new outcome behind fits w =
     record {
       room_after = w.room_after ++ behind;
       leaves = record {
-        kept = whole_behind new behind ∙ ap (λ (x : List ℕ). x ++ behind) w.leaves.kept ∙ append_assoc old.passed w.room_after behind;
+        kept = whole_after new behind ∙ ap (λ (x : List ℕ). x ++ behind) w.leaves.kept ∙ append_assoc old.passed w.room_after behind;
         same_length = omega (arith, w.leaves.same_length, length-append w.room_after behind, length-append old.left behind);
         same_segments = w.leaves.same_segments;
       };
@@ -86,13 +86,13 @@ fits_before reply old new outcome behind fits w =
     }
 
 -- a short reply, of which the room that is left is all there is, or enough
-pub replies_behind : (most : ℕ) (reply : Reply) (old new : Written) (outcome : Result ℕ Error) (behind : List ℕ)
+pub replies_after : (most : ℕ) (reply : Reply) (old new : Written) (outcome : Result ℕ Error) (behind : List ℕ)
     → (length behind ≡ 0) ⊎ (most ≤ length old.left) → IsShortReply most reply
-    → Replies reply old outcome new → Replies reply (with_behind old behind) outcome (with_behind new behind)
-replies_behind most reply old new outcome behind (inl none) short w =
-    rw (with_none_behind old behind none, with_none_behind new behind none) w
-replies_behind most (Refusal error) old new outcome behind (inr enough) short w = (w.0, ap (λ (x : Written). with_behind x behind) w.1)
-replies_behind most NoReply old new outcome behind (inr enough) short w = (w.0, ap (λ (x : Written). with_behind x behind) w.1)
-replies_behind most (Bytes reply) old new outcome behind (inr enough) short w =
+    → Replies reply old outcome new → Replies reply (with_after old behind) outcome (with_after new behind)
+replies_after most reply old new outcome behind (inl none) short w =
+    rw (with_none_after old behind none, with_none_after new behind none) w
+replies_after most (Refusal error) old new outcome behind (inr enough) short w = (w.0, ap (λ (x : Written). with_after x behind) w.1)
+replies_after most NoReply old new outcome behind (inr enough) short w = (w.0, ap (λ (x : Written). with_after x behind) w.1)
+replies_after most (Bytes reply) old new outcome behind (inr enough) short w =
     fits_before reply old new outcome behind (omega (arith, enough, short)) w
-replies_behind most (OpenBehind reply) old new outcome behind (inr enough) short w = absurd short
+replies_after most (OpenBehind reply) old new outcome behind (inr enough) short w = absurd short

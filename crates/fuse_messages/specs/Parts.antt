@@ -43,19 +43,19 @@ found_values found = record {
   values = record { context = option_map context_values found.secctx; group = found.sup_gid };
 }
 
--- a block was found at the beginning of bytes, and what stands behind it; or there is none
+-- a block was found at the beginning of bytes, and what comes after it; or there is none
 abbrev pub GivesBlock : Result found.Block Error → (bytes : List ℕ) → Type 0
 GivesBlock (Ok block) bytes =
     (block_in bytes ≡ Ok (record { ext_type = block.ext_type; body = block.body.now }))
     × (block.behind.now ≡ drop (block_size bytes) bytes)
 GivesBlock (Err error) bytes = block_in bytes ≡ Err error
 
--- the lengths of the pieces in which the bytes behind a record lie, of those from the record on
-abbrev pub pieces_behind : {R : Type 0} → Layout R → (pieces : List ℕ) → List ℕ
-pieces_behind (Without r) pieces = pieces
-pieces_behind (Record t) pieces = lengths_from (size_of t) pieces
+-- the lengths of the pieces in which the bytes after a record lie, of those from the record on
+abbrev pub pieces_after : {R : Type 0} → Layout R → (pieces : List ℕ) → List ℕ
+pieces_after (Without r) pieces = pieces
+pieces_after (Record t) pieces = lengths_from (size_of t) pieces
 
--- a tail behind a record of `size` bytes is cut between two segments, where the bytes from it on
+-- a tail after a record of `size` bytes is cut between two segments, where the bytes from it on
 -- lie in pieces of these lengths
 abbrev pub TailIsCut : InHeader → (size : ℕ) → (pieces : List ℕ) → Type 0
 TailIsCut h size pieces = IsFalse (lie_together 0 (h.len - (size_of in_header + size)) pieces)
@@ -91,7 +91,7 @@ extended_values part = (part.0.0, extension_values_of part.1)
 abbrev pub link_values : (List ℕ × List ℕ) × Extensions → List ℕ × List ℕ × ExtensionValues
 link_values part = (part.0.0, part.0.1, extension_values_of part.1)
 
--- a name was found to end at this place, with extensions behind it, or is refused as the grammar
+-- a name was found to end at this place, with extensions after it, or is refused as the grammar
 -- says, or there was no memory for a context, where contexts were agreed on
 abbrev pub GivesExtended : Result (ℕ × Extensions) Error → (options : ℕ) → (bytes : List ℕ) → Type 0
 GivesExtended (Ok part) options bytes =

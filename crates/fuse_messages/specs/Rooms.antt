@@ -25,7 +25,7 @@ abbrev pub bytes_or_none : Option (List ℕ) → List ℕ
 bytes_or_none None = []
 bytes_or_none (Some bytes) = bytes
 
--- the header of a reply behind which so many bytes of data were put, or of a fault
+-- the header of a reply after which that many bytes of data were put, or of a fault
 abbrev pub data_header : Result ℕ (Option ℕ) → (unique : ℕ) → OutHeader
 data_header (Ok count) unique =
     record { len = size_of out_header + count; error = pos 0; unique = unique }
@@ -36,9 +36,9 @@ data_header (Err fault) unique =
       unique = unique;
     }
 
--- a writer whose room goes on behind what it has left
-abbrev pub with_behind : Written → (behind : List ℕ) → Written
-with_behind w behind = record w { left = w.left ++ behind }
+-- a writer whose room goes on after what it has left
+abbrev pub with_after : Written → (behind : List ℕ) → Written
+with_after w behind = record w { left = w.left ++ behind }
 
 -- bytes came back through a writer; it holds nothing if it held nothing
 pub record Writes (reply : Reply) (old : Written) (outcome : Result ℕ Error) (new : Written)
@@ -55,15 +55,15 @@ Replies NoReply old outcome new = (outcome ≡ Ok 0) × (new ≡ old)
 Replies (Bytes reply) old outcome new = Writes (Bytes reply) old outcome new
 Replies (OpenBehind reply) old outcome new = Writes (OpenBehind reply) old outcome new
 
--- a reply of at most so many bytes, behind which the room stays as it was
+-- a reply of at most that many bytes, after which the room stays as it was
 abbrev pub IsShortReply : (most : ℕ) → Reply → Type 0
 IsShortReply most (Refusal error) = ⊤
 IsShortReply most NoReply = ⊤
 IsShortReply most (Bytes reply) = length reply ≤ most
 IsShortReply most (OpenBehind reply) = ⊥
 
--- These bytes were put into a writer behind the place of a reply's header, which it holds, and
--- perhaps others beyond them, which don't count. What stands behind them in the room isn't said.
+-- These bytes were put into a writer after the place of a reply's header, which it holds, and
+-- perhaps others beyond them, which don't count. What comes after them in the room isn't said.
 pub record PutsBehindHeader (old : Written) (bytes : List ℕ) (new : Written) : Type 0 where
   pub beyond : List ℕ
   pub enough : size_of out_header ≤ length old.left

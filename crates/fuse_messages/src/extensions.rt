@@ -1,4 +1,4 @@
-//! The extensions of a request that makes a node (SYMLINK, MKNOD, MKDIR, CREATE): blocks behind its
+//! The extensions of a request that makes a node (SYMLINK, MKNOD, MKDIR, CREATE): blocks after its
 //! names, each with a header (`struct fuse_ext_header`) that says its size and its type.
 //!
 //! No size or count is gone by before it is compared with the bytes that are there. Memory is taken
@@ -21,7 +21,7 @@ use fuse_wire::parts::part_at;
 use fuse_wire::{ByteValued, ExtHeader, Secctx, SuppGroups};
 use std::alloc::Global;
 
-/// The record that bytes begin with, and what stands behind it. `DecodeMessage` where it isn't
+/// The record that bytes begin with, and what comes after it. `DecodeMessage` where it isn't
 /// whole.
 fn split_record<T: ByteValued>(bytes: &[u8]) -> Result<(T, &[u8])>
     ensures { MatchResult result
@@ -35,7 +35,7 @@ fn split_record<T: ByteValued>(bytes: &[u8]) -> Result<(T, &[u8])>
     Ok((part_at::<T>(bytes, 0), &bytes[T::SIZE..]))
 }
 
-/// The name of a context, which runs through the first 0, and the `size` bytes of its value behind
+/// The name of a context, which runs through the first 0, and the `size` bytes of its value after
 /// it, which is not empty.
 fn split_context(size: usize, bytes: &[u8]) -> Result<(CStr<'_>, &[u8])>
     requires { 0 < size }
@@ -85,7 +85,7 @@ fn read_context(alloc: Global, body: &[u8]) -> Result<SecContext>
 }
 
 /// The security context in the body of an extension of `nr` contexts (`struct fuse_secctx`, a name
-/// that ends with a 0, and the value): none where `nr` is 0, whatever the body. Bytes behind the
+/// that ends with a 0, and the value): none where `nr` is 0, whatever the body. Bytes after the
 /// value are ignored.
 ///
 /// `DecodeMessage` where `nr` is more than 1, where the record is cut short or says that the value
@@ -104,7 +104,7 @@ pub fn parse_security_context(alloc: Global, nr: u32, body: &[u8]) -> Result<Opt
 }
 
 /// The group in the body of an extension of groups (`struct fuse_supp_groups` and a number of four
-/// bytes). Bytes behind it are ignored. `DecodeMessage` where the body is cut short, or says that
+/// bytes). Bytes after it are ignored. `DecodeMessage` where the body is cut short, or says that
 /// there is not exactly one group.
 pub fn parse_sup_groups(body: &[u8]) -> Result<GuestGid>
     ensures { group_in body.now ≡ result }
@@ -117,7 +117,7 @@ pub fn parse_sup_groups(body: &[u8]) -> Result<GuestGid>
     Ok(GuestGid::from(group))
 }
 
-/// A block of a request, and what stands behind it.
+/// A block of a request, and what comes after it.
 #[derive(Clone, Copy)]
 struct Block<'a> {
     ext_type: u32,
@@ -227,7 +227,7 @@ fn received(options: FsOptions, found: Found) -> Result<Extensions>
     })
 }
 
-/// What is found in bytes that are all blocks, one behind the other.
+/// What is found in bytes that are all blocks, one after the other.
 fn read_blocks(alloc: Global, options: FsOptions, bytes: &[u8]) -> Result<Extensions>
     ensures { GivesValue (MayHoldContext (fs_options_bits options)) extension_values_of result
         (extensions_of (fs_options_bits options) nothing_received (cut_of bytes.now)) }
@@ -253,7 +253,7 @@ fn reads_extensions(options: FsOptions) -> bool
     options.contains(FsOptions::SECURITY_CTX) || options.contains(FsOptions::CREATE_SUPP_GROUP)
 }
 
-/// The extensions in a tail, behind the `skip` bytes of its names: blocks, one behind the other, to
+/// The extensions in a tail, after the `skip` bytes of its names: blocks, one after the other, to
 /// the end. Nothing is read, whatever `skip` is, where INIT agreed on neither `SECURITY_CTX` nor
 /// `CREATE_SUPP_GROUP`; otherwise the fault of the first block that is bad is answered.
 ///

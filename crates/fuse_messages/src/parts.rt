@@ -9,7 +9,7 @@ ghost use Rattle.fuse_grammar.specs.Ask.{setxattr_layout};
 ghost use Rattle.fuse_grammar.specs.Forms.{tail_of, pairs_in, two_names_in, value_in, extended_in, link_in_tail, layout_record, layout_size};
 ghost use Rattle.fuse_grammar.specs.Words.{name_in};
 ghost use Rattle.fuse_grammar.specs.Records.{record_of, size_of};
-ghost use Rattle.fuse_messages.specs.Parts.{MayHoldContext, TailIsCut, pieces_behind, GivesTail, GivesPart, GivesPartAs, extended_values, link_values, GivesPairs};
+ghost use Rattle.fuse_messages.specs.Parts.{MayHoldContext, TailIsCut, pieces_after, GivesTail, GivesPart, GivesPartAs, extended_values, link_values, GivesPairs};
 
 use crate::request::{
     FirstName, Name, NameAndText, Tail, TwoNames, extended_of_tail, link_of_tail, name_of_tail,
@@ -25,7 +25,7 @@ use fuse_wire_more::SetxattrIn;
 use std::alloc::Global;
 
 /// One request whose header was read: where its memory comes from, the header, and the reader of
-/// what stands behind it.
+/// what comes after it.
 ///
 /// Each part is read from where the reader stands: first the records, then the tail or the pairs.
 #[derive(Drop)]
@@ -34,7 +34,7 @@ pub struct Request<'a, 'r> {
     pub alloc: Global,
     /// The header.
     pub header: &'a InHeader,
-    /// The reader of what stands behind the header.
+    /// The reader of what comes after the header.
     pub r: &'a mut Reader<'r>,
 }
 
@@ -77,12 +77,12 @@ impl<'a, 'r> Request<'a, 'r> {
         ensures moved { OnOk result (self.new.r.now.left ≡
             drop (layout_size (setxattr_layout (fs_options_bits options))) self.old.r.now.left) }
         ensures pieces { OnOk result (self.new.r.now.pieces ≡
-            pieces_behind (setxattr_layout (fs_options_bits options)) self.old.r.now.pieces) }
+            pieces_after (setxattr_layout (fs_options_bits options)) self.old.r.now.pieces) }
     {
         read_setxattr(options, self.r)
     }
 
-    /// The tail behind the header and a record of `size` bytes, by [`read_tail`].
+    /// The tail after the header and a record of `size` bytes, by [`read_tail`].
     #[inline(always)]
     pub fn tail(&mut self, size: usize) -> Result<Tail<'r>>
         requires { size ≤ LARGEST_RECORD }
@@ -93,7 +93,7 @@ impl<'a, 'r> Request<'a, 'r> {
         read_tail(self.alloc, self.header, size, self.r)
     }
 
-    /// The name that the tail is, behind a record of `size` bytes: the errors of [`read_tail`],
+    /// The name that the tail is, after a record of `size` bytes: the errors of [`read_tail`],
     /// then `InvalidCString` where the tail is no name.
     #[inline(always)]
     pub fn name(&mut self, size: usize) -> Result<Name<'r>>
@@ -106,7 +106,7 @@ impl<'a, 'r> Request<'a, 'r> {
         name_of_tail(tail)
     }
 
-    /// The two names that the tail is, behind a record of `size` bytes: the errors of
+    /// The two names that the tail is, after a record of `size` bytes: the errors of
     /// [`read_tail`], then `MissingParameter` where no 0 ends the first, and `InvalidCString` where
     /// the rest is no name.
     #[inline(always)]
@@ -120,7 +120,7 @@ impl<'a, 'r> Request<'a, 'r> {
         names_of_tail(tail)
     }
 
-    /// The name and the value that the tail is, behind a record of `size` bytes, which says that
+    /// The name and the value that the tail is, after a record of `size` bytes, which says that
     /// the value has `value` bytes: the errors of [`read_tail`], then `MissingParameter` where no 0
     /// ends the name, and `InvalidXattrSize` where the value has another length.
     #[inline(always)]
@@ -134,7 +134,7 @@ impl<'a, 'r> Request<'a, 'r> {
         value_of_tail(value, tail)
     }
 
-    /// The name and the extensions that the tail is, behind a record of `size` bytes: the errors of
+    /// The name and the extensions that the tail is, after a record of `size` bytes: the errors of
     /// [`read_tail`], then `MissingParameter` where it has no byte, the errors of
     /// [`get_extensions`](crate::get_extensions), and `InvalidCString` where no 0 ends the name.
     #[inline(always)]
@@ -155,7 +155,7 @@ impl<'a, 'r> Request<'a, 'r> {
         extended_of_tail(self.alloc, options, tail)
     }
 
-    /// The name of a link, its text and the extensions that the tail is, behind no record: the
+    /// The name of a link, its text and the extensions that the tail is, after no record: the
     /// errors of [`read_tail`], then `MissingParameter` where no 0 ends the name or no byte follows
     /// it, the errors of [`get_extensions`](crate::get_extensions), and `InvalidCString` where no 0
     /// ends the text.

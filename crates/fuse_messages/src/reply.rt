@@ -17,7 +17,7 @@ ghost use Rattle.fuse_grammar.specs.Records.{size_of};
 ghost use Rattle.fuse_messages.specs.Rooms.{bytes_of_option, bytes_or_none, size_of_option, data_header, Replies, PutsBehindHeader};
 ghost use Rattle.fuse_grammar.specs.Reply.{Bytes, fault_reply, body_reply, open_out_of};
 ghost use Rattle.fuse_grammar.specs.Words.{fault_number, reply_to, attr_out_of, getxattr_out_of};
-ghost use Rattle.fuse_grammar.specs.Forms.{space_behind_header};
+ghost use Rattle.fuse_grammar.specs.Forms.{space_after_header};
 
 use bitflags::Flags;
 use fs_trait::{Entry, GetxattrReply, ListxattrReply, Number};
@@ -36,7 +36,7 @@ fn put_header(header: OutHeader, w: &mut Writer)
     let _ = w.write_obj(header);
 }
 
-/// Puts a header and a record behind it, where there is one, as much of them as there is room for.
+/// Puts a header and a record after it, where there is one, as much of them as there is room for.
 #[inline(always)]
 fn put_parts<T: ByteValued + Drop>(header: OutHeader, out: Option<T>, w: &mut Writer)
     ensures wrote { w.new ≡ wrote w.old (take (length w.old.left)
@@ -72,7 +72,7 @@ fn part_size<T: ByteValued + Drop>(out: &Option<T>) -> usize
     }
 }
 
-/// The outcome of a reply of `len` bytes in a room of so many.
+/// The outcome of a reply of `len` bytes in a room of that many.
 fn outcome_of(len: usize, room: usize) -> Result<usize>
     ensures { result ≡ (if nat_le len room then Ok len else Err Error.EncodeMessage) }
 {
@@ -83,7 +83,7 @@ fn outcome_of(len: usize, room: usize) -> Result<usize>
     }
 }
 
-/// Replies a record, where there is one, and bytes behind it. It is inlined, as `reply_record` and
+/// Replies a record, where there is one, and bytes after it. It is inlined, as `reply_record` and
 /// `reply_entry` are, so that the fields of a record go into the room without being put together in
 /// memory first.
 #[inline(always)]
@@ -110,7 +110,7 @@ fn reply_parts<T: ByteValued + Drop>(
     outcome_of(len, room)
 }
 
-/// Replies that a call succeeded: a record and bytes behind it, each where there is one. Without
+/// Replies that a call succeeded: a record and bytes after it, each where there is one. Without
 /// both the reply is a header alone.
 ///
 /// The header says the length of the reply in 32 bits: of a longer one nothing is promised.
@@ -141,7 +141,7 @@ pub fn reply_record<T: ByteValued + Drop>(out: T, unique: u64, w: &mut Writer) -
     reply_parts(Some(out), &[], unique, w)
 }
 
-/// Replies a record and the bytes of another behind it.
+/// Replies a record and the bytes of another after it.
 fn reply_both<T: ByteValued + Drop>(
     out: T,
     behind: &[u8],
@@ -198,7 +198,7 @@ fn fill_header(header: OutHeader, w: &mut Writer)
 }
 
 /// Replies a fault, as [`reply_failed`] does, but where the writer holds the sixteen bytes of a
-/// header it goes into these, whatever was written behind them.
+/// header it goes into these, whatever was written after them.
 pub fn reply_error(fault: Fault, unique: u64, w: &mut Writer) -> Result<usize>
     ensures held_outcome { w.old.held ≡ size_of out_header → result ≡ Ok (size_of out_header) }
     ensures held { w.old.held ≡ size_of out_header →
@@ -219,8 +219,8 @@ pub fn reply_error(fault: Fault, unique: u64, w: &mut Writer) -> Result<usize>
 /// `EncodeMessage` where there is no room for a header; then nothing changes.
 pub fn hold_header(w: &mut Writer) -> Result<()>
     ensures room { MatchResult result
-        (λ held. space_behind_header (length w.old.left) ≡ Ok (length w.new.left))
-        (λ error. space_behind_header (length w.old.left) ≡ Err error) }
+        (λ held. space_after_header (length w.old.left) ≡ Ok (length w.new.left))
+        (λ error. space_after_header (length w.old.left) ≡ Err error) }
     ensures held { OnOk result (w.new ≡ held_over w.old (size_of out_header)) }
     ensures enough { OnOk result (size_of out_header ≤ length w.old.left) }
     ensures refused { OnErr result (w.new ≡ w.old) }
@@ -231,8 +231,8 @@ pub fn hold_header(w: &mut Writer) -> Result<()>
     }
 }
 
-/// Replies so many bytes that were put behind the held place of their header, as READDIR does: the
-/// header is filled in now. The room behind them is as it is left.
+/// Replies that many bytes that were put after the held place of their header, as READDIR does: the
+/// header is filled in now. The room after them is as it is left.
 ///
 /// The header says the length of the reply in 32 bits: of a longer one nothing is promised.
 pub fn reply_readdir(len: usize, unique: u64, w: &mut Writer) -> Result<usize>
@@ -251,11 +251,11 @@ pub fn reply_readdir(len: usize, unique: u64, w: &mut Writer) -> Result<usize>
     Ok(len)
 }
 
-/// Replies what was put behind the held place of its header, as READ and READDIR do: `answer` is
+/// Replies what was put after the held place of its header, as READ and READDIR do: `answer` is
 /// how many bytes count of it, and the header is filled in now. A fault is replied as the header
-/// alone, whatever was put behind it.
+/// alone, whatever was put after it.
 ///
-/// The room behind the reply is as it is left. Answers the reply's length, which always fits.
+/// The room after the reply is as it is left. Answers the reply's length, which always fits.
 pub fn reply_data(
     answer: std::result::Result<usize, Fault>,
     unique: u64,

@@ -7,7 +7,7 @@ ghost use Rattle.fuse_wire.specs.Records.{forget_one};
 ghost use Rattle.fuse_segments.specs.declared.record.TheConstants.{LARGEST_RECORD};
 ghost use Rattle.fuse_segments.specs.Lengths.{lengths_from, lie_together};
 ghost use Rattle.fuse_grammar.specs.Ask.{has_flag, if_set, setxattr_layout};
-ghost use Rattle.fuse_messages.specs.Parts.{GivesValue, MayHoldContext, TailIsCut, pieces_behind, GivesTail, GivesPart, GivesPartAs, GivesExtended, extended_values, link_values, GivesPairs};
+ghost use Rattle.fuse_messages.specs.Parts.{GivesValue, MayHoldContext, TailIsCut, pieces_after, GivesTail, GivesPart, GivesPartAs, GivesExtended, extended_values, link_values, GivesPairs};
 ghost use Rattle.fuse_grammar.specs.Forms.{tail_of, pairs_in, pairs_of, two_names_in, value_in, extended_in, link_in_tail, layout_record, layout_size};
 ghost use Rattle.fuse_grammar.specs.Words.{name_in};
 ghost use Rattle.fuse_grammar.specs.FormParts.{second_or_refusal, sized_or_refusal, link_or_refusal};
@@ -100,7 +100,7 @@ fn take_tail<'a>(alloc: Global, len: usize, reader: &mut Reader<'a>) -> Result<T
     Ok(Tail { lent: &[], copied })
 }
 
-/// The tail of a request behind its header and a record of `size` bytes, as long as `len` says.
+/// The tail of a request after its header and a record of `size` bytes, as long as `len` says.
 /// It is lent where it lies in one segment, and else copied once its bytes were found to be there.
 ///
 /// `InvalidHeaderLength` where `len` is less than header and record, `DecodeMessage` where bytes
@@ -170,7 +170,7 @@ pub fn name_of_tail<'a>(tail: Tail<'a>) -> Result<Name<'a>>
     Ok(Name { tail })
 }
 
-/// A tail that begins with a name and the 0 behind it.
+/// A tail that begins with a name and the 0 after it.
 #[derive(Drop)]
 pub struct FirstName<'a> {
     tail: Tail<'a>,
@@ -204,7 +204,7 @@ impl<'a> FirstName<'a> {
     }
 }
 
-/// A tail that is two names, the first with the 0 behind it.
+/// A tail that is two names, the first with the 0 after it.
 #[derive(Drop)]
 pub struct TwoNames<'a> {
     first: FirstName<'a>,
@@ -289,7 +289,7 @@ pub(crate) fn value_of_tail<'a>(size: u32, tail: Tail<'a>) -> Result<FirstName<'
     sized(size, FirstName { tail, nul })
 }
 
-/// The place of the 0 that ends the name that bytes begin with, and the extensions behind it.
+/// The place of the 0 that ends the name that bytes begin with, and the extensions after it.
 fn extended(alloc: Global, options: FsOptions, bytes: &[u8]) -> Result<(usize, Extensions)>
     ensures { GivesExtended result (fs_options_bits options) bytes.now }
 {
@@ -322,7 +322,7 @@ pub(crate) fn extended_of_tail<'a>(
     Ok((FirstName { tail, nul }, extensions))
 }
 
-/// A tail that begins with a name and a text, each with the 0 behind it.
+/// A tail that begins with a name and a text, each with the 0 after it.
 #[derive(Drop)]
 pub struct NameAndText<'a> {
     first: FirstName<'a>,
@@ -397,7 +397,7 @@ pub(crate) fn read_setxattr(options: FsOptions, reader: &mut Reader<'_>) -> Resu
     ensures moved { OnOk result (reader.new.left ≡
         drop (layout_size (setxattr_layout (fs_options_bits options))) reader.old.left) }
     ensures pieces { OnOk result (reader.new.pieces ≡
-        pieces_behind (setxattr_layout (fs_options_bits options)) reader.old.pieces) }
+        pieces_after (setxattr_layout (fs_options_bits options)) reader.old.pieces) }
 {
     if has_short_setxattr(options) {
         let short = read_record::<SetxattrInCompat>(reader)?;
@@ -440,7 +440,7 @@ fn pair_of<I: Number>(one: &ForgetOne) -> (I, u64)
     (I::from_number(one.nodeid), one.nlookup)
 }
 
-/// The pairs that the bytes begin with, so many.
+/// The pairs that the bytes begin with, that many.
 fn pairs_in_bytes<I: Number>(alloc: Global, count: u32, bytes: &[u8]) -> Result<Vec<(I, u64)>>
     requires { count * size_of forget_one ≤ length bytes.now }
     ensures pairs { IfOk result

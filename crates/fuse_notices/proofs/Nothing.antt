@@ -19,7 +19,7 @@ numbers_at-drop n i (w ∷ ws) bytes =
     let place : n + (i + w) ≡ n + i + w = omega arith in
     rw (drop-drop i n bytes, numbers_at-drop n (i + w) ws bytes, place) refl
 
--- what is read behind the first bytes is written there
+-- what is read after the first bytes is written there
 pub written_again : (n : ℕ) (ws bytes : List ℕ) → AreBytes bytes → length bytes ≡ n + sum ws
     → take n bytes ++ row ws (numbers_at n ws bytes) ≡ bytes
 written_again n ws bytes are whole =

@@ -10,7 +10,7 @@ use Rattle.fuse_notices.specs.declared.numbers.notice.TheConstants as number
 abbrev pub size_of : {R : Type 0} → Table R → ℕ
 size_of t = sum t.widths
 
--- the header of a notice of this number, of so many bytes in all
+-- the header of a notice of this number, of that many bytes in all
 abbrev pub header : (number len : ℕ) → List ℕ
 header number len = bytes_of out_header (record { len = len; error = pos number; unique = 0 })
 
@@ -20,7 +20,7 @@ pub record Notice : Type 0 where
   pub size : ℕ
   pub more : ℕ
 
--- the notice of this number whose header is followed by these bytes, `size` of them, and then by so many
+-- the notice of this number whose header is followed by these bytes, `size` of them, and then by that many
 -- more: the header's `len` counts all
 abbrev pub notice_of : (number : ℕ) → (body : List ℕ) → (size more : ℕ) → Notice
 notice_of number body size more = record {
@@ -91,7 +91,7 @@ inc_epoch = notice_of number.INC_EPOCH [] 0 0
 abbrev pub node_size : ℕ
 node_size = 8
 
--- what follows are the numbers of so many nodes, which are to be dropped if nothing uses them
+-- what follows are the numbers of that many nodes, which are to be dropped if nothing uses them
 abbrev pub prune : (count : ℕ) → Notice
 prune count =
     telling notify_prune_out number.PRUNE

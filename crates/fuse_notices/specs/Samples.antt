@@ -2,7 +2,7 @@
 -- promise rests on them.
 use Rattle.std.specs.Prelude.{ℕ, List, [], ◌∷◌, ◌++◌, replicate}
 
--- so many zeros
+-- that many zeros
 abbrev pub zeros : (count : ℕ) → List ℕ
 zeros count = replicate count 0
 

@@ -98,7 +98,7 @@ fn agrees(reply: &[u8]) -> bool
     said.max_write >= LEAST_MAX_BUFFER
 }
 
-/// What a reply says, which is all of it behind its header.
+/// What a reply says, which is all of it after its header.
 fn said(reply: &[u8]) -> InitOut
     requires { length reply.now ≡ 80 }
     ensures read { result ≡ said_in reply.now }

@@ -1,5 +1,5 @@
 //! What a server says beyond virtiofsd's replies: the notices of FUSE 7.45, which no request asks for;
-//! what its reply to INIT agrees on besides; and the file that stands behind one that was opened.
+//! what its reply to INIT agrees on besides; and the file that comes after one that was opened.
 //!
 //! Nothing here takes memory, and nothing has a state. What has no room, or no length that a header can
 //! tell, is not put.

@@ -1,6 +1,6 @@
 //! The numbers of notices.
 
-/// The numbers of notices (`enum fuse_notify_code`), which stand in a header's `error`. The first six are
+/// The numbers of notices (`enum fuse_notify_code`), which are in a header's `error`. The first six are
 /// those of `NotifyOpcode`.
 pub mod notice {
     use fuse_flags::NotifyOpcode;

@@ -81,8 +81,8 @@ module _ (old bytes new : List ℕ) (at next : ℕ) (order : at ≤ next) (withi
   unfolding front
   in_two = copied
 
-  pub copied_behind : drop next new ≡ drop next old
-  copied_behind =
+  pub copied_after : drop next new ≡ drop next old
+  copied_after =
       ap (drop next) in_two
       ∙ subst (λ (n : ℕ). drop n (front ++ drop next old) ≡ drop next old) front_long (drop-append_seam front (drop next old))
 
@@ -96,7 +96,7 @@ module _ (old bytes new : List ℕ) (at next : ℕ) (order : at ≤ next) (withi
       All-same IsPrintable (take next new) (take at old ++ take (next - at) bytes) (copied_front ∙ front_is)
       (All-append IsPrintable (take at old) (take (next - at) bytes) first (All-take IsPrintable (next - at) bytes second))
 
--- what is the same behind a place is the same behind a later one
+-- what is the same after a place is the same after a later one
 pub same_further : (a b : List ℕ) (m n : ℕ) → m ≤ n → drop m a ≡ drop m b → drop n a ≡ drop n b
 same_further a b m n order same =
     let sum : m + (n - m) ≡ n = omega (arith, order) in
@@ -110,7 +110,7 @@ pub no_more : (line : Option (List ℕ)) (X Y : List ℕ → Type 0) (at end : �
 no_more None X Y at end order all = tt
 no_more (Some l) X Y at end order all = absurd (omega (arith, order, all.0))
 
--- a line that stands in memory up to a 0
+-- a line that is in memory up to a 0
 pub ended : (len : ℕ) (old text : List ℕ) → shown len old < length text
     → All IsPrintable (take (shown len old) text) → drop (shown len old) text ≡ drop (shown len old) old
     → IsLine len old (set text (shown len old) 0)

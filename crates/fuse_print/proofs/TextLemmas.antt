@@ -1,4 +1,4 @@
--- What stands between quotes.
+-- What is between quotes.
 use Rattle.std.proofs.Common.{◌≡◌, ◌<◌, ◌/◌, ◌%◌, ℕ, List, [], ◌∷◌, ◌++◌, length, drop, get_or, refl, sym, ap, ◌∙◌, arith, ⊎_elim, true, false}
 use Rattle.std.proofs.lemmas.List.{append_cancel_right}
 use Rattle.std.proofs.lemmas.Bool.{cases_Bool}
@@ -51,7 +51,7 @@ digit_once m n m_small n_small same = grind arith
 plain_no_backslash : (x : ℕ) → is_plain x ≡ true → x ≡ 92 → ⊥
 plain_no_backslash x plain is = grind arith
 
--- what a byte is printed as says which it is, and what stands behind it
+-- what a byte is printed as says which it is, and what comes after it
 first_once : (x y : ℕ) (r s : List ℕ) → x < 256 → y < 256 → escaped x ++ r ≡ escaped y ++ s
     → (x ≡ y) × (r ≡ s)
 first_once x y r s x_small y_small same =

@@ -5,7 +5,7 @@ use Rattle.fuse_print.specs.declared.part.Part.{Part}
 use Rattle.fuse_print.specs.declared.message.Message.{Message}
 use Rattle.fuse_print.specs.declared.message.Message.TheVariants.{Request, Reply}
 
--- A text was put behind what a part that begins with the line had, if there is room for it.
+-- A text was put after what a part that begins with the line had, if there is room for it.
 abbrev pub PutsText : Part → (text : List ℕ) → Part → Type 0
 PutsText old text new =
     old.from ≡ 0 → old.len + length text ≤ 4096 → All IsPrintable text
@@ -17,11 +17,11 @@ abbrev pub IsBegun : (line : List ℕ) → (from : ℕ) → Part → Type 0
 IsBegun line from part =
     from ≡ 0 → (part.len ≡ length line) × (take part.len part.bytes ≡ line)
 
--- how many bytes of a line of so many stand in this memory before a 0
+-- how many bytes of a line of that many are in this memory before a 0
 abbrev pub shown : (len : ℕ) → (memory : List ℕ) → ℕ
 shown len memory = min len (length memory - 1)
 
--- A line of so many bytes stands in memory: those that fit before a 0 are printable ASCII, and behind the 0
+-- A line of that many bytes is in memory: those that fit before a 0 are printable ASCII, and after the 0
 -- the memory is as it was.
 pub record IsLine (len : ℕ) (old new : List ℕ) : Type 0 where
   pub printable : All IsPrintable (take (shown len old) new)

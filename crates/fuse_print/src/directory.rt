@@ -13,7 +13,7 @@ use std::fmt::Write;
 const ALIGNMENT: usize = 8;
 
 /// Prints the records of READDIR that bytes are, to the end: of each its name, its node, the offset
-/// behind it, and its type.
+/// after it, and its type.
 pub fn print_items<W: Write>(w: &mut W, bytes: &[u8]) -> Result<(), Stop> {
     let mut left = bytes;
     while !left.is_empty() {
@@ -42,7 +42,7 @@ pub fn print_entries<W: Write>(w: &mut W, bytes: &[u8]) -> Result<(), Stop> {
     Ok(())
 }
 
-/// The item that bytes begin with, its name, and what stands behind the zeros that fill it up.
+/// The item that bytes begin with, its name, and what comes after the zeros that fill it up.
 fn take_item(bytes: &[u8]) -> Result<(Dirent, &[u8], &[u8]), Error>
     ensures { IfOk result (λ parts. length parts.2.now < length bytes.now) }
 {

@@ -1,4 +1,4 @@
-//! The extensions of a request that makes a node: blocks behind its names.
+//! The extensions of a request that makes a node: blocks after its names.
 
 ghost use Rattle.std.specs.Prelude.{◌<◌, length, IfOk};
 
@@ -40,7 +40,7 @@ pub fn print_extensions<W: Write>(w: &mut W, options: FsOptions, bytes: &[u8]) -
     Ok(())
 }
 
-/// The header and the body of the block that bytes begin with, and what stands behind it.
+/// The header and the body of the block that bytes begin with, and what comes after it.
 fn take_block(bytes: &[u8]) -> Result<(ExtHeader, &[u8], &[u8]), Error>
     ensures { IfOk result (λ parts. length parts.2.now < length bytes.now) }
 {

@@ -7,11 +7,11 @@ use std::fmt::{self, Write};
 
 /// A record whose fields can be printed.
 pub trait Fields: ByteValued + Copy {
-    /// Prints each field behind a space, as its name, `=` and its value.
+    /// Prints each field after a space, as its name, `=` and its value.
     fn print<W: Write>(&self, w: &mut W) -> fmt::Result;
 }
 
-/// Takes a record off the front of bytes and prints it; what stands behind it.
+/// Takes a record off the front of bytes and prints it; what comes after it.
 pub fn print_record<'a, T: Fields, W: Write>(
     w: &mut W,
     bytes: &'a [u8],
@@ -21,7 +21,7 @@ pub fn print_record<'a, T: Fields, W: Write>(
     Ok((record, behind))
 }
 
-/// Prints a record that nothing follows; what is left behind it.
+/// Prints a record that nothing follows; what is left after it.
 pub fn print_alone<'a, T: Fields, W: Write>(w: &mut W, bytes: &'a [u8]) -> Result<&'a [u8], Stop> {
     let (_, behind) = print_record::<T, W>(w, bytes)?;
     Ok(behind)

@@ -1,4 +1,4 @@
-//! What is printed of what only an offer brings: what stands behind the records of some calls, the calls whose
+//! What is printed of what only an offer brings: what comes after the records of some calls, the calls whose
 //! numbers are no `Opcode`, and the replies to both.
 
 ghost use Rattle.std.specs.Prelude.{◌+◌, ◌≤◌, length};
@@ -32,7 +32,7 @@ pub fn print_number<W: Write>(w: &mut W, number: u32) -> fmt::Result {
     }
 }
 
-/// Prints what stands behind the header of a request with such an opcode; what is left behind that.
+/// Prints what comes after the header of a request with such an opcode; what is left after that.
 pub fn print_further_parts<'a, W: Write>(
     w: &mut W,
     number: u32,
@@ -45,7 +45,7 @@ pub fn print_further_parts<'a, W: Write>(
     }
 }
 
-/// Prints what stands behind the header of the reply to one; what is left behind that.
+/// Prints what comes after the header of the reply to one; what is left after that.
 pub fn print_further_answer<'a, W: Write>(
     w: &mut W,
     number: u32,
@@ -58,7 +58,7 @@ pub fn print_further_answer<'a, W: Write>(
     }
 }
 
-/// The record of IOCTL, and the `in_size` bytes behind it, if they are there.
+/// The record of IOCTL, and the `in_size` bytes after it, if they are there.
 pub fn print_ioctl<'a, W: Write>(w: &mut W, bytes: &'a [u8]) -> Result<&'a [u8], Stop> {
     if bytes.len() < IoctlIn::SIZE {
         return Ok(bytes);
@@ -67,7 +67,7 @@ pub fn print_ioctl<'a, W: Write>(w: &mut W, bytes: &'a [u8]) -> Result<&'a [u8],
     print_data(w, record.in_size, behind)
 }
 
-/// The record of NOTIFY_REPLY, and the `size` bytes behind it, if they are there.
+/// The record of NOTIFY_REPLY, and the `size` bytes after it, if they are there.
 pub fn print_notify_reply<'a, W: Write>(w: &mut W, bytes: &'a [u8]) -> Result<&'a [u8], Stop> {
     if bytes.len() < NotifyRetrieveIn::SIZE {
         return Ok(bytes);
@@ -103,7 +103,7 @@ pub fn print_tmpfile<'a, W: Write>(
     print_named::<CreateIn, W>(w, header, options, bytes)
 }
 
-/// The record of the reply to IOCTL, and what is handed out behind it.
+/// The record of the reply to IOCTL, and what is handed out after it.
 pub fn print_handed_out<'a, W: Write>(w: &mut W, body: &'a [u8]) -> Result<&'a [u8], Stop> {
     let behind = print_alone::<IoctlOut, W>(w, body)?;
     if !behind.is_empty() {

@@ -4,7 +4,7 @@
 ghost use Rattle.std.specs.Prelude.{◌≡◌, ◌<◌, ℕ, List, All};
 ghost use Rattle.fuse_print.specs.Text.{IsPrintable, quoted};
 
-/// Whatever the bytes, printable ASCII stands there, and nothing that a terminal acts on.
+/// Whatever the bytes, printable ASCII is there, and nothing that a terminal acts on.
 pub fn texts_are_printable()
     ensures { (bytes : List ℕ) → All (λ b. b < 256) bytes → All IsPrintable (quoted bytes) }
 {}

@@ -15,7 +15,7 @@ pub enum Message<'a> {
     /// A request, by the options that are agreed on.
     Request(&'a [u8], FsOptions),
 
-    /// The reply behind the request that it answers.
+    /// The reply after the request that it answers.
     Reply(&'a [u8], &'a [u8]),
 }
 

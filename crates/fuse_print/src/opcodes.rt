@@ -86,7 +86,7 @@ pub fn opcode_name(opcode: Opcode) -> &'static str {
     }
 }
 
-/// Prints what stands behind the header of a request; what is left behind that.
+/// Prints what comes after the header of a request; what is left after that.
 pub fn print_parts<'a, W: Write>(
     w: &mut W,
     opcode: Opcode,
@@ -135,8 +135,8 @@ pub fn print_parts<'a, W: Write>(
     }
 }
 
-/// Prints what stands behind the header of a reply to a request of this opcode, with this behind its
-/// header; what is left behind that.
+/// Prints what comes after the header of a reply to a request of this opcode, with this after its
+/// header; what is left after that.
 pub fn print_answer<'a, W: Write>(
     w: &mut W,
     opcode: Opcode,

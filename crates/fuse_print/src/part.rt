@@ -8,7 +8,7 @@ use std::fmt::{self, Write};
 /// How many bytes of a line a part has.
 const PART: usize = 4096;
 
-/// The bytes of a line from one place on, with spaces behind its end. Whoever writes the line, there is
+/// The bytes of a line from one place on, with spaces after its end. Whoever writes the line, there is
 /// nothing but printable ASCII: `?` stands for any other byte.
 #[derive(Drop)]
 pub struct Part {
@@ -62,7 +62,7 @@ impl Part {
     }
 
     /// Copies its first bytes over those of `text` from place `at` on, up to place `end`. Answers the place
-    /// behind them.
+    /// after them.
     pub fn copy_to(&self, text: &mut [u8], at: usize, end: usize) -> usize
         requires order { at ≤ end }
         requires within { end < length text.old }

@@ -52,7 +52,7 @@ fn print_error<W: Write>(w: &mut W, error: i32) -> fmt::Result {
     }
 }
 
-/// The number of a request's opcode, and what stands behind its header. None if it has no whole header.
+/// The number of a request's opcode, and what comes after its header. None if it has no whole header.
 fn number_of(request: &[u8]) -> Option<(u32, &[u8])> {
     match take_record::<InHeader>(request) {
         Ok((header, behind)) => Some((header.opcode, behind)),
@@ -60,7 +60,7 @@ fn number_of(request: &[u8]) -> Option<(u32, &[u8])> {
     }
 }
 
-/// The opcode of a request, and what stands behind its header. None if it has no whole header, or a
+/// The opcode of a request, and what comes after its header. None if it has no whole header, or a
 /// number that is no opcode.
 fn opcode_of(request: &[u8]) -> Option<(Opcode, &[u8])> {
     let (number, behind) = number_of(request)?;
@@ -70,7 +70,7 @@ fn opcode_of(request: &[u8]) -> Option<(Opcode, &[u8])> {
     }
 }
 
-/// Prints what stands behind the header of a reply; what is left behind that.
+/// Prints what comes after the header of a reply; what is left after that.
 fn print_body<'a, W: Write>(w: &mut W, request: &[u8], body: &'a [u8]) -> Result<&'a [u8], Stop> {
     let Some((number, record)) = number_of(request) else {
         return Ok(body);

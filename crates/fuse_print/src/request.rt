@@ -23,8 +23,8 @@ use std::fmt::{self, Write};
 ///
 /// Names are between quotes, with `\x` and two hex digits in place of what isn't printable ASCII;
 /// other bytes are a count and the first 16 of them. `len=` is printed if the header's isn't the
-/// number of bytes, and `ignored=` says how many bytes stand behind the parts. Bytes that don't decode
-/// end the line with `refused=` and the error that a server has for them, behind what could be read; so
+/// number of bytes, and `ignored=` says how many bytes come after the parts. Bytes that don't decode
+/// end the line with `refused=` and the error that a server has for them, after what could be read; so
 /// does a request that any server answers by ENOSYS or EPROTO, whatever else it asks. What a server refuses
 /// by its limits, for want of room, or since it doesn't offer the call isn't told by the bytes, and printed whole.
 pub fn print_request<W: Write>(w: &mut W, bytes: &[u8], options: FsOptions) -> fmt::Result
@@ -47,7 +47,7 @@ pub fn print_request<W: Write>(w: &mut W, bytes: &[u8], options: FsOptions) -> f
     print_end(w, outcome)
 }
 
-/// Prints the fields of a header but the opcode, of a request of so many bytes.
+/// Prints the fields of a header but the opcode, of a request of that many bytes.
 fn print_header<W: Write>(w: &mut W, header: &InHeader, count: usize) -> fmt::Result {
     write!(w, " unique={} node={}", header.unique, header.nodeid)?;
     write!(w, " uid={}", header.uid.into_inner())?;
@@ -61,8 +61,8 @@ fn print_header<W: Write>(w: &mut W, header: &InHeader, count: usize) -> fmt::Re
     Ok(())
 }
 
-/// The tail of a request behind its header and a record of `size` bytes, as long as the header's
-/// `len` says, and what is left behind it.
+/// The tail of a request after its header and a record of `size` bytes, as long as the header's
+/// `len` says, and what is left after it.
 fn take_tail<'a>(
     header: &InHeader,
     size: usize,
@@ -77,7 +77,7 @@ fn take_tail<'a>(
     }
 }
 
-/// A tail that is a name, behind a record of `size` bytes.
+/// A tail that is a name, after a record of `size` bytes.
 pub fn print_name<'a, W: Write>(
     w: &mut W,
     header: &InHeader,
@@ -148,7 +148,7 @@ pub fn print_link<'a, W: Write>(
     Ok(left)
 }
 
-/// A name with extensions behind it, printed behind `label`. The extensions of a name that has no 0
+/// A name with extensions after it, printed after `label`. The extensions of a name that has no 0
 /// are no bytes, and are judged before the name.
 fn print_extended<W: Write>(
     w: &mut W,
@@ -171,7 +171,7 @@ fn print_extended<W: Write>(
     }
 }
 
-/// The record of WRITE, and its data: all bytes behind it.
+/// The record of WRITE, and its data: all bytes after it.
 pub fn print_write<'a, W: Write>(w: &mut W, bytes: &'a [u8]) -> Result<&'a [u8], Stop> {
     let (_, data) = print_record::<WriteIn, W>(w, bytes)?;
     write!(w, " data{}", Data(data))?;
@@ -197,7 +197,7 @@ pub fn print_setxattr<'a, W: Write>(
     Ok(left)
 }
 
-/// A name, which ends at its first 0, and the value behind it, which is to have `size` bytes.
+/// A name, which ends at its first 0, and the value after it, which is to have `size` bytes.
 fn print_value<W: Write>(w: &mut W, size: u32, tail: &[u8]) -> Result<(), Stop> {
     let Some((name, value)) = take_name(tail) else {
         return Err(Stop::Refused(Error::MissingParameter));

@@ -29,7 +29,7 @@ impl From<Error> for Stop {
     }
 }
 
-/// Prints how a message ends: how many bytes stand behind its parts, if there are any, or what it is
+/// Prints how a message ends: how many bytes come after its parts, if there are any, or what it is
 /// refused for.
 pub fn print_end<W: Write>(w: &mut W, outcome: Result<&[u8], Stop>) -> fmt::Result {
     match outcome {

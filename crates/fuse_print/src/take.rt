@@ -6,7 +6,7 @@ use fuse_grammar::Error;
 use fuse_wire::ByteValued;
 use fuse_wire::parts::part_at;
 
-/// The record that bytes begin with, and what stands behind it. `DecodeMessage` if it isn't whole.
+/// The record that bytes begin with, and what comes after it. `DecodeMessage` if it isn't whole.
 pub fn take_record<T: ByteValued>(bytes: &[u8]) -> Result<(T, &[u8]), Error>
     ensures { IfOk result (λ parts. T.SIZE + length parts.1.now ≡ length bytes.now) }
 {
@@ -16,7 +16,7 @@ pub fn take_record<T: ByteValued>(bytes: &[u8]) -> Result<(T, &[u8]), Error>
     Ok((part_at::<T>(bytes, 0), &bytes[T::SIZE..]))
 }
 
-/// The first `count` bytes, and what stands behind them. `DecodeMessage` if there are fewer.
+/// The first `count` bytes, and what comes after them. `DecodeMessage` if there are fewer.
 pub fn take_bytes(bytes: &[u8], count: usize) -> Result<(&[u8], &[u8]), Error>
     ensures front { IfOk result (λ parts. length parts.0.now ≡ count) }
     ensures behind { IfOk result (λ parts. count + length parts.1.now ≡ length bytes.now) }
@@ -27,7 +27,7 @@ pub fn take_bytes(bytes: &[u8], count: usize) -> Result<(&[u8], &[u8]), Error>
     Ok((&bytes[..count], &bytes[count..]))
 }
 
-/// What stands before the first 0, and what stands behind it. None if there is no 0.
+/// What is before the first 0, and what comes after it. None if there is no 0.
 pub fn take_name(bytes: &[u8]) -> Option<(&[u8], &[u8])>
     ensures { IfSome result
         (λ parts. length parts.0.now + 1 + length parts.1.now ≡ length bytes.now) }

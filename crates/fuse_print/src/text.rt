@@ -62,7 +62,7 @@ fn hex_digit(number: u8) -> char
     }
 }
 
-/// Data as its count and its first 16 bytes between quotes, with two dots behind them if there are
+/// Data as its count and its first 16 bytes between quotes, with two dots after them if there are
 /// more: `[5]="hello"`.
 #[derive(Clone, Copy)]
 pub struct Data<'a>(pub &'a [u8]);
@@ -89,7 +89,7 @@ impl Display for Time {
     }
 }
 
-/// A number in octal, behind a 0, as modes and the flags of `open` are written.
+/// A number in octal, after a 0, as modes and the flags of `open` are written.
 #[derive(Clone, Copy)]
 pub struct Octal(pub u32);
 

@@ -22,7 +22,7 @@ between_back xs i at e = sym (ap (drop at) (split xs i) ∙ drop_at (held_flat (
 
 -- ---- inside a segment s, which is left with its first bytes
 
--- a place behind the start of a segment lies in one of them
+-- a place after the start of a segment lies in one of them
 pub IsListed : (xs : List (Vec ℕ Global)) (i inside : ℕ) → 0 < inside → inside ≤ length (get_or (contents xs) i []) → i < length xs
 IsListed xs i inside some w =
     ⊎_elim (λ (h : i < length xs). h)

@@ -16,7 +16,7 @@ is_listed xs i skip at e h =
 
 -- a place that lies `skip` bytes into segment i
 module _ (xs : List (List ℕ)) (i skip at : ℕ) (place : length (concat (take i xs)) + skip ≡ at) where
-  -- the bytes behind it
+  -- the bytes after it
   pub from_place : drop at (concat xs) ≡ drop skip (concat (drop i xs))
   from_place =
       ap (drop at) (concat-split xs i)

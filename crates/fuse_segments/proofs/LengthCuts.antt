@@ -77,7 +77,7 @@ sum-lengths_from at (n ∷ ns) h =
     ap sum (lengths_from-past at n ns past) ∙ sum-lengths_from (at - n) ns (omega (arith, h, all)) ∙ omega (arith, all))
     (cases_lt at n)
 
--- ---- a place behind the first i segments
+-- ---- a place after the first i segments
 
 -- the first i segments lie before it
 pub lengths_before-at : (xs : List (Vec ℕ Global)) (i inside at : ℕ) →
@@ -113,7 +113,7 @@ nothing_before (x ∷ xs) zero p =
     let below : nat_lt 0 (length x.items) ≡ true = grind (arith, nat_tests) in rw below
 nothing_before (x ∷ xs) (suc i) p = nothing_before xs i (λ (h : i < length xs). p (omega arith))
 
--- it is whole in the rest, with those behind it
+-- it is whole in the rest, with those after it
 all_from : (xs : List (Vec ℕ Global)) (i : ℕ) → (i < length xs → 0 < length (get_or (contents xs) i [])) →
     lengths_from 0 (held_lengths (drop i xs)) ≡ held_lengths (drop i xs)
 all_from [] zero p = refl
@@ -159,7 +159,7 @@ inside_lengths_before xs i inside at s head h r e p w k =
     ∙ lengths_before-inside inside (length s.items) (held_lengths rest) p w) in
     held_lengths-append (take i xs) (head ∷ []) ∙ ap (λ n. held_lengths (take i xs) ++ n ∷ []) k ∙ sym cut
 
--- the lengths of its second part, and of the segments behind it
+-- the lengths of its second part, and of the segments after it
 pub inside_lengths_from : (xs : List (Vec ℕ Global)) (i inside at : ℕ) (s tail : Vec ℕ Global) →
     i < length xs → get_or xs i s ≡ s → length (held_flat (take i xs)) + inside ≡ at →
     inside < length s.items → length tail.items ≡ length s.items - inside →

@@ -57,8 +57,8 @@ pub record IsPut (new rest whole : List ℕ) (skip n : ℕ) : Type 0 where
   pub fits_rest : skip + (n - length new) ≤ length rest
   pub makes : new ++ take (n - length new) (drop skip rest) ≡ whole
 
-pub put_behind : (old new s rest whole part : List ℕ) (skip n from m : ℕ) → from ≡ min skip (length s) → m ≡ min (length s - from) (n - length old) → part ≡ take m (drop from s) → length old ≤ n → skip + (n - length old) ≤ length (s ++ rest) → old ++ take (n - length old) (drop skip (s ++ rest)) ≡ whole → new ≡ old ++ part → IsPut new rest whole (skip - from) n
-put_behind old new s rest whole part skip n from m e f p w h j r =
+pub put_after : (old new s rest whole part : List ℕ) (skip n from m : ℕ) → from ≡ min skip (length s) → m ≡ min (length s - from) (n - length old) → part ≡ take m (drop from s) → length old ≤ n → skip + (n - length old) ≤ length (s ++ rest) → old ++ take (n - length old) (drop skip (s ++ rest)) ≡ whole → new ≡ old ++ part → IsPut new rest whole (skip - from) n
+put_after old new s rest whole part skip n from m e f p w h j r =
     let size : length part ≡ m = omega (arith, ap length p, length-take m (drop from s), length-drop from s) in
     let long : length new ≡ length old + length part = ap length r ∙ length-append old part in
     let left : n - length new ≡ (n - length old) - m = omega arith in

@@ -1,10 +1,10 @@
--- Bytes with zeros behind them.
+-- Bytes with zeros after them.
 use Rattle.std.proofs.Common.{◌≡◌, ℕ, ◌+◌, ◌-◌, ◌≤◌, List, [], ◌++◌, length, take, drop, replicate, ap, ◌∙◌, refl, sym, arith, append-nil, append_assoc, length-append, length-drop, length-take, take-append-drop}
 use Rattle.std.proofs.lemmas.List.{drop-drop, drop-replicate, drop_all, length-replicate, take_all, take-append-le, take-take, take_at}
 use Rattle.fuse_segments.specs.Segments.{with_bytes_at}
 use Rattle.fuse_segments.proofs.Puts.{drop-append_past, take-append_past}
 
--- a record, bytes and the zeros behind them are as long as is told
+-- a record, bytes and the zeros after them are as long as is told
 pub length-padded : (x bytes : List ℕ) (n zeros : ℕ) → length x ≡ n →
     length (x ++ (bytes ++ replicate zeros 0)) ≡ n + length bytes + zeros
 length-padded x bytes n zeros e =
@@ -26,7 +26,7 @@ zeros_at_end n out cleared few long put =
     ∙ drop-append_past front zeros (8 - n) (length out - n) (omega (arith, size))
     ∙ drop-replicate {X = ℕ} (8 - n) 8 0 ∙ ap (λ k. replicate k 0) left
 
--- a record put over the beginning, and bytes behind it
+-- a record put over the beginning, and bytes after it
 pub spelled : (x bytes out cleared : List ℕ) (n zeros : ℕ) → length x ≡ n →
     length out ≡ n + length bytes + zeros → length cleared ≡ length out →
     drop (length out - zeros) cleared ≡ replicate zeros 0 →

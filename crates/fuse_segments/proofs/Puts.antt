@@ -157,7 +157,7 @@ module _ (xs : List (Vec ℕ Global)) (ys : List (List ℕ)) (i : ℕ) (s : Vec 
   held_len = ap length here ∙ sym s.ok.0
 
   module _ (k : ℕ) (bs : List ℕ) (new : Vec ℕ Global) (put : new.items ≡ with_bytes_at k bs s.items) where
-    -- written over, it stands in place of itself
+    -- written over, it is in place of itself
     pub held_put : contents (set xs i new) ≡ set ys i (with_bytes_at k bs (get_or ys i []))
     held_put =
         map-set (λ (v : Vec ℕ Global). v.items) xs i new

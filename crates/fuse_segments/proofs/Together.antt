@@ -202,7 +202,7 @@ together-from at n k (m ∷ ms) =
     ∙ ap (λ j. lie_together j n ms) same ∙ sym (together-past (k + at) n m ms (omega arith)))
     (cases_lt k m)
 
--- up to a place behind them, as up to the end
+-- up to a place after them, as up to the end
 pub together-before : (at n k : ℕ) (ms : List ℕ) → at + n ≤ k → lie_together at n (lengths_before k ms) ≡ lie_together at n ms
 together-before at n k [] h = refl
 together-before at n zero (m ∷ ms) h =
@@ -263,7 +263,7 @@ together-cut (k ∷ before) after at n h over =
 
 -- ---- the lengths of segments
 
--- bytes behind the first i segments
+-- bytes after the first i segments
 behind : (xs : List (List ℕ)) (i skip at n : ℕ) → length (concat (take i xs)) + skip ≡ at →
     lie_together at n (map length xs) ≡ lie_together skip n (map length (drop i xs))
 behind xs zero skip at n e = let same : at ≡ skip = omega arith in rw same refl

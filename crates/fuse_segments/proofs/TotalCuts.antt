@@ -32,10 +32,10 @@ past_totals (x ∷ xs) s (suc i) inside at e p =
     past_totals xs (s + length x.items) i inside at (omega (arith, length-append x.items (held_flat (take i xs)))) (λ h. p (omega arith))
 
 -- the totals of the rest
-pub totals_behind : (xs : List (Vec ℕ Global)) (i inside at : ℕ) → length (held_flat (take i xs)) + inside ≡ at →
+pub totals_after : (xs : List (Vec ℕ Global)) (i inside at : ℕ) → length (held_flat (take i xs)) + inside ≡ at →
     (i < length xs → inside < length (get_or (contents xs) i [])) →
     map (λ t. t - at) (drop i (totals_of (held_lengths xs))) ≡ totals_of (lengths_from at (held_lengths xs))
-totals_behind xs i inside at e p =
+totals_after xs i inside at e p =
     past_totals xs 0 i inside at (omega arith) p ∙ ap totals_of (sym (lengths_from-at xs i inside at e))
 
 -- the totals of the first i segments, and of what follows them

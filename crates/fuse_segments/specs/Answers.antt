@@ -6,7 +6,7 @@ use Rattle.fuse_segments.specs.Segments.{flat_bytes}
 use Rattle.fuse_segments.specs.Unread.{Unread, IsUnread, AreAlike, AdvancesBy}
 
 -- a call of a reader: how many bytes are left, how many were taken, a read into a buffer of these
--- bytes, one of just so many bytes, and one of a record of these widths
+-- bytes, one of just that many bytes, and one of a record of these widths
 pub data Question : Type 0 where
   Available : Question
   Taken : Question

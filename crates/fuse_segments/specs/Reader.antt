@@ -14,7 +14,7 @@ unread_of r = record {
 }
 
 -- The places of a reader are in order and lie in its segments. That the last one is a number of 64
--- bits stands here, since nothing else tells it of a field beside a list that is lent.
+-- bits is here, since nothing else tells it of a field beside a list that is lent.
 pub record IsReader (r : Inside) : Type 0 where
   pub after_start : r.start ≤ r.at
   pub before_end : r.at ≤ r.end

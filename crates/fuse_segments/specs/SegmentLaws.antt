@@ -1,4 +1,4 @@
--- What is known of bytes that stand in place of others.
+-- What is known of bytes that are in place of others.
 use Rattle.std.proofs.Common.{◌≡◌, ℕ, ◌+◌, ◌≤◌, List, ◌++◌, length, take, drop, ap, ◌∙◌, sym, refl, arith, append_assoc, length-append, length-drop, length-take}
 use Rattle.std.proofs.lemmas.List.{take_all, take_at, drop_at}
 use Rattle.fuse_segments.specs.Segments.{with_bytes_at}
@@ -14,7 +14,7 @@ take-with_bytes_at at n bs xs h e =
     let front : length (first ++ bs) ≡ n = omega (arith, length-append first bs, length-take at xs) in
     ap (take n) (sym (append_assoc first bs rest)) ∙ take_at (first ++ bs) rest n front
 
--- bytes that stand in place of as many, behind xs
+-- bytes that are in place of as many, after xs
 pub with_bytes_at-append : (xs hole ys bs : List ℕ) → length bs ≡ length hole →
     with_bytes_at (length xs) bs (xs ++ hole ++ ys) ≡ xs ++ bs ++ ys
 unfolding with_bytes_at

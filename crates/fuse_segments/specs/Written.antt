@@ -78,7 +78,7 @@ pub record Leaves (old : Written) (room_after : List ℕ) (new : Written) : Type
   pub same_length : length room_after ≡ length old.left
   pub same_segments : new.lengths ≡ old.lengths
 
--- The bytes bs were put into the next bytes of the room, and count as written. What stands behind
+-- The bytes bs were put into the next bytes of the room, and count as written. What comes after
 -- them there is open.
 pub record Moves (old : Written) (bs : List ℕ) (new : Written) : Type 0 where
   pub passed : new.passed ≡ old.passed ++ bs

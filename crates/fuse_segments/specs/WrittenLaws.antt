@@ -16,7 +16,7 @@ take-append (suc n) (x ∷ a) b =
 pub wrote-wrote : (w : Written) (x y : List ℕ) → wrote (wrote w x) y ≡ wrote w (x ++ y)
 wrote-wrote w x y = rw (append_assoc w.passed x y, length-append x y, drop-drop (length y) (length x) w.left) refl
 
--- the room behind a part of which as much was written as there was room for
+-- the room after a part of which as much was written as there was room for
 pub room_behind : (old mid : Written) (a : List ℕ) → mid ≡ wrote old (take (length old.left) a) →
     length mid.left ≡ length old.left - length a
 room_behind old mid a m =

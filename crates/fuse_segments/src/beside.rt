@@ -1,4 +1,4 @@
-//! Spells a record, bytes behind it and zeros behind those.
+//! Spells a record, bytes after it and zeros after those.
 
 ghost use Rattle.std.specs.Prelude.{◌≡◌, ◌+◌, ◌-◌, ◌≤◌, ◌++◌, drop, length, replicate, take};
 ghost use Rattle.fuse_segments.specs.Segments.{with_bytes_at};
@@ -9,7 +9,7 @@ use fuse_wire::ByteValued;
 use fuse_wire::parts::put_first;
 
 // Writes zeros over the last `n` bytes, and where these are few, in one go over the last eight, if a record
-// of that many bytes or more stands in front of them.
+// of that many bytes or more is in front of them.
 #[inline(always)]
 fn clear_end<T: ByteValued>(out: &mut [u8], n: usize)
     requires { T.SIZE + n ≤ length out.old }
@@ -68,7 +68,7 @@ fn put_name(out: &mut [u8], at: usize, bytes: &[u8])
     }
 }
 
-// Writes a record, the bytes and so many zeros over all of `out`. The zeros are written first, with
+// Writes a record, the bytes and that many zeros over all of `out`. The zeros are written first, with
 // some bytes in front of them that are then written over.
 #[inline(always)]
 pub(crate) fn spell_padded<T: ByteValued>(out: &mut [u8], x: &T, bytes: &[u8], zeros: usize)

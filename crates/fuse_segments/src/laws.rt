@@ -41,20 +41,20 @@ pub fn equal_bytes_answer_alike()
 {}
 
 /// Of the segments of a new reader, bytes that lie in one of them lie together: here in one of
-/// `size` bytes, behind others.
+/// `size` bytes, after others.
 pub fn together_in_a_segment()
     ensures { (before after : List ℕ) (size at n : ℕ) → at + n ≤ size →
         lie_together (sum before + at) n (before ++ size ∷ after) ≡ true }
 {}
 
-/// Bytes that begin before a cut between two segments and end behind it don't lie together.
+/// Bytes that begin before a cut between two segments and end after it don't lie together.
 pub fn together_over_a_cut()
     ensures { (before after : List ℕ) (at n : ℕ) → at < sum before → sum before < at + n →
         lie_together at n (before ++ after) ≡ false }
 {}
 
 /// When bytes were taken, or are cut off, those that are left lie together as they did.
-pub fn together_behind_a_place()
+pub fn together_after_a_place()
     ensures from { (lengths : List ℕ) (k at n : ℕ) →
         lie_together at n (lengths_from k lengths) ≡ lie_together (k + at) n lengths }
     ensures before { (lengths : List ℕ) (k at n : ℕ) → at + n ≤ k →

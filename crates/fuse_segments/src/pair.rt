@@ -1,4 +1,4 @@
-//! Spells two records, one behind the other.
+//! Spells two records, one after the other.
 
 ghost use Rattle.std.specs.Prelude.{◌≡◌, ◌+◌, ◌++◌, length};
 ghost use Rattle.fuse_wire.specs.Fields.{Fit, bytes_of};
@@ -6,7 +6,7 @@ ghost use Rattle.fuse_wire.specs.Fields.{Fit, bytes_of};
 use fuse_wire::ByteValued;
 use fuse_wire::parts::{put_first, put_rest};
 
-// Writes a record, and another behind it, over all of `out`.
+// Writes a record, and another after it, over all of `out`.
 pub(crate) fn spell_pair<T: ByteValued, U: ByteValued>(out: &mut [u8], first: &T, second: &U)
     requires { length out.old ≡ T.SIZE + U.SIZE }
     ensures wrote { out.new ≡ bytes_of T.table first.now ++ bytes_of U.table second.now }

@@ -78,7 +78,7 @@ impl Running {
         }
     }
 
-    // Puts a total behind the others, which has a place.
+    // Puts a total after the others, which has a place.
     pub(crate) fn push_reserved(&mut self, total: usize)
         requires { length self.old.items < self.old.capacity }
         ensures items { self.new.items ≡ self.old.items ++ total ∷ [] }

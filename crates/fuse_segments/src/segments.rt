@@ -158,7 +158,7 @@ fn inside<L: SegmentList>(list: &L, totals: &[usize], i: usize, at: usize) -> Op
     }
 }
 
-// The segment in which a place lies, and how far in: segment `near` and the one behind it are looked
+// The segment in which a place lies, and how far in: segment `near` and the one after it are looked
 // at first, and else it is searched.
 #[inline(never)]
 fn search_near<L: SegmentList>(list: &L, totals: &[usize], near: usize, at: usize) -> (usize, usize)
@@ -256,9 +256,9 @@ impl<L: SegmentList> Segments<L> {
     }
 
     // The segment in which a place lies, and how far in. A place between two segments lies in the
-    // second, and the place past all bytes behind the last one. One in the first segment, as the
+    // second, and the place past all bytes after the last one. One in the first segment, as the
     // header of each request has it, is found without a search, and so is one in the segment `near`,
-    // in which another place was found, and in the one behind it. The answer's segment is the next
+    // in which another place was found, and in the one after it. The answer's segment is the next
     // `near`.
     #[inline(always)]
     pub(crate) fn place(&self, at: usize, near: &mut usize) -> (usize, usize)

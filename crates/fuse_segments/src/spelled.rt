@@ -88,7 +88,7 @@ impl<'x, T: ByteValued> Spelled for Record<'x, T> {
     }
 }
 
-// Two records, the second behind the first.
+// Two records, the second after the first.
 #[derive(Drop)]
 pub(crate) struct Pair<'x, T: ByteValued, U: ByteValued> {
     pub(crate) first: &'x T,
@@ -115,7 +115,7 @@ impl<'x, T: ByteValued, U: ByteValued> Spelled for Pair<'x, T, U> {
     }
 }
 
-// A record, bytes behind it, and so many zeros behind these.
+// A record, bytes after it, and that many zeros after these.
 #[derive(Drop)]
 pub(crate) struct Padded<'x, T: ByteValued> {
     pub(crate) record: &'x T,

@@ -232,7 +232,7 @@ impl Writer {
         self.put_next(&buf[..n]);
     }
 
-    /// Writes a record, the bytes behind it, and so many zeros behind these, at most eight.
+    /// Writes a record, the bytes after it, and that many zeros after these, at most eight.
     ///
     /// Where fewer are left the error's kind is `WriteZero`, and the beginning of all fills them.
     #[inline(always)]
@@ -266,7 +266,7 @@ impl Writer {
         Err(io::Error::from(ErrorKind::WriteZero))
     }
 
-    // Writes a record, the bytes and so many zeros, one after another. Answers whether all fit. The
+    // Writes a record, the bytes and that many zeros, one after another. Answers whether all fit. The
     // record is spelled out in each place that calls it, so that it lies in memory on this path alone.
     #[inline(always)]
     fn write_apart<T: ByteValued + Drop>(&mut self, x: T, bytes: &[u8], zeros: u8) -> bool
@@ -285,7 +285,7 @@ impl Writer {
         self.write_rows(&buf[..T::SIZE], bytes, zeros)
     }
 
-    // Writes some bytes, others and so many zeros, one after another. Answers whether all fit.
+    // Writes some bytes, others and that many zeros, one after another. Answers whether all fit.
     #[inline(never)]
     fn write_rows(&mut self, front: &[u8], bytes: &[u8], zeros: u8) -> bool
         requires { zeros ≤ 8 }
@@ -305,7 +305,7 @@ impl Writer {
         self.write_all(&[0u8; 8][..zeros as usize]).is_ok()
     }
 
-    /// Writes two records, the second behind the first.
+    /// Writes two records, the second after the first.
     ///
     /// Where fewer are left the error's kind is `WriteZero`, and the beginning of both fills them.
     #[inline(always)]
@@ -377,7 +377,7 @@ impl Writer {
     }
 
     /// Calls `put` with this writer, to put about `len` bytes. Where it is `in_one`, most rooms are one
-    /// segment: `put` is inlined for the case that the first one has so many bytes, and stands apart
+    /// segment: `put` is inlined for the case that the first one has that many bytes, and stands apart
     /// for any other, so that what it puts is put together in memory there alone. No promise stands
     /// on either: all do the same.
     #[inline(always)]

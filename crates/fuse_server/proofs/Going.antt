@@ -175,7 +175,7 @@ module _ {F S : Type 0} (side : Side S)
           left_is = omega (arith, taken, n_is, left_is);
         }
 
-    -- a call moved bytes, and there is a position behind them
+    -- a call moved bytes, and there is a position after them
     pub going_more :
         {moved place n : ℕ} {f g : F} {now new : S}
         → Going moved place f now → 0 < n → DoesNext moved place f now (Ok n) g new → place + n < 2 ^ 64
@@ -197,7 +197,7 @@ module _ {F S : Type 0} (side : Side S)
           within = m.within;
         }
 
-    -- a call moved bytes, and the position behind them is past the last
+    -- a call moved bytes, and the position after them is past the last
     pub going_past :
         {moved place n : ℕ} {f g : F} {now new : S}
         → Going moved place f now → 0 < n → DoesNext moved place f now (Ok n) g new → 2 ^ 64 ≤ place + n

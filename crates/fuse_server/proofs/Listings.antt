@@ -1,4 +1,4 @@
--- What was put into a room behind the place of a reply's header: the data of a READ, and the records
+-- What was put into a room after the place of a reply's header: the data of a READ, and the records
 -- of a directory.
 use Rattle.std.proofs.Common.{◌≡◌, ◌≤◌, ◌<◌, ◌-◌, ◌^◌, ℕ, Bool, false, List, [], ◌++◌, length, Option, None, Result, Ok, Err, inl, inr, refl, subst, arith, append-nil, length-drop}
 use Rattle.std.proofs.lemmas.Bool.Decides.{nat_tests}
@@ -17,18 +17,18 @@ use Rattle.fuse_grammar.specs.Words.{IsRead}
 use Rattle.fuse_grammar.specs.declared.limits.Limits.{Limits}
 
 -- data were put, and nothing beyond them
-pub data_behind : (old held new : Written) (bytes : List ℕ) → held ≡ held_over old 16 → 16 ≤ length old.left → Moves held bytes new
+pub data_after : (old held new : Written) (bytes : List ℕ) → held ≡ held_over old 16 → 16 ≤ length old.left → Moves held bytes new
     → PutsBehindHeader old bytes new
-data_behind old held new bytes e enough moves = record {
+data_after old held new bytes e enough moves = record {
   beyond = [];
   enough = enough;
   moves = rw (append-nil bytes) (subst (λ (w : Written). Moves w bytes new) e moves);
 }
 
 -- records were put, and perhaps the beginning of one more
-pub records_behind : (old held new : Written) (records beyond : List ℕ) → held ≡ held_over old 16 → 16 ≤ length old.left → Puts held (records ++ beyond) new
+pub records_after : (old held new : Written) (records beyond : List ℕ) → held ≡ held_over old 16 → 16 ≤ length old.left → Puts held (records ++ beyond) new
     → PutsBehindHeader old records new
-records_behind old held new records beyond e enough puts = record {
+records_after old held new records beyond e enough puts = record {
   beyond = beyond;
   enough = enough;
   moves = subst (λ (w : Written). Moves w (records ++ beyond) new) e (moves_of held new (records ++ beyond) puts);

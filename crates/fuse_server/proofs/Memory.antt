@@ -10,7 +10,7 @@ use Rattle.fuse_segments.specs.Unread.{Unread}
 use Rattle.fuse_grammar.specs.Ask.{form_of}
 use Rattle.fuse_grammar.specs.Extensions.{has_option}
 use Rattle.fuse_grammar.specs.Forms.{Layout, Without, Record, layout_size, Form, NoTail, NameTail, TwoNames, NameAndValue, NameAndExtensions, LinkAndExtensions, Pairs, WithRest, IntoRoom, Directories, Versions, Silent, NotServed}
-use Rattle.fuse_messages.specs.Parts.{TailIsCut, pieces_behind, MayHoldContext}
+use Rattle.fuse_messages.specs.Parts.{TailIsCut, pieces_after, MayHoldContext}
 use Rattle.fuse_grammar.specs.Records.{size_of}
 use Rattle.fuse_grammar.specs.declared.limits.Limits.{Limits}
 use Rattle.fuse_server.specs.MemoryByPieces.{MayWantFor, MayWantBehind}
@@ -26,9 +26,9 @@ apart true t f = absurd (let e = f in cc)
 apart false t f = absurd (let e = t in cc)
 
 module _ (behind : (lengths : List ℕ) (k at n : ℕ) → lie_together at n (lengths_from k lengths) ≡ lie_together (k + at) n lengths) (u : Unread) where
-  -- of what lies together behind header and record, as it is seen from there
+  -- of what lies together after header and record, as it is seen from there
   from_record : {R : Type 0} (layout : Layout R) (n : ℕ) →
-      lie_together 0 n (pieces_behind layout (lengths_from (size_of in_header) u.pieces))
+      lie_together 0 n (pieces_after layout (lengths_from (size_of in_header) u.pieces))
       ≡ lie_together (size_of in_header + layout_size layout) n u.pieces
   from_record (Without r) n = behind u.pieces (size_of in_header) 0 n
   from_record (Record t) n =
@@ -38,15 +38,15 @@ module _ (behind : (lengths : List ℕ) (k at n : ℕ) → lie_together at n (le
       ∙ ap (λ k. lie_together k n u.pieces) none
 
   whole : {R : Type 0} (h : InHeader) (layout : Layout R) → TailIsTogether h u layout
-      → TailIsCut h (layout_size layout) (pieces_behind layout (lengths_from (size_of in_header) u.pieces)) → ⊥
+      → TailIsCut h (layout_size layout) (pieces_after layout (lengths_from (size_of in_header) u.pieces)) → ⊥
   whole h layout together cut =
       let n = h.len - (size_of in_header + layout_size layout) in
       let t = second _ (lie_together (size_of in_header + layout_size layout) n u.pieces) together in
-      apart (lie_together 0 n (pieces_behind layout (lengths_from (size_of in_header) u.pieces))) (from_record layout n ∙ t) cut
+      apart (lie_together 0 n (pieces_after layout (lengths_from (size_of in_header) u.pieces))) (from_record layout n ∙ t) cut
 
   -- of a form with a tail, and of one in whose tail a context may stand
   with_context : {R : Type 0} (h : InHeader) (l : Layout R) (options : ℕ) → TailIsTogether h u l × IsFalse (has_option options security_ctx)
-      → TailIsCut h (layout_size l) (pieces_behind l (lengths_from (size_of in_header) u.pieces)) ⊎ MayHoldContext options → ⊥
+      → TailIsCut h (layout_size l) (pieces_after l (lengths_from (size_of in_header) u.pieces)) ⊎ MayHoldContext options → ⊥
   with_context h l options n (inl w) = whole h l n.0 w
   with_context h l options n (inr w) = apart (has_option options security_ctx) w n.1
 

@@ -91,7 +91,7 @@ module _ {S I : Type 0} (allows : S → Call → Handed I → S → Type 0) (giv
         sparing = more;
       }
 
--- what stands at a place that two lists have in common from there on
+-- what is at a place that two lists have in common from there on
 same_at : {X : Type 0} (xs ys : List X) (i : ℕ) (d : X) → drop i xs ≡ drop i ys → get_or xs i d ≡ get_or ys i d
 same_at xs ys i d e =
     let p : get_or (drop i xs) 0 d ≡ get_or (drop i ys) 0 d = ap (λ zs. get_or zs 0 d) e in

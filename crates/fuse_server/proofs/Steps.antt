@@ -70,7 +70,7 @@ follows_less limits options after t P Q less (WithMemory rest) (inl f) = inl (fo
 follows_less limits options after t P Q less (WithMemory rest) (inr f) = inr (less f.0, f.1, f.2)
 
 module _ {S I : Type 0} (allows : S → Call → Handed I → S → Type 0) (gives : I → Option Item → I → Type 0) (old : ServerState S) (request : List ℕ) (writer : Written) (outcome : Result ℕ Error) (writer_after : Written) (new : ServerState S) where
-  -- a call, and what was given back behind it, are a run
+  -- a call, and what was given back after it, are a run
   ran : (call : Call) (answer : Answer) (ctx : Context) (back : Option ℕ) → CallsAndGivesBack allows call answer ctx back old.fs new.fs
       → IsRun allows gives None old.fs (Called call answer ∷ given_back ctx back) new.fs
   ran call answer ctx None h = (new.fs, h, refl)

@@ -1,4 +1,4 @@
--- An entry that a call answered, and what was given back behind it.
+-- An entry that a call answered, and what was given back after it.
 use Rattle.std.specs.Prelude.{ℕ, Option, None, Some}
 use Rattle.fs_trait.specs.Calls.{Call, Answer, Handed, Plain}
 use Rattle.fs_trait.specs.declared.entry.Context.{Context}

@@ -4,6 +4,6 @@ use denote.RattleType.{RattleType}
 use Rattle.fuse_server.specs.Step.{ServerState}
 use Rattle.fuse_server.specs.contracts.server.Server.{the_row}
 
--- once r is given back, the server is as it was, over the file system that was left behind r
+-- once r is given back, the server is as it was, over the file system that was left after r
 abbrev pub LendsFs : (F : RattleType) → MutBor (ServerState F.Denot) → MutBor F.Denot → Fml
 LendsFs F s r = Lends (the_row F) F s r (λ fs. record s.now { fs = fs })

@@ -16,7 +16,7 @@ use Rattle.fuse_grammar.specs.Records.{size_of}
 use Rattle.fuse_grammar.specs.declared.limits.Limits.{Limits}
 use Rattle.fuse_server.specs.MemoryByPieces.{MayWantBehind}
 
--- of a request that a reader has left: the tail behind a record of this layout is all there, and
+-- of a request that a reader has left: the tail after a record of this layout is all there, and
 -- lies in one segment
 abbrev pub TailIsTogether : {R : Type 0} → InHeader → Unread → Layout R → Type 0
 TailIsTogether h u layout =
@@ -24,7 +24,7 @@ TailIsTogether h u layout =
     (h.len - (size_of in_header + layout_size layout)))
 
 -- of a request of this form that a reader has left, no memory is wanted for it: it has no tail and
--- no pairs; or its tail lies in one segment, and no context may stand in it
+-- no pairs; or its tail lies in one segment, and no context may are in it
 abbrev pub WantsNone : InHeader → Unread → Form → Type 0
 WantsNone h u form =
     by_memory (Unit {0}) (λ R layout. TailIsTogether h u layout)

@@ -1,5 +1,5 @@
 -- Which requests may want memory, as a handler says it: by the pieces of memory in which the bytes
--- behind their headers lie.
+-- after their headers lie.
 use Rattle.std.specs.Prelude.{◌⊎◌, ℕ, List, Option, Some, None}
 use Rattle.fuse_flags.specs.declared.opcode.Opcode.{Opcode}
 use Rattle.fuse_wire.specs.declared.headers.InHeader.{InHeader}
@@ -7,15 +7,15 @@ use Rattle.fuse_grammar.specs.Ask.{form_of}
 use Rattle.fuse_grammar.specs.Forms.{Form, layout_size}
 use Rattle.fuse_grammar.specs.Memory.{by_memory}
 use Rattle.fuse_grammar.specs.declared.limits.Limits.{Limits}
-use Rattle.fuse_messages.specs.Parts.{MayHoldContext, TailIsCut, pieces_behind}
+use Rattle.fuse_messages.specs.Parts.{MayHoldContext, TailIsCut, pieces_after}
 
--- memory may be wanted for a request of this form, where the bytes behind its header lie in these
+-- memory may be wanted for a request of this form, where the bytes after its header lie in these
 -- pieces: for a tail that is cut, for a context, or for pairs
 abbrev pub MayWantFor : InHeader → (pieces : List ℕ) → Form → Type 0
 MayWantFor h pieces form =
-    by_memory ⊥ (λ R layout. TailIsCut h (layout_size layout) (pieces_behind layout pieces))
+    by_memory ⊥ (λ R layout. TailIsCut h (layout_size layout) (pieces_after layout pieces))
     (λ R layout options.
-    TailIsCut h (layout_size layout) (pieces_behind layout pieces) ⊎ MayHoldContext options)
+    TailIsCut h (layout_size layout) (pieces_after layout pieces) ⊎ MayHoldContext options)
     (λ R layout above count. Unit {0}) form
 
 -- the same by the opcode

@@ -10,13 +10,13 @@ use Rattle.fuse_server.specs.Step.{ServerState, IsStep, ReadsDirectories}
 use Rattle.fuse_server.specs.declared.transport.error.ServeError.{ServeError}
 use Rattle.fuse_server.specs.declared.transport.error.ServeError.TheVariants.{OutOfMemory, Segments, Server, FileSystem}
 
--- a new writer over one room of so many bytes, which are zeros
+-- a new writer over one room of that many bytes, which are zeros
 abbrev pub room_of : (size : ℕ) → Written
 room_of size = unwritten (replicate size 0 ∷ [])
 
 module _ {S I : Type 0} (allows : S → Call → Handed I → S → Type 0)
     (gives : I → Option Item → I → Type 0) where
-  -- The server made a step, as the grammar says, with a room of so many bytes; if a directory was
+  -- The server made a step, as the grammar says, with a room of that many bytes; if a directory was
   -- read, it was read so.
   pub record Stepped (old : ServerState S) (request : List ℕ) (size : ℕ) (outcome : Result ℕ Error)
       (after : Written) (new : ServerState S) : Type 0 where
@@ -37,7 +37,7 @@ module _ {S I : Type 0} (allows : S → Call → Handed I → S → Type 0)
     pub after : Written
     pub stepped : Stepped old request size (Err error) after new
 
-  -- What came of a request with a room of so many bytes. Without memory for the room, nothing; and
+  -- What came of a request with a room of that many bytes. Without memory for the room, nothing; and
   -- one of 2^64 bytes or more there is not.
   abbrev pub Served : (old : ServerState S) → (request : List ℕ) → (size : ℕ)
       → Result (Vec ℕ Global) ServeError → (new : ServerState S) → Type 0

@@ -1,5 +1,5 @@
 //! The server: it reads a request's header, and has the request handled by its opcode: its call of
-//! the file system is made, and the reply put into the writer's room. The handlers stand in
+//! the file system is made, and the reply put into the writer's room. The handlers are in
 //! [`crate::handlers`].
 
 mod migration;
@@ -30,7 +30,7 @@ use fuse_messages::{Request, read_record};
 pub use fuse_messages::{
     get_extensions, parse_security_context, parse_sup_groups, reply_error, reply_ok, reply_readdir,
 };
-use fuse_segments::laws::together_behind_a_place;
+use fuse_segments::laws::together_after_a_place;
 use fuse_segments::{Reader, Writer};
 use fuse_wire::InHeader;
 use laws_turns::books::turns_keep_books;
@@ -164,11 +164,11 @@ impl<F: FileSystem> Server<F> {
     /// that `w` has left. Answers the reply's length in bytes, 0 where there is none.
     ///
     /// `DecodeMessage` where the header, a record, a tail or a list is not whole,
-    /// `InvalidHeaderLength` where `len` is less than what stands before a tail, or an extension is
+    /// `InvalidHeaderLength` where `len` is less than what is before a tail, or an extension is
     /// smaller than its header, `MissingParameter` where a name or a text isn't there or, before
     /// another part, has no end, `InvalidXattrSize` where the value of an extended attribute is not
     /// as long as its record says, the errors of [`get_extensions`](fuse_messages::get_extensions),
-    /// `InvalidCString` where a last name or text has no end or another byte behind it,
+    /// `InvalidCString` where a last name or text has no end or another byte after it,
     /// `OutOfMemory` where there is no memory for a list that is whole, a tail that is whole and
     /// cut between two segments, or a context among extensions. After any error but `EncodeMessage`
     /// no call was made, nothing was written, and the options are the old ones.
@@ -196,7 +196,7 @@ impl<F: FileSystem> Server<F> {
             → result ≢ Err Error.OutOfMemory }
     {
         directories_are_read();
-        together_behind_a_place();
+        together_after_a_place();
         give_up_hold(w);
         self.handle(alloc, &mut r, w)
     }

@@ -43,7 +43,7 @@ pub fn serve<F: FileSystem>(
     Ok(first_bytes(alloc, writer.into_segments(), len))
 }
 
-// A writer over one room of so many zeros.
+// A writer over one room of that many zeros.
 fn empty_room(alloc: Global, size: usize) -> Result<Writer, ServeError>
     ensures ok { IfOk result (λ w. w ≡ room_of size) }
     ensures memory { IfErr result (λ e. e ≡ OutOfMemory) }

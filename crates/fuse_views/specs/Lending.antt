@@ -1,4 +1,4 @@
--- What the borrow of a piece leaves behind.
+-- What the borrow of a piece leaves after.
 use Rattle.std.specs.Prelude.{ℕ, List}
 use Rattle.std.specs.Borrow.{Lends, MutBor, Fml, Array, u8}
 use mir.Syntax.{named}

@@ -82,7 +82,7 @@ concat-pieces_of span xs ok =
     ∙ ap (take span.total) (drop_at r.before (concat r.pieces ++ behind) (length r.before) refl)
     ∙ take_at (concat r.pieces) behind span.total (sym ok.total))
 
--- where the pieces of a room end with other bytes, as many as they were, those stand in place of
+-- where the pieces of a room end with other bytes, as many as they were, those are in place of
 -- them, and all else stays
 pub whole-same_room : (old new : Room) → IsSameRoom old new →
     whole_of new ≡ with_bytes_at (length old.before) (concat new.pieces) (whole_of old)

@@ -100,7 +100,7 @@ fn exchange(segments: &mut Vec<Vec<u8>>, lent: &mut Vec<u8>, place: usize, next:
 #[derive(Drop)]
 pub struct SlicesMut<'s> {
     segments: Vec<Vec<u8>>,
-    // The segment of the piece that was lent last. An empty one stands in its place.
+    // The segment of the piece that was lent last. An empty one is in its place.
     lent: Vec<u8>,
     place: usize,
     span: Span,

@@ -7,7 +7,7 @@ use Rattle.fuse_wire.specs.declared.bytes.Field.{Field}
 use Rattle.fuse_wire.specs.FieldLaws.{numbers_at-take}
 use Rattle.fuse_wire.specs.Fields.{numbers, numbers_at, little, width_of, field_number, spelled, spelled_onto, row, row_onto}
 
--- the part that was written, behind what stood before it
+-- the part that was written, after what stood before it
 pub placed : (i k : ℕ) (xs ys : List ℕ) → i + k ≤ length xs → length ys ≡ k → take (i + k) (put_mid i (i + k - i) xs ys) ≡ take i xs ++ ys
 placed i k xs ys long wide =
     let front : length (take i xs) ≡ i = length-take-le i xs (omega arith) in
@@ -18,7 +18,7 @@ pub spelled-append : (fs : List Field) (rest : List ℕ) → spelled fs ++ rest 
 spelled-append [] rest = refl
 spelled-append (f ∷ fs) rest = append_assoc (little (width_of f) (field_number f)) (spelled fs) rest ∙ ap (λ (t : List ℕ). little (width_of f) (field_number f) ++ t) (spelled-append fs rest)
 
--- numbers read behind the first k bytes
+-- numbers read after the first k bytes
 pub numbers_at-drop : (i k : ℕ) (ws bytes : List ℕ) → numbers_at i ws (drop k bytes) ≡ numbers_at (k + i) ws bytes
 numbers_at-drop i k [] bytes = refl
 numbers_at-drop i k (w ∷ ws) bytes =

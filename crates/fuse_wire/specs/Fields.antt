@@ -24,7 +24,7 @@ row [] xs = []
 row (w ∷ ws) [] = []
 row (w ∷ ws) (x ∷ xs) = little w x ++ row ws xs
 
--- the same, and what stands behind them
+-- the same, and what comes after them
 abbrev pub row_onto : List ℕ → List ℕ → List ℕ → List ℕ
 row_onto [] xs rest = rest
 row_onto (w ∷ ws) [] rest = rest
@@ -60,7 +60,7 @@ field_number (Two x) = x
 field_number (Four x) = x
 field_number (Eight x) = x
 
--- the bytes of the fields, and what stands behind them
+-- the bytes of the fields, and what comes after them
 abbrev pub spelled_onto : List Field → List ℕ → List ℕ
 spelled_onto [] rest = rest
 spelled_onto (f ∷ fs) rest = little (width_of f) (field_number f) ++ spelled_onto fs rest

@@ -8,7 +8,7 @@ abbrev pub counting : ℕ → ℕ → List ℕ
 counting i zero = []
 counting i (suc n) = i ∷ counting (suc i) n
 
--- a record of so many bytes: this is the value of the bytes 1, 2, 3, .., and these are its bytes
+-- a record of that many bytes: this is the value of the bytes 1, 2, 3, .., and these are its bytes
 abbrev pub LiesAs : {R : Type 0} → Table R → ℕ → R → Type 0
 LiesAs t n x = (value_of t (counting 1 n) ≡ x) × (bytes_of t x ≡ counting 1 n)
 

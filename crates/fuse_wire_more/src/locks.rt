@@ -120,7 +120,7 @@ impl ByteValued for LkIn {
 /// The reply to GETLK (`struct fuse_lk_out`, 24 bytes).
 #[derive(Clone, Copy, Debug, Default)]
 pub struct LkOut {
-    /// The lock that stands in the way.
+    /// The lock that is in the way.
     pub lk: FileLock,
 }
 

@@ -10,7 +10,7 @@ use Rattle.fuse_wire.specs.declared.headers.InHeader.{InHeader}
 use Rattle.fs_trait.specs.Calls.{Iterators, kind_of}
 use Rattle.fuse_grammar.specs.Ask.{ask, ask_number, form_of}
 use Rattle.fuse_grammar.specs.Words.{ask_header, refused}
-use Rattle.fuse_grammar.specs.Forms.{Ask, Ends, Asks, Lists, WithMemory, Form, Directories, Layout, ask_form, refused_or, faulted, within, space_behind_header, layout_record}
+use Rattle.fuse_grammar.specs.Forms.{Ask, Ends, Asks, Lists, WithMemory, Form, Directories, Layout, ask_form, refused_or, faulted, within, space_after_header, layout_record}
 use Rattle.fuse_grammar.specs.Listing.{Listing}
 use Rattle.fuse_grammar.specs.Reply.{echo_of}
 use Rattle.fuse_grammar.specs.Limits.{max_len}
@@ -20,7 +20,7 @@ use Rattle.fuse_grammar.specs.declared.error.Error.{Error}
 use Rattle.fuse_grammar.specs.declared.error.Error.TheVariants.{DecodeMessage, EncodeMessage}
 use Rattle.laws_turns.proofs.Table.{Shows, form_shown}
 
--- a call answers no iterator, and a directory has all the room behind a header
+-- a call answers no iterator, and a directory has all the room after a header
 abbrev pub IsUsual : (space : ℕ) → Ask → Type 0
 IsUsual space (Ends reply) = Unit {0}
 IsUsual space (Asks echo call) = kind_of call ≢ Iterators
@@ -39,13 +39,13 @@ module _ (P : Ask → Type 0) (h : InHeader) (rest : List ℕ) (refusal : (e : E
   limit true next p = fault enomem
   limit false next p = p
 
-  -- a directory is to be read, in the room that there is behind a header
+  -- a directory is to be read, in the room that there is after a header
   directories : {R : Type 0} (layout : Layout R) (above : R → Bool) (space : ℕ) (listing : R → ℕ → Listing)
-      → ((r : R) (n : ℕ) → space_behind_header space ≡ Ok n → P (Lists (echo_of h) (listing r n)))
+      → ((r : R) (n : ℕ) → space_after_header space ≡ Ok n → P (Lists (echo_of h) (listing r n)))
       → P (ask_form h rest (Directories layout above space listing))
   directories layout above space listing p =
       part (layout_record layout rest) _ (λ r is. limit (above r) _
-      (part (space_behind_header space) _ (λ n fits. p r n fits)))
+      (part (space_after_header space) _ (λ n fits. p r n fits)))
 
 pub room_for_records : (space n : ℕ) (short : Bool) → nat_lt space 16 ≡ short
     → (if short then Err EncodeMessage else Ok (space - 16)) ≡ Ok n → (16 ≤ space) × (n ≡ space - 16)
@@ -56,7 +56,7 @@ module _ (limits : Limits) (options space : ℕ) (h : InHeader) (rest : List ℕ
   -- what is to be shown of a form: of a directory more than of others
   abbrev Fit : Form → Type 0
   Fit (Directories {R} layout above room listing) =
-      (r : R) (n : ℕ) → space_behind_header room ≡ Ok n → IsUsual space (Lists (echo_of h) (listing r n))
+      (r : R) (n : ℕ) → space_after_header room ≡ Ok n → IsUsual space (Lists (echo_of h) (listing r n))
   Fit form = Shows (IsUsual space) h rest form
 
   by_form : (form : Form) → Fit form → IsUsual space (ask_form h rest form)

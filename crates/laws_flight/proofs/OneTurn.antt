@@ -4,7 +4,7 @@ use Rattle.std.specs.Prelude.{⊤}
 use Rattle.fuse_segments.specs.Written.{Written, Leaves}
 use Rattle.fs_trait.specs.Calls.{Call, Init, Data, kind_of, read_answer}
 use Rattle.fs_trait.specs.Runs.{Event, Called}
-use Rattle.fuse_messages.specs.Rooms.{Replies, with_behind}
+use Rattle.fuse_messages.specs.Rooms.{Replies, with_after}
 use Rattle.fuse_grammar.specs.Ask.{ask}
 use Rattle.fuse_grammar.specs.Forms.{Ask, Ends, Asks, Lists, WithMemory}
 use Rattle.fuse_grammar.specs.Listing.{Listing, given_back}
@@ -138,10 +138,10 @@ module _ (limits : Limits) (options interrupts : ℕ) (request : List ℕ) (aske
     (behind : List ℕ) (came : Answered) (new : Written)
     (same : length (old.left ++ behind) ≡ length asked_in.left)
     (calls : AnswersEachCall limits told a text old (Some came) new)
-    (listings : AnswersEachListing limits told a items (with_behind old behind) (Some came) (with_behind new behind)) where
+    (listings : AnswersEachListing limits told a items (with_after old behind) (Some came) (with_after new behind)) where
   turned : (asks : Ask) → IsUsual (length asked_in.left) asks
       → Tells ⊤ request options interrupts (length asked_in.left) asks asked_in asked.Call after told
-      → Turned limits options request a text items (with_behind old behind) came (with_behind new behind) asks
+      → Turned limits options request a text items (with_after old behind) came (with_after new behind) asks
   turned (Ends reply) usual t = absurd t
   turned (Asks echo call) usual t =
       let is : IsTold request options (length asked_in.left) echo call told = t.1 in
@@ -151,9 +151,9 @@ module _ (limits : Limits) (options interrupts : ℕ) (request : List ℕ) (aske
       sym (length-append old.left behind) ∙ same ∙ sym room in
       let c = calls echo call behind (tells_echo request options (length asked_in.left) echo call told is)
       (tells_call request options (length asked_in.left) echo call told is) usual long in
-      turned_call limits options request a text items (with_behind old behind) came (with_behind new behind)
+      turned_call limits options request a text items (with_after old behind) came (with_after new behind)
       echo call
-      (subst (λ (o : ℕ). CallIsAnswered limits echo call o a text (with_behind old behind) came (with_behind new behind))
+      (subst (λ (o : ℕ). CallIsAnswered limits echo call o a text (with_after old behind) came (with_after new behind))
       under c)
   turned (Lists echo l) usual t =
       let room : told.room ≡ length asked_in.left = ap (λ (c : CallData). c.room) t.1 in
@@ -165,12 +165,12 @@ module _ (limits : Limits) (options interrupts : ℕ) (request : List ℕ) (aske
         listing_is = ap listing_told t.1 ∙ listing_of options (length asked_in.left) echo l usual.1;
       })
       (same ∙ sym room) in
-      turned_listing limits options request a text items (with_behind old behind) came (with_behind new behind)
+      turned_listing limits options request a text items (with_after old behind) came (with_after new behind)
       echo l
-      (subst (λ (o : ℕ). ListingIsAnswered limits echo l o a items (with_behind old behind) came (with_behind new behind))
+      (subst (λ (o : ℕ). ListingIsAnswered limits echo l o a items (with_after old behind) came (with_after new behind))
       under c)
   turned (WithMemory rest) usual (inl t) =
-      with_memory limits options request a text items (with_behind old behind) came (with_behind new behind) rest
+      with_memory limits options request a text items (with_after old behind) came (with_after new behind) rest
       (turned rest usual t)
   turned (WithMemory rest) usual (inr t) = absurd t.1
 
@@ -186,11 +186,11 @@ are_one_turn limits options request asked_in after told a text items old behind 
       room_after = t.room_after;
       happened = subst (λ q. Happened limits q a text items (old.left ++ behind) came t.events) asks t.happened;
       leaves = t.leaves;
-      turn = subst (λ q. Follows (turn_of limits options request a text items (with_behind old behind) came (with_behind new behind) t.events t.room_after) limits options q came.options) asks t.follows;
+      turn = subst (λ q. Follows (turn_of limits options request a text items (with_after old behind) came (with_after new behind) t.events t.room_after) limits options q came.options) asks t.follows;
     }
 
-none_behind : (w : Written) → w ≡ with_behind w []
-none_behind w =
+none_after : (w : Written) → w ≡ with_after w []
+none_after w =
     ap (λ (left : List ℕ). let v : Written = record w { left = left } in v) (sym (append-nil w.left))
 
 -- what comes of both, with all the room for the answer
@@ -201,8 +201,8 @@ pub answered_turn : AreOneTurn → (limits : Limits) (options : ℕ) (request : 
     → length old.left ≡ length asked_in.left
     → AnswersEachCall limits told a text old result new
     → AnswersEachListing limits told a items old result new
-    → IfSome result (λ came. IsAnsweredTurn limits options request a text items (with_behind old []) came
-    (with_behind new []))
+    → IfSome result (λ came. IsAnsweredTurn limits options request a text items (with_after old []) came
+    (with_after new []))
 answered_turn law limits options request asked_in after told a text items old None new is same calls listings = tt
 answered_turn law limits options request asked_in after told a text items old (Some came) new is same calls listings =
     law limits options request asked_in after told a text items old [] came new (record {
@@ -210,8 +210,8 @@ answered_turn law limits options request asked_in after told a text items old (S
       same_room = ap length (append-nil old.left) ∙ same;
       call = calls;
       listing =
-          subst (λ (w : Written). AnswersEachListing limits told a items w (Some came) (with_behind new [])) (none_behind old)
-          (subst (λ (w : Written). AnswersEachListing limits told a items old (Some came) w) (none_behind new) listings);
+          subst (λ (w : Written). AnswersEachListing limits told a items w (Some came) (with_after new [])) (none_after old)
+          (subst (λ (w : Written). AnswersEachListing limits told a items old (Some came) w) (none_after new) listings);
     })
 
 -- ---- a request that is finished when it is asked

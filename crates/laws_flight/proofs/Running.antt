@@ -96,7 +96,7 @@ module _ {S I : Type 0} (allows : S → Call → Handed I → S → Type 0) (giv
     same_hand later at it e (inl same) = inl (e ∙ same)
     same_hand later at it e (inr none) = inr (e ∙ none)
 
-    -- one event, and the run behind it
+    -- one event, and the run after it
     led_on : (it at later : Option I) (old next new : S) (event : Event) (events : List Event) → AtHand at it
         → Leads allows gives limits at old event later next
         → ((now : Option I) → AtHand later now → IsRun allows gives now next events new)

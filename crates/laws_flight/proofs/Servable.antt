@@ -11,7 +11,7 @@ use Rattle.fuse_wire.specs.declared.headers.InHeader.{InHeader}
 use Rattle.fuse_wire_more.specs.declared.files.ReadIn.{ReadIn}
 use Rattle.fs_trait.specs.Calls.{Kind, Data, Iterators, kind_of}
 use Rattle.fuse_grammar.specs.Ask.{ask, ask_number, form_of, lists_too_much}
-use Rattle.fuse_grammar.specs.Forms.{Ask, Ends, Asks, Lists, WithMemory, Form, Directories, IntoRoom, Layout, ask_form, refused_or, faulted, within, space_behind_header, layout_record}
+use Rattle.fuse_grammar.specs.Forms.{Ask, Ends, Asks, Lists, WithMemory, Form, Directories, IntoRoom, Layout, ask_form, refused_or, faulted, within, space_after_header, layout_record}
 use Rattle.fuse_grammar.specs.Reply.{echo_of}
 use Rattle.fuse_grammar.specs.Limits.{max_len}
 use Rattle.fuse_grammar.specs.Listing.{Listing}
@@ -28,7 +28,7 @@ abbrev pub HasHeader : (space : ℕ) → Kind → Type 0
 HasHeader space (Data size) = 16 ≤ space
 HasHeader space kind = Unit {0}
 
--- a call answers no iterator; a directory has all the room behind a header, and its records are within the limit
+-- a call answers no iterator; a directory has all the room after a header, and its records are within the limit
 abbrev pub IsServable : (most space : ℕ) → Ask → Type 0
 IsServable most space (Ends reply) = Unit {0}
 IsServable most space (Asks echo call) = (kind_of call ≢ Iterators) × HasHeader space (kind_of call)
@@ -48,11 +48,11 @@ module _ (P : Ask → Type 0) (h : InHeader) (rest : List ℕ) (refusal : (e : E
   limit false next p = p refl
 
   directories : {R : Type 0} (layout : Layout R) (above : R → Bool) (space : ℕ) (listing : R → ℕ → Listing)
-      → ((r : R) (n : ℕ) → above r ≡ false → space_behind_header space ≡ Ok n → P (Lists (echo_of h) (listing r n)))
+      → ((r : R) (n : ℕ) → above r ≡ false → space_after_header space ≡ Ok n → P (Lists (echo_of h) (listing r n)))
       → P (ask_form h rest (Directories layout above space listing))
   directories layout above space listing p =
       part (layout_record layout rest) _ (λ r is. limit (above r) _ (λ small.
-      part (space_behind_header space) _ (λ n fits. p r n small fits)))
+      part (space_after_header space) _ (λ n fits. p r n small fits)))
 
 -- a size that is not too much is within the limit
 size_within : (limits : Limits) (space : ℕ) (r : ReadIn) (above room : Bool) → nat_lt limits.max_buffer r.size ≡ above
@@ -64,10 +64,10 @@ module _ (limits : Limits) (options space : ℕ) (h : InHeader) (rest : List ℕ
   -- what is to be shown of a form: of a directory and of data more than of others
   abbrev Fit : Form → Type 0
   Fit (Directories {R} layout above room listing) =
-      (r : R) (n : ℕ) → above r ≡ false → space_behind_header room ≡ Ok n
+      (r : R) (n : ℕ) → above r ≡ false → space_after_header room ≡ Ok n
       → IsServable limits.max_buffer space (Lists (echo_of h) (listing r n))
   Fit (IntoRoom {R} layout room call) =
-      (r : R) (n : ℕ) → space_behind_header room ≡ Ok n
+      (r : R) (n : ℕ) → space_after_header room ≡ Ok n
       → IsServable limits.max_buffer space (Asks (echo_of h) (call r n))
   Fit form = Shows (IsServable limits.max_buffer space) h rest form
 
@@ -76,12 +76,12 @@ module _ (limits : Limits) (options space : ℕ) (h : InHeader) (rest : List ℕ
       directories (IsServable limits.max_buffer space) h rest (λ e. tt) (λ number. tt) layout above room listing fit
   by_form (IntoRoom layout room call) fit =
       part (IsServable limits.max_buffer space) h rest (λ e. tt) (λ number. tt) (layout_record layout rest) _ (λ r is.
-      part (IsServable limits.max_buffer space) h rest (λ e. tt) (λ number. tt) (space_behind_header room) _ (λ n fits.
+      part (IsServable limits.max_buffer space) h rest (λ e. tt) (λ number. tt) (space_after_header room) _ (λ n fits.
       fit r n fits))
   by_form form fit =
       form_shown (IsServable limits.max_buffer space) h rest (λ e. tt) (λ number low high. tt) (λ a p. p) form fit
 
-  directory : (r : ReadIn) (n : ℕ) → lists_too_much limits space r ≡ false → space_behind_header space ≡ Ok n
+  directory : (r : ReadIn) (n : ℕ) → lists_too_much limits space r ≡ false → space_after_header space ≡ Ok n
       → (16 ≤ space) × (n ≡ space - 16) × (r.size ≤ limits.max_buffer)
   directory r n small fits =
       let room = room_for_records space n (nat_lt space 16) refl fits in

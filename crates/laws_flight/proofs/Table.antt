@@ -79,7 +79,7 @@ bits ext =
     ap (λ n. n + bit_of ext.group GROUP) (context_same ext.context)
     ∙ ap (λ n. bit (is_some ext.context) CONTEXT + n) (bit_same ext.group GROUP)
 
--- a context stands where the data say, or they say none
+-- a context is where the data say, or they say none
 context_told : (q : List ℕ) (told : CallData) (context : Option (List ℕ × List ℕ))
     → told.context_name.len ≡ (context_name_of context).len → told.context.len ≡ (context_value_of context).len
     → IsContextPlaced q context told → TellsContext q told context
@@ -522,17 +522,17 @@ unique_of : (short : Bool) (r : InterruptIn)
 unique_of true r = refl
 unique_of false r = refl
 
--- a request is as long as a header and what is behind it
+-- a request is as long as a header and what is after it
 short_before : (n : ℕ) (whole : Bool) → nat_lt n 40 ≡ true → nat_lt n 48 ≡ whole → whole ≡ true
 short_before n true h k = refl
 short_before n false h k = absurd (grind (arith, nat_tests, h, k))
 
-short_behind : (n : ℕ) (whole rest : Bool) → nat_lt n 40 ≡ false → nat_lt n 48 ≡ whole → nat_lt (n - 40) 8 ≡ rest
+short_after : (n : ℕ) (whole rest : Bool) → nat_lt n 40 ≡ false → nat_lt n 48 ≡ whole → nat_lt (n - 40) 8 ≡ rest
     → whole ≡ rest
-short_behind n true true h k l = refl
-short_behind n false false h k l = refl
-short_behind n true false h k l = absurd (grind (arith, nat_tests, h, k, l))
-short_behind n false true h k l = absurd (grind (arith, nat_tests, h, k, l))
+short_after n true true h k l = refl
+short_after n false false h k l = refl
+short_after n true false h k l = absurd (grind (arith, nat_tests, h, k, l))
+short_after n false true h k l = absurd (grind (arith, nat_tests, h, k, l))
 
 module _ (limits : Limits) (q : List ℕ) where
   abbrev header : InHeader
@@ -548,7 +548,7 @@ module _ (limits : Limits) (q : List ℕ) where
       ap (λ (b : Bool). if b || nat_lt (max_len limits) header.len || not (header.opcode == number_of Interrupt) then 0
       else (value_of interrupt_in rest).unique) (sym whole)
   by_header false is =
-      let whole = short_behind (length q) (nat_lt (length q) 48) (nat_lt (length rest) 8) is refl
+      let whole = short_after (length q) (nat_lt (length q) 48) (nat_lt (length rest) 8) is refl
       (ap (λ (n : ℕ). nat_lt n 8) (sym (length-drop 40 q))) in
       ap (λ (n : ℕ). if nat_lt (max_len limits) header.len then 0 else if header.opcode == number_of Interrupt then n else 0)
       (unique_of (nat_lt (length rest) 8) (value_of interrupt_in rest))

@@ -183,7 +183,7 @@ same_extensions q told kill kill' ext ext' bits group placed placed' =
 same_test : (n m : ℕ) → n ≡ m → (n == m) ≡ true
 same_test n m e = grind (arith, nat_tests, e)
 
--- two names that stand in one place
+-- two names that are in one place
 same_bytes : (bytes name other : List ℕ) → bytes ≡ name → bytes ≡ other → name ≡ other
 same_bytes bytes name other e f = sym e ∙ f
 

@@ -4,7 +4,7 @@ use Rattle.std.specs.Prelude.{◌≡◌, ◌++◌, ℕ, List, [], ◌∷◌, len
 use Rattle.fuse_segments.specs.Written.{Written, Leaves}
 use Rattle.fs_trait.specs.Calls.{Answer, kind_of}
 use Rattle.fs_trait.specs.Runs.{Event, Called}
-use Rattle.fuse_messages.specs.Rooms.{with_behind}
+use Rattle.fuse_messages.specs.Rooms.{with_after}
 use Rattle.fuse_grammar.specs.Ask.{ask}
 use Rattle.fuse_grammar.specs.Forms.{Ask, Ends, Asks, Lists, WithMemory}
 use Rattle.fuse_grammar.specs.Listing.{Listing, given_back}
@@ -24,7 +24,7 @@ use Rattle.door_answer.specs.declared.answered.Answered.{Answered}
 use Rattle.door_ask.specs.Asked.{IsAsked}
 use Rattle.door_ask.specs.declared.asked.Asked.TheVariants as asked
 
--- The events of a directory that was read from items that were offered, of which so many are in the reply.
+-- The events of a directory that was read from items that were offered, of which that many are in the reply.
 pub record AreOfItems (l : Listing) (a : AnswerData) (items : List ItemData) (taken : ℕ)
     (events : List Event) : Type 0 where
   pub records : List ℕ
@@ -33,7 +33,7 @@ pub record AreOfItems (l : Listing) (a : AnswerData) (items : List ItemData) (ta
   pub offered : IsOfferedBy a items l events records answer read taken
 
 -- What happened between ask and answer, of a request that asks this: the call that was told, with the
--- answer that the data say; and behind it, that the entry which is told to be given back was given back.
+-- answer that the data say; and after it, that the entry which is told to be given back was given back.
 -- Or that the directory was read from the items that were offered.
 abbrev pub Happened : Limits → Ask → AnswerData → (text : List ℕ) → (items : List ItemData)
     → (room : List ℕ) → Answered → List Event → Type 0
@@ -66,14 +66,14 @@ pub record IsAnsweredTurn (limits : Limits) (options : ℕ) (request : List ℕ)
   }) came.options
 
 -- A request was asked with this room, and a call told; and that was answered in as much room, of a READ
--- perhaps without the bytes behind the first ones.
+-- perhaps without the bytes after the first ones.
 pub record IsAskedAndAnswered (limits : Limits) (options : ℕ) (request : List ℕ) (asked_in after : Written)
     (told : CallData) (a : AnswerData) (text : List ℕ) (items : List ItemData) (old : Written)
     (behind : List ℕ) (came : Answered) (new : Written) : Type 0 where
   pub is_asked : IsAsked limits options request asked_in asked.Call after told
   pub same_room : length (old.left ++ behind) ≡ length asked_in.left
   pub call : AnswersEachCall limits told a text old (Some came) new
-  pub listing : AnswersEachListing limits told a items (with_behind old behind) (Some came) (with_behind new behind)
+  pub listing : AnswersEachListing limits told a items (with_after old behind) (Some came) (with_after new behind)
 
 -- each such request is one turn
 abbrev pub AreOneTurn : Type 0
@@ -82,8 +82,8 @@ AreOneTurn =
     (a : AnswerData) (text : List ℕ) (items : List ItemData) (old : Written) (behind : List ℕ)
     (came : Answered) (new : Written)
     → IsAskedAndAnswered limits options request asked_in after told a text items old behind came new
-    → IsAnsweredTurn limits options request a text items (with_behind old behind) came
-    (with_behind new behind)
+    → IsAnsweredTurn limits options request a text items (with_after old behind) came
+    (with_after new behind)
 
 -- A turn of the grammar without a call, of these bytes and this room, which leaves the options as they were.
 pub record IsFinishedTurn (limits : Limits) (options : ℕ) (request : List ℕ) (old : Written)

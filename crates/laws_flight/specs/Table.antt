@@ -41,14 +41,14 @@ of_request echo told = record nothing {
   context = empty_at told.context;
 }
 
--- The name and the value of a security context, where there is one, stand in the request where the data say so.
+-- The name and the value of a security context, where there is one, are in the request where the data say so.
 abbrev pub TellsContext : (q : List ℕ) → (told : CallData) → Option (List ℕ × List ℕ) → Type 0
 TellsContext q told None = (told.context_name.len ≡ 0) × (told.context.len ≡ 0)
 TellsContext q told (Some context) =
     IsNameIn q told.context_name context.0 × Stand q told.context context.1
 
 -- These data, which have this of their request, tell this call: all their numbers are those of its row, and its names
--- and values stand in the request where they say so.
+-- and values are in the request where they say so.
 module _ (q : List ℕ) (told c : CallData) where
   -- data of this call, which has this kind of answer; and of one by this caller, of this node
   abbrev pub asks : (number kind : ℕ) → CallData

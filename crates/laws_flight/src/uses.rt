@@ -3,7 +3,7 @@
 ghost use Rattle.std.specs.declared.option.Option.TheVariants.{None};
 ghost use Rattle.std.specs.Prelude.{◌≡◌, ◌≢◌, ◌≤◌, ◌+◌, ℕ, Bool, List, Option, [], ◌∷◌, length, true, IfSome};
 ghost use Rattle.fuse_flags.specs.Flags.{fs_options_bits};
-ghost use Rattle.fuse_messages.specs.Rooms.{with_behind};
+ghost use Rattle.fuse_messages.specs.Rooms.{with_after};
 ghost use Rattle.fs_trait.specs.Calls.{Call, Read};
 ghost use Rattle.fs_trait.specs.Values.{Item};
 ghost use Rattle.fs_trait.specs.declared.entry.Context.{Context};
@@ -54,7 +54,7 @@ fn ask_and_answer(
     requires room { length reply.old.left ≡ room }
     ensures { IfSome result (λ came.
         IsAnsweredTurn limits (fs_options_bits options) r.entry.left a.now text.now items.now
-        (with_behind reply.old []) came (with_behind reply.new [])) }
+        (with_after reply.old []) came (with_after reply.new [])) }
 {
     asked_and_answered_is_one_turn();
     match ask(alloc, limits, options, r, room, w, told) {
@@ -77,8 +77,8 @@ fn ask_alone(
     requires limits { AreLimits limits }
     requires enough { IsEnough (length w.old.left) room }
     ensures { (behind : List ℕ) → length w.old.left + length behind ≡ room → IfSome result (λ outcome.
-        IsFinishedTurn limits (fs_options_bits options) r.entry.left (with_behind w.old behind) outcome
-        (with_behind w.new behind)) }
+        IsFinishedTurn limits (fs_options_bits options) r.entry.left (with_after w.old behind) outcome
+        (with_after w.new behind)) }
 {
     a_finished_request_is_one_turn();
     match ask(alloc, limits, options, r, room, w, told) {
@@ -132,7 +132,7 @@ fn a_reading_alone_is_a_run<F: FileSystem>()
 }
 
 /// A request is asked and answered, and then another one: turns in order.
-fn one_behind_another()
+fn one_after_another()
     ensures { (limits : Limits) (a b : Waiting) (s t : Turn) (x y : ℕ) →
         IsTurnOf limits a s x → b.options ≡ x → IsTurnOf limits b t y →
         (after : ℕ) × AreTurns limits a.options (s ∷ t ∷ []) after }

@@ -37,7 +37,7 @@ before_or_past : (k m : ℕ) → (k < m) ⊎ (m ≤ k)
 before_or_past k m = grind (arith, nat_tests)
 
 module _ (n : ℕ) (some : n ≢ 0) (limits : Limits) where
-  -- of turns before which so much was answered (a), accepted (g), delivered (d) and sent (s)
+  -- of turns before which that much was answered (a), accepted (g), delivered (d) and sent (s)
   below_from : (options : ℕ) (turns : List Turn) (after : ℕ) → AreTurns limits options turns after
       → (a g d s : ℕ) → a + g ≡ d + s
       → ((k : ℕ) → g + sum_by (accepted n) (take k turns) ≤ d + sum_by (delivered n) (take k turns))

@@ -39,7 +39,7 @@ pub record HandlesEach {S I : Type 0} (allows : S → Call → Handed I → S �
   pub history : IsHistory allows gives old (map Handled turns) new
   pub books : KeepsBooks turns
 
--- Two requests were served, each with a room of so many bytes and by a reply of these: a turn each, and
+-- Two requests were served, each with a room of that many bytes and by a reply of these: a turn each, and
 -- the books of both are kept.
 pub record AreServed {S I : Type 0} (allows : S → Call → Handed I → S → Type 0)
     (gives : I → Option Item → I → Type 0) (old : ServerState S) (one two : List ℕ) (size : ℕ)

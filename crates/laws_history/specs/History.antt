@@ -51,7 +51,7 @@ turn_of_end = record {
   room_after = [];
 }
 
--- after each turn a client that had so many lookups of a node to begin with has given back no more of it
+-- after each turn a client that had that many lookups of a node to begin with has given back no more of it
 -- than these and those that were delivered to it
 abbrev pub GivesBackWithinHeld : (n held : ℕ) → List Turn → Type 0
 GivesBackWithinHeld n held turns =

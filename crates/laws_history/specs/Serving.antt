@@ -12,7 +12,7 @@ use Rattle.fuse_server.specs.declared.transport.error.ServeError.{ServeError}
 use Rattle.fuse_server.specs.declared.transport.error.ServeError.TheVariants.{OutOfMemory, Segments, Server, FileSystem}
 use Rattle.laws_history.specs.History.{Moment, Handled, IsHistory}
 
--- the turn of a request that came as these bytes, with a room of so many zeros, and had this outcome
+-- the turn of a request that came as these bytes, with a room of that many zeros, and had this outcome
 pub record IsTurnOf (request : List ℕ) (size : ℕ) (outcome : Result ℕ Error) (t : Turn) : Type 0 where
   pub asked : t.request ≡ request
   pub room : t.room ≡ replicate size 0

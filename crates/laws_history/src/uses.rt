@@ -62,7 +62,7 @@ fn handle_each<F: FileSystem>(
     }
 }
 
-/// Has a server handle a message, puts another file system behind it, and has it handle another one. The
+/// Has a server handle a message, puts another file system after it, and has it handle another one. The
 /// books of both turns balance, though the file system is another.
 fn exchange_between<F: FileSystem + Drop>(
     alloc: Global,

@@ -57,7 +57,7 @@ ascend-remove_entry test from to (e ∷ es) a =
     by true later = ascend_from from (e.0 + 1) to es (omega (arith, a.0)) a.1
     by false later = (a.0, later)
 
--- an entry behind the last
+-- an entry after the last
 pub ascend-insert_entry : (from to : ℕ) (es : List (ℕ × Node)) (w : Node)
     → Ascend from es to → Ascend from (insert_entry nat_cmp es to w) (to + 1)
 ascend-insert_entry from to [] w a = (a, omega arith)

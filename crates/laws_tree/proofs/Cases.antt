@@ -15,7 +15,7 @@ use Rattle.std.proofs.lemmas.Bool.{ltb-false, eqb-true, not-false}
 use Rattle.std.proofs.lemmas.List.{length-replicate}
 use Rattle.fs_contents.specs.Contents.{Contents, resized, allocated, punched, zeroed, fallocated, data_from, hole_from, lacking}
 use Rattle.fs_tree.specs.Children.{leading, is_directory, is_file, is_link}
-use Rattle.fs_tree.specs.Listing.{items_behind}
+use Rattle.fs_tree.specs.Listing.{items_after}
 use Rattle.fs_tree.specs.Node.{attr_of, entry_of, lasting, weight, rewritten, is_other, truncates, opened, set_attr, overwritten, kind_by_mode, new_node, accessed}
 use Rattle.fs_tree.specs.Outcome.{Outcome, Refused, Answered, Tried, Ends, done, first_of, unless, with_it, on}
 use Rattle.fs_tree.specs.Rename.{same_node, rename_refusal, renamed}
@@ -53,7 +53,7 @@ taken_pairs old (Init _) = held_of old.nodes
 taken_pairs old Destroy = held_of old.nodes
 taken_pairs old call = forgets_of call
 
--- so many inodes more are counted
+-- that many inodes more are counted
 abbrev pub more_inodes : (count : ℕ) → State → State
 more_inodes count s = record s { inodes = s.inodes + count }
 
@@ -75,7 +75,7 @@ IsTold (Iterator items) = ⊥
 -- what is answered where a node was read: of a directory what it holds, and no entry
 abbrev pub Reads : (number : ℕ) → Node → Handed (List Item) → Type 0
 Reads n node (Plain answer) = entry_node answer ≡ []
-Reads n node (Iterator items) = (off : ℕ) × (size : ℕ) × (items ≡ items_behind n node off size)
+Reads n node (Iterator items) = (off : ℕ) × (size : ℕ) × (items ≡ items_after n node off size)
 
 -- what a fact holds of: the state itself, and what each change leaves, with the lookups that are taken
 -- back and what is answered
@@ -751,7 +751,7 @@ module _ (old : State) (P : List (ℕ × ℕ) → Handed (List Item) → State �
   covered (Readdir c n h size off) =
       let call = (Readdir c n h size off) in
       let fails : Fails old call = (refl, λ e. refl) in
-      let reply : Node → Handed (List Item) = λ node. Iterator (items_behind n node off size) in
+      let reply : Node → Handed (List Item) = λ node. Iterator (items_after n node off size) in
       let last = λ (node : Node). with_node old n (accessed old.now node) in
       let none = λ (node : Node). first_of ((not (is_directory node.kind), enotdir) ∷ []) in
       each-some (Fails old call) (Leaves call) fails enoent (node_at old n)

@@ -153,7 +153,7 @@ module _ (s : State) (sound : IsSound s) (linked : IsLinked s) (node : Node)
       ∙ sym (ap (λ o. names_in m (links_in o)) free_next)))
       (λ apart. ap (λ o. names_in m (links_in o)) (node_at-with_new_other s e node apart))
 
-  -- so many more names each node says that it has than lead to it
+  -- that many more names each node says that it has than lead to it
   counted_by : (more : ℕ → ℕ) → more s.next ≡ node.names → ((m : ℕ) → m ≢ s.next → more m ≡ 0) → (m : ℕ)
       → names_of (node_at mid m) ≡ names_to mid m + one m 1 + more m
   counted_by more here other m =

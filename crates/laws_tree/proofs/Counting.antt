@@ -48,12 +48,12 @@ rest_enough n held now e es enough is k =
 
 -- ---- runs
 
--- so many lookups of a node are held, which were `held` before these events
+-- that many lookups of a node are held, which were `held` before these events
 abbrev pub Holds : (new : State) (held : ℕ) → List Event → (n : ℕ) → Type 0
 Holds new held events n =
     NeverBelowHeld n held events → lookups_of new n + sent n events ≡ held + answered n events
 
--- a tree, in which of each node so many lookups are held
+-- a tree, in which of each node that many lookups are held
 pub record Counted (old new : State) (events : List Event) : Type 0 where
   pub tree : IsTree new
   pub lookups : (n : ℕ)
@@ -159,7 +159,7 @@ module _ (law : CallsKeepTrees) (readings : ReadingsMoveATime) where
 
 module _ (old new : State) (turns : List Turn) (c : Counted old new (events_in turns))
     (last : LastTurns turns) (books : KeepsBooks (last_turns turns)) where
-  -- so many lookups are held after the turns of the last client
+  -- that many lookups are held after the turns of the last client
   counts_turns : (n : ℕ)
       → Holds new (held_by_last old turns n) (events_in (last_turns turns)) n
   counts_turns n =

@@ -24,7 +24,7 @@ keeps_both a b c first more =
     let second = more first.sound in
     record { sound = second.sound; lookups = λ m. second.lookups m ∙ first.lookups m }
 
--- the lookups of one node are so many, and of others as they were
+-- the lookups of one node are that many, and of others as they were
 lookups_at : (s : State) (n m : ℕ) (new : State) (o : Option Node) → node_at s n ≡ o
     → lookups_of new n ≡ lookups_in o → (m ≢ n → lookups_of new m ≡ lookups_of s m)
     → lookups_of new m ≡ lookups_of s m

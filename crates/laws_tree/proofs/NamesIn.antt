@@ -105,7 +105,7 @@ pub apart_relinked : (name : List ℕ) (child : Child) (xs : List (ℕ × Link))
 apart_relinked name child xs apart =
     apart_mapped (relinked name child) (relinked_name xs name child) xs apart
 
--- behind a link no other has its name
+-- after a link no other has its name
 others_named : (name : List ℕ) (x : ℕ × Link) (xs : List (ℕ × Link)) → Apart (x ∷ xs)
     → is_named name x ≡ true → AllByRecursion (λ other. is_named name other ≡ false) xs
 others_named name x xs apart same =

@@ -16,7 +16,7 @@ use Rattle.laws_tree.proofs.NamesIn.{one, one_same, one_other, root_one, names_i
 use Rattle.fs_tree.proofs.Nodes.{node_at-with_node, node_at-with_node_other, node_at-without_node_other, node_at-with_new, node_at-with_new_other}
 use Rattle.laws_tree.proofs.Tables.{links_in, names_at, kind_in, kind_at, is_dir, names_at_most, free_number, gone_number}
 
--- the names that a node of this kind and of so many names holds
+-- the names that a node of this kind and of that many names holds
 pub record Shape (kind : Kind) (names : ℕ) (links : List (ℕ × Link)) : Type 0 where
   pub apart : Apart links
   pub files : is_directory kind ≡ false → links ≡ []
@@ -155,7 +155,7 @@ module _ (s : State) (k : ℕ) (node : Node) (sound : IsSound s) where
 abbrev pub Counted : State → Type 0
 Counted s = (n : ℕ) → names_of (node_at s n) ≡ names_to s n + one n 1
 
--- names of directories stand where these say that they lie
+-- names of directories are where these say that they lie
 abbrev pub Home : State → (number : ℕ) → Type 0
 Home s c =
     is_dir (kind_at s c) ≡ true → (d : ℕ) → d ≢ parent_of (node_at s c) → names_at s d c ≡ 0

@@ -24,7 +24,7 @@ use Rattle.laws_tree.proofs.Keeping.{there-change, Keeps, keeps_itself, keeps-wi
 use Rattle.laws_tree.proofs.Changes.{forgotten_at, made, held_of, nameless}
 use Rattle.laws_tree.proofs.Telling.{told_sound}
 
--- a sound state, in which so many lookups are held as were, with those that were given and without those
+-- a sound state, in which that many lookups are held as were, with those that were given and without those
 -- that were taken back
 pub record Counts (old new : State) (taken : List (ℕ × ℕ)) (given : List ℕ) : Type 0 where
   pub sound : IsSound new
@@ -122,7 +122,7 @@ module _ (s : State) (n : ℕ) (node : Node) (parent : ℕ) (name : List ℕ) (s
 
 -- ---- FORGET
 
--- so many lookups of a node are taken back
+-- that many lookups of a node are taken back
 back_here : (n count m : ℕ) → n ≡ m → forgotten m ((n, count) ∷ []) ≡ count
 back_here n count m e = search (rules, tests)
 

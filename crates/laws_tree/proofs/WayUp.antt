@@ -88,7 +88,7 @@ some_link n P (link ∷ links) all some =
         sum_by-cons one link links in
         more (omega (arith, some, here, step))
 
--- a directory that a name of a node stands in
+-- a directory that a name of a node is in
 record Holds (n from : ℕ) (es : List (ℕ × Node)) : Type 0 where
   directory : ℕ
   node : Node
@@ -182,7 +182,7 @@ found_name links name child (Some link) is found = record {
 }
 
 module _ (s : State) (linked : IsLinked s) (d : ℕ) (name : List ℕ) (child : Child) where
-  -- what stands in a directory makes it one that has a name
+  -- what is in a directory makes it one that has a name
   pub names_place : child_at s d name ≡ Some child → IsPlaced s d
   names_place found = by (node_at s d) refl found
     where

@@ -39,7 +39,7 @@ inodes_in s = sum_by inodes_of (values_of s.nodes)
 
 -- ---- entries
 
--- an entry behind the last
+-- an entry after the last
 record Adds (es fs : List (ℕ × Node)) (w : Node) : Type 0 where
   pub sum : (h : Node → ℕ) → sum_by h (values_of fs) ≡ sum_by h (values_of es) + h w
   pub short : (most : ℕ) → AreShort most es → IsShort most w → AreShort most fs

@@ -8,7 +8,7 @@ use Rattle.fs_trait.specs.Values.{Item}
 use Rattle.fs_trait.specs.Calls.{Call, Init, Destroy, Answer, Handed, Plain, Iterator}
 use Rattle.fuse_grammar.specs.Books.{times, forgotten, answered_nodes, forgets_of}
 use Rattle.fs_tree.specs.Children.{Link, is_directory, is_file}
-use Rattle.fs_tree.specs.Listing.{items_behind}
+use Rattle.fs_tree.specs.Listing.{items_after}
 use Rattle.fs_tree.specs.Node.{weight, accessed}
 use Rattle.fs_tree.specs.Rename.{parent_of}
 use Rattle.fs_tree.specs.State.{State, node_at, with_node}
@@ -35,7 +35,7 @@ abbrev pub Ascend : (from : ℕ) → List (ℕ × Node) → (to : ℕ) → Type 
 Ascend from [] to = from ≤ to
 Ascend from (e ∷ es) to = (from ≤ e.0) × Ascend (e.0 + 1) es to
 
--- The nodes stand in order of their numbers, from 1 to below the next one, and of each a name leads to
+-- The nodes are in order of their numbers, from 1 to below the next one, and of each a name leads to
 -- it or a lookup is held.
 pub record IsSound (s : State) : Type 0 where
   pub ordered : Ascend 1 s.nodes s.next
@@ -48,7 +48,7 @@ taken_back old (Init _) n = lookups_of old n
 taken_back old Destroy n = lookups_of old n
 taken_back old call n = forgotten n (forgets_of call)
 
--- Of a node of which a call takes back no more lookups than are held, so many are held then as were, with
+-- Of a node of which a call takes back no more lookups than are held, that many are held then as were, with
 -- those that it gives, by the entry that it answers, and without those that it takes back.
 abbrev pub CountsLookups : State → Call → Answer → State → Type 0
 CountsLookups old call answer new =
@@ -69,7 +69,7 @@ CallsAreSound =
 abbrev pub inodes_of : Node → ℕ
 inodes_of node = max 1 node.names
 
--- a file has at most so many bytes
+-- a file has at most that many bytes
 abbrev pub IsShort : (most : ℕ) → Node → Type 0
 IsShort most node = is_file node.kind ≡ true → length node.contents.bytes ≤ most
 
@@ -144,7 +144,7 @@ CallsKeepLinks =
 
 -- ---- the way up
 
--- the directory so many steps above a node
+-- the directory that many steps above a node
 abbrev pub above : State → (steps number : ℕ) → ℕ
 above s zero n = n
 above s (suc k) n = above s k (parent_of (node_at s n))
@@ -182,7 +182,7 @@ pub record LeavesLookups (old new : State) : Type 0 where
   pub tree : IsTree old → IsTree new
   pub lookups : (n : ℕ) → lookups_of new n ≡ lookups_of old n
 
--- a reading of a directory began: it tells what this holds behind an offset, and but for its time of access,
+-- a reading of a directory began: it tells what this holds after an offset, and but for its time of access,
 -- which moves as in any reading, all is as it was
 pub record BeginsReading (old : State) (items : List Item) (new : State) : Type 0 where
   pub number : ℕ
@@ -190,7 +190,7 @@ pub record BeginsReading (old : State) (items : List Item) (new : State) : Type 
   pub off : ℕ
   pub size : ℕ
   pub there : node_at old number ≡ Some directory
-  pub told : items ≡ items_behind number directory off size
+  pub told : items ≡ items_after number directory off size
   pub left : new ≡ with_node old number (accessed old.now directory)
 
 -- a reading that begins does no more, and so keeps a tree one, with its lookups

@@ -19,7 +19,7 @@ takes_all (Called (Init _) answer) = true
 takes_all (Called Destroy answer) = true
 takes_all _ = false
 
--- those behind the last that passes a test; all of them where none does
+-- those after the last that passes a test; all of them where none does
 abbrev pub since : {A : Type 0} → (A → Bool) → List A → List A
 since test [] = []
 since test (x ∷ xs) = if list_any test xs then since test xs else if test x then xs else x ∷ xs
@@ -29,7 +29,7 @@ abbrev pub held_before : (ended : Bool) → State → (n : ℕ) → ℕ
 held_before ended old n = if ended then 0 else lookups_of old n
 
 -- A run keeps a tree one. Of a node of which no more lookups are sent back than were answered, after each
--- event since all were taken back, so many are held then as were to begin with, with those that were
+-- event since all were taken back, that many are held then as were to begin with, with those that were
 -- answered since and without those that were sent back.
 abbrev pub RunsKeepTrees : Type 0
 RunsKeepTrees =
@@ -53,7 +53,7 @@ abbrev pub held_by_last : State → List Turn → (n : ℕ) → ℕ
 held_by_last old turns n = held_before (list_any ends_client turns) old n
 
 -- What the books of turns say of a tree, which stays one. Of a node of which the last client gave back no
--- more than was delivered to it, after each turn, so many lookups are held then as were to begin with, with
+-- more than was delivered to it, after each turn, that many lookups are held then as were to begin with, with
 -- those that were delivered to it and without those that were accepted of it.
 pub record KeepsTree (old : State) (turns : List Turn) (new : State) : Type 0 where
   pub tree : IsTree new

@@ -17,7 +17,7 @@ use Rattle.fuse_grammar.specs.Ask.{form_of, ask_number, ask}
 use Rattle.fuse_grammar.specs.Words.{ask_header, refused, silent}
 use Rattle.fuse_grammar.specs.Memory.{header_of}
 use Rattle.fuse_grammar.specs.FormParts.{second_or_refusal, both_or_refusal, sized_or_refusal, name_or_refusal, flags2_in}
-use Rattle.fuse_grammar.specs.Forms.{Ask, Ends, Asks, Lists, WithMemory, within, refused_or, tail_of, pairs_of, pairs_in, second_flags, ask_version, Layout, Without, Record, layout_record, Form, NoTail, NameTail, TwoNames, NameAndValue, NameAndExtensions, LinkAndExtensions, Pairs, WithRest, IntoRoom, Directories, Versions, Silent, NotServed, space_behind_header, ask_form, extended_in, link_in_tail}
+use Rattle.fuse_grammar.specs.Forms.{Ask, Ends, Asks, Lists, WithMemory, within, refused_or, tail_of, pairs_of, pairs_in, second_flags, ask_version, Layout, Without, Record, layout_record, Form, NoTail, NameTail, TwoNames, NameAndValue, NameAndExtensions, LinkAndExtensions, Pairs, WithRest, IntoRoom, Directories, Versions, Silent, NotServed, space_after_header, ask_form, extended_in, link_in_tail}
 use Rattle.fuse_grammar.specs.Listing.{Listing}
 use Rattle.laws_turns.specs.Turns.{unique_of}
 use Rattle.fuse_grammar.specs.Books.{opcode_in}
@@ -91,7 +91,7 @@ module _ (P : Ask → Type 0) (unique : ℕ) (each : EachCase P unique) where
   room_test false room n next test cramped p = p
 
   pub room_cases : (room : ℕ) (next : ℕ → Ask) → (room < size_of out_header → P (refused EncodeMessage))
-      → ((room_for_data : ℕ) → P (next room_for_data)) → P (refused_or (space_behind_header room) next)
+      → ((room_for_data : ℕ) → P (next room_for_data)) → P (refused_or (space_after_header room) next)
   room_cases room next cramped p =
       room_test (nat_lt room (size_of out_header)) room (room - size_of out_header) next refl cramped (p (room - size_of out_header))
 

@@ -54,7 +54,7 @@ module _ (n : ℕ) (some : n ≢ 0) (ctx : Context) where
   nodes_back (Create _ _ _ _ _ _ _ _) answer is = creations_back answer is
   nodes_back _ answer is = refl
 
--- of a call and what is given back behind it only the last gives back anything
+-- of a call and what is given back after it only the last gives back anything
 pub call_last : (n : ℕ) (ctx : Context) (kind : Kind) (c : Call) (answer : Answer) (room : ℕ) (reply : Reply) (events : List Event)
     → AreForgets kind (forgets_of c) → events ≡ Called c answer ∷ given_back ctx (unseen room reply (node_answered kind answer)) → LastOnly n events
 call_last n ctx Quiet c answer room reply events none e = one_event n (Called c answer) events e

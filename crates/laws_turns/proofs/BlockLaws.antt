@@ -28,10 +28,10 @@ head_is-read bytes b behind is =
     ap (value_of ext_header) is.parts ∙ sym (value_of-take ext_header 8 (is.head ++ (b.body ++ behind)) (omega arith))
     ∙ ap (value_of ext_header) (take_at is.head (b.body ++ behind) 8 is.whole_head) ∙ is.says
 
--- what stands behind a block
-pub behind_block : (bytes : List ℕ) (b : Block) (behind : List ℕ) → IsBlock bytes b behind
+-- what comes after a block
+pub after_block : (bytes : List ℕ) (b : Block) (behind : List ℕ) → IsBlock bytes b behind
     → drop (block_size bytes) bytes ≡ behind
-behind_block bytes b behind is =
+after_block bytes b behind is =
     let size : block_size bytes ≡ 8 + length b.body = ap (λ (r : ExtHeader). r.size) (head_is-read bytes b behind is) in
     let parts : bytes ≡ (is.head ++ b.body) ++ behind = is.parts ∙ sym (append_assoc is.head b.body behind) in
     ap (λ (n : ℕ). drop n bytes) size ∙ ap (drop (8 + length b.body)) parts

@@ -104,12 +104,12 @@ IsReply-answer body unique _ short = IsReply-body body unique short
 pub replies_hold : (P : Reply → Type 0) (limits : Limits) (echo : Echo) (options : ℕ) (kind : Kind) (answer : Answer)
     → IsAnswer kind answer → P NoReply → ((reply : List ℕ) → IsReply echo.unique reply → P (Bytes reply))
     → ((reply : List ℕ) → IsReply echo.unique reply → P (OpenBehind reply)) → P (reply_of limits echo options kind answer)
-replies_hold P limits echo options Quiet answer a none bytes open_behind = none
-replies_hold P limits echo options Untold Done a none bytes open_behind = none
-replies_hold P limits echo options (Data size) answer a none bytes open_behind =
-    open_behind _ (IsReply-answer (body_of answer) echo.unique answer (bodies_are_short (Data size) answer a))
-replies_hold P limits echo options Agreements answer a none bytes open_behind =
+replies_hold P limits echo options Quiet answer a none bytes open_after = none
+replies_hold P limits echo options Untold Done a none bytes open_after = none
+replies_hold P limits echo options (Data size) answer a none bytes open_after =
+    open_after _ (IsReply-answer (body_of answer) echo.unique answer (bodies_are_short (Data size) answer a))
+replies_hold P limits echo options Agreements answer a none bytes open_after =
     let out = init_out_of limits echo.max_readahead options in
     bytes _ (IsReply-answer (bytes_of init_out out) echo.unique answer (init_out_is_short out))
-replies_hold P limits echo options kind answer a none bytes open_behind =
+replies_hold P limits echo options kind answer a none bytes open_after =
     bytes _ (IsReply-answer (body_of answer) echo.unique answer (bodies_are_short kind answer a))

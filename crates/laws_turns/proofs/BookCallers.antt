@@ -11,7 +11,7 @@ use Rattle.fs_trait.specs.declared.entry.Entry.{Entry}
 use Rattle.fuse_grammar.specs.Words.{u64_at, GivesBackWithin}
 use Rattle.fuse_grammar.specs.Turn.{Turn}
 use Rattle.fuse_grammar.specs.declared.error.Error.{Error}
-use Rattle.fuse_grammar.specs.Books.{times, opcode_in, nodes_behind, delivered, delivered_by, accepted, accepted_by, answered, sent}
+use Rattle.fuse_grammar.specs.Books.{times, opcode_in, nodes_after, delivered, delivered_by, accepted, accepted_by, answered, sent}
 use Rattle.fuse_grammar.specs.Samples.{reply_of_node_5, batch_of_two}
 
 -- the books of a node balance over one turn
@@ -34,14 +34,14 @@ delivers_once t call entry books called counted none five whole =
 
 -- what a reply with an entry of node 5 delivers, by the opcode of its request
 reply_delivers : (opcode : Option Opcode) (behind : List ℕ)
-    → ((reply : List ℕ) → nodes_behind opcode reply ≡ u64_at 16 reply ∷ [])
+    → ((reply : List ℕ) → nodes_after opcode reply ≡ u64_at 16 reply ∷ [])
     → delivered_by 5 opcode (Ok 144) (reply_of_node_5 ++ behind) ≡ 1
 unfolding number
 reply_delivers opcode behind has = ap (times 5) (has (take 144 (reply_of_node_5 ++ behind)))
 
 -- such a reply was answered by the file system
 pub reply_was_answered : (t : Turn) (opcode : Opcode) (behind : List ℕ) → Balances 5 t
-    → opcode_in t.request ≡ Some opcode → ((reply : List ℕ) → nodes_behind (Some opcode) reply ≡ u64_at 16 reply ∷ [])
+    → opcode_in t.request ≡ Some opcode → ((reply : List ℕ) → nodes_after (Some opcode) reply ≡ u64_at 16 reply ∷ [])
     → t.outcome ≡ Ok 144 → t.room_after ≡ reply_of_node_5 ++ behind → 1 ≤ answered 5 t.events
 reply_was_answered t opcode behind books asked has whole room =
     let d : delivered 5 t ≡ 1 =

@@ -93,7 +93,7 @@ cut_short_is_given_back = refl
 cut_short_is_not_delivered : delivered 5 cut_short ≡ 0
 cut_short_is_not_delivered = refl
 
--- whatever stands behind the header of a fault is no node: -2 in four bytes is fe ff ff ff
+-- whatever comes after the header of a fault is no node: -2 in four bytes is fe ff ff ff
 fault_delivers_nothing : delivered 5 (lookup 5 24 None (Ok 24) (((four 24 ++ (0xfe ∷ 0xff ∷ 0xff ∷ 0xff ∷ [])) ++ eight 9) ++ eight 5)) ≡ 0
 unfolding number opcode_of
 fault_delivers_nothing = refl

@@ -16,7 +16,7 @@ use Rattle.fuse_grammar.specs.Forms.{pairs_of}
 use Rattle.fuse_grammar.specs.Reply.{body_reply, fault_reply}
 use Rattle.fuse_grammar.specs.Words.{fault_number, u32_at, u64_at, pairs_at}
 use Rattle.fuse_grammar.proofs.Rooms.{length-header}
-use Rattle.fuse_grammar.specs.Books.{nodes_behind, delivered_nodes}
+use Rattle.fuse_grammar.specs.Books.{nodes_after, delivered_nodes}
 
 -- ---- headers
 
@@ -70,9 +70,9 @@ delivered_nodes-fault opcode fault unique a b =
     let f : nat_eq (u32_at 4 (fault_reply fault unique)) 0 ≡ false = grind (arith, nat_tests) in
     rw f refl
 
--- a body delivers what stands behind its header
+-- a body delivers what comes after its header
 pub delivered_nodes-body : (opcode : Option Opcode) (body : List ℕ) (unique : ℕ)
-    → delivered_nodes opcode (body_reply body unique) ≡ nodes_behind opcode (body_reply body unique)
+    → delivered_nodes opcode (body_reply body unique) ≡ nodes_after opcode (body_reply body unique)
 delivered_nodes-body opcode body unique = rw (error-body body unique) refl
 
 -- the number that a body begins with

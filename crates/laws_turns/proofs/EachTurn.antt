@@ -114,7 +114,7 @@ never_second limits options after t f o = answers limits options after t Invalid
 -- ---- memory
 
 module _ (limits : Limits) (options after : ℕ) (t : Turn) (lacks : t.outcome ≡ Err OutOfMemory) where
-  -- behind what doesn't take memory, it isn't wanted
+  -- after what doesn't take memory, it isn't wanted
   Gives : Type 0 → Ask → Type 0
   Gives Q a = Follows t limits options a after → Q
 
@@ -137,7 +137,7 @@ module _ (limits : Limits) (options after : ℕ) (t : Turn) (lacks : t.outcome �
   is_ok : {A : Type 0} (r : Result A Error) (x : A) → r ≡ Ok x → IsOk r
   is_ok r x e = subst IsOk (sym e) refl
 
-  -- where memory may be wanted by the form, it is; behind a request of another form it isn't
+  -- where memory may be wanted by the form, it is; after a request of another form it isn't
   memory_tail : {R : Type 0} (h : InHeader) (rest : List ℕ) (l : Layout R) (next : R → List ℕ → Ask)
       → Gives (TailIsWhole h rest l)
       (refused_or (layout_record l rest) (λ r. refused_or (tail_of h (layout_size l) (behind l rest)) (λ tail. WithMemory (next r tail))))

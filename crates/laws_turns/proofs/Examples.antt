@@ -89,9 +89,9 @@ lookup_past_the_end : ask usual 0 144 (header 44 1 9 1 ++ (0x61 ∷ 0 ∷ [])) �
 unfolding number little opcode_of
 lookup_past_the_end = refl
 
-bytes_behind_len_are_ignored : ask usual 0 144 (header 42 1 9 1 ++ (0x61 ∷ 0 ∷ 0x62 ∷ [])) ≡ WithMemory (Asks (echo 9) (call.Lookup nobody 1 (0x61 ∷ [])))
+bytes_after_len_are_ignored : ask usual 0 144 (header 42 1 9 1 ++ (0x61 ∷ 0 ∷ 0x62 ∷ [])) ≡ WithMemory (Asks (echo 9) (call.Lookup nobody 1 (0x61 ∷ [])))
 unfolding number little opcode_of
-bytes_behind_len_are_ignored = refl
+bytes_after_len_are_ignored = refl
 
 lookup_of_the_empty_name : ask usual 0 144 (header 41 1 9 1 ++ (0 ∷ [])) ≡ WithMemory (Asks (echo 9) (call.Lookup nobody 1 []))
 unfolding number little opcode_of
@@ -197,7 +197,7 @@ open_that_keeps_privileges : ask usual 0 32 (header 48 14 9 1 ++ (four 2 ++ four
 unfolding number little opcode_of
 open_that_keeps_privileges = refl
 
--- READ: the call is told of the room behind a header; the record comes before the room is judged
+-- READ: the call is told of the room after a header; the record comes before the room is judged
 read : ask usual 0 18 (header 80 15 9 2 ++ ((zeros 16 ++ four 3) ++ zeros 20)) ≡ Asks (echo 9) (call.Read nobody 2 0 2 3 0 None 0)
 unfolding number little opcode_of
 read = refl
@@ -253,7 +253,7 @@ readdir_cut_short : ask usual 0 8 (header 80 28 9 1 ++ zeros 39) ≡ refused Dec
 unfolding number little opcode_of
 readdir_cut_short = refl
 
--- WRITE: all bytes behind the record are the call's, whatever `len` and `size` say
+-- WRITE: all bytes after the record are the call's, whatever `len` and `size` say
 write : ask usual 0 24 (header 83 16 9 2 ++ (((zeros 16 ++ four 5) ++ zeros 20) ++ (0x48 ∷ 0x45 ∷ 0x59 ∷ []))) ≡ Asks (echo 9) (call.Write nobody 2 0 (0x48 ∷ 0x45 ∷ 0x59 ∷ []) 5 0 None false false 0)
 unfolding number little opcode_of
 write = refl
@@ -368,7 +368,7 @@ link_without_a_name : ask usual 0 144 (header 48 13 9 1 ++ eight 5) ≡ WithMemo
 unfolding number little opcode_of
 link_without_a_name = refl
 
--- SYMLINK: the link's name stands first, and the call is told its text first
+-- SYMLINK: the link's name is first, and the call is told its text first
 symlink : ask usual 0 144 (header 44 6 9 1 ++ (0x6e ∷ 0 ∷ 0x74 ∷ 0 ∷ [])) ≡ WithMemory (Asks (echo 9) (call.Symlink nobody (0x74 ∷ []) 1 (0x6e ∷ []) no_extensions))
 unfolding number little opcode_of extensions_in
 symlink = refl
@@ -381,7 +381,7 @@ symlink_to_a_text_without_end : ask usual 0 144 (header 43 6 9 1 ++ (0x6e ∷ 0 
 unfolding number little opcode_of extensions_in
 symlink_to_a_text_without_end = refl
 
--- MKNOD, MKDIR and CREATE: with no option agreed on, what is behind the name is ignored
+-- MKNOD, MKDIR and CREATE: with no option agreed on, what is after the name is ignored
 mknod : ask usual 0 144 (header 60 8 9 1 ++ ((eight 1 ++ eight 2) ++ (0x61 ∷ 0 ∷ 7 ∷ 7 ∷ []))) ≡ WithMemory (Asks (echo 9) (call.Mknod nobody 1 (0x61 ∷ []) 1 0 2 no_extensions))
 unfolding number little opcode_of extensions_in
 mknod = refl
@@ -629,7 +629,7 @@ reply_of_bytes_written : reply_of usual (echo 9) 0 Writes (Wrote 5) ≡ Bytes ((
 unfolding number little
 reply_of_bytes_written = refl
 
--- READ's data `he`, and a READ that failed: the room behind the reply is open
+-- READ's data `he`, and a READ that failed: the room after the reply is open
 reply_of_data : reply_of usual (echo 9) 0 (Data 2) (Put (0x68 ∷ 0x65 ∷ [])) ≡ OpenBehind (((four 18 ++ zeros 4) ++ eight 9) ++ (0x68 ∷ 0x65 ∷ []))
 unfolding number little
 reply_of_data = refl

@@ -18,7 +18,7 @@ head size ext_type = four size ++ four ext_type
 abbrev context_s : (size : ℕ) → List ℕ
 context_s size = (head size 1 ++ head 1 0) ++ (0x73 ∷ 0 ∷ 0x76 ∷ [])
 
--- the group 1000 behind a header and a count
+-- the group 1000 after a header and a count
 abbrev groups : (size ext_type count : ℕ) → List ℕ
 groups size ext_type count = (head size ext_type ++ four count) ++ (0xe8 ∷ 3 ∷ 0 ∷ 0 ∷ [])
 
@@ -71,12 +71,12 @@ name_without_0 : extensions_in security_ctx ((head 17 1 ++ head 1 0) ++ (0x73 �
 unfolding extensions_in cut_of number
 name_without_0 = refl
 
--- behind a block of contexts that is well, seven bytes are no block
-cut_short_behind_a_block : extensions_in security_ctx (head 8 0 ++ (0 ∷ 0 ∷ 0 ∷ 0 ∷ 0 ∷ 0 ∷ 0 ∷ [])) ≡ Err DecodeMessage
+-- after a block of contexts that is well, seven bytes are no block
+cut_short_after_a_block : extensions_in security_ctx (head 8 0 ++ (0 ∷ 0 ∷ 0 ∷ 0 ∷ 0 ∷ 0 ∷ 0 ∷ [])) ≡ Err DecodeMessage
 unfolding extensions_in cut_of number
-cut_short_behind_a_block = refl
+cut_short_after_a_block = refl
 
--- the fault of a block comes before that of what stands behind it
+-- the fault of a block comes before that of what comes after it
 first_fault_first : extensions_in security_ctx ((head 16 1 ++ head 1 0) ++ head 7 0) ≡ Err MissingParameter
 unfolding extensions_in cut_of number
 first_fault_first = refl
@@ -118,13 +118,13 @@ skip_past_the_bytes : extensions_after security_ctx 9 (head 8 0) ≡ Err DecodeM
 unfolding extensions_in cut_of number
 skip_past_the_bytes = refl
 
--- bytes behind a value are ignored
-bytes_behind_a_value : security_context_in 1 (head 1 0 ++ (0x73 ∷ 0 ∷ 0x76 ∷ 0 ∷ 0 ∷ []))
+-- bytes after a value are ignored
+bytes_after_a_value : security_context_in 1 (head 1 0 ++ (0x73 ∷ 0 ∷ 0x76 ∷ 0 ∷ 0 ∷ []))
     ≡ Ok (Some (0x73 ∷ [], 0x76 ∷ []))
 unfolding number
-bytes_behind_a_value = refl
+bytes_after_a_value = refl
 
--- and behind a group
-bytes_behind_a_group : group_in (four 1 ++ head 9 8) ≡ Ok 9
+-- and after a group
+bytes_after_a_group : group_in (four 1 ++ head 9 8) ≡ Ok 9
 unfolding number
-bytes_behind_a_group = refl
+bytes_after_a_group = refl

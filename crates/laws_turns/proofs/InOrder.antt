@@ -57,7 +57,7 @@ module _ (n : ℕ) (some : n ≢ 0) (limits : Limits) where
       let d = sum_by-cons (delivered n) t ts in
       omega (arith, one, rest, a, s, g, d)
 
-  -- where before these turns so much was answered (a), accepted (g), delivered (d) and sent (s)
+  -- where before these turns that much was answered (a), accepted (g), delivered (d) and sent (s)
   below_from : (turns : List Turn) → AreEachTurns limits turns
       → (a g d s : ℕ) → a + g ≡ d + s
       → ((k : ℕ) → g + sum_by (accepted n) (take k turns) ≤ d + sum_by (delivered n) (take k turns))

@@ -10,7 +10,7 @@ use Rattle.fuse_wire.specs.declared.headers.InHeader.{InHeader}
 use Rattle.fuse_grammar.specs.Ask.{form_of}
 use Rattle.fuse_grammar.specs.Memory.{header_of}
 use Rattle.fuse_grammar.specs.Forms.{Layout, Without, Record, tail_of, pairs_of, Form, NoTail, NameTail, TwoNames, NameAndValue, NameAndExtensions, LinkAndExtensions, Pairs, WithRest, IntoRoom, Directories, Versions, Silent, NotServed}
-use Rattle.laws_turns.specs.Turns.{TailIsWhole, PairsAreWhole, HasWhole, behind_header, count_of_pairs, WantsMemory, WantsMemoryBehind}
+use Rattle.laws_turns.specs.Turns.{TailIsWhole, PairsAreWhole, HasWhole, after_header, count_of_pairs, WantsMemory, WantsMemoryBehind}
 use Rattle.fuse_grammar.specs.Books.{opcode_in}
 use Rattle.fuse_grammar.specs.Records.{size_of, record_of}
 use Rattle.fuse_grammar.specs.declared.limits.Limits.{Limits}
@@ -81,18 +81,18 @@ module _ (limits : Limits) (options room : ℕ) where
     -- a request for which memory is wanted has as many bytes as its `len` says
     pub as_long : opcode_in request ≢ Some BatchForget → WantsMemory limits options room request → (header_of request).len ≤ length request
     as_long other w =
-        let long = by_number (header_of request) (behind_header request) (opcode_in request) other w.form in
+        let long = by_number (header_of request) (after_header request) (opcode_in request) other w.form in
         omega (arith, long, w.header, length-drop 40 request)
 
     abbrev ThePairs : Type 0
-    ThePairs = PairsAreWhole (behind_header request) (Record batch_forget_in) (λ r. nat_lt limits.max_buffer (r.count * 16)) (λ r. r.count)
+    ThePairs = PairsAreWhole (after_header request) (Record batch_forget_in) (λ r. nat_lt limits.max_buffer (r.count * 16)) (λ r. r.count)
 
     the_pairs : opcode_in request ≡ Some BatchForget → WantsMemory limits options room request → ThePairs
-    the_pairs is w = subst (λ (o : Option Opcode). WantsMemoryBehind limits options room o (header_of request) (behind_header request)) is w.form
+    the_pairs is w = subst (λ (o : Option Opcode). WantsMemoryBehind limits options room o (header_of request) (after_header request)) is w.form
 
-    the_count : (p : ThePairs) → (8 ≤ length (behind_header request)) × (p.counts.count ≡ count_of_pairs request)
+    the_count : (p : ThePairs) → (8 ≤ length (after_header request)) × (p.counts.count ≡ count_of_pairs request)
     the_count p =
-        let bytes = behind_header request in
+        let bytes = after_header request in
         let found = the_value (nat_lt (length bytes) 8) DecodeMessage (value_of batch_forget_in bytes) p.counts p.whole_record in
         let test : nat_lt (length bytes) 8 ≡ false = found.0 in
         (grind (arith, nat_tests), ap (λ (r : BatchForgetIn). r.count) found.1)
@@ -101,12 +101,12 @@ module _ (limits : Limits) (options room : ℕ) where
     pub pairs_there : opcode_in request ≡ Some BatchForget → WantsMemory limits options room request → 48 + 16 * count_of_pairs request ≤ length request
     pairs_there is w =
         let p = the_pairs is w in
-        let bytes = drop 8 (behind_header request) in
+        let bytes = drop 8 (after_header request) in
         let test : nat_lt (length bytes) (p.counts.count * 16) ≡ false =
         (no_error (nat_lt (length bytes) (p.counts.count * 16)) DecodeMessage (Ok (pairs_of p.counts.count bytes)) p.whole_pairs).0 in
         let enough : p.counts.count * 16 ≤ length bytes = grind (arith, nat_tests) in
         let count = the_count p in
-        omega (arith, enough, count.0, count.1, w.header, length-drop 8 (behind_header request), length-drop 40 request)
+        omega (arith, enough, count.0, count.1, w.header, length-drop 8 (after_header request), length-drop 40 request)
 
     pub pairs_within : opcode_in request ≡ Some BatchForget → WantsMemory limits options room request → 16 * count_of_pairs request ≤ limits.max_buffer
     pairs_within is w =

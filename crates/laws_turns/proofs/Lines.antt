@@ -30,7 +30,7 @@ record_of_dot_is = refl
 -- ---- READDIR
 
 module _ (ctx : Context) (parent : ℕ) (i : Item) where
-  -- the lines behind which a READDIR that took one item ended
+  -- the lines after which a READDIR that took one item ended
   one_line : (lines : List Line) → All (IsGot false) lines
       → Taken (Some i) ∷ Taken None ∷ [] ≡ flat_map (line_events ctx parent false) lines ++ stop_events ctx parent false End
       → flat_map line_bytes lines ≡ record_bytes None i
@@ -138,7 +138,7 @@ module _ (ctx : Context) (parent : ℕ) where
   back_takes_none (Ok None) item rest e = cc
   back_takes_none (Err fault) item rest e = cc
 
-  -- behind the end there is no line
+  -- after the end there is no line
   none_left : (ls : List Line) (s : Stop)
       → Taken None ∷ [] ≡ flat_map (line_events ctx parent true) ls ++ stop_events ctx parent true s
       → flat_map line_bytes ls ≡ []
@@ -151,16 +151,16 @@ module _ (ctx : Context) (parent : ℕ) where
     dot_and_a =
         Taken (Some root_dot) ∷ Taken (Some file_a) ∷ Called (Lookup ctx parent (97 ∷ [])) (Found entry) ∷ Taken None ∷ []
 
-    behind_dot : (ls : List Line) (s : Stop) → All (IsGot true) ls → StopGot s
+    after_dot : (ls : List Line) (s : Stop) → All (IsGot true) ls → StopGot s
         → Taken (Some file_a) ∷ Called (Lookup ctx parent (97 ∷ [])) (Found entry) ∷ Taken None ∷ []
         ≡ flat_map (line_events ctx parent true) ls ++ stop_events ctx parent true s
         → flat_map line_bytes ls ≡ record_bytes (Some entry) file_a
-    behind_dot [] End all got e = cc
-    behind_dot [] (At last) all got e =
+    after_dot [] End all got e = cc
+    after_dot [] (At last) all got e =
         let a = a_then last _ (given_back ctx (node_got last.got)) got e in
         let f = found_by last.got entry _ (given_back ctx (node_got last.got)) a.1 a.2 in
         absurd (back_takes_none last.got None [] f.1)
-    behind_dot (k ∷ ks) s all got e =
+    after_dot (k ∷ ks) s all got e =
         let here = All-head (IsGot true) k ks all in
         let tail = flat_map (line_events ctx parent true) ks ++ stop_events ctx parent true s in
         let a = a_then k _ tail here
@@ -181,7 +181,7 @@ module _ (ctx : Context) (parent : ℕ) where
         let here = All-head (IsGot true) l ls all in
         let d = dot_then l _ (flat_map (line_events ctx parent true) ls ++ stop_events ctx parent true s)
         (e ∙ append_assoc (line_events ctx parent true l) (flat_map (line_events ctx parent true) ls) (stop_events ctx parent true s)) in
-        let more = behind_dot ls s (All-tail (IsGot true) l ls all) got d.1 in
+        let more = after_dot ls s (All-tail (IsGot true) l ls all) got d.1 in
         ap (λ (bs : List ℕ). bs ++ flat_map line_bytes ls) (dot_bytes l d.0 here)
         ∙ ap (λ (bs : List ℕ). (entry_of_dot ++ record_of_dot) ++ bs) more
 

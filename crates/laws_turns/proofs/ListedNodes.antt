@@ -20,7 +20,7 @@ use Rattle.fuse_grammar.specs.Reply.{body_of, fault_reply, body_reply}
 use Rattle.fuse_grammar.specs.Room.{IsReplied}
 use Rattle.fuse_grammar.specs.Turn.{Turn}
 use Rattle.fuse_grammar.proofs.Rooms.{length-fault_reply, length-body_reply}
-use Rattle.fuse_grammar.specs.Books.{times, opcode_in, nodes_behind, delivered_nodes, sent_by, answered, sent}
+use Rattle.fuse_grammar.specs.Books.{times, opcode_in, nodes_after, delivered_nodes, sent_by, answered, sent}
 use Rattle.laws_turns.proofs.Decoding.{delivered_nodes-fault, delivered_nodes-body, behind-body}
 use Rattle.laws_turns.proofs.Replying.{Balances, LastOnly, whole_books}
 use Rattle.laws_turns.proofs.Saying.{said_as, FaultFits}
@@ -208,7 +208,7 @@ fault_delivers true ctx parent size room n events body g h =
 
 -- the opcode is that of READDIRPLUS or, where not `plus`, one whose replies have no entries
 pub record ListsFor (plus : Bool) (opcode : Option Opcode) : Type 0 where
-  pub nodes : (reply : List ℕ) → nodes_behind opcode reply ≡ body_nodes plus (drop 16 reply)
+  pub nodes : (reply : List ℕ) → nodes_after opcode reply ≡ body_nodes plus (drop 16 reply)
 
 module _ (n : ℕ) (some : n ≢ 0) (t : Turn) (plus : Bool) (ctx : Context) (parent handle size offset room : ℕ) where
   -- of the events of a READDIR or READDIRPLUS only the last gives back anything

@@ -31,10 +31,10 @@ node_at i e rest h =
     ∙ number-little 8 e.inode _ h.0
 
 -- the length of its name, in the `Dirent`
-name_behind : (i : Item) (rest : List ℕ) → length i.name < 2 ^ 32
+name_after : (i : Item) (rest : List ℕ) → length i.name < 2 ^ 32
     → u32_at 16 (dirent_bytes i ++ rest) ≡ length i.name
 unfolding dirent_bytes
-name_behind i rest h =
+name_after i rest h =
     let a = little 8 i.ino in
     let b = little 8 i.offset in
     let n = little 4 (length i.name) in
@@ -62,7 +62,7 @@ name_at i e rest h =
     ∙ (sym (drop-drop 16 128 (front ++ (dirent_bytes i ++ rest)))
     ∙ ap (drop 16) (drop_at front (dirent_bytes i ++ rest) 128
     (length-entry_bytes (Some e)))) in
-    ap (number 4) parts ∙ name_behind i rest h
+    ap (number 4) parts ∙ name_after i rest h
 
 -- a record, and what follows it
 nodes_of-record : (most : ℕ) (i : Item) (e : Entry) (rest : List ℕ) → FitsEntry e

@@ -12,7 +12,7 @@ use Rattle.laws_turns.specs.Extensions.{IsBlock, IsCut, error_of, error_left}
 use Rattle.fuse_grammar.specs.declared.error.Error.{Error}
 use Rattle.fuse_grammar.specs.declared.error.Error.TheVariants.{DecodeMessage, InvalidHeaderLength}
 use Rattle.fuse_grammar.proofs.Blocks.{HasBlock, block_in-has}
-use Rattle.laws_turns.proofs.BlockLaws.{block_in-is, behind_block}
+use Rattle.laws_turns.proofs.BlockLaws.{block_in-is, after_block}
 
 -- what two tests let pass is what is made of the part
 passed-made : (b c : Bool) (f g : Error) (y x : Block) → (if b then Err f else if c then Err g else Ok y) ≡ Ok x → y ≡ x
@@ -142,7 +142,7 @@ cut-only bytes rest other_rest [] (o ∷ others) cut other = absurd (no_block by
 cut-only bytes rest other_rest (b ∷ blocks) [] cut other =
     absurd (no_block bytes other_rest cut.0 b other.0 other.1 cut.1)
 cut-only bytes rest other_rest (b ∷ blocks) (o ∷ others) cut other =
-    let behind : other.0 ≡ cut.0 = sym (behind_block bytes o other.0 other.1) ∙ behind_block bytes b cut.0 cut.1 in
+    let behind : other.0 ≡ cut.0 = sym (after_block bytes o other.0 other.1) ∙ after_block bytes b cut.0 cut.1 in
     let P : List ℕ → Type 0 = λ l. IsCut l others other_rest in
     let rests = cut-only cut.0 rest other_rest blocks others cut.2 (subst P behind other.2) in
     let first : b ≡ o = let e : block_in bytes ≡ Ok b = block_in-is bytes b cut.0 cut.1 in

@@ -46,10 +46,10 @@ said_back limits echo options Agreements _ room outcome room_after p = put_back 
 said_back limits echo options _ _ room outcome room_after p = put_back _ room outcome room_after p
 
 -- the number that a body begins with, by its place in the reply
-first_behind : (entry : Bool) (body : List ℕ) (unique : ℕ)
+first_after : (entry : Bool) (body : List ℕ) (unique : ℕ)
     → (if entry then u64_at 16 (body_reply body unique) ∷ [] else []) ≡ node_first entry body
-first_behind true body unique = ap (λ (k : ℕ). k ∷ []) (u64_at-body body unique)
-first_behind false body unique = refl
+first_after true body unique = ap (λ (k : ℕ). k ∷ []) (u64_at-body body unique)
+first_after false body unique = refl
 
 -- ---- the books
 
@@ -103,7 +103,7 @@ module _ (n : ℕ) (t : Turn) where
     said_books unique (Body body) nodes small forgets g back =
         let reply = body_reply body unique in
         let decoded : delivered_nodes (opcode_in t.request) reply ≡ node_first (has_entry c) body =
-        delivered_nodes-body (opcode_in t.request) body unique ∙ fits.nodes reply ∙ first_behind (has_entry c) body unique in
+        delivered_nodes-body (opcode_in t.request) body unique ∙ fits.nodes reply ∙ first_after (has_entry c) body unique in
         reply_books n t reply back (omega (arith, length-body_reply body unique))
         (one_answered (node_first (has_entry c) body) nodes ∙ ap (times n) (sym decoded)) (sends forgets g)
     said_books unique Unsaid nodes small forgets g back =

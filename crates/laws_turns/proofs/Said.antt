@@ -44,7 +44,7 @@ pages_fit limits are =
     let most : limits.max_buffer ≤ 134217728 = are.greatest in
     omega (arith, whole, large, most)
 
--- bytes that stand at the beginning of a room
+-- bytes that are at the beginning of a room
 record Begins (reply room_after : List ℕ) : Type 0 where
   rest : List ℕ
   is : room_after ≡ reply ++ rest
@@ -92,7 +92,7 @@ answered_says limits options answer t after a = says limits options (ask limits 
 
 -- ---- by the answer
 
--- the room behind the header begins with the body
+-- the room after the header begins with the body
 behind : (body room_after : List ℕ) (unique : ℕ) → (b : Begins (body_reply body unique) room_after) → body_in room_after ≡ body ++ b.rest
 behind body room_after unique b =
     let h : OutHeader = record { len = 16 + length body; error = pos 0; unique = unique } in
@@ -120,7 +120,7 @@ module _ (limits : Limits) (echo : Echo) (after : ℕ) (t : Turn) (len : ℕ) (f
   SaidBy : Kind → Answer → Type 0
   SaidBy kind answer = IsReplied (reply_of limits echo after kind answer) t.room t.outcome t.room_after
 
-  -- the room begins with a body that came back behind its header
+  -- the room begins with a body that came back after its header
   said : (body : List ℕ) → IsReplied (Bytes (body_reply body echo.unique)) t.room t.outcome t.room_after
       → Begins (body_reply body echo.unique) t.room_after
   said body p =

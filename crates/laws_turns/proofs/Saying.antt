@@ -13,7 +13,7 @@ use Rattle.fuse_grammar.specs.Words.{fault_number}
 use Rattle.fuse_grammar.specs.declared.limits.Limits.{Limits}
 use Rattle.fuse_grammar.specs.Books.{entry_node, answered_nodes, forgets_of}
 
--- a fault; a body behind a header; or nothing
+-- a fault; a body after a header; or nothing
 pub data Saying : Type 0 where
   Fault : (fault : Option ℕ) → Saying
   Body : (body : List ℕ) → Saying

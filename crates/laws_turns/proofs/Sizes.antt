@@ -18,7 +18,7 @@ use Rattle.fuse_grammar.specs.Memory.{header_of}
 use Rattle.fuse_grammar.specs.Forms.{Ask, Asks, Lists, WithMemory, faulted, refused_or, within, pairs_in, Record, Directories, ask_form}
 use Rattle.fuse_grammar.specs.Words.{refused, reply_to}
 use Rattle.fuse_grammar.specs.Books.{opcode_in}
-use Rattle.laws_turns.specs.Turns.{behind_header, count_of_pairs, CarriesData, size_asked}
+use Rattle.laws_turns.specs.Turns.{after_header, count_of_pairs, CarriesData, size_asked}
 use Rattle.fuse_grammar.specs.Limits.{max_len}
 use Rattle.fuse_grammar.specs.Reply.{Echo, echo_of, fault_reply, body_reply}
 use Rattle.fuse_grammar.specs.Room.{IsReplied}
@@ -48,12 +48,12 @@ module _ (limits : Limits) (options room : ℕ) (request : List ℕ) where
   by_header : 40 ≤ length request
       → ask limits options room request
       ≡ within (nat_lt (max_len limits) (header_of request).len) (header_of request)
-      (ask_number limits options room (opcode_in request) (header_of request) (behind_header request))
+      (ask_number limits options room (opcode_in request) (header_of request) (after_header request))
   by_header long = record_whole (nat_lt (length request) 40) (header_of request) _ (grind (arith, nat_tests))
 
   pub len_within : 40 ≤ length request → (header_of request).len ≤ limits.max_buffer + 4096
       → ask limits options room request
-      ≡ ask_number limits options room (opcode_in request) (header_of request) (behind_header request)
+      ≡ ask_number limits options room (opcode_in request) (header_of request) (after_header request)
   len_within long small =
       by_header long ∙ within_is (nat_lt (max_len limits) (header_of request).len) (header_of request) _ (grind (arith, nat_tests))
 
@@ -66,12 +66,12 @@ module _ (limits : Limits) (options room : ℕ) (request : List ℕ) where
   by_count : 48 ≤ length request → (header_of request).len ≤ limits.max_buffer + 4096 → opcode_in request ≡ Some BatchForget
       → ask limits options room request
       ≡ within (nat_lt limits.max_buffer (count_of_pairs request * 16)) (header_of request)
-      (refused_or (pairs_in (count_of_pairs request) (drop 8 (behind_header request))) (λ pairs.
+      (refused_or (pairs_in (count_of_pairs request) (drop 8 (after_header request))) (λ pairs.
       WithMemory (Asks (echo_of (header_of request)) (call.BatchForget (context_of (header_of request)) pairs))))
   by_count long small is =
       len_within (omega arith) small
-      ∙ ap (λ (o : Option Opcode). ask_number limits options room o (header_of request) (behind_header request)) is
-      ∙ record_whole (nat_lt (length (behind_header request)) 8) (value_of batch_forget_in (behind_header request)) _
+      ∙ ap (λ (o : Option Opcode). ask_number limits options room o (header_of request) (after_header request)) is
+      ∙ record_whole (nat_lt (length (after_header request)) 8) (value_of batch_forget_in (after_header request)) _
       (let size = length-drop 40 request in grind (arith, nat_tests))
 
   pub pairs_within : 48 ≤ length request → (header_of request).len ≤ limits.max_buffer + 4096 → opcode_in request ≡ Some BatchForget → 16 * count_of_pairs request ≤ limits.max_buffer
@@ -102,7 +102,7 @@ module _ (limits : Limits) (options after n : ℕ) (t : Turn) (answered : t.outc
   abbrev size : ℕ
   size = (value_of read_in rest).size
 
-  -- where this is asked, no more is answered than a header and so many bytes
+  -- where this is asked, no more is answered than a header and that many bytes
   Keeps : Ask → Type 0
   Keeps a = Follows t limits options a after → n ≤ 16 + size
 
@@ -168,7 +168,7 @@ pub no_more : (limits : Limits) (options after n : ℕ) (t : Turn) → IsTurn li
 unfolding Keeps
 no_more limits options after n t f c o =
     let h = header_of t.request in
-    record_keeps limits options after n t o (behind_header t.request) (nat_lt (length t.request) 40) h _
-    (within_keeps limits options after n t o (behind_header t.request) (nat_lt (max_len limits) h.len) h _
-    (number_keeps limits options after n t o (behind_header t.request) (length t.room) (opcode_in t.request) h c))
+    record_keeps limits options after n t o (after_header t.request) (nat_lt (length t.request) 40) h _
+    (within_keeps limits options after n t o (after_header t.request) (nat_lt (max_len limits) h.len) h _
+    (number_keeps limits options after n t o (after_header t.request) (length t.room) (opcode_in t.request) h c))
     f

@@ -1,4 +1,4 @@
--- The sums of events that are put one behind the other.
+-- The sums of events that are put one after the other.
 use Rattle.std.proofs.Common.{◌≡◌, ◌+◌, ℕ, List, ◌++◌}
 use Rattle.std.proofs.lemmas.List.Sums.{sum_by-append}
 use Rattle.fs_trait.specs.Runs.{Event}

@@ -1,5 +1,5 @@
 -- The table of the protocol, read for the books: for each opcode, that the call which a request asks
--- for answers the nodes that a reply to it has behind its header, and gives back what the request's
+-- for answers the nodes that a reply to it has after its header, and gives back what the request's
 -- bytes say.
 use Rattle.std.proofs.Common.{◌≡◌, ◌<◌, ◌*◌, ◌^◌, ℕ, Bool, true, false, if◌then◌else◌, nat_lt, List, [], ◌∷◌, length, drop, Option, Some, None, Result, Ok, Err, refl, ap, ◌∙◌, arith}
 use Rattle.std.proofs.lemmas.List.{drop-drop}
@@ -18,7 +18,7 @@ use Rattle.fs_trait.specs.Calls as call
 use Rattle.fs_trait.specs.Values.{ExtensionValues}
 use Rattle.fuse_grammar.specs.Ask.{form_of, ask_number, ask}
 use Rattle.fuse_grammar.specs.Words.{ask_header, refused, silent, name_in, u32_at, u64_at, pairs_at, behind}
-use Rattle.fuse_grammar.specs.Forms.{Ask, Ends, Asks, Lists, WithMemory, faulted, refused_or, within, tail_of, two_names_in, value_in, extended_in, link_in_tail, pairs_of, pairs_in, space_behind_header, second_flags, ask_version, Layout, layout_size, layout_record, Form, NoTail, NameTail, TwoNames, NameAndValue, NameAndExtensions, LinkAndExtensions, Pairs, WithRest, IntoRoom, Directories, Versions, Silent, NotServed, ask_form}
+use Rattle.fuse_grammar.specs.Forms.{Ask, Ends, Asks, Lists, WithMemory, faulted, refused_or, within, tail_of, two_names_in, value_in, extended_in, link_in_tail, pairs_of, pairs_in, space_after_header, second_flags, ask_version, Layout, layout_size, layout_record, Form, NoTail, NameTail, TwoNames, NameAndValue, NameAndExtensions, LinkAndExtensions, Pairs, WithRest, IntoRoom, Directories, Versions, Silent, NotServed, ask_form}
 use Rattle.fuse_grammar.specs.Limits.{max_len}
 use Rattle.fuse_grammar.specs.Records.{size_of, record_of}
 use Rattle.fuse_grammar.specs.Reply.{Reply, Refusal, NoReply, Bytes, OpenBehind, Echo, echo_of, body_reply, version_out}
@@ -27,7 +27,7 @@ use Rattle.fuse_grammar.specs.declared.error.Error.{Error}
 use Rattle.fuse_grammar.specs.declared.error.Error.TheVariants.{DecodeMessage}
 use Rattle.fuse_grammar.proofs.Refusing.{either}
 use Rattle.fuse_grammar.proofs.Rooms.{length-fault_reply, length-body_reply}
-use Rattle.fuse_grammar.specs.Books.{opcode_in, nodes_behind, delivered_nodes, forgets_of, forgets_in}
+use Rattle.fuse_grammar.specs.Books.{opcode_in, nodes_after, delivered_nodes, forgets_of, forgets_in}
 use Rattle.laws_turns.proofs.Decoding.{delivered_nodes-fault, delivered_nodes-body, pairs_of-pairs_at}
 use Rattle.laws_turns.proofs.ListedNodes.{ListsFor}
 use Rattle.laws_turns.proofs.Saying.{has_entry}
@@ -76,7 +76,7 @@ module _ (P : Ask → Type 0) (h : InHeader) (rest : List ℕ) where
     limit_shown true next p = fault enomem (omega arith) (omega arith)
     limit_shown false next p = p
 
-    -- behind a record a tail, which is copied
+    -- after a record a tail, which is copied
     tail_shown : {R : Type 0} (layout : Layout R) (next : R → List ℕ → Ask)
         → ((r : R) (tail : List ℕ) → layout_record layout rest ≡ Ok r → P (next r tail))
         → P (refused_or (layout_record layout rest) (λ r.
@@ -110,10 +110,10 @@ module _ (P : Ask → Type 0) (h : InHeader) (rest : List ℕ) where
         (part_shown (pairs_in (count r) (behind layout rest)) _ (λ pairs whole. copies _ (s (r, pairs) (is, whole)))))
     form_shown (WithRest layout call) s = part_shown (layout_record layout rest) _ (λ r is. s (r, behind layout rest) is)
     form_shown (IntoRoom layout room call) s =
-        part_shown (layout_record layout rest) _ (λ r is. part_shown (space_behind_header room) _ (λ n fits. s (r, n) is))
+        part_shown (layout_record layout rest) _ (λ r is. part_shown (space_after_header room) _ (λ n fits. s (r, n) is))
     form_shown (Directories layout above room listing) s =
         part_shown (layout_record layout rest) _ (λ r is. limit_shown (above r) _
-        (part_shown (space_behind_header room) _ (λ n fits. s (r, n) is)))
+        (part_shown (space_after_header room) _ (λ n fits. s (r, n) is)))
     form_shown Versions s =
         part_shown (record_of init_in_compat rest) _ (λ r is.
         part_shown (second_flags r.flags (drop (size_of init_in_compat) rest)) _ (λ flags2 found. version_shown r flags2 s))
@@ -124,7 +124,7 @@ module _ (P : Ask → Type 0) (h : InHeader) (rest : List ℕ) where
 
 -- a call answers the nodes that a reply to this opcode has, and gives back what the request says
 pub record CallFits (opcode : Option Opcode) (request : List ℕ) (c : Call) : Type 0 where
-  pub nodes : (reply : List ℕ) → nodes_behind opcode reply ≡ (if has_entry c then u64_at 16 reply ∷ [] else [])
+  pub nodes : (reply : List ℕ) → nodes_after opcode reply ≡ (if has_entry c then u64_at 16 reply ∷ [] else [])
   pub forgets : forgets_of c ≡ forgets_in opcode request
 
 -- what comes back without a call delivers no node, and is nothing only where nothing is given back

@@ -18,12 +18,12 @@ use Rattle.fs_trait.specs.Places.{cut_at}
 use Rattle.fuse_grammar.specs.Records.{size_of, record_of}
 use Rattle.fuse_grammar.specs.Extensions.{Block, Received, error_or, name_and_value, context_in, security_context_in, group_in, has_option, cut_of, extensions_in}
 use Rattle.fuse_grammar.specs.Words.{reads_extensions, nothing_received, with_context, with_group, receive, extensions_of, extensions_after}
-use Rattle.fuse_grammar.specs.FormParts.{value_behind}
+use Rattle.fuse_grammar.specs.FormParts.{value_after}
 use Rattle.laws_turns.specs.Extensions.{context_bytes, context_block, group_bytes, group_block, blocks_of, FitsContext, MayFitContext, MayFitGroup, FitExtensions, IsBlock}
 use Rattle.fuse_grammar.specs.declared.error.Error.{Error}
 use Rattle.fuse_grammar.specs.declared.error.Error.TheVariants.{DecodeMessage}
 use Rattle.fuse_grammar.proofs.Blocks.{says-more, extensions_of-end}
-use Rattle.laws_turns.proofs.BlockLaws.{block_in-is, behind_block, block_bytes-is}
+use Rattle.laws_turns.proofs.BlockLaws.{block_in-is, after_block, block_bytes-is}
 
 -- a test that fails
 unless : {A : Type 0} (b : Bool) (x y : A) → b ≡ false → (if b then x else y) ≡ y
@@ -49,19 +49,19 @@ record_of-written {R = R} t x rest fit again =
     (le-ltb (length (bytes_of t x ++ rest)) (size_of t) long)
     ∙ ap (λ (r : R). Ok r) (value_of-bytes_of-then t x rest fit again)
 
--- the first 0 behind a name
-first_nul_behind : (name rest : List ℕ) → ((k : ℕ) → k < length name → get_or name k 0 ≢ 0)
+-- the first 0 after a name
+first_nul_after : (name rest : List ℕ) → ((k : ℕ) → k < length name → get_or name k 0 ≢ 0)
     → position_or_len (λ b. b == 0) (name ++ 0 ∷ rest) ≡ length name
-first_nul_behind name rest h =
+first_nul_after name rest h =
     position_or_len_is (λ b. b == 0) (name ++ 0 ∷ rest) (length name) 0 (grind (arith, common_steps))
     (λ k lt. let ne = h k lt in rw get_or_append_left (grind (arith, nat_tests)))
     (λ _. rw (get_or_at name 0 rest 0 (length name) refl) refl)
 
--- a name is found, and what is behind it
+-- a name is found, and what is after it
 first_name-written : (name rest : List ℕ) → ((k : ℕ) → k < length name → get_or name k 0 ≢ 0)
     → first_name (name ++ 0 ∷ rest) ≡ Some (name, rest)
 first_name-written name rest h =
-    let at = first_nul_behind name rest h in
+    let at = first_nul_after name rest h in
     let here : position (λ b. b == 0) (name ++ 0 ∷ rest) ≡ Some (length name) = grind (arith, common_steps) in
     let behind : drop (length name + 1) (name ++ 0 ∷ rest) ≡ rest =
     ap (drop (length name + 1)) (sym (append_assoc name (0 ∷ []) rest))
@@ -70,7 +70,7 @@ first_name-written name rest h =
 
 -- bytes that are there have a name
 name_and_value-some : (size : ℕ) (bytes : List ℕ) → 0 < length bytes
-    → name_and_value size bytes ≡ value_behind size (first_name bytes)
+    → name_and_value size bytes ≡ value_after size (first_name bytes)
 name_and_value-some size [] h = absurd (omega arith)
 name_and_value-some size (b ∷ bytes) h = refl
 
@@ -80,7 +80,7 @@ name_and_value-written : (context : List ℕ × List ℕ) → FitsContext contex
 name_and_value-written context fits =
     name_and_value-some (length context.1) (context.0 ++ 0 ∷ context.1)
     (omega (arith, length-append context.0 (0 ∷ context.1)))
-    ∙ ap (value_behind (length context.1)) (first_name-written context.0 context.1 fits.no_nul)
+    ∙ ap (value_after (length context.1)) (first_name-written context.0 context.1 fits.no_nul)
     ∙ unless (nat_lt (length context.1) (length context.1)) _ _
     (le-ltb (length context.1) (length context.1) (omega arith))
     ∙ ap (λ (value : List ℕ). Ok (context.0, value)) (take_all (length context.1) context.1 (omega arith))
@@ -150,15 +150,15 @@ group_is_short group small =
       length-bytes_of (lone_number 4) group (small, tt),
     )
 
--- behind a block that is well
+-- after a block that is well
 extensions_of-written : (options : ℕ) (r more : Received) (bytes : List ℕ) (b : Block) (behind : List ℕ)
     → IsBlock bytes b behind → receive options r b ≡ Ok more
     → extensions_of options r (cut_of bytes) ≡ extensions_of options more (cut_of behind)
 extensions_of-written options r more bytes b behind is well =
     sym (says-more options r more bytes behind b _ refl (block_in-is bytes b behind is)
-    (sym (behind_block bytes b behind is)) well)
+    (sym (after_block bytes b behind is)) well)
 
--- behind the block of contexts
+-- after the block of contexts
 extensions_of-context : (options : ℕ) (context : Option (List ℕ × List ℕ)) (behind : List ℕ)
     → has_option options security_ctx ≡ true → MayFitContext context
     → extensions_of options nothing_received (cut_of (context_block context ++ behind))
@@ -178,7 +178,7 @@ extensions_of-context options (Some context) behind agreed fits =
     ∙ ap (λ (r : Result (Option (List ℕ × List ℕ)) Error). error_or r
     (λ c. received_ok (with_context nothing_received c))) (security_context_in-written context fits))
 
--- behind the block of groups
+-- after the block of groups
 extensions_of-group : (options : ℕ) (r : Received) (group : ℕ) (behind : List ℕ)
     → has_option options create_supp_group ≡ true → is_some r.values.group ≡ false → group < 2 ^ 32
     → extensions_of options r (cut_of (group_block (Some group) ++ behind))
@@ -234,7 +234,7 @@ not_and : (a b : Bool) → a ≡ false → (a && b) ≡ false
 not_and true b h = absurd cc
 not_and false b h = refl
 
--- the group behind the block of contexts
+-- the group after the block of contexts
 extensions_of-may_group : (options : ℕ) (context : Option (List ℕ × List ℕ)) (group : Option ℕ)
     → (is_some group ≡ true → has_option options create_supp_group ≡ true) → MayFitGroup group
     → extensions_of options (with_context nothing_received context) (cut_of (group_block group))
@@ -247,7 +247,7 @@ extensions_of-may_group options context (Some group) agreed fits =
     ∙ extensions_of-group options r group [] (agreed refl) refl fits
     ∙ extensions_of-received options (with_group r group) (and_false (has_option options security_ctx))
 
--- behind names
+-- after names
 extensions_after-names : (options : ℕ) (names bytes : List ℕ)
     → extensions_after options (length names) (names ++ bytes) ≡ extensions_in options bytes
 extensions_after-names options names bytes =
@@ -279,7 +279,7 @@ extensions_in-group options group unagreed agreed small =
     ∙ extensions_of-received options (with_group nothing_received group)
     (not_and (has_option options security_ctx) true unagreed)
 
--- the same behind names
+-- the same after names
 pub extensions_after-written : (options : ℕ) (names : List ℕ) (values : ExtensionValues)
     → has_option options security_ctx ≡ true
     → (is_some values.group ≡ true → has_option options create_supp_group ≡ true) → FitExtensions values

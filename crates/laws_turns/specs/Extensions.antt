@@ -15,7 +15,7 @@ block_bytes ext_type body =
     bytes_of ext_header (record { size = size_of ext_header + length body; ext_type = ext_type })
     ++ body
 
--- the body of a block of one context: its name ends with a 0, and its value is behind it
+-- the body of a block of one context: its name ends with a 0, and its value is after it
 abbrev pub context_bytes : (context : List ℕ × List ℕ) → List ℕ
 context_bytes context =
     bytes_of secctx (record { size = length context.1; padding = 0 })
@@ -65,7 +65,7 @@ pub record FitExtensions (values : ExtensionValues) : Type 0 where
 -- ---- cut in one way
 
 -- bytes begin with this block: a header that says its type and how long it is, then its body, and
--- these bytes behind it
+-- these bytes after it
 pub record IsBlock (bytes : List ℕ) (block : Block) (behind : List ℕ) : Type 0 where
   pub head : List ℕ
   pub whole_head : length head ≡ size_of ext_header
@@ -74,7 +74,7 @@ pub record IsBlock (bytes : List ℕ) (block : Block) (behind : List ℕ) : Type
       ≡ record { size = size_of ext_header + length block.body; ext_type = block.ext_type }
   pub parts : bytes ≡ head ++ (block.body ++ behind)
 
--- bytes are these blocks, one behind the other, and a rest that begins with none
+-- bytes are these blocks, one after the other, and a rest that begins with none
 abbrev pub IsCut : (bytes : List ℕ) → (blocks : List Block) → (rest : List ℕ) → Type 0
 IsCut bytes [] rest = (bytes ≡ rest) × ((b : Block) (behind : List ℕ) → ¬ (IsBlock rest b behind))
 IsCut bytes (block ∷ blocks) rest =

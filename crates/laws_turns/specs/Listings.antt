@@ -11,7 +11,7 @@ use Rattle.fuse_grammar.specs.Words.{record_bytes}
 abbrev pub node_of_line : Line → ℕ
 node_of_line l = unwrap_or (node_got l.got) 0
 
--- the bytes of records with entries, one behind the other
+-- the bytes of records with entries, one after the other
 abbrev pub rows_bytes : List (Entry × Item) → List ℕ
 rows_bytes rows = flat_map (λ r. record_bytes (Some r.0) r.1) rows
 

@@ -34,13 +34,13 @@ pub record BeginsWithHeader (len unique : ℕ) (bytes : List ℕ) : Type 0 where
       take (size_of out_header) bytes
       ≡ bytes_of out_header (record { len = len; error = error; unique = unique })
 
--- a tail that is whole, behind a record that is whole
+-- a tail that is whole, after a record that is whole
 pub record TailIsWhole {R : Type 0} (h : InHeader) (rest : List ℕ) (layout : Layout R)
     : Type 0 where
   pub whole_record : IsOk (layout_record layout rest)
   pub whole_tail : IsOk (tail_of h (layout_size layout) (behind layout rest))
 
--- pairs that are whole and no more than the limits allow, behind a record that is whole
+-- pairs that are whole and no more than the limits allow, after a record that is whole
 pub record PairsAreWhole {R : Type 0} (rest : List ℕ) (layout : Layout R) (above : R → Bool)
     (count : R → ℕ) : Type 0 where
   pub counts : R
@@ -55,7 +55,7 @@ HasWhole h rest form =
     (λ R layout options. TailIsWhole h rest layout)
     (λ R layout above count. PairsAreWhole rest layout above count) form
 
--- memory is wanted behind this header, by the form of its opcode
+-- memory is wanted after this header, by the form of its opcode
 abbrev pub WantsMemoryBehind : Limits → (options room_len : ℕ) → Option Opcode → InHeader → List ℕ → Type 0
 WantsMemoryBehind limits options room_len None h rest = ⊥
 WantsMemoryBehind limits options room_len (Some opcode) h rest =
@@ -70,13 +70,13 @@ pub record WantsMemory (limits : Limits) (options room_len : ℕ) (request : Lis
       WantsMemoryBehind limits options room_len (opcode_of (header_of request).opcode) (header_of request)
       (drop (size_of in_header) request)
 
--- what stands behind the header of a request
-abbrev pub behind_header : (request : List ℕ) → List ℕ
-behind_header request = drop (size_of in_header) request
+-- what comes after the header of a request
+abbrev pub after_header : (request : List ℕ) → List ℕ
+after_header request = drop (size_of in_header) request
 
 -- how many pairs a BATCH_FORGET says that it has
 abbrev pub count_of_pairs : (request : List ℕ) → ℕ
-count_of_pairs request = (value_of batch_forget_in (behind_header request)).count
+count_of_pairs request = (value_of batch_forget_in (after_header request)).count
 
 -- READ, READDIR and READDIRPLUS, whose replies carry data
 abbrev pub CarriesData : Option Opcode → Type 0
@@ -87,14 +87,14 @@ CarriesData _ = ⊥
 
 -- how many bytes of data such a request asks for: the `size` of its record
 abbrev pub size_asked : (request : List ℕ) → ℕ
-size_asked request = (value_of read_in (behind_header request)).size
+size_asked request = (value_of read_in (after_header request)).size
 
 -- these bytes are longer than the room, which holds as many of them as it has place for
 pub record IsCutOff (reply room room_after : List ℕ) : Type 0 where
   pub longer : length room < length reply
   pub holds : room_after ≡ take (length room) reply
 
--- what comes back is bytes, and so many of them
+-- what comes back is bytes, and that many of them
 abbrev pub CutsOff : Reply → (room room_after : List ℕ) → Type 0
 CutsOff (Bytes reply) room room_after = IsCutOff reply room room_after
 CutsOff _ room room_after = ⊥
@@ -123,6 +123,6 @@ pub record AnswersWhole (limits : Limits) (options : ℕ) (answer : Answer) (t :
   pub len : ℕ
   pub fits : t.outcome ≡ Ok len
 
--- what stands behind the header of a reply
+-- what comes after the header of a reply
 abbrev pub body_in : (room_after : List ℕ) → List ℕ
 body_in room_after = drop (size_of out_header) room_after

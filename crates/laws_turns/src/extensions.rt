@@ -8,7 +8,7 @@ ghost use Rattle.fuse_grammar.specs.Extensions.{Block, cut_of, has_option};
 ghost use Rattle.fuse_grammar.specs.Words.{extensions_after};
 ghost use Rattle.laws_turns.specs.Extensions.{blocks_of, group_block, FitExtensions, IsCut, error_left};
 
-/// What is found in extensions as they are written is what was written, whatever names stand in
+/// What is found in extensions as they are written is what was written, whatever names are in
 /// front of them: with a context agreed on, and with a group too where there is one.
 pub fn written_extensions_are_found()
     ensures { (options : ℕ) (names : List ℕ) (values : ExtensionValues) →
@@ -26,7 +26,7 @@ pub fn written_groups_are_found()
         ≡ Ok (record { context = None; group = Some group }) }
 {}
 
-/// Bytes are blocks, one behind the other, and a rest that begins with none, in one way.
+/// Bytes are blocks, one after the other, and a rest that begins with none, in one way.
 pub fn extensions_are_cut_in_one_way()
     ensures cut { (bytes : List ℕ) → (rest : List ℕ) × IsCut bytes (cut_of bytes).blocks rest
         × ((cut_of bytes).error ≡ error_left rest) }

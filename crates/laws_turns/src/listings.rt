@@ -22,7 +22,7 @@ pub fn records_are_aligned()
     ensures with_entry { (entry : Entry) (i : Item) → 152 ≤ record_len (Some entry) i }
 {}
 
-/// The nodes of records with entries are found again in their bytes, put one behind the other: of
+/// The nodes of records with entries are found again in their bytes, put one after the other: of
 /// any entries whose numbers are within their widths and items whose names have less than 2^32
 /// bytes, and so of the records of each READDIRPLUS.
 pub fn nodes_are_found()
@@ -51,7 +51,7 @@ pub fn takings_are_bounded()
         length (takings events) ≤ size / least_record plus + 1 }
 {}
 
-/// Where the room behind a header is at least `size`, no lookup fails and no name has 2^32 bytes or more, the
+/// Where the room after a header is at least `size`, no lookup fails and no name has 2^32 bytes or more, the
 /// records are those of all items taken but of a last one whose record would pass `size`; where
 /// there is no such one, the iterator answered its end.
 pub fn directories_are_whole()

@@ -15,7 +15,7 @@ ghost use Rattle.fuse_grammar.specs.Ask.{ask, ask_number};
 ghost use Rattle.fuse_grammar.specs.Memory.{header_of};
 ghost use Rattle.fuse_grammar.specs.Forms.{Ask, Lists, Asks, WithMemory, faulted, refused_or, pairs_in};
 ghost use Rattle.fuse_grammar.specs.Listing.{Listing};
-ghost use Rattle.laws_turns.specs.Turns.{AnswersWhole, body_in, unique_of, BeginsWithHeader, WantsMemory, behind_header, count_of_pairs, CarriesData, size_asked, cut_turn_tells, LacksRoomForHeader};
+ghost use Rattle.laws_turns.specs.Turns.{AnswersWhole, body_in, unique_of, BeginsWithHeader, WantsMemory, after_header, count_of_pairs, CarriesData, size_asked, cut_turn_tells, LacksRoomForHeader};
 ghost use Rattle.fuse_grammar.specs.Books.{opcode_in};
 ghost use Rattle.fuse_grammar.specs.Limits.{default_limits, AreLimits, max_len};
 ghost use Rattle.fuse_grammar.specs.Options.{AreAgreed};
@@ -44,7 +44,7 @@ pub fn limits_are_kept()
         40 ≤ length request → (header_of request).len ≤ limits.max_buffer + 4096 →
         ask limits options space request
         ≡ ask_number limits options space (opcode_in request)
-        (header_of request) (behind_header request) }
+        (header_of request) (after_header request) }
     ensures len_above { (limits : Limits) (options space : ℕ) (request : List ℕ) →
         40 ≤ length request → limits.max_buffer + 4096 < (header_of request).len →
         ask limits options space request ≡ faulted 12 (header_of request) }
@@ -77,7 +77,7 @@ pub fn limits_have_their_numbers()
         (header_of request).len ≤ 1_052_672 →
         ask (default_limits page_size) options space request
         ≡ ask_number (default_limits page_size) options space (opcode_in request)
-        (header_of request) (behind_header request) }
+        (header_of request) (after_header request) }
     ensures len_above { (page_size options space : ℕ) (request : List ℕ) → 40 ≤ length request →
         1_052_672 < (header_of request).len →
         ask (default_limits page_size) options space request ≡ faulted 12 (header_of request) }
@@ -114,7 +114,7 @@ pub fn unfit_replies_are_cut_off()
         ⊎ LacksRoomForHeader options after t }
 {}
 
-/// A READ, READDIR or READDIRPLUS is answered by at most so many bytes as it asks for, and the
+/// A READ, READDIR or READDIRPLUS is answered by at most that many bytes as it asks for, and the
 /// sixteen of a header.
 pub fn data_are_no_more_than_asked()
     ensures { (limits : Limits) (options after n : ℕ) (t : Turn) → IsTurn limits options t after →
@@ -204,7 +204,7 @@ pub fn answers_are_of_their_kind()
         t.events ≡ Called call answer ∷ rest → IsAnswer (kind_of call) answer }
 {}
 
-/// What stands behind the header of a reply that fits is what the one call of the request answered:
+/// What comes after the header of a reply that fits is what the one call of the request answered:
 /// the body of its answer, whatever it is. So each number that is in its width is read back from it,
 /// as it is from the records that several requests share.
 pub fn replies_say_what_was_answered()

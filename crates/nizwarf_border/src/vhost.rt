@@ -22,7 +22,7 @@ pub extern "C" fn nizwarf_vhost_size_at(head: &[u8], size: &mut u32) -> u32
     }
 }
 
-/// Tells the message of a header and its payload, which came with so many descriptors.
+/// Tells the message of a header and its payload, which came with that many descriptors.
 #[unsafe(no_mangle)]
 pub extern "C" fn nizwarf_vhost_message_at(
     head: &[u8],
@@ -48,7 +48,7 @@ pub extern "C" fn nizwarf_vhost_message_at(
     }
 }
 
-/// Tells where so many bytes from an address of the front end on are, if they are in one region wholly. The
+/// Tells where that many bytes from an address of the front end on are, if they are in one region wholly. The
 /// answer 1: they are not.
 #[unsafe(no_mangle)]
 pub extern "C" fn nizwarf_vhost_user_at(

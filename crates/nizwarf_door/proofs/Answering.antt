@@ -4,7 +4,7 @@ use Rattle.std.proofs.lemmas.List.{length-replicate}
 use Rattle.std.specs.Prelude.{⊤}
 use Rattle.fuse_segments.specs.Written.{Written, whole}
 use Rattle.fs_trait.specs.Answers.{Kind, Quiet, Untold, Data, Agreements, Iterators, Answer, Done, read_answer}
-use Rattle.fuse_messages.specs.Rooms.{Replies, with_behind}
+use Rattle.fuse_messages.specs.Rooms.{Replies, with_after}
 use Rattle.fuse_grammar.specs.Reply.{Echo, Reply, Refusal, NoReply, Bytes, OpenBehind, reply_of}
 use Rattle.fuse_grammar.specs.Words.{reply_to}
 use Rattle.fuse_grammar.specs.declared.error.Error.{Error}
@@ -74,7 +74,7 @@ module _ (limits : Limits) (call : CallData) (a : AnswerData) (text : List ℕ) 
       let is = h.1 behind all in
       let reply = reply_of limits (echo_told call) came.options kind is.answer in
       shorter before after behind (replied_keeps reply
-      (with_behind before behind) (with_behind after behind) came.outcome is.comes.1)
+      (with_after before behind) (with_after after behind) came.outcome is.comes.1)
 
   -- a writer through which a call was answered keeps what it had passed
   answered_keeps : (kind : Option Kind) → Answers limits kind call a text items before (Some came) after
@@ -95,7 +95,7 @@ module _ (limits : Limits) (call : CallData) (a : AnswerData) (text : List ℕ) 
       let all : length before.left + length behind ≡ call.room = omega (arith, n, fits) in
       let is = h.1 behind all in
       replied_wants_none (reply_of limits (echo_told call) came.options kind is.answer)
-      (with_behind before behind) (with_behind after behind) came.outcome
+      (with_after before behind) (with_after after behind) came.outcome
       (no_refusal limits (echo_told call) came.options kind is.answer) is.comes.1
 
   -- a call that was answered wanted no memory
@@ -107,7 +107,7 @@ module _ (limits : Limits) (call : CallData) (a : AnswerData) (text : List ℕ) 
       before after came.outcome (tt {0}) h.1.replied
   answered_wants_none (Some kind) h = call_wants_none kind h
 
--- an answer is told so, with this length and so many bytes put
+-- an answer is told so, with this length and that many bytes put
 abbrev told_by : ToldData → Answered → (len put : ℕ) → ToldData
 told_by told came len put = record told {
   len = len;

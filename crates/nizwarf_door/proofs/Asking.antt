@@ -15,8 +15,8 @@ use Rattle.fuse_grammar.specs.declared.error.Error.TheVariants as error
 use Rattle.fuse_grammar.specs.declared.limits.Limits.{Limits}
 use Rattle.door_calls.specs.Shapes.{shape_of}
 use Rattle.door_calls.specs.declared.call.CallData.{CallData}
-use Rattle.fuse_messages.specs.Rooms.{with_behind}
-use Rattle.fuse_messages.proofs.Rooms.{whole_behind}
+use Rattle.fuse_messages.specs.Rooms.{with_after}
+use Rattle.fuse_messages.proofs.Rooms.{whole_after}
 use Rattle.door_ask.specs.Memory.{MayWant}
 use Rattle.door_ask.specs.Asked.{IsAsked, LiesWithin, Tells, interrupted_by}
 use Rattle.door_ask.specs.declared.asked.Asked.{Asked}
@@ -93,19 +93,19 @@ length_within (Err error) space h = omega arith
 -- what of a room is shown lies in the beginning that a writer had
 first_of_room : (count space start : ℕ) (before after : Written) (behind bytes : List ℕ) → length before.left ≡ space → count ≤ space
     → Keeps before after → AreFirst count before after bytes
-    → AreFirst count (with_behind before behind) (with_behind after behind) bytes
+    → AreFirst count (with_after before behind) (with_after after behind) bytes
 first_of_room count space start before after behind bytes long within keeps first =
     let n : length first.room ≡ length before.left = omega (arith, ap length (sym first.kept ∙ keeps.leaves.kept), keeps.leaves.same_length, length-append before.passed first.room, length-append before.passed keeps.room_after) in
     record {
       room = first.room ++ behind;
-      kept = whole_behind after behind ∙ ap (λ (x : List ℕ). x ++ behind) first.kept ∙ append_assoc before.passed first.room behind;
+      kept = whole_after after behind ∙ ap (λ (x : List ℕ). x ++ behind) first.kept ∙ append_assoc before.passed first.room behind;
       first = first.first ∙ sym (take-append-le count first.room behind (omega (arith, n, long, within)));
     }
 
 module _ (limits : Limits) (options : ℕ) (request : List ℕ) (room : ℕ) (call_after : CallData)
     (told : ToldData) (before after : Written) (result : Asked)
     (is : (behind : List ℕ) → length before.left + length behind ≡ room
-    → IsAsked limits options request (with_behind before behind) result (with_behind after behind) call_after)
+    → IsAsked limits options request (with_after before behind) result (with_after after behind) call_after)
     (within : LiesWithin (length before.left) result) (enough : length before.left ≤ room) where
   -- zeros stand for the room that the writer hasn't
   abbrev zeros : List ℕ
@@ -119,17 +119,17 @@ module _ (limits : Limits) (options : ℕ) (request : List ℕ) (room : ℕ) (ca
   space : length (before.left ++ zeros) ≡ room
   space = length-append before.left zeros ∙ all
 
-  asked_as : (r : Asked) → result ≡ r → IsAsked limits options request (with_behind before zeros) r (with_behind after zeros) call_after
-  asked_as r e = subst (λ (r : Asked). IsAsked limits options request (with_behind before zeros) r (with_behind after zeros) call_after) e (is zeros all)
+  asked_as : (r : Asked) → result ≡ r → IsAsked limits options request (with_after before zeros) r (with_after after zeros) call_after
+  asked_as r e = subst (λ (r : Asked). IsAsked limits options request (with_after before zeros) r (with_after after zeros) call_after) e (is zeros all)
 
   -- a call is told
   pub told_call : result ≡ asked.Call → AsksOrNot limits options request room is_asked call_after told told []
   told_call call_is =
       inl (record {
-        before = with_behind before zeros;
+        before = with_after before zeros;
         space = space;
         result = asked.Call;
-        after = with_behind after zeros;
+        after = with_after after zeros;
         asked = asked_as asked.Call call_is;
         passed_on = (refl, refl, refl);
       })
@@ -139,7 +139,7 @@ module _ (limits : Limits) (options : ℕ) (request : List ℕ) (room : ℕ) (ca
       → HasRoomFor (put_of call_after call_after.room) p
   told_has p call_is has =
       answer_has request options (interrupted_by limits request) (length (before.left ++ zeros))
-      (ask limits options (length (before.left ++ zeros)) request) (with_behind before zeros) (with_behind after zeros)
+      (ask limits options (length (before.left ++ zeros)) request) (with_after before zeros) (with_after after zeros)
       call_after p (asked_as asked.Call call_is)
       (subst (λ (n : ℕ). HasFor n (ask limits options n request) p) (sym space) has)
 
@@ -154,16 +154,16 @@ module _ (limits : Limits) (options : ℕ) (request : List ℕ) (room : ℕ) (ca
       let n = length_of outcome in
       let tells = asked_as (asked.Finished outcome interrupts) finished in
       let keeps = shorter before after zeros (finished_keeps request options (interrupted_by limits request) (length (before.left ++ zeros))
-      (ask limits options (length (before.left ++ zeros)) request) (with_behind before zeros) (with_behind after zeros) outcome interrupts call_after
+      (ask limits options (length (before.left ++ zeros)) request) (with_after before zeros) (with_after after zeros) outcome interrupts call_after
       tells) in
       let lies : LiesWithin (length before.left) (asked.Finished outcome interrupts) = subst (LiesWithin (length before.left)) finished within in
       let first = first_of_room n (length before.left) start before after zeros _ refl (length_within outcome (length before.left) lies) keeps
       (are_first n start before after keeps at one) in
       inl (record {
-        before = with_behind before zeros;
+        before = with_after before zeros;
         space = space;
         result = asked.Finished outcome interrupts;
-        after = with_behind after zeros;
+        after = with_after after zeros;
         asked = tells;
         passed_on = (
           number,
@@ -221,7 +221,7 @@ no_call (Err (error.InvalidXattrSize sizes)) is = cc
 no_call (Err error.MissingExtension) is = cc
 no_call (Err error.OutOfMemory) is = cc
 
--- a writer with so much room
+-- a writer with that much room
 abbrev blank : ℕ → Written
 blank room = record { passed = []; left = replicate room 0; held_at = 0; held = 0; lengths = [] }
 

@@ -3,7 +3,7 @@ use Rattle.std.proofs.Common.{◌≡◌, ◌≤◌, ◌+◌, ◌++◌, ◌∙◌
 use Rattle.std.proofs.lemmas.List.{drop_at, length-take-le, take_at}
 use Rattle.std.proofs.Math.Seq.{take-append-add}
 use Rattle.fuse_segments.specs.Written.{Written, whole, Leaves}
-use Rattle.fuse_messages.specs.Rooms.{Replies, with_behind}
+use Rattle.fuse_messages.specs.Rooms.{Replies, with_after}
 use Rattle.fuse_grammar.specs.Reply.{Reply, Refusal, NoReply, Bytes, OpenBehind}
 use Rattle.fuse_grammar.specs.declared.error.Error.{Error}
 use Rattle.nizwarf_door.specs.Kept.{HasRoomFor, Holds}
@@ -32,8 +32,8 @@ replied_keeps (Bytes reply) old new outcome h =
 replied_keeps (OpenBehind reply) old new outcome h =
     record { room_after = h.room_after; leaves = h.leaves }
 
--- what holds with more room behind a writer's own holds of that alone
-pub shorter : (old new : Written) (behind : List ℕ) → Keeps (with_behind old behind) (with_behind new behind)
+-- what holds with more room after a writer's own holds of that alone
+pub shorter : (old new : Written) (behind : List ℕ) → Keeps (with_after old behind) (with_after new behind)
     → Keeps old new
 shorter old new behind k =
     let n = length old.left in

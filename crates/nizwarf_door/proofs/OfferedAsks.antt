@@ -15,7 +15,7 @@ use Rattle.door_ask.specs.Memory.{MayWant}
 use Rattle.door_ask.specs.WithOpcode.{unread_with_opcode}
 use Rattle.door_ask.proofs.WithOpcode.{same_length}
 use Rattle.door_further.specs.Turns.{as_create}
-use Rattle.door_further.specs.Further.{What, Ordinary, Short, Row, Unnamed, Tells, told_under, what_behind, what_of}
+use Rattle.door_further.specs.Further.{What, Ordinary, Short, Row, Unnamed, Tells, told_under, what_after, what_of}
 use Rattle.door_further.specs.declared.row.Further.{Further}
 use Rattle.door_further.specs.declared.row.Further.TheVariants as further
 use Rattle.c_rooms.specs.Codes.{is_asked, no_memory, number_of}
@@ -171,7 +171,7 @@ what_unnamed options room old mid result Short is t = absurd (let e = sym t.0 �
 what_unnamed options room old mid result (Row row) is t = absurd (let e = sym t.0 ∙ is in cc)
 
 unnamed_by : (offers : ℕ) (limits : Limits) (q : List ℕ) (short : Bool) → nat_lt (length q) 40 ≡ short
-    → what_behind offers limits (if short then Err DecodeMessage else Ok (value_of in_header q)) (drop 40 q) (length q) ≡ Unnamed
+    → what_after offers limits (if short then Err DecodeMessage else Ok (value_of in_header q)) (drop 40 q) (length q) ≡ Unnamed
     → 40 ≤ length q
 unnamed_by offers limits q true test is = absurd cc
 unnamed_by offers limits q false test is = grind (arith, nat_tests, test)

@@ -3,7 +3,7 @@ use Rattle.std.proofs.Common.{◌≡◌, ◌≢◌, ◌≤◌, ◌^◌, ◌⊎�
 use Rattle.std.proofs.lemmas.Bool.Decides.{nat_tests}
 use Rattle.std.specs.Prelude.{⊤}
 use Rattle.fuse_segments.specs.Written.{Written}
-use Rattle.fuse_messages.specs.Rooms.{with_behind}
+use Rattle.fuse_messages.specs.Rooms.{with_after}
 use Rattle.fuse_grammar.specs.Ask.{ask}
 use Rattle.fuse_grammar.specs.Forms.{Ask, Ends, Asks as asks_call, Lists, WithMemory}
 use Rattle.fuse_grammar.specs.declared.limits.Limits.{Limits}
@@ -15,7 +15,7 @@ use Rattle.door_ask.specs.declared.asked.Asked.{Asked}
 use Rattle.door_ask.specs.declared.asked.Asked.TheVariants as asked
 use Rattle.door_answer.specs.Told.{AnswersEachCall, AnswersEachListing}
 use Rattle.door_answer.specs.declared.answered.Answered.{Answered}
-use Rattle.fuse_messages.proofs.Rooms.{with_none_behind}
+use Rattle.fuse_messages.proofs.Rooms.{with_none_after}
 use Rattle.laws_flight.specs.OneTurn.{AreOneTurn}
 use Rattle.c_rooms.specs.Codes.{no_memory, not_asked, too_long, is_asked}
 use Rattle.nizwarf_door.specs.Answering.{AnswersOrNot, IsPassedOn as IsAnswerTold}
@@ -59,20 +59,20 @@ room_told q o n room (WithMemory rest) before after call (inl t) = room_told q o
 room_told q o n room (WithMemory rest) before after call (inr t) = absurd t.1
 
 -- a directory has all its room
-pub listing_behind : (limits : Limits) (call : CallData) (a : AnswerData) (items : List ItemData)
+pub listing_after : (limits : Limits) (call : CallData) (a : AnswerData) (items : List ItemData)
     (old new : Written) (came : Answered) (behind : List ℕ) (only : Bool) → (call.answer == 3) ≡ only
     → length old.left ≡ (if only then min call.room 16 else call.room)
     → length old.left + length behind ≡ call.room
     → AnswersEachListing limits call a items old (Some came) new
-    → AnswersEachListing limits call a items (with_behind old behind) (Some came) (with_behind new behind)
-listing_behind limits call a items old new came behind true is space all h = λ echo l te tl same.
+    → AnswersEachListing limits call a items (with_after old behind) (Some came) (with_after new behind)
+listing_after limits call a items old new came behind true is space all h = λ echo l te tl same.
     let no = tl.kind in absurd (grind (arith, nat_tests, no, is))
-listing_behind limits call a items old new came behind false is space all h =
+listing_after limits call a items old new came behind false is space all h =
     let none : length behind ≡ 0 = omega (arith, space, all) in
-    subst (λ (w : Written). AnswersEachListing limits call a items w (Some came) (with_behind new behind))
-    (sym (with_none_behind old behind none))
+    subst (λ (w : Written). AnswersEachListing limits call a items w (Some came) (with_after new behind))
+    (sym (with_none_after old behind none))
     (subst (λ (w : Written). AnswersEachListing limits call a items old (Some came) w)
-    (sym (with_none_behind new behind none)) h)
+    (sym (with_none_after new behind none)) h)
 
 module _ (law : AreOneTurn) (limits : Limits) (options : ℕ) (request : List ℕ) (room : ℕ)
     (call : CallData) (a : AnswerData) (text : List ℕ) (items : List ItemData) where
@@ -96,7 +96,7 @@ module _ (law : AreOneTurn) (limits : Limits) (options : ℕ) (request : List �
               is_asked = is;
               same_room = length-append old.left behind ∙ all ∙ sym space;
               call = calls;
-              listing = listing_behind limits call a items old new came behind (call.answer == 3) refl put
+              listing = listing_after limits call a items old new came behind (call.answer == 3) refl put
                   (all ∙ sym space ∙ sym told) listings;
             });
         passed_on = on;

@@ -1,4 +1,4 @@
--- The bytes of a request that lies in one piece, and the pieces behind its header.
+-- The bytes of a request that lies in one piece, and the pieces after its header.
 use Rattle.std.proofs.Common.{◌≡◌, ◌-◌, ◌≤◌, List, [], ◌∷◌, ℕ, Bool, true, false, nat_lt, length, get_or, refl, ap, arith, append-nil}
 use Rattle.std.proofs.lemmas.Bool.Decides.{nat_tests}
 use Rattle.std.specs.Borrow.{Bor}
@@ -10,15 +10,15 @@ one_piece [] d e = absurd (let a = e in cc)
 one_piece (a ∷ []) d e = append-nil a.now
 one_piece (a ∷ b ∷ xs) d e = absurd (let f = e in cc)
 
--- what is behind the first 40 bytes of a piece
-behind_40 : (n m : ℕ) (more : Bool) → 40 ≤ n → m ≡ n - 40 → nat_lt 40 n ≡ more
+-- what is after the first 40 bytes of a piece
+after_40 : (n m : ℕ) (more : Bool) → 40 ≤ n → m ≡ n - 40 → nat_lt 40 n ≡ more
     → lengths_from 40 (lengths_from 0 (n ∷ [])) ≡ lengths_from 0 (m ∷ [])
-behind_40 n m true long is b =
+after_40 n m true long is b =
     let first : nat_lt 0 n ≡ true = grind (arith, nat_tests, long) in
     let some : nat_lt 0 m ≡ true = grind (arith, nat_tests, is, b) in
     let all : n - 0 ≡ n = omega arith in
     rw (first, all, b, some) (ap (λ (k : ℕ). k ∷ []) (omega (arith, is)))
-behind_40 n m false long is b =
+after_40 n m false long is b =
     let first : nat_lt 0 n ≡ true = grind (arith, nat_tests, long) in
     let none : nat_lt 0 m ≡ false = grind (arith, nat_tests, is, b) in
     let all : n - 0 ≡ n = omega arith in
@@ -28,12 +28,12 @@ pub one_behind : (xs : List (Bor (List ℕ))) (d : Bor (List ℕ)) (m : ℕ) →
     → m ≡ length (get_or xs 0 d).now - 40
     → lengths_from 40 (lengths_from 0 (lengths_of (segments_of xs))) ≡ lengths_from 0 (m ∷ [])
 one_behind [] d m e long is = absurd (let a = e in cc)
-one_behind (a ∷ []) d m e long is = behind_40 (length a.now) m (nat_lt 40 (length a.now)) long is refl
+one_behind (a ∷ []) d m e long is = after_40 (length a.now) m (nat_lt 40 (length a.now)) long is refl
 one_behind (a ∷ b ∷ xs) d m e long is = absurd (let f = e in cc)
 
-pub second_behind : (xs : List (Bor (List ℕ))) (d : Bor (List ℕ)) → length xs ≡ 2 → length (get_or xs 0 d).now ≡ 40
+pub second_after : (xs : List (Bor (List ℕ))) (d : Bor (List ℕ)) → length xs ≡ 2 → length (get_or xs 0 d).now ≡ 40
     → lengths_from 40 (lengths_from 0 (lengths_of (segments_of xs))) ≡ lengths_from 0 (length (get_or xs 1 d).now ∷ [])
-second_behind [] d e first = absurd (let a = e in cc)
-second_behind (a ∷ []) d e first = absurd (let b = e in cc)
-second_behind (a ∷ b ∷ []) d e first = rw first refl
-second_behind (a ∷ b ∷ c ∷ xs) d e first = absurd (let f = e in cc)
+second_after [] d e first = absurd (let a = e in cc)
+second_after (a ∷ []) d e first = absurd (let b = e in cc)
+second_after (a ∷ b ∷ []) d e first = rw first refl
+second_after (a ∷ b ∷ c ∷ xs) d e first = absurd (let f = e in cc)

@@ -7,8 +7,8 @@ use Rattle.fuse_segments.specs.Written.{Written, whole}
 use Rattle.fs_trait.specs.Calls.{Call, Kind, Entries, Creations, Data, Answer, Found, Created, kind_of, read_answer}
 use Rattle.fs_trait.specs.Calls as call
 use Rattle.fs_trait.specs.Runs.{Event, Called}
-use Rattle.fuse_messages.specs.Rooms.{with_behind}
-use Rattle.fuse_messages.proofs.Rooms.{whole_behind}
+use Rattle.fuse_messages.specs.Rooms.{with_after}
+use Rattle.fuse_messages.proofs.Rooms.{whole_after}
 use Rattle.fuse_grammar.specs.Ask.{ask}
 use Rattle.fuse_grammar.specs.Forms.{Ask, Ends, Asks as asks_call, Lists, WithMemory}
 use Rattle.fuse_grammar.specs.Limits.{AreLimits}
@@ -40,7 +40,7 @@ use Rattle.nizwarf_door.specs.Asking.{AsksOrNot, IsPassedOn, finished}
 use Rattle.nizwarf_door.specs.Kept.{put_of}
 use Rattle.nizwarf_door.specs.Turns.{IsAskedOrNot, IsAnsweredOrNot, Happened}
 use Rattle.nizwarf_door.specs.declared.data.ToldData.{ToldData}
-use Rattle.nizwarf_door.proofs.OneTurn.{listing_behind}
+use Rattle.nizwarf_door.proofs.OneTurn.{listing_after}
 
 -- ---- asking
 
@@ -141,7 +141,7 @@ module _ (limits : Limits) (request : List ℕ) (c : CallData) (a : AnswerData) 
     (old new : Written) (came : Answered) (told : ToldData) (behind room_after : List ℕ)
     (kept : whole new ≡ old.passed ++ room_after) (all : length old.left + length behind ≡ c.room)
     (calls : AnswersEachCall limits c a text old (Some came) new)
-    (listings : AnswersEachListing limits c a items (with_behind old behind) (Some came) (with_behind new behind))
+    (listings : AnswersEachListing limits c a items (with_after old behind) (Some came) (with_after new behind))
     (gives : told.give_back ≡ came.given) (takes : told.taken ≡ came.taken) (leaves : told.options ≡ came.options) where
   abbrev turn_of : List Event → Turn
   turn_of events = record {
@@ -157,10 +157,10 @@ module _ (limits : Limits) (request : List ℕ) (c : CallData) (a : AnswerData) 
       (events : List Event) × Happened a text items asks (old.left ++ behind) told events
       × Follows (turn_of events) limits c.options asks told.options
 
-  after_is : (r : List ℕ) → whole (with_behind new behind) ≡ old.passed ++ r → r ≡ room_after ++ behind
+  after_is : (r : List ℕ) → whole (with_after new behind) ≡ old.passed ++ r → r ≡ room_after ++ behind
   after_is r h =
       append_cancel_left old.passed r (room_after ++ behind)
-      (sym h ∙ whole_behind new behind ∙ ap (λ (x : List ℕ). x ++ behind) kept ∙ append_assoc old.passed room_after behind)
+      (sym h ∙ whole_after new behind ∙ ap (λ (x : List ℕ). x ++ behind) kept ∙ append_assoc old.passed room_after behind)
 
   under : (asks : Ask) (events : List Event) → Follows (turn_of events) limits c.options asks came.options
       → Follows (turn_of events) limits c.options asks told.options
@@ -173,7 +173,7 @@ module _ (limits : Limits) (request : List ℕ) (c : CallData) (a : AnswerData) 
       let came_so = calls echo asked behind says.0 says.1 usual.0 all in
       let reply = reply_of limits echo came.options (kind_of asked) came_so.answer in
       let back = unseen (length (old.left ++ behind)) reply (node_answered (kind_of asked) came_so.answer) in
-      let b = came_back reply (with_behind old behind) (with_behind new behind) came.outcome came_so.replied in
+      let b = came_back reply (with_after old behind) (with_after new behind) came.outcome came_so.replied in
       let back_is : back ≡ counted told.give_back =
       sym (ap counted (gives ∙ came_so.given_is)
       ∙ back_told (length (old.left ++ behind)) reply (kind_of asked) came_so.answer) in
@@ -198,7 +198,7 @@ module _ (limits : Limits) (request : List ℕ) (c : CallData) (a : AnswerData) 
       let says = listing_is request c echo l usual.1 t in
       let came_so = listings echo l says.0 says.1 (length-append old.left behind ∙ all) in
       let reply = reply_of limits echo came.options (Data l.size) (read_answer came_so.answer came_so.records) in
-      let b = came_back reply (with_behind old behind) (with_behind new behind) came.outcome came_so.replied in
+      let b = came_back reply (with_after old behind) (with_after new behind) came.outcome came_so.replied in
       let follows : Follows (turn_of came_so.events) limits c.options (Lists echo l) came.options = (
         came_so.records,
         came_so.answer,
@@ -291,7 +291,7 @@ module _ (limits : Limits) (are : AreLimits limits) (c : CallData) (a : AnswerDa
           turn = λ request behind is all.
               let sum = sym (length-append old.left behind) ∙ all in
               let r = turned limits request c a text items old new came told_after behind first.room first.kept sum calls
-              (listing_behind limits c a items old new came behind (c.answer == 3) refl space sum listings)
+              (listing_after limits c a items old new came behind (c.answer == 3) refl space sum listings)
               (ap (λ (t : ToldData). t.give_back) on.1) (ap (λ (t : ToldData). t.taken) on.1)
               (ap (λ (t : ToldData). t.options) on.1) (ask limits c.options c.room request)
               (is_servable limits c.options c.room request) is in (

@@ -34,7 +34,7 @@ IsPassedOn (asked.Finished outcome interrupts) before after code told told_after
     × (told_after ≡ finished outcome interrupts told)
     × AreFirst (length_of outcome) before after shown
 
--- The request was asked, as the grammar says, with a writer that had so many bytes left. A call that is
+-- The request was asked, as the grammar says, with a writer that had that many bytes left. A call that is
 -- asked for is in `call_after`.
 pub record Asks (limits : Limits) (options : ℕ) (request : List ℕ) (room : ℕ) (code : ℤ)
     (call_after : CallData) (told told_after : ToldData) (shown : List ℕ) : Type 0 where
@@ -54,7 +54,7 @@ pub record IsNotAsked (request : List ℕ) (code : ℤ) (call_after : CallData) 
   pub same_told : told_after ≡ told
   pub nothing : shown ≡ []
 
--- a request with so many bytes of room was asked, or not
+-- a request with that many bytes of room was asked, or not
 abbrev pub AsksOrNot : (limits : Limits) → (options : ℕ) → (request : List ℕ) → (room : ℕ)
     → (code : ℤ) → (call_after : CallData) → (told told_after : ToldData) → (shown : List ℕ) → Type 0
 AsksOrNot limits options request room code call_after told told_after shown =

@@ -26,7 +26,7 @@ pub record IsWhole (request : List ℕ) (r : Unread) : Type 0 where
   pub left : r.left ≡ request
   pub one_piece : r.pieces ≡ lengths_from 0 (length request ∷ [])
 
--- The request in one piece is what the grammar says, with so much room for a reply. A call that it asks for is
+-- The request in one piece is what the grammar says, with that much room for a reply. A call that it asks for is
 -- in `call`.
 pub record Checks (limits : Limits) (options : ℕ) (request : List ℕ) (room : ℕ) (code : ℤ) (call : CallData)
     (interrupts : ℕ) : Type 0 where

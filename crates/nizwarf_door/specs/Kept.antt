@@ -9,8 +9,8 @@ use Rattle.c_rooms.specs.Codes.{is_asked, no_memory}
 use Rattle.nizwarf_door.specs.declared.memory.Part.{Part}
 use Rattle.nizwarf_door.specs.declared.memory.Memory.{Memory}
 
--- Of so many bytes of a reply, or of its room, those that are put: all, but of a READ the header's 16 at
--- most. Behind them the data are the caller's.
+-- Of that many bytes of a reply, or of its room, those that are put: all, but of a READ the header's 16 at
+-- most. After them the data are the caller's.
 abbrev pub put_of : CallData → (len : ℕ) → ℕ
 put_of call len = if call.answer == kind.DATA then min len 16 else len
 
@@ -19,18 +19,18 @@ abbrev pub TellsOrNot : (code : ℤ) → (call call_after : CallData) → (kept 
 TellsOrNot code call call_after kept =
     ((code ≡ is_asked) × (call_after ≡ call) × kept) ⊎ ((code ≡ no_memory) × (call_after ≡ nothing))
 
--- this memory has one segment, of at least so many bytes: such a room takes none
+-- this memory has one segment, of at least that many bytes: such a room takes none
 abbrev pub HasRoomFor : (room : ℕ) → Part → Type 0
 HasRoomFor room p = (length p.writer.lengths ≡ 1) × (room ≤ length (whole p.writer))
 
--- this memory has room for any answer to the call that a request asks for, if it asks for one, with so much room
+-- this memory has room for any answer to the call that a request asks for, if it asks for one, with that much room
 abbrev pub HasFor : (room : ℕ) → Ask → Part → Type 0
 HasFor room (Ends reply) p = ⊤
 HasFor room (Asks echo call) p = HasRoomFor (put_of (shape_of call) room) p
 HasFor room (Lists echo l) p = HasRoomFor room p
 HasFor room (WithMemory rest) p = HasFor room rest p
 
--- a slot has memory for an answer of so many bytes
+-- a slot has memory for an answer of that many bytes
 pub record Holds (count : ℕ) (slot : Option Memory) : Type 0 where
   pub memory : Memory
   pub is : slot ≡ Some memory
@@ -40,7 +40,7 @@ pub record Holds (count : ℕ) (slot : Option Memory) : Type 0 where
 abbrev pub HoldsAnswer : CallData → Option Memory → Type 0
 HoldsAnswer call slot = Holds (put_of call call.room) slot
 
--- A slot has memory for what comes of a request that asks this, with so much room: for the reply, if it asks for no
+-- A slot has memory for what comes of a request that asks this, with that much room: for the reply, if it asks for no
 -- call, and else for any answer to its call.
 pub record HoldsFor (room : ℕ) (asks : Ask) (slot : Option Memory) : Type 0 where
   pub memory : Memory

@@ -70,7 +70,7 @@ module _ (a : AnswerData) (text : List ℕ) (items : List ItemData) where
 
 module _ (limits : Limits) (call : CallData) (a : AnswerData) (text : List ℕ) (items : List ItemData) (code : ℤ)
     (told told_after : ToldData) (shown : List ℕ) where
-  -- The call was answered: of each request of which the data are, with whatever behind the bytes of the room that are
+  -- The call was answered: of each request of which the data are, with whatever after the bytes of the room that are
   -- put here, this is a turn of the grammar, under the options that it was asked with.
   pub record AnswersCall : Type 0 where
     pub room : List ℕ

@@ -1,7 +1,7 @@
 -- What small callers of the library say.
 use Rattle.std.specs.Prelude.{◌≡◌, ◌+◌, ℕ, ℤ, List, [], ◌∷◌, length, Some}
 use Rattle.fuse_segments.specs.Written.{Written}
-use Rattle.fuse_messages.specs.Rooms.{with_behind}
+use Rattle.fuse_messages.specs.Rooms.{with_after}
 use Rattle.fuse_grammar.specs.Samples.{lookup_of_a}
 use Rattle.door_calls.specs.declared.call.CallData.{CallData}
 use Rattle.door_calls.specs.declared.call.number.TheConstants.{LOOKUP}
@@ -35,8 +35,8 @@ abbrev pub no_such_name : List ℕ
 no_such_name =
     0x10 ∷ 0 ∷ 0 ∷ 0 ∷ 0xfe ∷ 0xff ∷ 0xff ∷ 0xff ∷ 9 ∷ 0 ∷ 0 ∷ 0 ∷ 0 ∷ 0 ∷ 0 ∷ 0 ∷ []
 
--- A request with so much room was one turn of the grammar, with this answer to the call that was told, whatever stood
--- in the room behind the first bytes that were put; and what came of it was told so.
+-- A request with that much room was one turn of the grammar, with this answer to the call that was told, whatever stood
+-- in the room after the first bytes that were put; and what came of it was told so.
 pub record IsOneTurn (limits : Limits) (options : ℕ) (request : List ℕ) (room : ℕ) (call : CallData)
     (a : AnswerData) (text : List ℕ) (items : List ItemData) (code : ℤ) (told told_after : ToldData)
     (shown : List ℕ) : Type 0 where
@@ -44,6 +44,6 @@ pub record IsOneTurn (limits : Limits) (options : ℕ) (request : List ℕ) (roo
   pub came : Answered
   pub after : Written
   pub turn : (behind : List ℕ) → length before.left + length behind ≡ room
-      → IsAnsweredTurn limits options request a text items (with_behind before behind) came
-      (with_behind after behind)
+      → IsAnsweredTurn limits options request a text items (with_after before behind) came
+      (with_after after behind)
   pub passed_on : IsPassedOn (Some came) call before after code told told_after shown

@@ -19,7 +19,7 @@ use std::alloc::Global;
 /// The bytes of the header of a reply.
 pub const HEADER_SIZE: usize = 16;
 
-/// Of so many bytes those that are put: all, but of a READ the header's at most.
+/// Of that many bytes those that are put: all, but of a READ the header's at most.
 pub fn put_of(call: &CallData, len: usize) -> usize
     ensures { result ≡ put_of call.now len }
 {

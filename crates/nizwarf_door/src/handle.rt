@@ -14,7 +14,7 @@ use std::marker::Model;
 use std::mem;
 
 /// A handle: a server, or none, where the pointer is null. C sees one pointer, and never looks into
-/// it; contracts see the value behind it.
+/// it; contracts see the value after it.
 #[repr(C)]
 pub struct Handle {
     at: *mut u8,

@@ -59,7 +59,7 @@ fn new_memory(alloc: Global) -> Option<Box<Memory>> {
     Box::new(alloc, Memory::new(alloc)).ok()
 }
 
-// The memory behind a handle, or new. `None` where there is no memory.
+// The memory after a handle, or new. `None` where there is no memory.
 #[inline(always)]
 pub(crate) fn memory_of(alloc: Global, handle: &mut Handle) -> Option<Box<Memory>>
     ensures taken { handle.new.value ≡ None }
@@ -241,7 +241,7 @@ fn ask_by_reader(
 ///
 /// Answers the outcome's number, as [`nizwarf_ask_at`] does. `told` has the length of the reply,
 /// and how many of its bytes are there to be copied out: of a READ the 16 of its header, since the
-/// data stand in the room already; the options from then on; the node of an entry that the client
+/// data are in the room already; the options from then on; the node of an entry that the client
 /// doesn't get to see, of which a lookup is to be given back; and how many items are in the reply.
 /// 16 is answered where the call is none that was asked, and 12 where there is no server for the
 /// sizes of the session: then nothing is told. 10 where this is another slot than the call was asked

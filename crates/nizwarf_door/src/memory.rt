@@ -26,7 +26,7 @@ impl Part {
         }
     }
 
-    /// Whether it has so many bytes, in one segment.
+    /// Whether it has that many bytes, in one segment.
     #[inline(always)]
     pub fn has(&self, total: usize) -> bool
         ensures room { result ≡ true → HasRoomFor total self.now }

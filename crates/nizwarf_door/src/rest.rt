@@ -22,7 +22,7 @@ use fuse_flags::FsOptions;
 use fuse_grammar::Limits;
 use std::alloc::Global;
 
-/// Asks the request that has this header, and behind it these bytes.
+/// Asks the request that has this header, and after it these bytes.
 #[inline(always)]
 pub fn ask_pieces(
     alloc: Global,

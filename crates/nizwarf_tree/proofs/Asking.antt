@@ -13,7 +13,7 @@ use Rattle.door_calls.specs.declared.call.CallData.{CallData}
 use Rattle.door_calls.specs.declared.call.kind.TheConstants as kind
 use Rattle.door_calls.specs.declared.call.number.TheConstants as number
 use Rattle.door_further.specs.declared.offers.TheConstants as row
-use Rattle.door_further.specs.Further.{What, Ordinary, Short, Row, Unnamed, Tells, ioctl_place, or_short, row_of, told_under, what_behind}
+use Rattle.door_further.specs.Further.{What, Ordinary, Short, Row, Unnamed, Tells, ioctl_place, or_short, row_of, told_under, what_after}
 use Rattle.door_further.specs.declared.row.Further.{Further}
 use Rattle.door_further.specs.declared.row.Further.TheVariants as further
 use Rattle.fuse_server.specs.Step.{ServerState}
@@ -76,7 +76,7 @@ module _ (h : InHeader) (rest : List ℕ) (len : ℕ) where
   by_limit false = of_row
 
 by_header : (limits : Limits) (h : Result InHeader Error) (rest : List ℕ) (len : ℕ)
-    → IsText (what_behind OFFERS limits h rest len)
+    → IsText (what_after OFFERS limits h rest len)
 by_header limits (Err error) rest len = record { text = tt {0} }
 by_header limits (Ok h) rest len = by_limit h rest len (nat_lt (max_len limits) h.len)
 

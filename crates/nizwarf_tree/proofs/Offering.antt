@@ -10,7 +10,7 @@ use Rattle.fuse_segments.specs.Segments.{flat_bytes, segments_of}
 use Rattle.fuse_wire.specs.Fields.{little}
 use Rattle.door_further.specs.Turns.{as_create}
 
--- ---- the first bytes of two pieces, and those behind
+-- ---- the first bytes of two pieces, and those after
 
 take-append_both : (n : ℕ) (xs ys : List ℕ) → take n (xs ++ ys) ≡ take n xs ++ take (n - length xs) ys
 take-append_both zero xs ys =
@@ -91,9 +91,9 @@ module _ (segments : List (List ℕ)) (i : ℕ) where
         (ap (λ (l : List ℕ). take count so_far ++ l) same ∙ sym (take-append_both count so_far part)
         ∙ ap (take count) (sym next))
 
-    pub behind_more : list ≡ before ++ drop count so_far → piece ≡ drop len part
+    pub after_more : list ≡ before ++ drop count so_far → piece ≡ drop len part
         → new ≡ before ++ drop count (concat (take (i + 1) segments))
-    behind_more list_is piece_is =
+    after_more list_is piece_is =
         let same : piece ≡ drop (count - length so_far) part =
         piece_is ∙ ap (λ (k : ℕ). drop k part) len_is ∙ drop_min left part
         ∙ ap (λ (k : ℕ). drop k part) left_is in
@@ -102,7 +102,7 @@ module _ (segments : List (List ℕ)) (i : ℕ) where
         (ap (λ (l : List ℕ). drop count so_far ++ l) same ∙ sym (drop-append_both count so_far part)
         ∙ ap (drop count) (sym next))
 
--- CREATE's number between the first four bytes and those behind the eighth
+-- CREATE's number between the first four bytes and those after the eighth
 pub created : (q none first second last : List ℕ) → none ≡ [] → first ≡ none ++ take 4 q
     → second ≡ first ++ (35 ∷ 0 ∷ 0 ∷ 0 ∷ []) → last ≡ second ++ drop 8 q → last ≡ as_create q
 unfolding little

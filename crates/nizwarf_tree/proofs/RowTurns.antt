@@ -5,7 +5,7 @@ use Rattle.std.proofs.lemmas.Bool.Decides.{Decides-int_eq}
 use Rattle.fuse_flags.specs.Numbers.{eio}
 use Rattle.fuse_segments.specs.Written.{Written, whole}
 use Rattle.fs_trait.specs.Calls.{Answer, Failed, Text, Texts}
-use Rattle.fuse_messages.specs.Rooms.{Replies, with_behind}
+use Rattle.fuse_messages.specs.Rooms.{Replies, with_after}
 use Rattle.fuse_grammar.specs.Reply.{Reply, Refusal, NoReply, Bytes, OpenBehind, reply_of}
 use Rattle.fuse_grammar.specs.declared.error.Error.{Error}
 use Rattle.fuse_grammar.specs.declared.error.Error.TheVariants.{DecodeMessage}
@@ -112,13 +112,13 @@ same_lengths limits call a text old new result is_text space x =
     by (Some came) x =
         let all : length old.left + 0 ≡ call.room = omega (arith, space) in
         let answered = x.1 [] all in
-        replied_lengths (reply_of limits (echo_told call) came.options Texts answered.answer) (with_behind old [])
-        (with_behind new []) came.outcome answered.comes.1
+        replied_lengths (reply_of limits (echo_told call) came.options Texts answered.answer) (with_after old [])
+        (with_after new []) came.outcome answered.comes.1
 
 -- ---- the turn
 
-none_behind : (w : Written) → w ≡ with_behind w []
-none_behind w =
+none_after : (w : Written) → w ≡ with_after w []
+none_after w =
     ap (λ (left : List ℕ). let v : Written = record w { left = left } in v) (sym (append-nil w.left))
 
 module _ (old middle new : ServerState State) (request : List ℕ) (total : ℕ) (number : ℤ) (len : ℕ)
@@ -149,13 +149,13 @@ module _ (old middle new : ServerState State) (request : List ℕ) (total : ℕ)
       (listings : AnswersEachListing limits call (answer_offered call a text) [] before (Some came) after) where
     turn_of : of_turn a before after
     turn_of =
-        let listing : AnswersEachListing limits call (answer_offered call a text) [] (with_behind before []) (Some came)
-        (with_behind after []) =
-        subst (λ (v : Written). AnswersEachListing limits call (answer_offered call a text) [] (with_behind before [])
-        (Some came) v) (none_behind after)
+        let listing : AnswersEachListing limits call (answer_offered call a text) [] (with_after before []) (Some came)
+        (with_after after []) =
+        subst (λ (v : Written). AnswersEachListing limits call (answer_offered call a text) [] (with_after before [])
+        (Some came) v) (none_after after)
         (subst (λ (w : Written). AnswersEachListing limits call (answer_offered call a text) [] w (Some came) after)
-        (none_behind before) listings) in
-        let turn : of_turn (answer_offered call a text) (with_behind before []) (with_behind after []) =
+        (none_after before) listings) in
+        let turn : of_turn (answer_offered call a text) (with_after before []) (with_after after []) =
         turns limits OFFERS old.options request before before call a text [] before [] came after (record {
           is_told = is_told;
           same_room = ap (λ (l : List ℕ). length l) (append-nil before.left);
@@ -163,11 +163,11 @@ module _ (old middle new : ServerState State) (request : List ℕ) (total : ℕ)
           call = calls;
           listing = listing;
         }) in
-        let first : of_turn (answer_offered call a text) before (with_behind after []) =
-        subst (λ (w : Written). of_turn (answer_offered call a text) w (with_behind after []))
-        (sym (none_behind before)) turn in
+        let first : of_turn (answer_offered call a text) before (with_after after []) =
+        subst (λ (w : Written). of_turn (answer_offered call a text) w (with_after after []))
+        (sym (none_after before)) turn in
         let second : of_turn (answer_offered call a text) before after =
-        subst (λ (v : Written). of_turn (answer_offered call a text) before v) (sym (none_behind after)) first in
+        subst (λ (v : Written). of_turn (answer_offered call a text) before v) (sym (none_after after)) first in
         subst (λ (b : AnswerData). of_turn b before after)
         (stays call a text (is_fit call a text (row_answer old.fs call) says)) second
 

@@ -13,7 +13,7 @@ use Rattle.nizwarf_tree.specs.Offered.{what_asked}
 use Rattle.nizwarf_tree.specs.Served.{Refused, RowInC, ServedAs, ServedInC, SteppedInC}
 use Rattle.nizwarf_tree.proofs.Offering.{created_len}
 
--- the last bytes of all are those behind the bytes that were passed before
+-- the last bytes of all are those after the bytes that were passed before
 pub room_is : (passed room_after all room : List ℕ) (total : ℕ)
     → all ≡ passed ++ room_after → length room_after ≡ total → room ≡ drop (length all - total) all
     → room ≡ room_after

@@ -12,7 +12,7 @@ use Rattle.nizwarf_tree.specs.Files.{State, row_answer}
 
 -- ---- IOCTL
 
--- so many zeros are a record without a retry, and output
+-- that many zeros are a record without a retry, and output
 zeros_fit : (gets : Bool) (len size : ℕ) → len ≡ 16 + (if gets then 4 else 28) → len ≤ 16 + size
     → fits_ioctl size (take len (replicate 288 0)) ≡ true
 unfolding number_of

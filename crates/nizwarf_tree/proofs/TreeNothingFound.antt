@@ -156,7 +156,7 @@ module _ {A : Type 0} (server : A → ServerState State) (left : A → List ℕ)
   nothing_found count piece after (Some u) r long counted copied =
       copied_out (left u) piece after (shown u) count r.0 r.1 long counted copied
 
-  -- the state behind a handle that has handled two messages
+  -- the state after a handle that has handled two messages
   pub last_of : (first : ServerState State) (q1 q2 one two : List ℕ) (e : Option A)
       → q1 ≡ one → q2 ≡ two → MatchOption e ⊥ (λ t. HandlesTwo first q1 q2 (server t))
       → (last : ServerState State) × HandlesTwo first one two last

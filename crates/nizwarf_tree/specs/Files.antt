@@ -1,4 +1,4 @@
--- The file system behind the server, as contracts see it. A library over another one has other
+-- The file system after the server, as contracts see it. A library over another one has other
 -- values here, and another `src/files.rt`.
 use Rattle.std.specs.Prelude.{ℕ, ◌==◌, bit_and, List, Option, Some, if◌then◌else◌}
 use Rattle.fuse_flags.specs.Numbers.{enosys}

@@ -1,4 +1,4 @@
--- What a call adds to the history of the server behind a handle.
+-- What a call adds to the history of the server after a handle.
 use Rattle.std.specs.Prelude.{◌≡◌, ◌⊎◌, ℕ, ℤ, List, [], ◌∷◌, ◌++◌, length}
 use Rattle.fuse_grammar.specs.Books.{KeepsBooks}
 use Rattle.fuse_grammar.specs.Turn.{Turn}
@@ -18,7 +18,7 @@ Extends old more new =
     (first : ServerState State) (moments : List (Moment State))
     → IsHistory Allows Gives first moments old → IsHistory Allows Gives first (moments ++ more) new
 
--- The server handled a request, by a turn of these bytes and of a room of so many. The number and the
+-- The server handled a request, by a turn of these bytes and of a room of that many. The number and the
 -- length are those of its outcome, `room` is the room after it, and the first `shown` bytes of that are
 -- there to be copied out. The turn is the last moment of the server's history.
 pub record Turned (old : ServerState State) (request : List ℕ) (total : ℕ) (number : ℤ) (len : ℕ)

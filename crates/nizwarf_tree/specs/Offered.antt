@@ -18,7 +18,7 @@ row_limits limits = record {
 abbrev pub what_asked : Limits → (request : List ℕ) → What
 what_asked limits q = what_of OFFERS (row_limits limits) q
 
--- a request asks this call of a row, with so many bytes of room
+-- a request asks this call of a row, with that many bytes of room
 pub record AsksRow (server : ServerState State) (total : ℕ) (request : List ℕ) (call : CallData) : Type 0 where
   pub row : CallData
   pub asks : what_asked server.limits request ≡ Row row

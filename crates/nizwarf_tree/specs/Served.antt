@@ -1,4 +1,4 @@
--- What calls tell of the server behind a handle.
+-- What calls tell of the server after a handle.
 use Rattle.std.specs.Prelude.{◌≡◌, ◌≤◌, ◌<◌, ◌-◌, ◌^◌, ◌⊎◌, pos, true, ℕ, ℤ, List, ◌++◌, length, IfSome, Some, Result}
 use Rattle.fuse_segments.specs.Written.{Written, whole}
 use Rattle.fuse_grammar.specs.declared.error.Error.{Error}
@@ -28,7 +28,7 @@ abbrev pub told_time : ServerState State → (seconds nanoseconds : ℕ) → Ser
 told_time server seconds nanoseconds =
     record server { fs = at_time server.fs seconds nanoseconds }
 
--- The server made a step, as the grammar says, with a writer that had so many bytes left; if a
+-- The server made a step, as the grammar says, with a writer that had that many bytes left; if a
 -- directory was read, it was read so. `room` has the bytes that the step left in their place, of
 -- which the first `shown` are there to be copied out.
 pub record SteppedInC (old : ServerState State) (request : List ℕ) (total : ℕ) (number : ℤ) (len : ℕ)
@@ -89,7 +89,7 @@ ServedAs Short old request total number len room shown new =
 ServedAs (Row told) old request total number len room shown new =
     RowInC old request total number len room shown new
 
--- a request with so many bytes of room was served, or it was not handed on
+-- a request with that many bytes of room was served, or it was not handed on
 abbrev pub ServedInC : (old : ServerState State) → (request : List ℕ) → (total : ℕ) → (number : ℤ)
     → (len : ℕ) → (room : List ℕ) → (shown : ℕ) → (new : ServerState State) → Type 0
 ServedInC old request total number len room shown new =

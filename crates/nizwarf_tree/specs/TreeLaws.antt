@@ -1,4 +1,4 @@
--- What holds of the tree behind a server, since that was made. A library over another file system has no
+-- What holds of the tree after a server, since that was made. A library over another file system has no
 -- such file.
 use Rattle.std.specs.Prelude.{ℕ, List}
 use Rattle.fuse_server.specs.Step.{ServerState}

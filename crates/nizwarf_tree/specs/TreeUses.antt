@@ -27,7 +27,7 @@ abbrev pub no_such_name : List ℕ
 no_such_name =
     0x10 ∷ 0 ∷ 0 ∷ 0 ∷ 0xfe ∷ 0xff ∷ 0xff ∷ 0xff ∷ 9 ∷ 0 ∷ 0 ∷ 0 ∷ 0 ∷ 0 ∷ 0 ∷ 0 ∷ []
 
--- The server answered a request, and the reply has so many bytes. They lie at a place in
+-- The server answered a request, and the reply has that many bytes. They lie at a place in
 -- these bytes of memory, which lie at a pointer.
 pub record IsTaken (old : ServerState State) (request : List ℕ) (total len : ℕ) (bytes : List ℕ) (at : Ptr)
     (place : Place) (new : ServerState State) : Type 0 where
@@ -37,7 +37,7 @@ pub record IsTaken (old : ServerState State) (request : List ℕ) (total len : �
   pub counted : place.len ≡ min len (length bytes - place.start)
 
 -- A server answered a row by which this call was asked: a turn of the further table with this answer. The reply has
--- so many bytes, and the server is as it was.
+-- that many bytes, and the server is as it was.
 pub record IsRow (old : ServerState State) (call : CallData) (answer : Answer) (total len : ℕ) (room : List ℕ)
     (new : ServerState State) : Type 0 where
   pub t : OfferedTurn

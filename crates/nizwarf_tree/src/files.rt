@@ -1,4 +1,4 @@
-//! The file system behind the server. A library over another one has another file in the place of
+//! The file system after the server. A library over another one has another file in the place of
 //! this, and other values in `specs/Files.antt`.
 
 ghost use Rattle.std.specs.Prelude.{◌≡◌, ◌≤◌, true, length, replicate, take, IfErr, IfOk, IfSome};

@@ -1,12 +1,12 @@
 //! The server over a file system in memory, for a transport that is written in C or links as C does:
-//! a server lives behind a handle between calls, and each message is one call.
+//! a server lives after a handle between calls, and each message is one call.
 //!
 //! The header is `include/nizwarf_tree.h`. What a transport calls are the functions there, which look at
 //! pointers first, since no function here can: for a reference of the signatures below C gives a
 //! pointer to what is there, never NULL. A slice is a pointer and then a length to C, also as an
 //! element of a list of segments; `alloc` is nothing.
 //!
-//! Each promise is over the server behind the handle. C may break the conditions that the header
+//! Each promise is over the server after the handle. C may break the conditions that the header
 //! states, and then nothing is promised.
 #![tactic(auto)]
 

@@ -23,7 +23,7 @@ static CREATE: [u8; 4] = [35, 0, 0, 0];
 const OPCODE_AT: usize = 4;
 
 /// What a request asks of a server by the rows that its file system offers: a call of a row, each of which is
-/// answered a text, is told in `call`, with so many bytes of room.
+/// answered a text, is told in `call`, with that many bytes of room.
 pub fn asked(server: &Server<Files>, request: &[&[u8]], room: usize, call: &mut CallData) -> Further
     ensures ordinary { result ≡ IsOrdinary →
         what_asked server.now.limits (flat_bytes (segments_of request.now)) ≡ Ordinary }
@@ -75,7 +75,7 @@ pub fn as_create<'a>(alloc: Global, request: &[&'a [u8]]) -> Result<Vec<&'a [u8]
     let mut list = Vec::new(alloc);
     push_first(&mut list, request, OPCODE_AT)?;
     list.push(&CREATE)?;
-    push_behind(&mut list, request, OPCODE_AT + CREATE.len())?;
+    push_after(&mut list, request, OPCODE_AT + CREATE.len())?;
     Ok(list)
 }
 
@@ -101,8 +101,8 @@ fn push_first<'a>(
     Ok(())
 }
 
-// Adds the bytes of a request behind the first `count`.
-fn push_behind<'a>(
+// Adds the bytes of a request after the first `count`.
+fn push_after<'a>(
     list: &mut Vec<&'a [u8]>,
     request: &[&'a [u8]],
     count: usize,

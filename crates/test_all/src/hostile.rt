@@ -17,7 +17,7 @@ fn tried(alloc: Global, message: &Message) -> Result<usize, Fail> {
     Err(Fail::new(format_args!("{name}: {form:?}")))
 }
 
-/// Whether so many were tried of all messages.
+/// Whether that many were tried of all messages.
 fn are_tried(alloc: Global, count: usize) -> Result<bool, Fail> {
     let mut sum = 0usize;
     for message in &messages(alloc)? {

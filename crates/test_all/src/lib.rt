@@ -1,6 +1,6 @@
 //! Tests of all libraries, by their public calls alone: of what no contract says.
 //!
-//! They stand in a crate of their own, since a check of a crate's tests proves the crate again; and
+//! They are in a crate of their own, since a check of a crate's tests proves the crate again; and
 //! in one crate, since what they have in common is then proved once.
 #![tactic(auto)]
 

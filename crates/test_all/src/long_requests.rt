@@ -6,7 +6,7 @@ use std::alloc::{AllocError, Global};
 use std::test::Fail;
 use test_corpus::{Cut, Message, Way, serve};
 
-/// Whether a request is answered by so many bytes and makes this call, whole and cut in its middle,
+/// Whether a request is answered by that many bytes and makes this call, whole and cut in its middle,
 /// once the lines before it agreed on what it needs.
 fn makes_its_call(
     alloc: Global,
@@ -42,7 +42,7 @@ fn makes_its_call(
     )
 }
 
-/// So many bytes, each one more than that before it, from 0 on and again behind 255.
+/// So many bytes, each one more than that before it, from 0 on and again after 255.
 fn rising(alloc: Global, count: u32) -> Result<Vec<u8>, AllocError> {
     let mut bytes = Vec::new(alloc);
     let mut byte = 0u8;
@@ -68,7 +68,7 @@ fn line_with(
     Ok(line)
 }
 
-/// Whether a SETXATTR of opcode 21 arrives with a value of so many bytes.
+/// Whether a SETXATTR of opcode 21 arrives with a value of that many bytes.
 fn sets_a_value(alloc: Global, count: u32) -> Result<bool, Fail> {
     let value = rising(alloc, count)?;
     let mut behind = Vec::from_slice(alloc, &count.to_le_bytes())?;
@@ -127,7 +127,7 @@ static AGREED: &str = concat!(
     "000000000000000000000000000000000000000000000000000000\n",
 );
 
-/// What stands behind the header of a CREATE of `n` with a context of the name `s` and this value:
+/// What comes after the header of a CREATE of `n` with a context of the name `s` and this value:
 /// its record, the name, and the context with its two headers.
 fn create_with(alloc: Global, value: &[u8], count: u32) -> Result<Vec<u8>, AllocError> {
     let mut behind = Vec::from_slice(alloc, b"\x02\0\0\0\xa4\x81\0\0\x12\0\0\0\0\0\0\0n\0")?;
@@ -139,7 +139,7 @@ fn create_with(alloc: Global, value: &[u8], count: u32) -> Result<Vec<u8>, Alloc
     Ok(behind)
 }
 
-/// Whether a CREATE of opcode 35 arrives with a context of so many bytes.
+/// Whether a CREATE of opcode 35 arrives with a context of that many bytes.
 fn creates_with_context(alloc: Global, count: u32) -> Result<bool, Fail> {
     let value = rising(alloc, count)?;
     let call = line_with(

@@ -30,7 +30,7 @@ fn are_s_v(ext: &Extensions) -> bool {
     }
 }
 
-/// Whether the extensions behind the name `d` are that context alone, and their clone too.
+/// Whether the extensions after the name `d` are that context alone, and their clone too.
 fn is_got(alloc: Global) -> Result<bool, Fail> {
     let tail = b"d\0\x13\0\0\0\x01\0\0\0\x01\0\0\0\0\0\0\0s\0v";
     let ext = get_extensions(alloc, FsOptions::SECURITY_CTX, 2, tail)?;

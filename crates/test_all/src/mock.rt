@@ -33,7 +33,7 @@ fn entry_of(inode: u64) -> Entry {
     }
 }
 
-/// A name of so many bytes.
+/// A name of that many bytes.
 fn name_of(alloc: Global, length: usize) -> Result<CString, Fault> {
     match vec![in alloc; b'n'; length] {
         Ok(bytes) => terminated(alloc, bytes),
@@ -50,7 +50,7 @@ fn terminated(alloc: Global, mut bytes: Vec<u8>) -> Result<CString, Fault> {
     }
 }
 
-/// A directory of one item, which has this node and a name of so many bytes: it ends behind it, or
+/// A directory of one item, which has this node and a name of that many bytes: it ends after it, or
 /// gives it again and again.
 fn directory(
     alloc: Global,
@@ -184,7 +184,7 @@ fn a_recorder_notes_each_call_that_is_not_served(rt: HostRuntime) -> Result<(), 
     none_is_wrong(wrongly_noted(rt.alloc(), &mut server))
 }
 
-/// Whether a GETLK succeeds, and so many calls are noted and missed afterwards.
+/// Whether a GETLK succeeds, and that many calls are noted and missed afterwards.
 fn is_noted(recorder: &mut Recorder<Script>, noted: usize, missed: bool) -> bool {
     recorder.getlk().is_ok() && recorder.notes().len() == noted && recorder.missed() == missed
 }
@@ -192,7 +192,7 @@ fn is_noted(recorder: &mut Recorder<Script>, noted: usize, missed: bool) -> bool
 /// How many calls are noted in two places after each of four calls, and whether one was missed.
 static NOTED_AND_MISSED: [(usize, bool); 4] = [(1, false), (2, false), (2, true), (2, true)];
 
-/// Whether so many calls are noted and missed, and the script stays as it was.
+/// Whether that many calls are noted and missed, and the script stays as it was.
 fn are_missed(recorder: &mut Recorder<Script>) -> bool {
     for (noted, missed) in &NOTED_AND_MISSED {
         if !is_noted(recorder, *noted, *missed) {

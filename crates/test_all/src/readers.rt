@@ -55,9 +55,9 @@ fn has_numbers(buf: &[u8], from: usize, count: usize) -> bool {
 /// A call of a reader.
 #[derive(Clone, Copy)]
 enum ReadCall {
-    /// `read` into so many bytes.
+    /// `read` into that many bytes.
     UpTo(usize),
-    /// `read_exact` of so many bytes.
+    /// `read_exact` of that many bytes.
     All(usize),
     /// `read_obj::<u8>`.
     Byte,
@@ -65,15 +65,15 @@ enum ReadCall {
     Word,
     /// `read_obj_if_whole::<u32>`. That it is not whole is answered as not found.
     Whole,
-    /// `together` of so many bytes from this place on. That they are not is answered as not found.
+    /// `together` of that many bytes from this place on. That they are not is answered as not found.
     Together(usize, usize),
-    /// `take_slice` of so many bytes. That they are not lent is answered as not found.
+    /// `take_slice` of that many bytes. That they are not lent is answered as not found.
     Lent(usize),
-    /// `read_to_vec` of so many bytes. That fewer are left is answered as invalid input here.
+    /// `read_to_vec` of that many bytes. That fewer are left is answered as invalid input here.
     Copied(usize),
-    /// `clone`, of which all is read then, into so many bytes.
+    /// `clone`, of which all is read then, into that many bytes.
     Clone(usize),
-    /// `split_at` so many bytes on: how much the rest has. Further calls are of the first part.
+    /// `split_at` that many bytes on: how much the rest has. Further calls are of the first part.
     /// That it is past the end is answered as invalid input here.
     First(usize),
     /// The same: how much the first part has. Further calls are of the rest.
@@ -88,7 +88,7 @@ pub fn cleared(buf: &mut [u8], n: usize) -> &mut [u8] {
     part
 }
 
-/// That so many bytes were read into a buffer of zeros. They are to be those from the place `from`
+/// That that many bytes were read into a buffer of zeros. They are to be those from the place `from`
 /// on.
 fn told(buf: &[u8], from: usize, count: usize) -> Answer {
     if has_numbers(buf, from, count) {

@@ -29,13 +29,13 @@ enum WriteCall {
     Padded(u32, &'static [u8]),
     /// `flush`.
     Flush,
-    /// `hold` of so many bytes. That it is past the room is answered as invalid input here.
+    /// `hold` of that many bytes. That it is past the room is answered as invalid input here.
     Hold(usize),
     /// `fill_held` by these bytes, which are as many as are held.
     Fill(&'static [u8]),
 }
 
-/// The answer of a call that moves all of so many bytes, or fails.
+/// The answer of a call that moves all of that many bytes, or fails.
 fn all_of(n: usize, answer: io::Result<()>) -> Answer {
     match answer {
         Ok(()) => Ok(n),
@@ -43,7 +43,7 @@ fn all_of(n: usize, answer: io::Result<()>) -> Answer {
     }
 }
 
-/// What a writer answers that is to hold so many bytes.
+/// What a writer answers that is to hold that many bytes.
 fn hold(writer: &mut Writer, n: usize) -> Answer {
     match writer.hold(n) {
         Ok(()) => Ok(n),

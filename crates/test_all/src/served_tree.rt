@@ -14,7 +14,7 @@ use std::test::Fail;
 /// A server of the three files.
 type DocsServer = Server<ReadOnly<Docs>>;
 
-/// The reply of such a server to a request, with so much room for it. It is a function of its own,
+/// The reply of such a server to a request, with that much room for it. It is a function of its own,
 /// so that it is proved once for all requests.
 fn served(
     alloc: Global,
@@ -65,7 +65,7 @@ fn a_tree_is_served(rt: HostRuntime) -> Result<(), Fail> {
 /// Rooms of 2 and of 8 MiB, far wider than the reply.
 static WIDE: [usize; 2] = [2 << 20, 8 << 20];
 
-/// Whether a GETATTR, of opcode 3, tells the root's attributes in a room of so many bytes.
+/// Whether a GETATTR, of opcode 3, tells the root's attributes in a room of that many bytes.
 fn tells_the_root(alloc: Global, room: usize) -> Result<bool, Fail> {
     let mut server = Server::new(ReadOnly { tree: Docs }, 4096);
     let request = request(alloc, 3, 1, &[0; 16])?;

@@ -22,7 +22,7 @@ fn server(alloc: Global, wants: FsOptions) -> Result<ScriptServer, AllocError> {
     script_server(alloc, script, 4)
 }
 
-/// The bytes behind the header of a BATCH_FORGET of so many pairs: its record, and then the pairs,
+/// The bytes after the header of a BATCH_FORGET of that many pairs: its record, and then the pairs,
 /// each one lookup of node 7.
 fn batch(alloc: Global, count: u32) -> Result<Vec<u8>, AllocError> {
     let mut record = Vec::from_slice(alloc, &count.to_le_bytes())?;
@@ -77,7 +77,7 @@ fn a_server_lends_its_file_system(rt: HostRuntime) -> Result<(), Fail> {
 /// A request of a caller that holds bytes of its room.
 struct BehindHeld {
     node: u8,
-    /// The bytes behind the header.
+    /// The bytes after the header.
     behind: &'static [u8],
     /// The lengths of the room's segments.
     room: &'static [usize],
@@ -86,7 +86,7 @@ struct BehindHeld {
 }
 
 /// Requests of opcode 7, which is none, by a caller that holds the first 16 bytes of the room for
-/// itself: they stay, and the reply that says ENOSYS stands behind them.
+/// itself: they stay, and the reply that says ENOSYS comes after them.
 static BEHIND_HELD: [BehindHeld; 2] = [
     BehindHeld {
         node: 0,
@@ -104,8 +104,8 @@ static BEHIND_HELD: [BehindHeld; 2] = [
     },
 ];
 
-/// Whether a request of an unknown opcode is replied so behind 16 held bytes.
-fn replies_behind_held(
+/// Whether a request of an unknown opcode is replied so after 16 held bytes.
+fn replies_after_held(
     alloc: Global,
     server: &mut ScriptServer,
     row: &BehindHeld,
@@ -118,18 +118,18 @@ fn replies_behind_held(
 /// The same of a new server.
 fn replies_so(alloc: Global, row: &BehindHeld) -> Result<bool, Fail> {
     let mut server = server(alloc, FsOptions::empty())?;
-    replies_behind_held(alloc, &mut server, row)
+    replies_after_held(alloc, &mut server, row)
 }
 
 #[test]
-fn a_reply_goes_behind_held_bytes(rt: HostRuntime) -> Result<(), Fail> {
+fn a_reply_goes_after_held_bytes(rt: HostRuntime) -> Result<(), Fail> {
     for row in &BEHIND_HELD {
         holds(replies_so(rt.alloc(), row))?;
     }
     Ok(())
 }
 
-/// INIT of version 7.38 that offers every option in both words of flags, behind its header.
+/// INIT of version 7.38 that offers every option in both words of flags, after its header.
 static INIT: [u8; 64] = *b"\x07\0\0\0\x26\0\0\0\0\0\x02\0\
     \xff\xff\xff\xff\xff\xff\xff\xff\
     \0\0\0\0\0\0\0\0\0\0\0\0\0\0\0\0\0\0\0\0\0\0\

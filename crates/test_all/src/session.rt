@@ -41,7 +41,7 @@ struct Ending {
     /// The first lines, and the answers to them.
     lines: &'static str,
     answers: &'static str,
-    /// What stands behind them, and what is answered to it.
+    /// What comes after them, and what is answered to it.
     behind: &'static str,
     answered: &'static str,
     end: Result<(), RunError>,
@@ -98,7 +98,7 @@ const PAIR: &str = "02000000000000000100000000000000";
 /// An input whose first line sets a limit, or would, and how its run ends.
 struct Limited {
     input: &'static str,
-    /// How many pairs stand behind it.
+    /// How many pairs come after it.
     pairs: usize,
     answers: &'static str,
     end: Result<(), RunError>,
@@ -204,7 +204,7 @@ fn ran(
     Ok((end, output))
 }
 
-/// Whether bytes are the one text and the other behind it.
+/// Whether bytes are the one text and the other after it.
 fn are_both(bytes: &[u8], first: &str, last: &str) -> bool {
     match bytes.strip_prefix(first.as_bytes()) {
         Some(behind) => behind == last.as_bytes(),
@@ -222,7 +222,7 @@ fn ends_so(alloc: Global, row: &Ending) -> Result<bool, AllocError> {
     )
 }
 
-/// What stands behind the first lines of the first input whose run ends otherwise.
+/// What comes after the first lines of the first input whose run ends otherwise.
 fn wrong_end(alloc: Global) -> Result<Option<&'static str>, AllocError> {
     for row in &ENDS {
         if !ends_so(alloc, row)? {
@@ -237,7 +237,7 @@ fn a_session_is_answered_up_to_its_bad_line(rt: HostRuntime) -> Result<(), Fail>
     none_is_wrong(wrong_end(rt.alloc()))
 }
 
-/// This text so many times.
+/// This text that many times.
 fn times(alloc: Global, text: &str, count: usize) -> Result<String, AllocError> {
     let mut all = String::new(alloc);
     for _ in 0..count {
@@ -285,12 +285,12 @@ impl Read for FailingInput<'_> {
     }
 }
 
-/// Whether a run ends by a fault of an input that fails behind these bytes.
+/// Whether a run ends by a fault of an input that fails after these bytes.
 fn ends_by_input(alloc: Global, bytes: &[u8]) -> bool {
     run(alloc, &mut FailingInput(bytes), &mut Vec::new(alloc)) == Err(RunError::Io)
 }
 
-/// Whether a run ends by a fault of an output that has room for so many bytes.
+/// Whether a run ends by a fault of an output that has room for that many bytes.
 fn ends_by_output(alloc: Global, room: usize) -> Result<bool, AllocError> {
     let mut room = vec![in alloc; 0u8; room]?;
     let end = run(alloc, &mut FORGET.as_bytes(), &mut room.as_mut_slice());

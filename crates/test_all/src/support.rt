@@ -12,7 +12,7 @@ use std::test::Fail;
 /// afterwards.
 pub type Outcome = (usize, Vec<u8>);
 
-/// A request with this opcode and node, and these bytes behind its header. Its `len` counts all of
+/// A request with this opcode and node, and these bytes after its header. Its `len` counts all of
 /// them, its `unique` is 9, and all else in the header is 0.
 pub fn request(alloc: Global, opcode: u8, node: u8, behind: &[u8]) -> Result<Vec<u8>, AllocError> {
     let mut header = [0; 40];
@@ -93,7 +93,7 @@ pub fn have_texts<E: Display>(alloc: Global, rows: &[(E, &str)]) -> Result<bool,
     Ok(true)
 }
 
-/// A message: its opcode, its node, and the bytes behind its header.
+/// A message: its opcode, its node, and the bytes after its header.
 pub type Message<'a> = (u8, u8, &'a [u8]);
 
 /// Hands a server a message with a room of segments of these lengths, without a zero in them, of
@@ -172,7 +172,7 @@ pub fn handle_by_script(
     handle(alloc, server, message, room, held)
 }
 
-/// The reply of such a server to a message with a room of so many bytes in one piece.
+/// The reply of such a server to a message with a room of that many bytes in one piece.
 pub fn reply_by_script(
     alloc: Global,
     server: &mut ScriptServer,

@@ -12,7 +12,7 @@ use fuse_views::{PositionedFile, Slices, SlicesMut, WritevFlags};
 use std::alloc::Global;
 use std::test::Fail;
 
-/// A file that moves at most so many bytes a call, fails with EIO at one of its calls, and notes
+/// A file that moves at most that many bytes a call, fails with EIO at one of its calls, and notes
 /// what it was lent.
 #[derive(Drop)]
 struct Slow {

@@ -17,7 +17,7 @@ struct Screen {
 }
 
 impl Screen {
-    /// Puts text behind what was printed.
+    /// Puts text after what was printed.
     fn put<D: Display + Drop>(&self, value: D, end: &str) -> io::Result<()> {
         let Ok(mut errors) = self.errors.try_borrow_mut() else {
             return Err(io::Error::from(ErrorKind::WouldBlock));

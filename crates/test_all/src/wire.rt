@@ -6,7 +6,7 @@ use fuse_flags::{Errno, GuestGid, GuestUid};
 use fuse_wire::*;
 use fuse_wire_more::*;
 
-/// The bytes of a record, with zeros behind them.
+/// The bytes of a record, with zeros after them.
 fn bytes_of<T: ByteValued + Drop>(x: &T) -> [u8; 152] {
     let mut bytes = [0; 152];
     x.put(&mut bytes[..T::SIZE]);

@@ -25,12 +25,12 @@ pub enum Way {
     Session,
 }
 
-/// What happens right before and right behind a server's handling of requests.
+/// What happens right before and right after a server's handling of requests.
 pub trait Watch {
     /// Happens before it, with the options that are agreed then.
     fn before(&mut self, options: FsOptions) -> Result<(), RunError>;
 
-    /// Happens behind it.
+    /// Happens after it.
     fn after(&mut self) -> Result<(), RunError>;
 }
 
@@ -95,7 +95,7 @@ pub fn pieces<'a>(alloc: Global, bytes: &'a [u8], cut: Cut) -> Result<Vec<&'a [u
     Ok(pieces)
 }
 
-/// A room of so many zeros, cut.
+/// A room of that many zeros, cut.
 pub fn rooms(alloc: Global, length: usize, cut: Cut) -> Result<Vec<Vec<u8>>, AllocError> {
     let zeros = vec![in alloc; 0u8; length]?;
     let mut rooms = Vec::new(alloc);
@@ -121,7 +121,7 @@ pub fn agree(
 }
 
 /// Hands a new server the bytes of a request again and again, in each of these cuttings of them and
-/// of a room of so many bytes, once what the message needs is agreed on.
+/// of a room of that many bytes, once what the message needs is agreed on.
 pub fn serve<W: Watch>(
     alloc: Global,
     message: &Message,
@@ -171,7 +171,7 @@ fn hand_over<W: Watch>(
     Ok((outcomes, bytes_of(alloc, writers)?))
 }
 
-// Handles requests in order, and says so right before and right behind that.
+// Handles requests in order, and says so right before and right after that.
 fn handle_all<W: Watch>(
     alloc: Global,
     server: &mut Server<SeededFs<'_>>,
@@ -223,7 +223,7 @@ fn cut_each<'a>(
     Ok((all, counts))
 }
 
-// A reader over the next so many pieces for each count.
+// A reader over the next that many pieces for each count.
 fn readers_over<'a>(
     alloc: Global,
     pieces: &'a [&'a [u8]],
@@ -245,7 +245,7 @@ fn readers_over<'a>(
     Ok(readers)
 }
 
-// A writer over a room of so many bytes for each cutting.
+// A writer over a room of that many bytes for each cutting.
 fn writers_for(alloc: Global, room: usize, cuttings: &[Cutting]) -> Result<Vec<Writer>, RunError>
     ensures { IfOk result (λ writers. vec_len writers ≡ length cuttings.now) }
 {

@@ -35,7 +35,7 @@ pub struct Tally {
     pub first_wrong: Option<Form>,
 
     /// The FNV-1a checksum, of 64 bits, of what the uncut forms came to: of each its answer as
-    /// `test_sessions` writes it, with the calls behind it.
+    /// `test_sessions` writes it, with the calls after it.
     pub digest: u64,
 }
 
@@ -57,7 +57,7 @@ pub fn try_message(alloc: Global, message: &Message, way: Way) -> Result<Tally, 
     Ok(tally)
 }
 
-// The forms of a message of so many bytes that needs so much room.
+// The forms of a message of that many bytes that needs that much room.
 fn forms_of(alloc: Global, len: usize, room: usize) -> Result<Vec<Form>, AllocError> {
     let mut forms = Vec::new(alloc);
     for taken in 0..len {
@@ -145,7 +145,7 @@ fn try_form(
     Ok(())
 }
 
-// Whether what lies in the room behind a request's reply is open: of READ, READDIR and READDIRPLUS,
+// Whether what lies in the room after a request's reply is open: of READ, READDIR and READDIRPLUS,
 // by the lowest byte of their opcodes.
 fn leaves_room_open(request: &[u8]) -> bool {
     matches!(request.get(4), Some(15 | 28 | 44))
@@ -180,7 +180,7 @@ fn count_wrong(uncut: &Served, served: &Served, open: bool) -> usize {
     wrong
 }
 
-// Whether an outcome and a room are those of the uncut form; the room behind a reply may be open.
+// Whether an outcome and a room are those of the uncut form; the room after a reply may be open.
 fn is_like(uncut: &Served, outcome: &fuse_server::Result<usize>, room: &[u8], open: bool) -> bool {
     let (Some(wanted), Some(bytes)) = (uncut.outcomes.first(), uncut.rooms.first()) else {
         return false;
@@ -192,7 +192,7 @@ fn is_like(uncut: &Served, outcome: &fuse_server::Result<usize>, room: &[u8], op
     outcome == wanted && bytes.len() == room.len() && bytes.starts_with(&room[..seen])
 }
 
-// Whether a text is another one, repeated so many times.
+// Whether a text is another one, repeated that many times.
 fn repeats(text: &str, part: &str, times: usize) -> bool {
     let mut rest = text;
     for _ in 0..times {
@@ -204,7 +204,7 @@ fn repeats(text: &str, part: &str, times: usize) -> bool {
     rest.is_empty()
 }
 
-// The checksum of what was summed up and of these bytes behind it.
+// The checksum of what was summed up and of these bytes after it.
 fn digest(sum: u64, bytes: &[u8]) -> u64 {
     let mut sum = sum;
     for byte in bytes {

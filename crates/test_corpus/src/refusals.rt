@@ -11,7 +11,7 @@
 //!   a server is its options, that of a reader or a writer how many bytes are left and done.
 //!
 //! The parts are `Reader::new`, `Writer::new`, `split_at` and `clone`; each message of the corpus,
-//! whole, cut behind its header, before its last byte and in single bytes, by `handle_message`, and
+//! whole, cut after its header, before its last byte and in single bytes, by `handle_message`, and
 //! three times in a row by `handle_session`; and each of the lines, in the form of `text_demo` and
 //! over files in memory as there, by `handle_message`. The bytes of a room are zeros before a
 //! request.

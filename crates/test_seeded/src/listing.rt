@@ -18,7 +18,7 @@ ghost use Rattle.std.specs.Prelude.{◌<◌, ◌≤◌, ◌^◌};
 use fs_mock::ScriptEntries;
 use fs_trait::{CStr, DirEntry, DirectoryIterator};
 
-/// How many bytes a name has at most, with the 0 behind it.
+/// How many bytes a name has at most, with the 0 after it.
 const NAME_ROOM: usize = 301;
 
 /// A reading of a directory.
@@ -96,7 +96,7 @@ impl Seeded {
         self.name[times] = 0;
     }
 
-    // The item of this number, whose name was written and which is behind the next place.
+    // The item of this number, whose name was written and which is after the next place.
     fn entry(&self, t: u64) -> Option<DirEntry<'_>>
         requires { t < 2 ^ 33 }
     {

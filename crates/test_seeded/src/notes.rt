@@ -44,7 +44,7 @@ impl Notes {
         }
     }
 
-    /// No lines, with the room for so many bytes of them: noting these takes no memory.
+    /// No lines, with the room for that many bytes of them: noting these takes no memory.
     pub fn with_room(alloc: Global, bytes: usize) -> Result<Notes, AllocError> {
         Ok(Notes {
             text: String::with_capacity(alloc, bytes)?,

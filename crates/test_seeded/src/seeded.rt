@@ -69,7 +69,7 @@ impl<'a> SeededFs<'a> {
         }
     }
 
-    /// The same with room for so many bytes of notes, so that noting these takes no memory.
+    /// The same with room for that many bytes of notes, so that noting these takes no memory.
     pub fn with_room(
         alloc: Global,
         told: &'a RefCell<VecDeque<Told>>,

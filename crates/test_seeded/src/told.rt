@@ -19,7 +19,7 @@ pub enum Told {
     /// `answer fault N` or `answer fault none`.
     Fault(Fault),
     /// `answer items ITEM ..` or `answer endless ITEM ..`: the items of a directory, which ends
-    /// behind them or begins again. An item is `INO,OFFSET,TYPE,NAME`, with the name in hex. A call
+    /// after them or begins again. An item is `INO,OFFSET,TYPE,NAME`, with the name in hex. A call
     /// that reads no directory takes it for 0.
     Directory(ScriptDirectory),
 }
@@ -92,7 +92,7 @@ fn bare_entry(inode: u64) -> Entry {
     }
 }
 
-/// Reads what stands behind `answer `. It is `None` where that has none of the forms.
+/// Reads what comes after `answer `. It is `None` where that has none of the forms.
 pub fn parse_told(alloc: Global, text: &[u8]) -> Result<Option<Told>, AllocError> {
     let Ok(text) = std::str::from_utf8(text) else {
         return Ok(None);

@@ -7,7 +7,7 @@ use text_run::RunError;
 /// Tries each message of the corpus by `handle_message`, with servers of its own, and appends a line
 /// for each: its name, how many forms of it were tried, how many requests these were, with all
 /// cuttings, and the checksum of what the uncut forms came to. The first form that came to something
-/// else in a cutting stands behind it. A last line has the sums.
+/// else in a cutting comes after it. A last line has the sums.
 pub fn push_corpus(alloc: Global, answers: &mut String) -> Result<(), RunError> {
     let mut tried = 0usize;
     let mut wrong = 0usize;

@@ -10,10 +10,10 @@
 //! - `corpus`: each message of a corpus of hostile ones, one for each opcode, cut, shortened and
 //!   changed, over servers of its own. A line is written for each: its name, how many forms of it
 //!   there are, how many requests these are in all cuttings, and the checksum of what the uncut
-//!   forms came to; behind it the first form that came to something else in a cutting, if one did.
+//!   forms came to; after it the first form that came to something else in a cutting, if one did.
 //!   The last line has the sums.
 //! - `refusals`: calls that ask for memory, each with what came of it, the requests of all lines
-//!   behind this one last. `try_calls` of `test_corpus` says what is written; it is written at once.
+//!   after this one last. `try_calls` of `test_corpus` says what is written; it is written at once.
 //! - A line that begins with `#` is passed over.
 //!
 //! The first line of all may be `limit N` in place of one of these, as in `text_demo`.

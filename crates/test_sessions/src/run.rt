@@ -18,7 +18,7 @@ const ANSWER: &[u8] = b"answer ";
 /// The line that has the corpus tried.
 const CORPUS: &[u8] = b"corpus";
 
-/// The line behind which all others are requests to which memory can be refused.
+/// The line after which all others are requests to which memory can be refused.
 const REFUSALS: &[u8] = b"refusals";
 
 /// What a line of the input says.
@@ -37,7 +37,7 @@ enum Said {
 /// Answers each line of `text` before the first bad one, or before the line `refusals`, and then
 /// writes the answers and the calls to `output`. The first line may set the server's limit, and has
 /// no answer then. For a bad line `bad line N` is written after them, where N counts all lines, and
-/// [`RunError::BadLine`] answered. Behind the line `refusals` comes what `try_calls` writes.
+/// [`RunError::BadLine`] answered. After the line `refusals` comes what `try_calls` writes.
 pub fn run<W: io::Write + Drop>(alloc: Global, text: &[u8], mut output: W) -> Result<(), RunError> {
     let lines = lines_of(alloc, text)?;
     let (session, rest) = before_refusals(&lines);
@@ -51,7 +51,7 @@ pub fn run<W: io::Write + Drop>(alloc: Global, text: &[u8], mut output: W) -> Re
     }
 }
 
-// The lines before the line `refusals`, and those behind it, if there is one.
+// The lines before the line `refusals`, and those after it, if there is one.
 fn before_refusals<'l, 'a>(lines: &'l [&'a [u8]]) -> (&'l [&'a [u8]], Option<&'l [&'a [u8]]>) {
     match lines.iter().position(|line| *line == REFUSALS) {
         Some(at) => match lines.split_at_checked(at) {

@@ -27,13 +27,13 @@ pub struct Batch<'a> {
     pub asks: Vec<Ask<'a>>,
 }
 
-// The number of the first four bytes, and the bytes behind them.
+// The number of the first four bytes, and the bytes after them.
 fn word(bytes: &[u8]) -> Option<(usize, &[u8])> {
     let (first, rest) = bytes.split_first_chunk::<4>()?;
     Some((u32::from_le_bytes(*first) as usize, rest))
 }
 
-// The request that the bytes begin with, and the bytes behind it.
+// The request that the bytes begin with, and the bytes after it.
 fn first_ask(bytes: &[u8]) -> Option<(Ask<'_>, &[u8])> {
     let (room, rest) = word(bytes)?;
     let (len, rest) = word(rest)?;

@@ -22,7 +22,7 @@ pub fn cut<'a>(alloc: Global, bytes: &'a [u8], head: usize, cutting: u32) -> Opt
 }
 
 /// The bytes in pieces, none of them empty: the first one of `first` bytes, the others of `each`,
-/// as far as there are so many. Neither is 0.
+/// as far as there are that many. Neither is 0.
 pub fn pieces_of<'a>(
     alloc: Global,
     bytes: &'a [u8],
@@ -53,7 +53,7 @@ pub fn copies(alloc: Global, pieces: &[&[u8]]) -> Option<Vec<Vec<u8>>> {
     Some(all)
 }
 
-/// A room of so many zeros in pieces.
+/// A room of that many zeros in pieces.
 pub fn room(alloc: Global, len: usize, cutting: u32) -> Option<Vec<Vec<u8>>> {
     let zeros = vec![in alloc; 0u8; len].ok()?;
     copies(alloc, &cut(alloc, &zeros, ROOM_HEAD, cutting)?)

@@ -75,10 +75,10 @@ fn written_over<R: ZeroCopyReader>(tree: &mut TreeFs, r: &mut R) -> Result<u32, 
     tree.write(root(), 2, 0, r, 3, 0, None, false, false, 0)
 }
 
-/// WRITE two bytes behind the end of a file: zeros fill the gap. The page has place for them, so that
+/// WRITE two bytes after the end of a file: zeros fill the gap. The page has place for them, so that
 /// no memory is wanted.
 #[tactic(auto, unfolding(fuse_views::specs::Segments::with_bytes_at))]
-fn written_behind_the_end<R: ZeroCopyReader>(tree: &mut TreeFs, r: &mut R) -> Result<u32, Fault>
+fn written_after_the_end<R: ZeroCopyReader>(tree: &mut TreeFs, r: &mut R) -> Result<u32, Fault>
     requires tree { tree.old ≡ file_tree wide (codes "hello") }
     requires bytes { R.left r.old ≡ codes "HEY" }
     ensures answer { result ≡ Ok 3 }
@@ -99,7 +99,7 @@ fn first_page<R: ZeroCopyReader>(tree: &mut TreeFs, r: &mut R) -> Result<u32, Fa
     tree.write(root(), 2, 0, r, 3, 0, None, false, false, 0)
 }
 
-/// WRITE of no bytes behind the end of a file: it wants no memory, and nothing changes.
+/// WRITE of no bytes after the end of a file: it wants no memory, and nothing changes.
 fn nothing_written<R: ZeroCopyReader>(tree: &mut TreeFs, r: &mut R) -> Result<u32, Fault>
     requires { tree.old ≡ file_tree wide (codes "hello") }
     ensures answer { result ≡ Ok 0 }
@@ -146,7 +146,7 @@ fn place_that_is_there(tree: &mut TreeFs) -> Result<(), Fault>
     tree.fallocate(root(), 2, 0, 0, 0, 5)
 }
 
-/// FALLOCATE past the end of a file, within its page: zeros stand there.
+/// FALLOCATE past the end of a file, within its page: zeros are there.
 fn more_place(tree: &mut TreeFs) -> Result<(), Fault>
     requires { tree.old ≡ file_tree wide (codes "hello") }
     ensures answer { result ≡ Ok tt }
@@ -166,7 +166,7 @@ fn first_place(tree: &mut TreeFs) -> Result<(), Fault>
 }
 
 /// FALLOCATE that keeps the size of a file (FALLOC_FL_KEEP_SIZE, 1): it has a page, and shows no byte.
-fn place_behind_the_end(tree: &mut TreeFs) -> Result<(), Fault>
+fn place_after_the_end(tree: &mut TreeFs) -> Result<(), Fault>
     requires { tree.old ≡ tree_of wide empty_file }
     ensures { MatchResult result
         (λ _. tree.new ≡ file_tree wide [])
@@ -175,7 +175,7 @@ fn place_behind_the_end(tree: &mut TreeFs) -> Result<(), Fault>
     tree.fallocate(root(), 2, 0, 1, 0, 2)
 }
 
-/// FALLOCATE that makes a hole (FALLOC_FL_PUNCH_HOLE and FALLOC_FL_KEEP_SIZE, 3): zeros stand in a page
+/// FALLOCATE that makes a hole (FALLOC_FL_PUNCH_HOLE and FALLOC_FL_KEEP_SIZE, 3): zeros are in a page
 /// that stays. It wants no memory.
 fn hole_in_a_page(tree: &mut TreeFs) -> Result<(), Fault>
     requires { tree.old ≡ file_tree wide (codes "hello") }
@@ -258,8 +258,8 @@ fn no_place_is_known(tree: &mut TreeFs) -> Result<u64, Fault>
     tree.lseek(root(), 2, 0, 0, 3)
 }
 
-/// LSEEK behind the end of a file: ENXIO.
-fn no_place_behind_the_end(tree: &mut TreeFs) -> Result<u64, Fault>
+/// LSEEK after the end of a file: ENXIO.
+fn no_place_after_the_end(tree: &mut TreeFs) -> Result<u64, Fault>
     requires { tree.old ≡ file_tree wide (codes "hello") }
     ensures refused { result ≡ Err (Some 6) }
     ensures same { tree.new ≡ tree.old }

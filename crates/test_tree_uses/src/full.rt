@@ -34,7 +34,7 @@ fn written_without_room<R: ZeroCopyReader>(tree: &mut TreeFs, r: &mut R) -> Resu
     tree.write(root(), 2, 0, r, 3, 5, None, false, false, 0)
 }
 
-/// WRITE behind the last byte that a file may have: EFBIG.
+/// WRITE after the last byte that a file may have: EFBIG.
 fn written_past_the_limit<R: ZeroCopyReader>(tree: &mut TreeFs, r: &mut R) -> Result<u32, Fault>
     requires { tree.old ≡ file_tree short (codes "hello") }
     ensures refused { result ≡ Err (Some 27) }
@@ -43,7 +43,7 @@ fn written_past_the_limit<R: ZeroCopyReader>(tree: &mut TreeFs, r: &mut R) -> Re
     tree.write(root(), 2, 0, r, 3, 6, None, false, false, 0)
 }
 
-/// WRITE behind the last page that there is room for: ENOSPC.
+/// WRITE after the last page that there is room for: ENOSPC.
 fn written_past_the_room<R: ZeroCopyReader>(tree: &mut TreeFs, r: &mut R) -> Result<u32, Fault>
     requires { tree.old ≡ file_tree narrow (codes "hello") }
     ensures refused { result ≡ Err (Some 28) }

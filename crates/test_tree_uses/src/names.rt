@@ -209,8 +209,8 @@ fn file_of_its_group(tree: &mut TreeFs) -> Option<Entry>
     Some(entry)
 }
 
-/// READDIR behind `.`: `..`, and as many more as 24 bytes have place for, here one.
-fn read_behind_a_dot(tree: &mut TreeFs) -> Result<EntryList, Fault>
+/// READDIR after `.`: `..`, and as many more as 24 bytes have place for, here one.
+fn read_after_a_dot(tree: &mut TreeFs) -> Result<EntryList, Fault>
     requires { tree.old ≡ tree_of_two to_file to_directory }
     ensures items { MatchResult result
         (λ items. items ≡
@@ -222,8 +222,8 @@ fn read_behind_a_dot(tree: &mut TreeFs) -> Result<EntryList, Fault>
     tree.readdir(root(), 1, 0, 24, 1)
 }
 
-/// READDIR behind the last name but one: the last one.
-fn read_behind_a_name(tree: &mut TreeFs) -> Result<EntryList, Fault>
+/// READDIR after the last name but one: the last one.
+fn read_after_a_name(tree: &mut TreeFs) -> Result<EntryList, Fault>
     requires { tree.old ≡ tree_of_two to_file to_directory }
     ensures items { IfOk result (λ items. items ≡
         record { ino = 2; offset = 2 ^ 63 - 1; type_ = 8; name = codes "f" } ∷ []) }

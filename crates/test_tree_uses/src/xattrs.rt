@@ -66,7 +66,7 @@ fn trusted_and_security(tree: &mut TreeFs) -> Result<(), Fault>
     tree.setxattr(root(), 2, security, b"", 0, SetxattrFlags::empty())
 }
 
-/// GETXATTR of `user.a`, for a value of so many bytes: the value; how long it is, which wants no
+/// GETXATTR of `user.a`, for a value of that many bytes: the value; how long it is, which wants no
 /// memory, where the size is 0; and ERANGE where it is too small.
 fn value(tree: &mut TreeFs, size: u32) -> Result<GetxattrReply, Fault>
     requires { tree.old ≡ attribute_tree wide (user_a (codes "off") ∷ []) }
@@ -102,7 +102,7 @@ fn no_value(tree: &mut TreeFs) -> Result<GetxattrReply, Fault>
     tree.getxattr(root(), 2, CStr::before_nul(b"user.b\0", 6), 3)
 }
 
-/// LISTXATTR, for so many bytes: each name with a 0 behind it; or how long they are.
+/// LISTXATTR, for that many bytes: each name with a 0 after it; or how long they are.
 fn list(tree: &mut TreeFs, size: u32) -> Result<ListxattrReply, Fault>
     requires { tree.old ≡ attribute_tree wide (user_a (codes "off") ∷ []) }
     ensures whole { size ≡ 7 → MatchResult result

@@ -11,7 +11,7 @@ use Rattle.fs_mock.specs.declared.file.ScriptFile.{ScriptFile}
 abbrev Same : Result ℕ (Option ℕ) → Result ℕ (Option ℕ) → Type 0
 Same a b = a ≡ b
 
--- a file that moves so many bytes a call, each of them this
+-- a file that moves that many bytes a call, each of them this
 abbrev pub moving : ℕ → ℕ → ScriptFile
 moving most byte = record { most = most; fails_at = None; fault = None; byte = byte; calls = 0 }
 
@@ -22,7 +22,7 @@ no_fault : (fault : Option ℕ) (m : ℕ) → Same (Err fault) (Ok m) → ⊥
 no_fault fault m e = cc
 
 module _ (room : ℕ) (some_room : 0 < room) where
-  -- behind a byte nothing is to be read any more
+  -- after a byte nothing is to be read any more
   then_nothing :
       (part : List ℕ) (row : List (List ℕ × ScriptFile)) (old middle : ScriptFile)
       (ending : Ending) (new : ScriptFile) → length part ≡ 1

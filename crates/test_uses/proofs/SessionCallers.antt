@@ -36,7 +36,7 @@ use Rattle.test_uses.specs.declared.server.session.TheConstants.{FORGET}
 
 -- ---- walking along a session
 
--- the calls of a beginning, and of what stands behind it, have their default answers
+-- the calls of a beginning, and of what comes after it, have their default answers
 default_left : (xs ys : List Event) → AreDefault (xs ++ ys) → AreDefault xs
 default_left [] ys h = tt
 default_left (Called call answer ∷ xs) ys h = (h.0, default_left xs ys h.1)
@@ -49,7 +49,7 @@ default_right (Called call answer ∷ xs) ys h = default_right xs ys h.1
 default_right (OpenedDirectory call ∷ xs) ys h = default_right xs ys h
 default_right (Taken item ∷ xs) ys h = default_right xs ys h
 
--- the requests of a session that are left behind some of it
+-- the requests of a session that are left after some of it
 pub record Rest (limits : Limits) (options : ℕ) (readers : List Unread) (writers : List Written) (outcomes : List (Result ℕ Error)) (news : List Written) (after : ℕ) : Type 0 where
   pub turns : List Turn
   pub served : AreServedSparingly limits options readers writers turns news after
@@ -92,7 +92,7 @@ module _ (limits : Limits) where
       → Rest limits options (reader ∷ readers) (writer ∷ writers) outcomes news after → First limits options reader readers writer writers outcomes news after
   first options reader readers writer writers outcomes news after r = first_of options reader readers writer writers outcomes after r.turns news r.served r.answered r.events
 
-  -- behind the last request nothing is left
+  -- after the last request nothing is left
   last_of : (options : ℕ) (outcomes : List (Result ℕ Error)) (after : ℕ) (turns : List Turn) (news : List Written)
       → AreServedSparingly limits options [] [] turns news after → map (λ t. t.outcome) turns ≡ outcomes
       → (outcomes ≡ []) × (news ≡ []) × (after ≡ options)

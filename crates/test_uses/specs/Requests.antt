@@ -66,7 +66,7 @@ abbrev pub in_one_segment : List ℕ → Unread
 in_one_segment request =
     record { left = request; taken = 0; pieces = length request ∷ [] }
 
--- writers that have passed nothing, and have rooms of so many bytes
+-- writers that have passed nothing, and have rooms of that many bytes
 abbrev pub AreRooms : (lengths : List ℕ) → List Written → Type 0
 AreRooms [] [] = Unit {0}
 AreRooms (n ∷ lengths) (w ∷ writers) =
@@ -102,7 +102,7 @@ abbrev pub no_directory_reply : List ℕ
 no_directory_reply =
     0x10 ∷ 0 ∷ 0 ∷ 0 ∷ 0xec ∷ 0xff ∷ 0xff ∷ 0xff ∷ 9 ∷ 0 ∷ 0 ∷ 0 ∷ 0 ∷ 0 ∷ 0 ∷ 0 ∷ []
 
--- the header of the reply to request 9 that says no fault and has nothing behind it
+-- the header of the reply to request 9 that says no fault and has nothing after it
 abbrev pub no_records_reply : List ℕ
 no_records_reply = 0x10 ∷ 0 ∷ 0 ∷ 0 ∷ 0 ∷ 0 ∷ 0 ∷ 0 ∷ 9 ∷ 0 ∷ 0 ∷ 0 ∷ 0 ∷ 0 ∷ 0 ∷ 0 ∷ []
 

@@ -46,7 +46,7 @@ fn first_of_two_names() -> bool
     }
 }
 
-/// A name is what stands before the 0 that was found.
+/// A name is what is before the 0 that was found.
 fn name_before_a_place() -> bool
     ensures { IsTrue result }
 {
@@ -275,7 +275,7 @@ fn lookup_that_is_not_served(ctx: Context, name: CStr<'_>) -> Result<Entry, Faul
     fs.lookup(ctx, 1, name)
 }
 
-/// A `read` whose bytes stand in a file from `offset` on: as many as a reply can count.
+/// A `read` whose bytes are in a file from `offset` on: as many as a reply can count.
 fn read_through<P: PositionedFile, W: ZeroCopyWriter>(
     f: &mut P,
     w: &mut W,
@@ -288,7 +288,7 @@ fn read_through<P: PositionedFile, W: ZeroCopyWriter>(
     w.read_from_file_at(f, count, offset)
 }
 
-/// Bytes are moved up to position 2^64 - 2 alone: from the one behind it a transfer moves none, or
+/// Bytes are moved up to position 2^64 - 2 alone: from the one after it a transfer moves none, or
 /// fails.
 fn from_the_last_position<P: PositionedFile, W: ZeroCopyWriter>(
     f: &mut P,
@@ -300,11 +300,8 @@ fn from_the_last_position<P: PositionedFile, W: ZeroCopyWriter>(
     w.read_from_file_at(f, count, u64::MAX)
 }
 
-/// A state that is written stands behind what the vector had.
-fn saved_behind<F: SerializableFileSystem>(
-    fs: &mut F,
-    out: &mut Vec<u8>,
-) -> Result<(), MigrateError>
+/// A state that is written comes after what the vector had.
+fn saved_after<F: SerializableFileSystem>(fs: &mut F, out: &mut Vec<u8>) -> Result<(), MigrateError>
     ensures { IfOk result (λ _. (bytes : List ℕ) × (out.new.items ≡ out.old.items ++ bytes)) }
 {
     fs.serialize(out)

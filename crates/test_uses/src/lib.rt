@@ -1,7 +1,7 @@
 //! Small callers, as examples: each makes a few calls of a crate below and says what comes of them,
 //! proved by the calls' public contracts alone.
 //!
-//! They stand in a crate of their own, a module for each crate that is called, since nothing calls
+//! They are in a crate of their own, a module for each crate that is called, since nothing calls
 //! them: what they hold is the clauses and definitions that they rest on.
 #![tactic(auto)]
 

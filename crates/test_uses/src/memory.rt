@@ -173,10 +173,10 @@ fn written_and_read<R: ZeroCopyReader, W: ZeroCopyWriter>(
     Ok((written, read))
 }
 
-/// WRITE of `HEY` two bytes behind the end of node 2: zeros fill the gap. Memory alone can be
+/// WRITE of `HEY` two bytes after the end of node 2: zeros fill the gap. Memory alone can be
 /// wanting, and then the files stay.
 #[tactic(auto, unfolding(fuse_views::specs::Segments::with_bytes_at))]
-fn written_behind_the_end<R: ZeroCopyReader>(
+fn written_after_the_end<R: ZeroCopyReader>(
     fs: &mut MemFs,
     ctx: Context,
     r: &mut R,
@@ -191,7 +191,7 @@ fn written_behind_the_end<R: ZeroCopyReader>(
     fs.write(ctx, 2, 0, r, 3, 7, None, false, false, 0)
 }
 
-/// WRITE of no bytes behind the end of node 2: it takes no memory, and the files stay.
+/// WRITE of no bytes after the end of node 2: it takes no memory, and the files stay.
 fn nothing_written<R: ZeroCopyReader>(fs: &mut MemFs, ctx: Context, r: &mut R) -> Result<u32, Fault>
     requires { fs.old ≡ one_file (codes "hello") }
     ensures answer { result ≡ Ok 0 }
@@ -227,7 +227,7 @@ fn first_name(fs: &mut MemFs, ctx: Context) -> Result<bool, Fault>
     }
 }
 
-/// READDIR of the root behind `..`: the file, and then the end, as often as it is asked for.
+/// READDIR of the root after `..`: the file, and then the end, as often as it is asked for.
 fn last_name(fs: &mut MemFs, ctx: Context) -> Result<[Option<u64>; 3], Fault>
     requires { fs.old ≡ one_file (codes "hello") }
     ensures { MatchResult result

@@ -20,7 +20,7 @@ use fuse_segments::{Reader, Writer};
 use fuse_wire::{GetattrIn, InHeader};
 use std::alloc::Global;
 
-/// Says to request 9 that it is not served. Sixteen bytes are put into the room; those behind
+/// Says to request 9 that it is not served. Sixteen bytes are put into the room; those after
 /// them, and those that the writer had passed, are as they were, and so are the lengths of its
 /// segments.
 fn say_not_served(w: &mut Writer) -> Result<usize>
@@ -43,7 +43,7 @@ fn say_done_in_ten_bytes(w: &mut Writer) -> Result<usize>
 }
 
 /// Says to request 9 that it is not served, with a writer that holds sixteen bytes in front of
-/// others: they hold the reply then, what stands behind them stays, and nothing is held.
+/// others: they hold the reply then, what comes after them stays, and nothing is held.
 fn say_not_served_in_front(w: &mut Writer) -> Result<usize>
     requires { w.old.held ≡ 16 }
     ensures outcome { result ≡ Ok 16 }
@@ -71,9 +71,9 @@ fn getattr_of_fifteen_bytes(r: &mut Reader<'_>) -> Result<GetattrIn>
     read_record::<GetattrIn>(r)
 }
 
-/// Reads the extensions of a MKDIR behind the name `d`, where groups were agreed on: the group
+/// Reads the extensions of a MKDIR after the name `d`, where groups were agreed on: the group
 /// 1000, for which no memory is wanted.
-fn group_behind_a_name(alloc: Global) -> Result<Extensions>
+fn group_after_a_name(alloc: Global) -> Result<Extensions>
     ensures { MatchResult result
         (λ ext. extension_values_of ext ≡ record { context = None; group = Some 1000 })
         (λ error. ⊥) }
@@ -82,9 +82,9 @@ fn group_behind_a_name(alloc: Global) -> Result<Extensions>
     get_extensions(alloc, FsOptions::CREATE_SUPP_GROUP, 2, tail)
 }
 
-/// Reads the extensions of a MKDIR behind the name `d`, where a context was agreed on: one named
+/// Reads the extensions of a MKDIR after the name `d`, where a context was agreed on: one named
 /// `s`, whose value is `v`.
-fn context_behind_a_name(alloc: Global) -> Result<Extensions>
+fn context_after_a_name(alloc: Global) -> Result<Extensions>
     ensures { MatchResult result
         (λ ext. extension_values_of ext
         ≡ record { context = Some (codes "s", codes "v"); group = None })

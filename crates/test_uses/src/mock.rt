@@ -227,7 +227,7 @@ fn reading_without_end(alloc: Global, items: Vec<ScriptItem>) -> Result<ScriptEn
     ScriptDirectory::endless(alloc, items)?.entries()
 }
 
-/// A reading that has one item left and ends behind it: gives that item, then the end, and then the
+/// A reading that has one item left and ends after it: gives that item, then the end, and then the
 /// end again.
 fn one_item_and_the_end(entries: &mut ScriptEntries) -> (Option<u64>, bool, bool)
     requires last { length entries.old.left ≡ 1 }

@@ -197,7 +197,7 @@ fn together_in_two_segments(
     ))
 }
 
-/// Four bytes that a cut stands in are not lent, and the reader is as it was.
+/// Four bytes that a cut is in are not lent, and the reader is as it was.
 fn slice_over_a_cut<'a>(reader: &mut Reader<'a>) -> Option<&'a [u8]>
     requires left { length reader.old.left ≡ 7 }
     requires pieces { reader.old.pieces ≡ 3 ∷ 4 ∷ [] }
@@ -352,7 +352,7 @@ fn kind_of_a_long_record(writer: &mut Writer, number: u32) -> Option<ErrorKind>
     }
 }
 
-/// A number of four bytes and one of two behind it take six bytes of the room.
+/// A number of four bytes and one of two after it take six bytes of the room.
 fn two_numbers(writer: &mut Writer, first: u32, second: u16)
     requires { 6 ≤ length writer.old.left }
     ensures wrote { writer.new.passed ≡ writer.old.passed ++
@@ -376,7 +376,7 @@ fn kind_of_a_long_pair(writer: &mut Writer, first: u32, second: u16) -> Option<E
     }
 }
 
-/// A number of four bytes and two bytes behind it take eight bytes of the room, of which the last
+/// A number of four bytes and two bytes after it take eight bytes of the room, of which the last
 /// two are zeros, whatever stood there.
 fn number_and_two_bytes(writer: &mut Writer, number: u32, bytes: &[u8])
     requires two { length bytes.now ≡ 2 }
@@ -388,7 +388,7 @@ fn number_and_two_bytes(writer: &mut Writer, number: u32, bytes: &[u8])
     writer.write_padded(number, bytes, 2).unwrap();
 }
 
-/// Zeros are read from a file into the next three of five bytes. The two behind them stay.
+/// Zeros are read from a file into the next three of five bytes. The two after them stay.
 fn three_zeros_from_a_file(writer: &mut Writer) -> usize
     requires { length writer.old.left ≡ 5 }
     ensures count { result ≡ 3 }
@@ -457,7 +457,7 @@ fn refused_room_split(writer: &mut Writer) -> Option<Error>
 }
 
 /// The segments that a writer gives back have the lengths of those that it was given, and what
-/// was written stands in place of the first bytes. Where they can be counted, only memory can be
+/// was written is in place of the first bytes. Where they can be counted, only memory can be
 /// wanting.
 fn segments_with_what_was_written(
     alloc: Global,
@@ -494,7 +494,7 @@ fn place_among_four_segments(at: usize) -> (usize, u32, usize)
     (segment, totals.looks(), totals.count())
 }
 
-/// An empty segment is passed over: the place behind the first of segments of 8, 0 and 16 bytes lies
+/// An empty segment is passed over: the place after the first of segments of 8, 0 and 16 bytes lies
 /// in the third.
 fn place_past_an_empty_segment() -> usize
     ensures { result ≡ 2 }

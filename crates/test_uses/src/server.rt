@@ -71,7 +71,7 @@ const UNKNOWN: [u8; 40] = [
     0, 0, 0, 0, 0, 0, 0, 0, 0,
 ];
 
-/// Hands over a request of an unknown opcode. The sixteen bytes that say ENOSYS stand at the
+/// Hands over a request of an unknown opcode. The sixteen bytes that say ENOSYS are at the
 /// front of the room, and all other bytes are as they were; nothing is held; the file system
 /// wasn't called, and the server is as it was. `None` where there is no memory for the reader.
 fn unknown_opcode<F: FileSystem>(
@@ -94,8 +94,8 @@ fn unknown_opcode<F: FileSystem>(
 }
 
 /// The same, by a caller that holds the first sixteen bytes of its room for itself: they stay as
-/// they were, the reply stands behind them, and nothing is held any more.
-fn behind_a_hold<F: FileSystem>(
+/// they were, the reply comes after them, and nothing is held any more.
+fn after_a_hold<F: FileSystem>(
     alloc: Global,
     server: &mut Server<F>,
     w: &mut Writer,
@@ -127,7 +127,7 @@ const LONG_STATFS: [u8; 40] = [
 ];
 
 /// Hands over a request that says to be one byte longer than a server for payloads of 8,192 bytes
-/// takes. The sixteen bytes that say ENOMEM stand at the front of the room, and all other bytes are
+/// takes. The sixteen bytes that say ENOMEM are at the front of the room, and all other bytes are
 /// as they were. `None` where there is no memory for the reader.
 fn len_above_a_chosen_limit(alloc: Global, w: &mut Writer) -> Option<usize>
     requires { 16 ≤ length w.old.left }
@@ -247,7 +247,7 @@ fn setxattr_in_one_segment<F: FileSystem>(
 }
 
 /// The same of a MKDIR whose name lies in one segment, where no options are agreed: no context can
-/// stand behind it.
+/// come after it.
 fn mkdir_in_one_segment<F: FileSystem>(
     alloc: Global,
     server: &mut Server<F>,
@@ -335,7 +335,7 @@ fn state_that_is_not_served<W: io::Write>(
     server.serialize(w)
 }
 
-/// Puts another file system behind a server, which goes on with its options and limits.
+/// Puts another file system after a server, which goes on with its options and limits.
 fn exchange<F: Drop>(server: &mut Server<F>, fs: F)
     ensures fs { server.new.fs ≡ fs }
     ensures options { server.new.options ≡ server.old.options }

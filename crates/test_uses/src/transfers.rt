@@ -27,8 +27,8 @@ fn nothing_is_taken<P: PositionedFile>(
     r.write_to_file_at(f, 0, off, None)
 }
 
-/// What is told was put: the writer has passed so many bytes more, and no more than `count`, and
-/// has so much less room. A held place stays, and so do the segments' lengths.
+/// What is told was put: the writer has passed that many bytes more, and no more than `count`, and
+/// has that much less room. A held place stays, and so do the segments' lengths.
 fn as_told_was_put<P: PositionedFile>(
     w: &mut ZcWriter,
     f: &mut P,
@@ -44,7 +44,7 @@ fn as_told_was_put<P: PositionedFile>(
     w.read_from_file_at(f, count, off)
 }
 
-/// What is told was taken: the reader has so many bytes less, and no more than `count`, and counts
+/// What is told was taken: the reader has that many bytes less, and no more than `count`, and counts
 /// them.
 fn as_told_was_taken<P: PositionedFile>(
     r: &mut ZcReader<'_>,

@@ -115,7 +115,7 @@ fn middle_of_two_segments(journal: &mut Journal, first: &[u8], last: &[u8]) -> R
     journal.write_vectored_at(&Slices::new(&segments, span), 0, None)
 }
 
-/// Zeros are read into a span of segments. They stand in place of the bytes of the span, and of no
+/// Zeros are read into a span of segments. They are in place of the bytes of the span, and of no
 /// others, and each segment keeps its length.
 fn zeros_in_a_span(alloc: Global, segments: Vec<Vec<u8>>, span: Span) -> Vec<Vec<u8>>
     requires { IsSpan span (contents segments.items) }

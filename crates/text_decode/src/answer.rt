@@ -49,7 +49,7 @@ fn parse_reply(alloc: Global, text: &[u8]) -> Result<Option<Vec<u8>>, RunError> 
     }
 }
 
-/// A refusal: the name of an error, and what may stand behind it.
+/// A refusal: the name of an error, and what may come after it.
 fn parse_refusal<'a>(alloc: Global, text: &'a [u8]) -> Result<Option<Answer<'a>>, RunError> {
     let (name, behind) = cut_word(text);
     if name.is_empty() || !name.iter().all(u8::is_ascii_alphanumeric) {
@@ -74,7 +74,7 @@ fn parse_sizes<'a>(text: &[u8]) -> Option<Answer<'a>> {
     Some(Answer::RefusedSizes(size, length))
 }
 
-/// What stands before the first space, and what stands behind it: nothing if there is none.
+/// What is before the first space, and what comes after it: nothing if there is none.
 fn cut_word(text: &[u8]) -> (&[u8], &[u8]) {
     match text.iter().position(|b| *b == b' ') {
         Some(end) => (&text[..end], &text[end + 1..]),

@@ -8,7 +8,7 @@ use std::alloc::Global;
 use std::{fmt, str};
 use text_run::{RunError, lines_before_requests, lines_of, parse_line, why_bad};
 
-/// What stands before a decoded message.
+/// What is before a decoded message.
 const INDENT: &str = "  ";
 
 /// Decodes the lines of a text before the first bad one, and appends each with what it says. For a bad

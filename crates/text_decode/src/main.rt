@@ -2,7 +2,7 @@
 //!
 //! Standard input has a request as `text_demo` reads it and its answer as `text_demo` writes it, a line
 //! each in turn; the first line may be `limit N`, which has no answer, and the last request may lack
-//! its answer. Standard output gets each line, and below it behind two spaces what the message says, by
+//! its answer. Standard output gets each line, and below it after two spaces what the message says, by
 //! `print_request` and `print_reply` of `fuse_print`. Requests are read by the options of the last INIT's
 //! reply. If that did not fit its room, its line does not say what was agreed on, and the options before
 //! it stay.

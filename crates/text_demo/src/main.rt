@@ -17,7 +17,7 @@
 //! - 13 to 19: each form of answer. An opcode that isn't there; INIT's reply of 80 bytes in a room
 //!   of 20; a LOOKUP without room; a header cut short, a `len` too small, no name, no byte.
 //! - 20 to 23: the file `c` is made, is there then, is taken out, and isn't there then.
-//! - 24 to 28: the root's three entries, those behind the second and the third; a file is no
+//! - 24 to 28: the root's three entries, those after the second and the third; a file is no
 //!   directory; READDIRPLUS, where `.` and `..` have their number and type alone, and the file is
 //!   looked up.
 //! - 29 to 34: READ. Two of three bytes fit, with the room in one piece and in two; without room for

@@ -33,7 +33,7 @@ ends_at_the_second (Err (BadLine named)) bad = λ number e.
 ends_at_the_second (Err Io) h = λ number e. cc
 ends_at_the_second (Err OutOfMemory) h = λ number e. cc
 
--- `16`, which asks nothing, behind a line that was counted
+-- `16`, which asks nothing, after a line that was counted
 abbrev pub one_line : List (List ℕ)
 one_line = (49 ∷ 54 ∷ []) ∷ []
 
@@ -43,18 +43,18 @@ only_first zero before = refl
 only_first (suc index) before =
     let no : false ≡ true = before 0 [] (omega arith) in cc
 
-pub ends_behind_the_limit :
+pub ends_after_the_limit :
     (result : Result (Unit {0}) RunError) → EndsAs 1 one_line result
     → MatchResult result (λ done. ⊥) (λ e. (number : ℕ) → e ≡ BadLine number → number ≡ 2)
 unfolding decode_pairs
-ends_behind_the_limit (Ok done) all =
+ends_after_the_limit (Ok done) all =
     let no : false ≡ true = all 0 [] (omega arith) in cc
-ends_behind_the_limit (Err (BadLine named)) bad = λ number e.
+ends_after_the_limit (Err (BadLine named)) bad = λ number e.
     let same : number ≡ named = cc in
     let first : bad.index ≡ 0 = only_first bad.index bad.before in
     omega (arith, bad.numbered)
-ends_behind_the_limit (Err Io) h = λ number e. cc
-ends_behind_the_limit (Err OutOfMemory) h = λ number e. cc
+ends_after_the_limit (Err Io) h = λ number e. cc
+ends_after_the_limit (Err OutOfMemory) h = λ number e. cc
 
 -- `0 `, which asks something, and `limit 8192`
 abbrev pub late_limit : List (List ℕ)

@@ -1,4 +1,4 @@
--- How a session was read whose third line is bad, behind one that sets the limit and a request.
+-- How a session was read whose third line is bad, after one that sets the limit and a request.
 use Rattle.std.proofs.Common.{◌≡◌, false, true, ℕ, zero, suc, List, [], ◌∷◌, take, Option, Some, None, refl, arith}
 use Rattle.std.specs.Prelude.{All, IsSomeAnd, slice_get}
 use Rattle.hex.specs.Hex.{decode_pairs}

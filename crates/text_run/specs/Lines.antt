@@ -111,7 +111,7 @@ abbrev pub or_default : Option ℕ → ℕ
 or_default None = DEFAULT_MAX_BUFFER
 or_default (Some limit) = limit
 
--- how many lines of a session stand before its requests: one that sets the limit, or none
+-- how many lines of a session are before its requests: one that sets the limit, or none
 abbrev pub before_requests : List (List ℕ) → ℕ
 before_requests lines = if is_some (first_limit_of lines) then 1 else 0
 
@@ -119,7 +119,7 @@ before_requests lines = if is_some (first_limit_of lines) then 1 else 0
 abbrev pub IsRequest : List ℕ → Type 0
 IsRequest line = IsSome (line_of line)
 
--- the first of these lines that asks nothing has this number, counted from 1, where so many lines
+-- the first of these lines that asks nothing has this number, counted from 1, where that many lines
 -- were counted before these
 pub record IsFirstBad (counted : ℕ) (lines : List (List ℕ)) (number : ℕ) : Type 0 where
   pub index : ℕ
@@ -127,7 +127,7 @@ pub record IsFirstBad (counted : ℕ) (lines : List (List ℕ)) (number : ℕ) :
   pub before : All IsRequest (take index lines)
   pub bad : IsSomeAnd (slice_get lines index) (λ line. line_of line ≡ None)
 
--- how the lines of requests may end, where so many lines were counted before them: each asks
+-- how the lines of requests may end, where that many lines were counted before them: each asks
 -- something, or the first that does not is named, or there was a fault or no memory
 abbrev pub EndsAs : ℕ → List (List ℕ) → Result (Unit {0}) RunError → Type 0
 EndsAs counted lines (Ok done) = All IsRequest lines
@@ -135,7 +135,7 @@ EndsAs counted lines (Err (BadLine number)) = IsFirstBad counted lines number
 EndsAs counted lines (Err Io) = Unit {0}
 EndsAs counted lines (Err OutOfMemory) = Unit {0}
 
--- how a session of these lines may end: as its requests, behind a line that sets the limit, if there
+-- how a session of these lines may end: as its requests, after a line that sets the limit, if there
 -- is one
 abbrev pub EndsSession : List (List ℕ) → Result (Unit {0}) RunError → Type 0
 EndsSession lines result =
@@ -146,7 +146,7 @@ abbrev pub ending : Option ℕ → Result (Unit {0}) RunError
 ending None = Ok tt
 ending (Some number) = Err (BadLine number)
 
--- the lines before the first bad one, where that has this number, if there is one, and so many lines
+-- the lines before the first bad one, where that has this number, if there is one, and that many lines
 -- were counted before these
 abbrev pub before_bad : ℕ → Option ℕ → List (List ℕ) → List (List ℕ)
 before_bad counted None lines = lines

@@ -15,7 +15,7 @@ use Rattle.fuse_server.specs.Step.{ServerState}
 abbrev pub segments_asked : Line → List (List ℕ)
 segments_asked line = (request line).segments
 
--- so many zeros
+-- that many zeros
 abbrev pub zeros : ℕ → List ℕ
 zeros n = replicate n 0
 

@@ -45,8 +45,8 @@ pub fn first_limit(lines: &[&[u8]]) -> Option<u32>
     }
 }
 
-/// How many lines of a session stand before its requests: 1 where the first one sets a limit, and
-/// else 0. Behind these such a line is bad.
+/// How many lines of a session are before its requests: 1 where the first one sets a limit, and
+/// else 0. After these such a line is bad.
 pub fn lines_before_requests(lines: &[&[u8]]) -> usize
     ensures value { result ≡ before_requests (map (λ line. line.now) lines.now) }
     ensures within { result ≤ length lines.now }

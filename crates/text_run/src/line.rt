@@ -132,7 +132,7 @@ fn parse_length(text: &[u8]) -> Option<usize>
     }
 }
 
-/// The number that `least` to `most` decimal digits write, where a text is so many and nothing else.
+/// The number that `least` to `most` decimal digits write, where a text is that many and nothing else.
 pub fn parse_number(text: &[u8], least: usize, most: usize) -> Option<u32>
     requires { most ≤ 9 }
     ensures { result ≡ decimal_number least most text.now }

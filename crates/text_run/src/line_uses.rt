@@ -88,7 +88,7 @@ fn a_session_without_a_bad_line() -> Result<(), RunError>
     end_session(None)
 }
 
-/// A session of which the third line is bad, behind the limit and a request, may name no other line,
+/// A session of which the third line is bad, after the limit and a request, may name no other line,
 /// and what it asks is the request.
 fn a_session_ends_at_its_first_bad_line(
     alloc: Global,

@@ -32,7 +32,7 @@ pub fn end_session(bad: Option<usize>) -> Result<(), RunError>
     }
 }
 
-// The requests of the lines before the first bad one, and the number of that one, where so many
+// The requests of the lines before the first bad one, and the number of that one, where that many
 // lines were counted before these.
 fn read_requests(
     alloc: Global,

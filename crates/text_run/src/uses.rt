@@ -33,7 +33,7 @@ fn a_run_counts_the_line_of_the_limit<W: io::Write>(
     run(alloc, &mut b"limit 8192\n16".as_slice(), output)
 }
 
-/// A line that sets a limit is bad behind the first one.
+/// A line that sets a limit is bad after the first one.
 fn a_run_takes_no_limit_in_its_second_line<W: io::Write>(
     alloc: Global,
     output: &mut W,

@@ -26,7 +26,7 @@ held : (r : Region) (addr len : ℕ) → holds r addr len ≡ true
     → (r.address + (addr - r.address) ≡ addr) × (addr - r.address + len ≤ r.size)
 held r addr len is = (grind (arith, nat_tests, is), grind (arith, nat_tests, is))
 
--- where bytes lie that were found, behind `i` regions
+-- where bytes lie that were found, after `i` regions
 abbrev Found : (i : ℕ) → List Region → (addr len : ℕ) → Option Place → Type 0
 Found i rs addr len None = ⊤
 Found i rs addr len (Some p) = (k : ℕ) × (p.region ≡ i + k) × Lie rs addr len k p.offset

@@ -76,7 +76,7 @@ AreLinked most indirect inside table entries at (d ∷ ds) =
     ⊎ ((is_table d ≡ false) × (goes_on d ≡ true) × AreLinked most indirect inside table entries d.next ds)
     ⊎ ((is_table d ≡ false) × (goes_on d ≡ false) × (ds ≡ [])))
 
--- no more of a table than it has, of which so many are left
+-- no more of a table than it has, of which that many are left
 abbrev pub AreFew : (left : ℕ) → List Descriptor → Type 0
 AreFew left [] = ⊤
 AreFew left (d ∷ ds) =
@@ -117,7 +117,7 @@ GoesOnBy indirect table ended on (More piece next) ps =
 GoesOnBy indirect table ended on (Table place next) ps = on indirect next ps
 GoesOnBy indirect table ended on (Refused refusal) ps = ⊥
 
--- each descriptor is what stands at the entry at which the walk is then, and the steps end with the last of them:
+-- each descriptor is what is at the entry at which the walk is then, and the steps end with the last of them:
 -- these are the pieces
 abbrev pub GoesThrough : List Region → (indirect table : List ℕ) → Walk → List Descriptor → List Piece → Type 0
 GoesThrough regions indirect table w [] ps = ⊥

@@ -103,7 +103,7 @@ fn a_table_is_entered_once()
     steps_are_within();
 }
 
-/// A walk through two descriptors, neither of which is a table: the second stands where the first says, in a queue of two
+/// A walk through two descriptors, neither of which is a table: the second is where the first says, in a queue of two
 /// at least; it is written if the first one is; both have no more bytes than there may be, and a piece each.
 fn two_descriptors()
     ensures { (regions : List Region) (indirect table : List ℕ) (size most head : ℕ) (w : Walk)

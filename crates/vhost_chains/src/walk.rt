@@ -195,7 +195,7 @@ fn put_piece(piece: &mut Piece, d: &Descriptor, place: Place)
     piece.writable = d.is_writable();
 }
 
-// Goes on behind a descriptor.
+// Goes on after a descriptor.
 fn go_on(walk: &mut Walk, d: &Descriptor)
     requires left { 1 ≤ walk.old.left }
     requires rest { d.now.len ≤ walk.old.rest }

@@ -135,7 +135,7 @@ log_of l protocol =
     else Err WrongLog))
     else Err NotOffered
 
--- so many descriptors and nothing else, if a feature of the protocol was offered
+-- that many descriptors and nothing else, if a feature of the protocol was offered
 unfoldable pub only_with : Request → (descriptors feature protocol : ℕ) → Result Message Refusal
 only_with r descriptors feature protocol =
     if bit_and protocol feature == feature then Ok (record (alone r) { descriptors = descriptors })
@@ -192,7 +192,7 @@ told h body descriptors o (Err e) = Err e
 told h body descriptors o (Ok r) =
     if length body == h.size then received descriptors h.flags (payload_of r body o) else Err Cut
 
--- a message of a header, a payload, and so many descriptors
+-- a message of a header, a payload, and that many descriptors
 unfoldable pub message_of : (head body : List ℕ) → (descriptors : ℕ) → Offer → Result Message Refusal
 message_of bytes body descriptors o =
     if length bytes == 12

@@ -5,7 +5,7 @@ use Rattle.std.specs.Prelude.{ℕ, List, [], ◌∷◌, ◌++◌}
 abbrev pub four : ℕ → List ℕ
 four n = n ∷ 0 ∷ 0 ∷ 0 ∷ []
 
--- the header of this request, of version 1, with so many bytes of payload
+-- the header of this request, of version 1, with that many bytes of payload
 abbrev pub head_of : (request size : ℕ) → List ℕ
 head_of request size = four request ++ (four 1 ++ four size)
 

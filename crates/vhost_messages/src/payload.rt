@@ -192,7 +192,7 @@ fn log(body: &[u8], protocol: u64) -> Result<Message, Refusal>
     })
 }
 
-/// A message with so many descriptors and nothing else, if this feature of the protocol was offered.
+/// A message with that many descriptors and nothing else, if this feature of the protocol was offered.
 #[tactic(auto, unfolding(crate::specs::Messages::only_with))]
 fn only_with(
     request: Request,

@@ -32,7 +32,7 @@ fn base(view: View, region: &Region) -> u64
     }
 }
 
-/// Whether so many bytes from an address on are in `size` bytes from `base` on.
+/// Whether that many bytes from an address on are in `size` bytes from `base` on.
 fn holds(base: u64, size: u64, address: u64, len: u64) -> bool
     ensures yes { result ≡ true → Holds base size address len }
     ensures no { result ≡ false → Holds base size address len → ⊥ }
@@ -40,7 +40,7 @@ fn holds(base: u64, size: u64, address: u64, len: u64) -> bool
     address >= base && address - base <= size && len <= size - (address - base)
 }
 
-/// The place of so many bytes from an address on, which are in one region wholly: the first such one.
+/// The place of that many bytes from an address on, which are in one region wholly: the first such one.
 pub fn place_of(view: View, regions: &[Region], address: u64, len: u64) -> Option<Place>
     ensures { MatchOption result (IsNowhere view regions.now address len)
         (IsPlace view regions.now address len) }

@@ -59,7 +59,7 @@ pub fn payload_size(head: &[u8]) -> Result<u32, Refusal>
     }
 }
 
-/// The message of a header, its payload, and so many descriptors.
+/// The message of a header, its payload, and that many descriptors.
 #[tactic(auto, unfolding(crate::specs::Messages::message_of))]
 pub fn read_message(
     head: &[u8],

@@ -197,7 +197,7 @@ impl ByteValued for Region {
     ghost fields_made = { λ b h. refl };
 }
 
-/// Where what is written to the guest's memory is marked, in 16 bytes (`VhostUserLog`): so many bytes of a file.
+/// Where what is written to the guest's memory is marked, in 16 bytes (`VhostUserLog`): that many bytes of a file.
 #[repr(C)]
 #[derive(Clone, Copy, Debug, Default)]
 pub struct Log {

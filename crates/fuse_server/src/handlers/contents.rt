@@ -27,7 +27,7 @@ fn take_rest<'a>(alloc: Global, r: &mut Reader<'a>) -> Reader<'a>
 }
 
 impl<F: FileSystem> Session<F> {
-    /// READ (`struct fuse_read_in`): the data go straight into the room, behind the place of their
+    /// READ (`struct fuse_read_in`): the data go straight into the room, after the place of their
     /// header, which is filled in last.
     pub(super) fn read(&mut self, mut q: Request<'_, '_>, w: &mut Writer) -> Result<usize>
         ensures { Serves F.allows F.DirIter.gives Opcode.Read q.entry
@@ -70,7 +70,7 @@ impl<F: FileSystem> Session<F> {
         answer
     }
 
-    /// WRITE (`struct fuse_write_in`): all bytes behind the record are passed on, as they stand.
+    /// WRITE (`struct fuse_write_in`): all bytes after the record are passed on, as they stand.
     pub(super) fn write(&mut self, mut q: Request<'_, '_>, w: &mut Writer) -> Result<usize>
         ensures { Serves F.allows F.DirIter.gives Opcode.Write q.entry
             self.old w.old result w.new self.new }

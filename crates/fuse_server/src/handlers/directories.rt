@@ -37,7 +37,7 @@ impl<F: FileSystem> Session<F> {
     }
 
     /// READDIR and READDIRPLUS (`struct fuse_read_in`): the records of a directory's items, with
-    /// `plus` each with what a LOOKUP of it answers. They are put into the room behind the place of
+    /// `plus` each with what a LOOKUP of it answers. They are put into the room after the place of
     /// the reply's header, which is filled in last.
     pub(super) fn list(
         &mut self,

@@ -10,7 +10,7 @@ use fuse_messages::{Request, reply_fault};
 use fuse_segments::Writer;
 
 impl<F: FileSystem> Session<F> {
-    /// GETLK: asks for a lock that stands in the way.
+    /// GETLK: asks for a lock that is in the way.
     pub(super) fn getlk(&mut self, q: Request<'_, '_>, w: &mut Writer) -> Result<usize>
         ensures { Serves F.allows F.DirIter.gives Opcode.Getlk q.entry
             self.old w.old result w.new self.new }

@@ -45,7 +45,7 @@ impl<F: FileSystem> Session<F> {
     }
 
     /// BATCH_FORGET (`struct fuse_batch_forget_in`): lookups of many nodes are taken back, as pairs
-    /// behind the record say. There is no reply, but to more pairs than a payload may hold.
+    /// after the record say. There is no reply, but to more pairs than a payload may hold.
     pub(super) fn batch_forget(&mut self, mut q: Request<'_, '_>, w: &mut Writer) -> Result<usize>
         ensures { Serves F.allows F.DirIter.gives Opcode.BatchForget q.entry
             self.old w.old result w.new self.new }
@@ -69,7 +69,7 @@ impl<F: FileSystem> Session<F> {
     }
 
     /// SYMLINK: makes a symbolic link. The request has no record: the link's name and its text
-    /// stand in the tail, in this order, and the call takes the text first.
+    /// are in the tail, in this order, and the call takes the text first.
     pub(super) fn symlink(&mut self, mut q: Request<'_, '_>, w: &mut Writer) -> Result<usize>
         ensures { Serves F.allows F.DirIter.gives Opcode.Symlink q.entry
             self.old w.old result w.new self.new }

@@ -8,7 +8,7 @@ use fuse_views::PositionedFile;
 /// A writer whose room bytes of files are put into.
 ///
 /// What is put follows the bytes that the writer has passed; these, the held place and the
-/// segments' lengths stay. Behind what was put the room may hold anything.
+/// segments' lengths stay. After what was put the room may hold anything.
 #[derive(Drop)]
 pub struct ZcWriter(pub Writer);
 

@@ -12,7 +12,7 @@ ghost use Rattle.fuse_grammar.specs.Turn.{Turn, IsTurn};
 use crate::turns::directories_are_read;
 
 /// A READDIR of 64 bytes, where there is room for them and a header, of a directory whose one item
-/// is the file `a`: the reply has 48 bytes, says so, and behind its header is the record of `a`.
+/// is the file `a`: the reply has 48 bytes, says so, and after its header is the record of `a`.
 fn a_reply_of_one_file()
     ensures { (options after : ℕ) (t : Turn) → IsTurn (default_limits 4096) options t after →
         t.request ≡ request_for_data 28 64 → length t.room ≡ 80 →

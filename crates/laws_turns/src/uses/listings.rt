@@ -82,7 +82,7 @@ fn a_first_lookup_that_fails()
         (body ≡ []) × (result ≡ Err (Some 2)) }
 {}
 
-/// The records of two entries, one behind the other, hold their nodes in order.
+/// The records of two entries, one after the other, hold their nodes in order.
 fn nodes_of_two_records()
     ensures { (first second : Entry) → FitsEntry first → FitsEntry second →
         nodes_in (record_bytes (Some first) file_a ++ record_bytes (Some second) root_dot)

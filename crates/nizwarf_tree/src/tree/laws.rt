@@ -1,4 +1,4 @@
-//! What holds of the tree behind a server, in whatever calls the messages came. A library over another
+//! What holds of the tree after a server, in whatever calls the messages came. A library over another
 //! file system has no such file.
 
 ghost use Rattle.nizwarf_tree.specs.TreeLaws.{HistoriesAreKept};

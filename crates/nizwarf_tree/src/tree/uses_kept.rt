@@ -35,7 +35,7 @@ fn few_items_are_taken(
 }
 
 /// Of a node of which the last client gave back all that was delivered to it, and never more, no lookup is held of the
-/// tree behind a server, in whatever calls its messages came.
+/// tree after a server, in whatever calls its messages came.
 fn none_is_held()
     ensures { (page_size max_buffer : ℕ) (settings : Settings) (new : ServerState State)
         (moments : List (Moment State)) (n : ℕ) →

@@ -107,7 +107,7 @@ static GIVEN_BACK: Note = Note {
     value: 0,
 };
 
-/// A server over a directory of one item, whose lookups find node 5, with places for so many notes.
+/// A server over a directory of one item, whose lookups find node 5, with places for that many notes.
 fn server_of_directory(
     alloc: Global,
     name: usize,
@@ -128,7 +128,7 @@ fn takings(script: &Script) -> Option<u64> {
     }
 }
 
-/// Whether the calls are a `readdir`, so many lookups, and so many forgets.
+/// Whether the calls are a `readdir`, that many lookups, and that many forgets.
 fn are_calls(recorder: &Recorder<Script>, lookups: u16, forgets: u16) -> bool {
     let lookups = usize::from(lookups);
     let mut place = 0usize;
@@ -148,7 +148,7 @@ fn are_calls(recorder: &Recorder<Script>, lookups: u16, forgets: u16) -> bool {
     place == 1 + lookups + usize::from(forgets) && !recorder.missed()
 }
 
-/// The header of a successful reply of so many bytes.
+/// The header of a successful reply of that many bytes.
 fn header_of(length: usize) -> [u8; 16] {
     let mut header = [0; 16];
     header[..8].copy_from_slice(&length.to_le_bytes());
@@ -156,12 +156,12 @@ fn header_of(length: usize) -> [u8; 16] {
     header
 }
 
-/// Whether a reply succeeds and has so many bytes.
+/// Whether a reply succeeds and has that many bytes.
 fn is_success(reply: &[u8], length: usize) -> bool {
     reply.len() == length && reply.starts_with(&header_of(length))
 }
 
-/// What stands behind the header of a request for a reading of so many bytes.
+/// What comes after the header of a request for a reading of that many bytes.
 fn reading_of(size: u32) -> [u8; 40] {
     let mut record = [0; 40];
     record[16..20].copy_from_slice(&size.to_le_bytes());

@@ -3,7 +3,7 @@
 use crate::support::Message;
 use fs_mock::NoteKind;
 
-/// The record of a request in which all is 0. What lies behind a record isn't looked at.
+/// The record of a request in which all is 0. What lies after a record isn't looked at.
 const ZEROS: [u8; 88] = [0; 88];
 
 /// The reply to a call that fails with EIO, or with a fault without a number.

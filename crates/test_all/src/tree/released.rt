@@ -35,7 +35,7 @@ fn make_files(alloc: Global, server: &mut Server<TreeFs>, place: u8) -> Result<(
     Ok(())
 }
 
-/// Whether a STATFS tells that so many nodes are free.
+/// Whether a STATFS tells that that many nodes are free.
 fn are_free(alloc: Global, server: &mut Server<TreeFs>, count: u64) -> Result<bool, Fail> {
     let reply = reply(alloc, server, (17, 1, b""))?;
     Ok(says(&reply, 48, &count.to_le_bytes()))

@@ -69,7 +69,7 @@ fn try_line<W: io::Write + Drop>(
     parts.tell_served(&served)
 }
 
-// What came of a request: this outcome, in this writer's room, and the calls behind the first ones.
+// What came of a request: this outcome, in this writer's room, and the calls after the first ones.
 fn served_by(
     alloc: Global,
     server: &Server<Recorder<MemFs>>,
@@ -136,7 +136,7 @@ fn handle<W: io::Write + Drop>(
     Ok(outcome)
 }
 
-// The calls behind the first ones, a line each.
+// The calls after the first ones, a line each.
 fn calls_from(alloc: Global, fs: &Recorder<MemFs>, noted: usize) -> Result<String, RunError> {
     let mut calls = String::new(alloc);
     for note in fs.notes().iter().skip(noted) {

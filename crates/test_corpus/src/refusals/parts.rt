@@ -37,12 +37,12 @@ impl<W: io::Write + Drop> Parts<W> {
         write_all(&mut self.output, line.as_str())
     }
 
-    /// Writes the line behind a call, which takes no memory.
+    /// Writes the line after a call, which takes no memory.
     pub fn end(&mut self) -> Result<(), RunError> {
         write_all(&mut self.output, "answered\n")
     }
 
-    /// Writes what a call answered, and the state behind it.
+    /// Writes what a call answered, and the state after it.
     pub fn tell(&mut self, text: &str) -> Result<(), RunError> {
         write_all(&mut self.output, text)
     }

@@ -104,7 +104,7 @@ fn begin<W: io::Write + Drop>(
     parts.begin(format!(in alloc; "{counts:?}")?.as_str())
 }
 
-// Ends the part of a call, with its error and the counts behind it.
+// Ends the part of a call, with its error and the counts after it.
 fn end<W: io::Write + Drop>(
     alloc: Global,
     parts: &mut Parts<W>,

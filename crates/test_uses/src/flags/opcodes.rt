@@ -17,7 +17,7 @@ fn opcodes() -> [Result<Opcode, ()>; 4]
     ]
 }
 
-/// 31 is so many security contexts and 32 groups; 33 is no extension.
+/// 31 is that many security contexts and 32 groups; 33 is no extension.
 fn extensions() -> [Result<ExtType, ()>; 3]
     ensures { result ≡ Ok (ExtType.SecCtx 31) ∷ Ok ExtType.SupGroups ∷ Err tt ∷ [] }
 {

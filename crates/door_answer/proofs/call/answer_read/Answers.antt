@@ -1,4 +1,4 @@
--- The header alone is put, whatever stands behind it.
+-- The header alone is put, whatever comes after it.
 use Rattle.std.proofs.Common.{◌≡◌, ◌≤◌, ◌&&◌, nat_le, true, length, arith}
 use Rattle.std.proofs.lemmas.Bool.Decides.{nat_tests}
 use Rattle.door_answer.proofs.Told.{read_answered}

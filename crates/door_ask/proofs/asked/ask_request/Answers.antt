@@ -16,7 +16,7 @@ returns-in-Ok c =
     let h = c.in-Ok.header in
     let wanted = MayWantBehind c.args.limits options c.args.room (opcode_of h.opcode) h c.read_record-header.new.reader.pieces in
     let told : Tells wanted q options by c.args.room (ask c.args.limits options c.args.room q) c.args.w.now
-    c.ask_behind.result c.ask_behind.new.w c.ask_behind.new.call = search rules in
+    c.ask_after.result c.ask_after.new.w c.ask_after.new.call = search rules in
     tells_less wanted (MayWant c.args.limits options c.args.room c.args.r)
     (λ w. rw (c.in-Ok.ensures.pieces, read_header_is q h c.in-Ok.ensures.value) at w)
     q options by c.args.room (ask c.args.limits options c.args.room q) c.args.w.now _ _ _ told

@@ -17,8 +17,8 @@ returns-in-Ok c =
     let by = interrupted_by c.args.limits q in
     let h = c.in-Ok.header in
     let wanted = MayWantBehind c.args.limits options c.args.room (opcode_of h.opcode) h c.read_record-header.new.reader.pieces in
-    let said : Judges wanted q options by c.args.room (ask c.args.limits options c.args.room q) c.check_behind.result
-    c.check_behind.new.call = search rules in
+    let said : Judges wanted q options by c.args.room (ask c.args.limits options c.args.room q) c.check_after.result
+    c.check_after.new.call = search rules in
     judges_less (MayWant c.args.limits options c.args.room c.args.r) wanted
     (λ w. rw (c.in-Ok.ensures.pieces, read_header_is q h c.in-Ok.ensures.value) at w)
     q options by c.args.room (ask c.args.limits options c.args.room q) _ _ said

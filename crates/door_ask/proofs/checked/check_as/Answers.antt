@@ -32,9 +32,9 @@ returns-in-Ok c =
     let rest : drop 40 named ≡ left.left = same_rest n c.ranges.opcode.fits q eight ∙ sym moved in
     let long : length q ≡ c.available_bytes-len.result = search rules in
     let wanted = MayWantBehind limits options room (opcode_of n) h left.pieces in
-    let behind = c.check_behind.ensures named (same_length n c.ranges.opcode.fits q eight ∙ long) is rest in
-    let said : Judges wanted named options by room (ask limits options room named) c.check_behind.result
-    c.check_behind.new.call = rw (is, rest) behind in
+    let behind = c.check_after.ensures named (same_length n c.ranges.opcode.fits q eight ∙ long) is rest in
+    let said : Judges wanted named options by room (ask limits options room named) c.check_after.result
+    c.check_after.new.call = rw (is, rest) behind in
     judges_less (MayWant limits options room (unread_with_opcode n c.args.r)) wanted
     (λ w. subst (λ (g : InHeader). MayWantBehind limits options room (opcode_of g.opcode) g (lengths_from 40 c.args.r.pieces))
     (read_header_is named h is) (rw c.in-Ok.ensures.pieces at w))

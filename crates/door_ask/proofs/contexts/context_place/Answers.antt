@@ -27,9 +27,9 @@ returns-then-size-lt-SIZE c = λ options ext context is some.
       | then-size-lt-SIZE-via-else-size-lt-SIZE+then-left-size w ↦ omega (arith, n.first.fits, size, w.if-left-size.true)
     ])
 
--- the blocks behind one
-behind_block : (n : ℕ) (left : List ℕ) → n ≤ length left → take (length left - n) (drop n left) ≡ drop n left
-behind_block n left h = take_all (length left - n) (drop n left) (omega (arith, length-drop n left))
+-- the blocks after one
+after_block : (n : ℕ) (left : List ℕ) → n ≤ length left → take (length left - n) (drop n left) ≡ drop n left
+after_block n left h = take_all (length left - n) (drop n left) (omega (arith, length-drop n left))
 
 pub loop-left-preserved : goal.loop-left-preserved
 loop-left-preserved c =
@@ -38,7 +38,7 @@ loop-left-preserved c =
     let n = c.part_at-header.result.size in
     let size : block_size left ≡ n = ap (λ (h : ExtHeader). h.size) (sym c.part_at-header.ensures.read) in
     let kind : c.part_at-header.result.ext_type ≡ (value_of ext_header left).ext_type = ap (λ (h : ExtHeader). h.ext_type) c.part_at-header.ensures.read in
-    let rest : take (length left - n) (drop n left) ≡ drop n left = behind_block n left c.if-left-size.false in
+    let rest : take (length left - n) (drop n left) ≡ drop n left = after_block n left c.if-left-size.false in
     let same : drop (block_size left) left ≡ take (length left - n) (drop n left) = ap (λ (k : ℕ). drop k left) size ∙ sym rest in (
       rest ∙ ap (drop n) i.0 ∙ drop-drop n c.loop-left.at c.args.blocks.now,
       omega (arith, ap length rest, length-drop n left, c.if-left-size.false, i.1),

@@ -28,8 +28,8 @@ returns c =
     let behind = front_rest head rest c.requires.head in
     let long : length q ≡ 40 + length rest = length-append head rest ∙ ap (λ (n : ℕ). n + length rest) c.requires.head in
     let wanted = MayWantBehind limits options room (opcode_of h.opcode) h c.args.r.pieces in
-    let told : Tells wanted q options by room (ask limits options room q) c.args.w.now c.ask_behind.result
-    c.ask_behind.new.w c.ask_behind.new.call = rw (first, behind) (c.ask_behind.ensures q (search (rules, long)) first behind) in
+    let told : Tells wanted q options by room (ask limits options room q) c.args.w.now c.ask_after.result
+    c.ask_after.new.w c.ask_after.new.call = rw (first, behind) (c.ask_after.ensures q (search (rules, long)) first behind) in
     tells_less wanted (MayWantBehindHeader limits options room q c.args.r.pieces)
     (λ w. subst (λ (g : InHeader). MayWantBehind limits options room (opcode_of g.opcode) g c.args.r.pieces)
     (read_header_is q h first) w)

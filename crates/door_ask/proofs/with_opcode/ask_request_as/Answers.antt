@@ -30,9 +30,9 @@ returns-in-Ok c =
     let rest : drop 40 named ≡ left.left = same_rest n c.ranges.opcode.fits q eight ∙ sym moved in
     let long : length q ≡ c.available_bytes-len.result = search rules in
     let wanted = MayWantBehind limits options room (opcode_of n) h left.pieces in
-    let behind = c.ask_behind.ensures named (same_length n c.ranges.opcode.fits q eight ∙ long) is rest in
-    let told : Tells wanted named options by room (ask limits options room named) c.args.w.now c.ask_behind.result
-    c.ask_behind.new.w c.ask_behind.new.call = rw (is, rest) behind in
+    let behind = c.ask_after.ensures named (same_length n c.ranges.opcode.fits q eight ∙ long) is rest in
+    let told : Tells wanted named options by room (ask limits options room named) c.args.w.now c.ask_after.result
+    c.ask_after.new.w c.ask_after.new.call = rw (is, rest) behind in
     tells_less wanted (MayWant limits options room (unread_with_opcode n c.args.r))
     (λ w. subst (λ (g : InHeader). MayWantBehind limits options room (opcode_of g.opcode) g (lengths_from 40 c.args.r.pieces))
     (read_header_is named h is) (rw c.in-Ok.ensures.pieces at w))

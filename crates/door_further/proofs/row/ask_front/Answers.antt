@@ -7,7 +7,7 @@ use Rattle.fuse_segments.specs.Segments.{segments_of, flat_bytes}
 use Rattle.fuse_grammar.specs.Limits.{max_len}
 use Rattle.fuse_grammar.specs.Records.{record_of}
 use Rattle.fuse_grammar.specs.declared.error.Error.{Error}
-use Rattle.door_further.specs.Further.{What, Tells, row_of, what_behind}
+use Rattle.door_further.specs.Further.{What, Tells, row_of, what_after}
 use Rattle.door_further.proofs.row.ask_front.Goals as goal
 
 pub returns : goal.returns
@@ -19,7 +19,7 @@ returns c =
     let below : nat_lt (max_len c.args.limits) h.len ≡ false = grind (arith, nat_tests, c.max_len.ensures, c.if-header-max_len.false) in
     let read : record_of in_header q ≡ Ok h = rw whole (ap Ok (sym c.part_at-header.ensures.read)) in
     let rest : take (length q - 40) (drop 40 q) ≡ drop 40 q = take_all (length q - 40) (drop 40 q) (omega (arith, length-drop 40 q)) in
-    let row : what_behind c.args.offers c.args.limits (Ok h) (drop 40 q) len ≡ row_of c.args.offers h (drop 40 q) len = rw below refl in
-    let is : what_behind c.args.offers c.args.limits (record_of in_header q) (drop 40 q) len ≡ row_of c.args.offers h (drop 40 q) len =
-    ap (λ (r : Result InHeader Error). what_behind c.args.offers c.args.limits r (drop 40 q) len) read ∙ row in
+    let row : what_after c.args.offers c.args.limits (Ok h) (drop 40 q) len ≡ row_of c.args.offers h (drop 40 q) len = rw below refl in
+    let is : what_after c.args.offers c.args.limits (record_of in_header q) (drop 40 q) len ≡ row_of c.args.offers h (drop 40 q) len =
+    ap (λ (r : Result InHeader Error). what_after c.args.offers c.args.limits r (drop 40 q) len) read ∙ row in
     subst (λ (w : What). Tells w (λ c. c) c.ask_row.result c.args.call.now c.ask_row.new.call) (sym is) (rw rest at c.ask_row.ensures)

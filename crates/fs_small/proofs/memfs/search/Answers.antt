@@ -1,6 +1,6 @@
 use Rattle.std.proofs.Common.{◌<◌, ◌+◌, ◌-◌, ◌/◌, sym, ap, ◌∙◌, arith}
 use Rattle.fs_small.specs.MemFs.{Stored}
-use Rattle.fs_small.proofs.Index.{place_found, place_missing, all_before, all_behind}
+use Rattle.fs_small.proofs.Index.{place_found, place_missing, all_before, all_after}
 use Rattle.fs_small.proofs.memfs.search.Goals as goal
 
 pub returns-then-at-node-clause-place : goal.returns-then-at-node-clause-place
@@ -32,7 +32,7 @@ loop-low-preserved c =
       low = omega arith;
       high = omega arith;
       below = c.loop-low.invariant.below;
-      above = all_behind c.args.files.now c.requires c.args.node middle c.index-files-middle.result
+      above = all_after c.args.files.now c.requires c.args.node middle c.index-files-middle.result
           (omega arith) c.index-files-middle.is more;
     }
 

@@ -21,7 +21,7 @@ some_first old end count within =
     ∙ both_runs old count (end - length old - count)
     ∙ ap (λ n. old ++ replicate n 0) all
 
--- what is there after a block of zeros was put behind it, for which there was room
+-- what is there after a block of zeros was put after it, for which there was room
 appended : {T E : Type 0} (r : Result T E) (old block new : List ℕ) (count : ℕ) → IsOk r
     → new ≡ (if is_ok r then old ++ block else old) → block ≡ replicate count 0
     → new ≡ old ++ replicate count 0

@@ -9,7 +9,7 @@ pub returns : goal.returns
 returns c =
     let i = item c.args.dir_entry in
     let name = c.to_bytes-name.ensures in
-    let zeros = c.zeros_behind-zeros.ensures.zeros in
+    let zeros = c.zeros_after-zeros.ensures.zeros in
     let parts = dirent_parts i c.to_bytes-name.result.now name in
     let put = rw (c.dirent_of.ensures, zeros, parts) at c.write_padded.ensures.wrote in
     puts_by c.args.w.now c.write_padded.new.self (dirent_bytes i) _ c.write_padded.result put

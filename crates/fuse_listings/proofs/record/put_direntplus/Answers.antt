@@ -9,7 +9,7 @@ pub returns-clause-puts : goal.returns-clause-puts
 returns-clause-puts c =
     let i = item c.args.dir_entry in
     let name = c.to_bytes-name.ensures in
-    let zeros = c.zeros_behind-zeros.ensures.zeros in
+    let zeros = c.zeros_after-zeros.ensures.zeros in
     let parts = direntplus_parts c.args.entry.now i c.to_bytes-name.result.now name in
     let put = rw (c.from.ensures, c.dirent_of.ensures, zeros, parts) at c.write_padded.ensures.wrote in
     let long = length-record_bytes (Some c.args.entry.now) i in

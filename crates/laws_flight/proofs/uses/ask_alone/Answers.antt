@@ -1,12 +1,12 @@
 use Rattle.std.proofs.Common.{subst}
 use Rattle.fuse_flags.specs.Flags.{fs_options_bits}
-use Rattle.fuse_messages.specs.Rooms.{with_behind}
+use Rattle.fuse_messages.specs.Rooms.{with_after}
 use Rattle.door_ask.specs.Asked.{IsAsked}
 use Rattle.door_ask.specs.declared.asked.Asked.{Asked}
 use Rattle.laws_flight.proofs.uses.ask_alone.Goals as goal
 
 pub returns-in-Finished : goal.returns-in-Finished
 returns-in-Finished c behind all =
-    c.a_finished_request_is_one_turn.ensures _ _ _ (with_behind c.args.w.now behind) (with_behind c.ask.new.w behind) _ _ _
-    (subst (λ (r : Asked). IsAsked c.args.limits (fs_options_bits c.args.options) c.args.r.left (with_behind c.args.w.now behind) r
-    (with_behind c.ask.new.w behind) c.ask.new.call) c.in-Finished.is (c.ask.ensures.asked behind all))
+    c.a_finished_request_is_one_turn.ensures _ _ _ (with_after c.args.w.now behind) (with_after c.ask.new.w behind) _ _ _
+    (subst (λ (r : Asked). IsAsked c.args.limits (fs_options_bits c.args.options) c.args.r.left (with_after c.args.w.now behind) r
+    (with_after c.ask.new.w behind) c.ask.new.call) c.in-Finished.is (c.ask.ensures.asked behind all))

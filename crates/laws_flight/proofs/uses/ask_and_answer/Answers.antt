@@ -1,7 +1,7 @@
 use Rattle.std.proofs.Common.{◌≡◌, ◌≤◌, ◌+◌, ◌-◌, ◌∙◌, ℕ, List, length, replicate, inl, inr, arith, sym, subst, length-append}
 use Rattle.std.proofs.lemmas.List.{length-replicate}
 use Rattle.fuse_flags.specs.Flags.{fs_options_bits}
-use Rattle.fuse_messages.specs.Rooms.{with_behind}
+use Rattle.fuse_messages.specs.Rooms.{with_after}
 use Rattle.door_ask.specs.Asked.{IsAsked, IsEnough}
 use Rattle.door_ask.specs.declared.asked.Asked.{Asked}
 use Rattle.laws_flight.proofs.OneTurn.{answered_turn}
@@ -18,8 +18,8 @@ returns-in-Call c =
     let n : length zeros ≡ c.args.room - length left = length-replicate (c.args.room - length left) 0 in
     let all : length left + length zeros ≡ c.args.room =
     omega (arith, n, not_more (length left) c.args.room c.requires.enough) in
-    answered_turn c.asked_and_answered_is_one_turn.ensures _ _ _ (with_behind c.args.w.now zeros) (with_behind c.ask.new.w zeros)
+    answered_turn c.asked_and_answered_is_one_turn.ensures _ _ _ (with_after c.args.w.now zeros) (with_after c.ask.new.w zeros)
     _ _ _ _ _ _ _
-    (subst (λ (r : Asked). IsAsked c.args.limits (fs_options_bits c.args.options) c.args.r.left (with_behind c.args.w.now zeros) r
-    (with_behind c.ask.new.w zeros) c.ask.new.call) c.in-Call.is (c.ask.ensures.asked zeros all))
+    (subst (λ (r : Asked). IsAsked c.args.limits (fs_options_bits c.args.options) c.args.r.left (with_after c.args.w.now zeros) r
+    (with_after c.ask.new.w zeros) c.ask.new.call) c.in-Call.is (c.ask.ensures.asked zeros all))
     (c.requires.room ∙ sym all ∙ sym (length-append left zeros)) c.answer.ensures.calls c.answer.ensures.listings

@@ -1,6 +1,6 @@
 use Rattle.std.proofs.Common.{◌≡◌, ◌≤◌, ◌+◌, ◌++◌, ◌∙◌, List, ℕ, [], ◌∷◌, true, length, append-nil, ap, rules, subst}
 use Rattle.fuse_segments.specs.Lengths.{lengths_from}
-use Rattle.fuse_messages.specs.Rooms.{with_behind}
+use Rattle.fuse_messages.specs.Rooms.{with_after}
 use Rattle.door_ask.specs.Asked.{IsAsked}
 use Rattle.door_ask.specs.Memory.{MayWantBehindHeader}
 use Rattle.fuse_flags.specs.Flags.{fs_options_bits}
@@ -15,8 +15,8 @@ returns-in-Call-clause-asked c =
     let enough : length c.begin_ask.new.self.asked.writer.left ≤ c.args.room = search rules in
     let left : c.reader_of-reader.result.left ≡ c.args.rest.now = c.reader_of-reader.ensures.left ∙ append-nil c.args.rest.now in
     let asked = subst (λ (b : List ℕ). (behind : List ℕ) → length c.begin_ask.new.self.asked.writer.left + length behind ≡ c.args.room →
-    IsAsked c.args.limits (fs_options_bits c.args.options) (c.args.head.now ++ b) (with_behind c.begin_ask.new.self.asked.writer behind)
-    c.ask_rest-asked.result (with_behind c.ask_rest-asked.new.w behind) c.ask_rest-asked.new.call) left c.ask_rest-asked.ensures.asked in
+    IsAsked c.args.limits (fs_options_bits c.args.options) (c.args.head.now ++ b) (with_after c.begin_ask.new.self.asked.writer behind)
+    c.ask_rest-asked.result (with_after c.ask_rest-asked.new.w behind) c.ask_rest-asked.new.call) left c.ask_rest-asked.ensures.asked in
     told_or_not _ _ _ _ c.tell_call.result _ c.ask_rest-asked.new.call _ _ _ _ (search rules)
     (told_call _ _ _ _ _ c.args.told.now c.begin_ask.new.self.asked.writer c.ask_rest-asked.new.w c.ask_rest-asked.result
     asked c.ask_rest-asked.ensures.within enough (search rules))
@@ -28,8 +28,8 @@ returns-in-Call-clause-memory c reply answer none code =
     let enough : length c.begin_ask.new.self.asked.writer.left ≤ c.args.room = search rules in
     let left : c.reader_of-reader.result.left ≡ c.args.rest.now = c.reader_of-reader.ensures.left ∙ append-nil c.args.rest.now in
     let asked = subst (λ (b : List ℕ). (behind : List ℕ) → length c.begin_ask.new.self.asked.writer.left + length behind ≡ c.args.room →
-    IsAsked c.args.limits (fs_options_bits c.args.options) (c.args.head.now ++ b) (with_behind c.begin_ask.new.self.asked.writer behind)
-    c.ask_rest-asked.result (with_behind c.ask_rest-asked.new.w behind) c.ask_rest-asked.new.call) left c.ask_rest-asked.ensures.asked in
+    IsAsked c.args.limits (fs_options_bits c.args.options) (c.args.head.now ++ b) (with_after c.begin_ask.new.self.asked.writer behind)
+    c.ask_rest-asked.result (with_after c.ask_rest-asked.new.w behind) c.ask_rest-asked.new.call) left c.ask_rest-asked.ensures.asked in
     let has = told_has c.args.limits (fs_options_bits c.args.options) (c.args.head.now ++ c.args.rest.now) c.args.room c.ask_rest-asked.new.call c.args.told.now
     c.begin_ask.new.self.asked.writer c.ask_rest-asked.new.w c.ask_rest-asked.result
     asked c.ask_rest-asked.ensures.within enough c.args.memory.now.answers (search rules) answer in
@@ -51,8 +51,8 @@ returns-in-Finished-clause-asked c =
     let enough : length c.begin_ask.new.self.asked.writer.left ≤ c.args.room = search rules in
     let left : c.reader_of-reader.result.left ≡ c.args.rest.now = c.reader_of-reader.ensures.left ∙ append-nil c.args.rest.now in
     let asked = subst (λ (b : List ℕ). (behind : List ℕ) → length c.begin_ask.new.self.asked.writer.left + length behind ≡ c.args.room →
-    IsAsked c.args.limits (fs_options_bits c.args.options) (c.args.head.now ++ b) (with_behind c.begin_ask.new.self.asked.writer behind)
-    c.ask_rest-asked.result (with_behind c.ask_rest-asked.new.w behind) c.ask_rest-asked.new.call) left c.ask_rest-asked.ensures.asked in
+    IsAsked c.args.limits (fs_options_bits c.args.options) (c.args.head.now ++ b) (with_after c.begin_ask.new.self.asked.writer behind)
+    c.ask_rest-asked.result (with_after c.ask_rest-asked.new.w behind) c.ask_rest-asked.new.call) left c.ask_rest-asked.ensures.asked in
     let was = c.begin_ask.ensures.was_asked in
     rw was (told_finished _ _ _ _ _ _ c.begin_ask.new.self.asked.writer c.ask_rest-asked.new.w c.ask_rest-asked.result
     asked c.ask_rest-asked.ensures.within enough _ _ _ c.in-Finished.outcome _

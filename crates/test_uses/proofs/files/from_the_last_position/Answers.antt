@@ -2,7 +2,7 @@ use Rattle.std.proofs.Common.{◌≡◌, ◌<◌, ◌+◌, ◌^◌, ◌-◌, ℕ
 use Rattle.fs_trait.specs.TransferLaws.{transfer_below}
 use Rattle.test_uses.proofs.files.from_the_last_position.Goals as goal
 
--- a number behind the last position is 0
+-- a number after the last position is 0
 no_more :
     (result : Result ℕ (Option ℕ)) → IfOk result (λ n. 2 ^ 64 - 1 + n < 2 ^ 64)
     → IfOk result (λ n. n ≡ 0)

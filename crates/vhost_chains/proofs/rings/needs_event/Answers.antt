@@ -2,7 +2,7 @@ use Rattle.std.proofs.Common.{◌≡◌, ◌≤◌, ◌<◌, ◌+◌, ◌-◌, �
 use Rattle.std.proofs.lemmas.Bool.Decides.{nat_tests}
 use Rattle.vhost_chains.proofs.rings.needs_event.Goals as goal
 
--- how far the last entry is behind the one of the event, and how many there are
+-- how far the last entry is after the one of the event, and how many there are
 abbrev behind : (event new : ℕ) → ℕ
 behind event new = ((new + (65536 - event)) % 65536 + 65535) % 65536
 
@@ -14,12 +14,12 @@ many_is : (new old before after : ℕ) → old ≡ before % 65536 → new ≡ af
     → after - before < 65536 → many new old ≡ after - before
 many_is new old before after old_is new_is le few = omega (arith, old_is, new_is)
 
--- the entry so far behind the last one has the event's index
+-- the entry so far after the last one has the event's index
 at_event : (event new after : ℕ) → event < 65536 → new ≡ after % 65536 → behind event new < after
     → event ≡ (after - 1 - behind event new) % 65536
 at_event event new after fits new_is far = omega (arith, new_is)
 
--- an entry of the event's index, less than 65536 before the end, is so far behind the last one
+-- an entry of the event's index, less than 65536 before the end, is so far after the last one
 behind_is : (event new after count : ℕ) → new ≡ after % 65536 → event ≡ count % 65536 → count < after
     → after - count ≤ 65536 → behind event new ≡ after - 1 - count
 behind_is event new after count new_is event_is below near = omega (arith, new_is, event_is)

@@ -1,7 +1,7 @@
 use Rattle.std.proofs.Common.{ap, ◌∙◌, arith}
 use Rattle.fs_contents.specs.Pages.{byte_at}
 use Rattle.fs_contents.specs.Contents.{Contents, punched}
-use Rattle.fs_contents.proofs.Punch.{contents_punched, zeroed_around, zeroed_behind, zeroed_within}
+use Rattle.fs_contents.proofs.Punch.{contents_punched, zeroed_around, zeroed_after, zeroed_within}
 use Rattle.fs_contents.proofs.contents.Contents.punch.Goals as goal
 
 pub returns-then-last-first : goal.returns-then-last-first
@@ -21,7 +21,7 @@ invariant_of-self-2 c =
     let zeroed = zeroed_around (byte_at s.pages) (byte_at c.cut_out.new.self) c.args.offset c.args.length
     c.div_ceil-first.result c.div_ceil-first.ensures c.cut_out.ensures.bytes (byte_at c.zero-2.new.self)
     (byte_at c.zero-3.new.self) (omega arith) c.zero-2.ensures.bytes c.zero-3.ensures.bytes in
-    zeroed_behind (byte_at s.pages) (byte_at c.zero-3.new.self) s.size c.args.offset c.args.length zeroed
+    zeroed_after (byte_at s.pages) (byte_at c.zero-3.new.self) s.size c.args.offset c.args.length zeroed
     c.self.invariant
 
 pub returns : goal.returns

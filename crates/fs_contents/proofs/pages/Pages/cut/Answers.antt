@@ -2,7 +2,7 @@ use Rattle.std.proofs.Common.{◌≡◌, [], nat_lt, filter, sym, ap, ◌∙◌,
 use Rattle.std.specs.Map.{keys_of}
 use Rattle.std.proofs.lemmas.Bool.{le-ltb}
 use Rattle.fs_contents.specs.Pages.{Pages}
-use Rattle.fs_contents.proofs.Held.{filter_removed, filter_none, keys-filter, bytes_filtered, none_behind, none_there, pages_less}
+use Rattle.fs_contents.proofs.Held.{filter_removed, filter_none, keys-filter, bytes_filtered, none_after, none_there, pages_less}
 use Rattle.fs_contents.proofs.pages.Pages.cut.Goals as goal
 
 pub cut-preserved-else-last-page : goal.cut-preserved-else-last-page
@@ -25,7 +25,7 @@ returns-then-last-page-clause-keys c =
     let now : Pages = c.cut.self-inside.pages.entries in
     let page = c.args.page in
     let all = sym (filter_none (λ n. nat_lt n page) now
-    (none_behind now _ page c.in-Some.ensures.greatest c.if-last-page.true)) ∙ c.cut.invariant.left in
+    (none_after now _ page c.in-Some.ensures.greatest c.if-last-page.true)) ∙ c.cut.invariant.left in
     ap keys_of all ∙ keys-filter (λ n. nat_lt n page) c.args.self.now
 
 pub returns-then-last-page-clause-bytes : goal.returns-then-last-page-clause-bytes
@@ -33,7 +33,7 @@ returns-then-last-page-clause-bytes c =
     let now : Pages = c.cut.self-inside.pages.entries in
     let page = c.args.page in
     let all = sym (filter_none (λ n. nat_lt n page) now
-    (none_behind now _ page c.in-Some.ensures.greatest c.if-last-page.true)) ∙ c.cut.invariant.left in
+    (none_after now _ page c.in-Some.ensures.greatest c.if-last-page.true)) ∙ c.cut.invariant.left in
     bytes_filtered (λ n. nat_lt n page) c.args.self.now now all
 
 pub returns-in_default-clause-keys : goal.returns-in_default-clause-keys

@@ -3,7 +3,7 @@ use Rattle.std.specs.Map.{keys_of}
 use Rattle.std.proofs.lemmas.Bool.{cases_lt}
 use Rattle.std.proofs.lemmas.List.{length-replicate}
 use Rattle.fs_contents.specs.Pages.{byte_at, holds}
-use Rattle.fs_contents.proofs.Held.{over_in, over_before, over_behind, part_zero, lookup_free, zeros_at}
+use Rattle.fs_contents.proofs.Held.{over_in, over_before, over_after, part_zero, lookup_free, zeros_at}
 use Rattle.fs_contents.proofs.pages.Pages.zero.Goals as goal
 
 pub returns-else-holds-clause-bytes : goal.returns-else-holds-clause-bytes
@@ -26,6 +26,6 @@ returns-else-holds-clause-bytes c =
     ∙ part_zero pages at i (lookup_free pages (at / 4096) free) (omega arith)
     ∙ sym (over_in at zeros (byte_at pages) place from to ∙ zeros_at zeros count (place - at) refl)
     )
-    (λ (behind : at + length zeros ≤ place). sym (over_behind at zeros (byte_at pages) place behind))
+    (λ (behind : at + length zeros ≤ place). sym (over_after at zeros (byte_at pages) place behind))
     (cases_lt place (at + length zeros)))
     (cases_lt place at)

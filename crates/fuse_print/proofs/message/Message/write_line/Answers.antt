@@ -1,6 +1,6 @@
 use Rattle.std.proofs.Common.{◌≡◌, ◌<◌, ◌≤◌, ◌∙◌, length, take, drop, arith, rules}
 use Rattle.fuse_print.specs.Lines.{shown, short_line}
-use Rattle.fuse_print.proofs.LineLemmas.{copied_behind, copied_printable, ended, no_more, same_further}
+use Rattle.fuse_print.proofs.LineLemmas.{copied_after, copied_printable, ended, no_more, same_further}
 use Rattle.fuse_print.proofs.message.Message.write_line.Goals as goal
 
 pub loop-at-preserved : goal.loop-at-preserved
@@ -19,7 +19,7 @@ loop-at-preserved c =
       last,
       search rules,
       copied_printable old bytes new at next order within e.enough e.copied so_far.2 c.part.result.printable,
-      copied_behind old bytes new at next order within e.enough e.copied
+      copied_after old bytes new at next order within e.enough e.copied
           ∙ same_further old c.copy_to-at.new.text at next order so_far.3,
       no_more (short_line c.args.self.now) _ _ at end c.loop-at-test.true so_far.4,
     )
@@ -39,6 +39,6 @@ returns-clause-line c = λ some.
     let within : c.copy_to-at.result ≤ length old = search rules in
     let behind : drop end first ≡ drop end old =
     same_further first old c.copy_to-at.result end (omega (arith, e.next))
-    (copied_behind old c.part-part.result.bytes first 0 c.copy_to-at.result (omega arith) within e.enough e.copied) in
+    (copied_after old c.part-part.result.bytes first 0 c.copy_to-at.result (omega arith) within e.enough e.copied) in
     let all : drop end text ≡ drop end old = (rw done at so_far.3) ∙ behind in
     rw is (ended len old text (search rules) (rw (done, is) at so_far.2) (rw is at all))

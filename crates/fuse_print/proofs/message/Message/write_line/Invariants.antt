@@ -4,7 +4,7 @@ use Rattle.fuse_print.specs.Lines.{short_line}
 use Rattle.fuse_print.specs.Text.{IsPrintable}
 use Rattle.fuse_print.proofs.message.Message.write_line.Given as goal
 
--- what stands in memory so far; a short line is all there at once
+-- what is in memory so far; a short line is all there at once
 abbrev pub invariant-loop-at : goal.invariant-loop-at
 invariant-loop-at l =
     (l.at ≤ l.end)

@@ -9,7 +9,7 @@ use Rattle.fuse_segments.specs.Lengths.{lengths_before}
 use Rattle.fuse_segments.specs.Segments.{contents, lengths_of}
 use Rattle.fuse_segments.specs.Totals.{totals_of}
 use Rattle.fuse_segments.proofs.Cuts.{IsListed}
-use Rattle.fuse_segments.proofs.TotalCuts.{totals_before_between, totals_before_inside, totals_behind}
+use Rattle.fuse_segments.proofs.TotalCuts.{totals_before_between, totals_before_inside, totals_after}
 use Rattle.fuse_segments.proofs.Flat.{held_flat}
 use Rattle.fuse_segments.proofs.Totals.{length-totals_of}
 use Rattle.fuse_segments.proofs.cut.Segments+Vec+Vec+u8.split_off.Goals as goal
@@ -46,7 +46,7 @@ invariant_of-result c =
     sym (ap (λ (l : List (List ℕ)). length (concat l) + inside) (take-map (λ (v : Vec ℕ Global). v.items) first xs)) ∙ p.place in
     let before = c.deref.ensures.value ∙ c.self.invariant in
     c.in_ok-totals.ensures ∙ ap (λ l. map (λ t. t - at) (drop first l)) before
-    ∙ totals_behind xs first inside at place (λ (h : first < length xs). p.before_end (omega (arith, h, length-map xs (λ (v : Vec ℕ Global). v.items))))
+    ∙ totals_after xs first inside at place (λ (h : first < length xs). p.before_end (omega (arith, h, length-map xs (λ (v : Vec ℕ Global). v.items))))
     ∙ ap totals_of (sym c.in_ok-list.ensures.back_lengths)
 
 pub invariant_of-self-2 : goal.invariant_of-self-2

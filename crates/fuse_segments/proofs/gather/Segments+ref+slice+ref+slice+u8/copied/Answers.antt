@@ -1,6 +1,6 @@
 use Rattle.std.proofs.Common.{arith, ap, sym, get_or, drop, take, [], ◌∙◌, ◌≡◌, ◌+◌, ◌-◌, ◌<◌, ◌++◌, length}
 use Rattle.std.specs.List.{concat}
-use Rattle.fuse_segments.proofs.Lists.{put_behind}
+use Rattle.fuse_segments.proofs.Lists.{put_after}
 use Rattle.fuse_segments.proofs.Flat.{concat-drop_more}
 use Rattle.fuse_segments.proofs.Found.{from_place, fits_from}
 use Rattle.fuse_segments.proofs.gather.Segments+ref+slice+ref+slice+u8.copied.Goals as goal
@@ -37,5 +37,5 @@ loop-i-preserved c =
     let cut : from + m - from ≡ m = omega arith in
     let here = c.segment-segment.ensures in
     let least = rw here at c.min-len.ensures in
-    let put = put_behind old c.extend_from_slice.new.self.items s (concat (drop (i + 1) xs)) _ _ c.loop-i.skip c.args.n from m (rw here at c.min-from.ensures) (rw long at least) (ap (λ l. take (from + m - from) (drop from l)) here ∙ ap (λ k. take k (drop from s)) cut) v.within (rw more at v.fits) (rw more at v.bytes) c.in_ok-extend_from_slice.ensures.items in
+    let put = put_after old c.extend_from_slice.new.self.items s (concat (drop (i + 1) xs)) _ _ c.loop-i.skip c.args.n from m (rw here at c.min-from.ensures) (rw long at least) (ap (λ l. take (from + m - from) (drop from l)) here ∙ ap (λ k. take k (drop from s)) cut) v.within (rw more at v.fits) (rw more at v.bytes) c.in_ok-extend_from_slice.ensures.items in
     record { within = put.within_n; fits = put.fits_rest; bytes = put.makes }

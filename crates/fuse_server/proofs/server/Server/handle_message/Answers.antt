@@ -20,5 +20,5 @@ pub returns-clause-memory : goal.returns-clause-memory
 returns-clause-memory g c = λ none.
     let u = c.args.r in
     (rw c.give_up_hold.ensures at c.handle.ensures.memory) (λ wanted.
-    none_wanted c.together_behind_a_place.ensures.from u c.args.self.now.limits c.args.self.now.options (length c.args.w.now.left)
+    none_wanted c.together_after_a_place.ensures.from u c.args.self.now.limits c.args.self.now.options (length c.args.w.now.left)
     (opcode_of (header_of u.left).opcode) (header_of u.left) none wanted)

@@ -10,8 +10,8 @@ len_in_front : (n unique : ℕ) (bytes : List ℕ) → BeginsWithHeader n unique
 len_in_front n unique bytes h =
     sym (take-take 4 16 bytes (omega arith)) ∙ ap (take 4) h.header ∙ take_at (little 4 n) _ 4 (length-little 4 n)
 
-unique_behind : (n unique : ℕ) (bytes : List ℕ) → BeginsWithHeader n unique bytes → take 8 (drop 8 bytes) ≡ little 8 unique
-unique_behind n unique bytes h =
+unique_after : (n unique : ℕ) (bytes : List ℕ) → BeginsWithHeader n unique bytes → take 8 (drop 8 bytes) ≡ little 8 unique
+unique_after n unique bytes h =
     let error = little 4 (cast_unsigned w32 h.error) in
     sym (drop-take 8 8 bytes) ∙ ap (drop 8) h.header
     ∙ ap (drop 8) (sym (append_assoc (little 4 n) error (little 8 unique ++ [])))
@@ -24,4 +24,4 @@ returns-clause-len c = λ limits options after n t turn answer some.
 
 pub returns-clause-unique : goal.returns-clause-unique
 returns-clause-unique c = λ limits options after n t turn answer some.
-    unique_behind n _ t.room_after (c.replies_begin_with_their_header.ensures limits options after n t turn answer some)
+    unique_after n _ t.room_after (c.replies_begin_with_their_header.ensures limits options after n t turn answer some)

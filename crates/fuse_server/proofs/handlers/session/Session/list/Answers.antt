@@ -1,9 +1,9 @@
--- The reading is a run, whose records are counted and stand behind the place of the header.
+-- The reading is a run, whose records are counted and come after the place of the header.
 use Rattle.std.proofs.Common.{◌≡◌, false, length, ap, arith}
 use Rattle.fs_trait.specs.Values.{context_of}
 use Rattle.fuse_listings.specs.ReadingLaws.{directory_runs}
 use Rattle.fuse_grammar.specs.Ask.{listing_of, lists_too_much}
-use Rattle.fuse_server.proofs.Listings.{records_behind, directory_counts, within_limit, run_from}
+use Rattle.fuse_server.proofs.Listings.{records_after, directory_counts, within_limit, run_from}
 use Rattle.fuse_server.specs.State.{ServerState}
 use Rattle.fuse_server.proofs.handlers.session.Session.list.Goals as goal
 
@@ -20,7 +20,7 @@ returns g c =
     let limit = within_limit c.args.self.now.limits (length w.left) r fits in
     let run = directory_runs g.F.FileSystem.allows g.F.DirIter.DirectoryIterator.gives (context_of h) c.args.plus h.nodeid r.fh r.size r.offset c.self.inside.fs held answer c.read_directory-answer.new.fs left (rw c.record.ensures.header at c.read_directory-answer.ensures.reads) in
     let counts = directory_counts (listing_of c.args.plus h r (length held.left)) _ run.body answer run.directory (omega (arith, limit, c.self.invariant.greatest, ap (λ (s : ServerState g.row.F.Denot). s.limits.max_buffer) same)) in
-    let behind = records_behind w held left run.body run.beyond c.in_ok-hold_header.ensures.held c.in_ok-hold_header.ensures.enough run.puts in
+    let behind = records_after w held left run.body run.beyond c.in_ok-hold_header.ensures.held c.in_ok-hold_header.ensures.enough run.puts in
     rw (c.in_ok-read_in.ensures.value, fits, c.in_ok-hold_header.ensures.room) (
       (
         run.body,

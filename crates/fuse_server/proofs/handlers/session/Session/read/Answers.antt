@@ -1,6 +1,6 @@
 -- Nothing was put beyond the data.
 use Rattle.fs_trait.specs.Answers.{read_answer}
-use Rattle.fuse_server.proofs.Listings.{data_behind}
+use Rattle.fuse_server.proofs.Listings.{data_after}
 use Rattle.fuse_server.specs.Handling.{Serves}
 use Rattle.fuse_server.proofs.handlers.session.Session.read.Goals as goal
 
@@ -8,7 +8,7 @@ pub returns : goal.returns
 unfolding Serves
 returns g c =
     let r = c.read_into-answer.ensures in
-    let h = data_behind c.args.w.now c.hold_header.new.w c.read_into-answer.new.w r.bytes c.in_ok-hold_header.ensures.held c.in_ok-hold_header.ensures.enough r.moves in
+    let h = data_after c.args.w.now c.hold_header.new.w c.read_into-answer.new.w r.bytes c.in_ok-hold_header.ensures.held c.in_ok-hold_header.ensures.enough r.moves in
     rw (c.in_ok-read_in.ensures.value, c.in_ok-hold_header.ensures.room) (
       (
         read_answer c.read_into-answer.result r.bytes,

@@ -1,4 +1,4 @@
--- The bytes that the call was lent are those behind the record.
+-- The bytes that the call was lent are those after the record.
 use Rattle.std.proofs.Common.{rules}
 use Rattle.fs_trait.specs.Answers.{written_answer}
 use Rattle.fuse_server.specs.Handling.{Serves}

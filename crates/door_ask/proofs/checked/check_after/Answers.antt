@@ -4,8 +4,8 @@ use Rattle.fuse_flags.specs.Flags.{fs_options_bits}
 use Rattle.fuse_flags.specs.Numbers.{opcode_of}
 use Rattle.fuse_flags.specs.declared.opcode.Opcode.TheVariants.{Init}
 use Rattle.fuse_grammar.specs.Limits.{max_len}
-use Rattle.door_ask.proofs.Checking.{ends_short, above_it, judges_behind, no_interrupt, not_above}
-use Rattle.door_ask.proofs.checked.check_behind.Goals as goal
+use Rattle.door_ask.proofs.Checking.{ends_short, above_it, judges_after, no_interrupt, not_above}
+use Rattle.door_ask.proofs.checked.check_after.Goals as goal
 
 pub returns-then-is_init : goal.returns-then-is_init
 returns-then-is_init c = λ request long first rest.
@@ -23,6 +23,6 @@ returns c = λ request long first rest.
     let room = c.args.terms.room in
     let short = ends_short limits options room h c.args.q.r.now.left (λ below is.
     above_it (max_len limits) h.len below (c.is_init.ensures.other c.if-is_init.false is)) in
-    rw (c.of.ensures) (judges_behind _ request options _ room c.empty-nowhere.result c.ask_behind.new.w
-    (ap (λ w. length w.left) c.empty-nowhere.ensures) c.ask_behind.new.call limits c.ask_behind.result h
-    c.args.q.r.now.left first rest short (c.ask_behind.ensures request long first rest))
+    rw (c.of.ensures) (judges_after _ request options _ room c.empty-nowhere.result c.ask_after.new.w
+    (ap (λ w. length w.left) c.empty-nowhere.ensures) c.ask_after.new.call limits c.ask_after.result h
+    c.args.q.r.now.left first rest short (c.ask_after.ensures request long first rest))

@@ -1,7 +1,7 @@
 use Rattle.std.proofs.Common.{[], ◌∷◌, refl}
 use Rattle.fuse_grammar.specs.Turn.{Turn}
 use Rattle.laws_flight.specs.Flight.{Asked, Answered, IsAlone}
-use Rattle.laws_flight.proofs.uses.one_behind_another.Goals as goal
+use Rattle.laws_flight.proofs.uses.one_after_another.Goals as goal
 
 alone : (t : Turn) → IsAlone t []
 alone t = record { init = λ offered want init. refl; destroy = λ answer destroy. refl }

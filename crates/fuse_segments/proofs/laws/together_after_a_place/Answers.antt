@@ -1,5 +1,5 @@
 use Rattle.fuse_segments.proofs.Together.{together-before, together-from}
-use Rattle.fuse_segments.proofs.laws.together_behind_a_place.Goals as goal
+use Rattle.fuse_segments.proofs.laws.together_after_a_place.Goals as goal
 
 pub returns-clause-from : goal.returns-clause-from
 returns-clause-from c = λ lengths k at n. together-from at n k lengths

@@ -1,15 +1,15 @@
-use Rattle.std.proofs.Common.{Some, None, Ok, refl}
+use Rattle.std.proofs.Common.{◌∷◌, [], Some, None, Ok, refl}
 use Rattle.std.proofs.lemmas.Result.{MatchResult-weaker}
 use Rattle.fuse_wire.specs.Fields.{number}
 use Rattle.fs_trait.specs.Values.{ExtensionValues, extension_values_of}
 use Rattle.fuse_grammar.specs.Extensions.{extensions_in, cut_of}
 use Rattle.fuse_messages.proofs.Blocks.{GivesValue-at_ok}
-use Rattle.test_uses.proofs.messages.group_behind_a_name.Goals as goal
+use Rattle.test_uses.proofs.messages.context_after_a_name.Goals as goal
 
 pub returns : goal.returns
 unfolding extensions_in cut_of number
 returns c =
-    let said : ExtensionValues = record { context = None; group = Some 1000 } in
+    let said : ExtensionValues = record { context = Some (0x73 ∷ [], 0x76 ∷ []); group = None } in
     MatchResult-weaker c.get_extensions.result
     (GivesValue-at_ok _ extension_values_of c.get_extensions.result (Ok said) said c.get_extensions.ensures.gives refl)
-    (λ ext same. same) (λ error (wanted, same). absurd (cc))
+    (λ ext same. same) (λ error (wanted, same). same)

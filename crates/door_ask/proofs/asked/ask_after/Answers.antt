@@ -3,7 +3,7 @@ use Rattle.std.proofs.lemmas.Bool.Decides.{nat_tests}
 use Rattle.fuse_flags.specs.Numbers.{opcode_of}
 use Rattle.fuse_flags.specs.declared.opcode.Opcode.TheVariants.{Init, Interrupt, Readdir, Readdirplus}
 use Rattle.fuse_grammar.specs.Limits.{max_len}
-use Rattle.door_ask.proofs.asked.ask_behind.Goals as goal
+use Rattle.door_ask.proofs.asked.ask_after.Goals as goal
 
 interrupt : opcode_of 36 ≡ Some Interrupt
 unfolding opcode_of

@@ -2,8 +2,8 @@ use Rattle.std.proofs.Common.{◌≡◌, ◌<◌, ◌-◌, ◌++◌, ◌∙◌, 
 use Rattle.std.proofs.lemmas.List.{get_or-map, length-map, take_all}
 use Rattle.std.specs.Borrow.{Bor}
 use Rattle.fuse_segments.specs.Segments.{flat_bytes, segments_of}
-use Rattle.nizwarf_tree.proofs.Offering.{behind_more, less, pushed}
-use Rattle.nizwarf_tree.proofs.offered.push_behind.Goals as goal
+use Rattle.nizwarf_tree.proofs.Offering.{after_more, less, pushed}
+use Rattle.nizwarf_tree.proofs.offered.push_after.Goals as goal
 
 pub loop-i-preserved : goal.loop-i-preserved
 loop-i-preserved c =
@@ -18,7 +18,7 @@ loop-i-preserved c =
     record {
       left = less segments c.loop-i.i _ within part_is c.args.count c.loop-i.left c.min-len.result
           c.loop-i.invariant.left c.min-len.ensures before list new _ new_is;
-      added = behind_more segments c.loop-i.i _ within part_is c.args.count c.loop-i.left c.min-len.result
+      added = after_more segments c.loop-i.i _ within part_is c.args.count c.loop-i.left c.min-len.result
           c.loop-i.invariant.left c.min-len.ensures before list new _ new_is c.loop-i.invariant.added
           (take_all _ _ (omega (arith, length-drop {A = ℕ})));
     }

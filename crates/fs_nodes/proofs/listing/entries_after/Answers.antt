@@ -4,7 +4,7 @@ use Rattle.std.specs.declared.ops.Bound.TheVariants.{Excluded, Unbounded}
 use Rattle.std.specs.BTreeMap.Range.{entries_between}
 use Rattle.fs_nodes.specs.Listing.{dot_items}
 use Rattle.fs_nodes.proofs.Listings.{listing_begins}
-use Rattle.fs_nodes.proofs.listing.entries_behind.Goals as goal
+use Rattle.fs_nodes.proofs.listing.entries_after.Goals as goal
 
 pub loop-place-init : goal.loop-place-init
 loop-place-init c =

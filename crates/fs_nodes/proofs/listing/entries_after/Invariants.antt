@@ -1,7 +1,7 @@
 use Rattle.std.proofs.Common.{◌≡◌, ◌≤◌, ◌++◌, length, map, take, filter, nat_lt}
 use Rattle.fs_nodes.specs.Listing.{link_item}
 use Rattle.fs_nodes.proofs.Listings.{items_in}
-use Rattle.fs_nodes.proofs.listing.entries_behind.Given as goal
+use Rattle.fs_nodes.proofs.listing.entries_after.Given as goal
 
 abbrev pub invariant-loop-place : goal.invariant-loop-place
 invariant-loop-place l = record {
