@@ -1,11 +1,12 @@
 """Counts what a statement stands on, for statement.sh, which says how."""
-import collections, glob, re, sys
+import collections, glob, os, re, sys
 
 sys.path.append("tools/lib")
 from records import COPIED, ZEROS
 
-USE = re.compile(r"^\s*(?:pub )?use Rattle\.([\w.]+?)(?:\.\{([^}]*)\}|( as (\w+))?)$")
-TOP = re.compile(r"^( *)(?:abbrev |unfoldable |opaque )*pub (record |data )?([\w-]+)")
+USE = re.compile(r"^\s*(?:unfoldable )?(?:pub )?use Rattle\.([\w.]+?)(?:\.\{([^}]*)\}|( as (\w+))?)$")
+TOP = re.compile(r"^( *)(?:abbrev |unfoldable |opaque )*pub (?!use )(record |data )?([\w-]+)")
+CRATES = f"({'|'.join(os.listdir('crates'))})"
 WORD = re.compile(r"\w+(?:-\w+)*")
 
 
@@ -34,13 +35,15 @@ def definitions(path):
 def imports(path):
     """What a file brings in: the module and the name of each, and the modules that it names whole."""
     names, modules = {}, {}
-    for line in open(path, encoding="utf-8"):
+    for at, line in enumerate(open(path, encoding="utf-8"), 1):
         found = USE.match(line.rstrip())
         if found and found[2] is not None:
             for name in re.split(r"\s*,\s*", found[2].strip()):
                 names[name.split(" as ")[-1]] = (found[1], name.split(" as ")[0])
         elif found:
             modules[found[4] or found[1].split(".")[-1]] = found[1]
+        elif re.match(r"[\s\w]*\buse\s+Rattle\.", line):
+            sys.exit(f"statement.sh: {path}:{at}: an import is on one line, as `use Rattle.CRATE.specs.FILE.{{NAME, ..}}`")
     return names, modules
 
 
@@ -70,12 +73,16 @@ class Specs:
 
     def named(self, module, name):
         """The definitions that one names."""
-        text, modules = self.of[module][name].text, self.brought[module][1]
-        found = [self.find(module, it) for it in WORD.findall(text)]
-        for whole, part in re.findall(r"\b(\w+)\.(\w+)", text):
-            inside = modules.get(whole, "")
-            found.append(("declared", inside.split(".TheVariants")[0]) if ".declared." in inside else self.find(inside, part))
-        return {it for it in found if it and it != (module, name)}
+        text, (names, modules) = self.of[module][name].text, self.brought[module]
+        words = [(module, it, names.get(it, ("", ""))[0]) for it in WORD.findall(text)]
+        words += [(modules[it], part, modules[it]) for it, part in re.findall(r"\b(\w+)\.(\w+)", text) if it in modules]
+        found = set()
+        for where, word, inside in words:
+            it = ("declared", inside.split(".TheVariants")[0]) if ".declared." in where else self.find(where, word)
+            if not it and re.match(CRATES + r"\.specs\.", inside):
+                sys.exit(f"statement.sh: {module}: {name} names {word} of {inside}, which isn't there: it would not be counted")
+            found.add(it)
+        return found - {None, (module, name)}
 
     def reach(self, starts):
         """What is reached from these, with those that name each."""

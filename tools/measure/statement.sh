@@ -15,6 +15,7 @@
 # records by the names of their fields, and records of zeros, which it compiles against nizwarf.h too (tests/c/data.py);
 # and the decoders of records, made_..: how a record is made of its fields follows of how it is split into them, by
 # the law decoding_is_the_inverse of fuse_wire.
+# It stops at an import that it can't read or follow, since what is imported would not be counted.
 set -eu
 . "$(dirname "$0")/../lib/usage.sh"
 need python3 "Install it: apt-get install python3."
