@@ -1,5 +1,6 @@
 -- The numbers that C sees of what a call came to. Those of a request's outcome are 0, where it was
--- answered, and 1 to 10, by the error.
+-- answered, and 1 to 10, by the error. Of the door's promise only `length_of` is to be read: `tests/c/data.py`
+-- compiles the codes and `number_of` against `nizwarf.h`.
 use Rattle.std.specs.Prelude.{ℕ, ℤ, pos, nat_lt, if◌then◌else◌, Result, Ok, Err}
 use Rattle.fuse_grammar.specs.declared.error.Error.{Error}
 use Rattle.fuse_grammar.specs.declared.error.Error.TheVariants.{DecodeMessage, EncodeMessage, FlushMessage, MissingParameter, InvalidCString, InvalidCString2, InvalidHeaderLength, InvalidXattrSize, MissingExtension, OutOfMemory}

@@ -6,7 +6,7 @@ use Rattle.fuse_wire.specs.Records.{out_header}
 use Rattle.fs_trait.specs.Calls.{Data, IsAnswer, read_answer}
 use Rattle.fs_trait.specs.Runs.{Event}
 use Rattle.fuse_messages.specs.Rooms.{Replies}
-use Rattle.fuse_grammar.specs.Listing.{Listing}
+use Rattle.fuse_grammar.specs.Listing.{Listing, IsDirectory}
 use Rattle.fuse_grammar.specs.Records.{size_of}
 use Rattle.fuse_grammar.specs.Words.{reply_to, IsRead}
 use Rattle.door_calls.specs.declared.call.CallData.{CallData}
@@ -16,6 +16,20 @@ use Rattle.door_calls.specs.declared.data.ItemData.{ItemData}
 use Rattle.door_answer.specs.Offered.{AreOffered, taken_by}
 use Rattle.door_answer.specs.Said.{IsFailed}
 use Rattle.door_answer.specs.declared.answered.Answered.{Answered}
+
+-- It was not opened, by the fault that was answered; or it was read from the items that were offered, of
+-- which that many are in the reply.
+abbrev pub IsOfferedBy : AnswerData → (items : List ItemData) → (l : Listing) → (events : List Event)
+    → (records : List ℕ) → (answer : Result ℕ (Option ℕ)) → IsDirectory l events records answer
+    → (taken : ℕ) → Type 0
+IsOfferedBy a items l events records answer (inl unopened) taken =
+    IsFailed a unopened.fault × (taken ≡ 0)
+IsOfferedBy a items l events records answer (inr opened) taken =
+    (a.error ≡ pos 0)
+    × AreOffered l.plus items opened.listing.lines opened.listing.stop
+    × (taken ≡ taken_by answer (length opened.listing.lines))
+
+-- ---- no more is of the promise: the rest is for proofs, and for contracts of parts
 
 -- the directory that is read
 abbrev pub listing_told : CallData → Listing
@@ -28,18 +42,6 @@ listing_told call = record {
   offset = call.offset;
   space = call.room - size_of out_header;
 }
-
--- It was not opened, by the fault that was answered; or it was read from the items that were offered, of
--- which that many are in the reply.
-abbrev pub IsOfferedBy : AnswerData → (items : List ItemData) → (l : Listing) → (events : List Event)
-    → (records : List ℕ) → (answer : Result ℕ (Option ℕ)) → IsRead l events records answer
-    → (taken : ℕ) → Type 0
-IsOfferedBy a items l events records answer (inl unopened) taken =
-    IsFailed a unopened.fault × (taken ≡ 0)
-IsOfferedBy a items l events records answer (inr opened) taken =
-    (a.error ≡ pos 0)
-    × AreOffered l.plus items opened.listing.lines opened.listing.stop
-    × (taken ≡ taken_by answer (length opened.listing.lines))
 
 -- A READDIR or READDIRPLUS was answered: the directory was read so, and its records are the data of the
 -- reply.

@@ -32,12 +32,6 @@ pub record IsLine (plus : Bool) (i : ItemData) (l : Line) : Type 0 where
   pub item : l.item ≡ item_told i name
   pub found : IsFoundIf plus (is_dot name) i l.got
 
--- these lines are those of these items, one of each, in order
-abbrev pub AreTaken : (plus : Bool) → List ItemData → List Line → Type 0
-AreTaken plus [] [] = ⊤
-AreTaken plus (i ∷ items) (l ∷ lines) = IsLine plus i l × AreTaken plus items lines
-AreTaken plus items lines = ⊥
-
 -- The items that were offered, of which these lines were taken: the next one, if there is one, stopped
 -- the reading. Items end at the first whose name is none.
 abbrev pub AreOffered : (plus : Bool) → List ItemData → List Line → Stop → Type 0
@@ -51,6 +45,14 @@ AreOffered plus items lines stop = ⊥
 abbrev pub taken_by : Result ℕ (Option ℕ) → (lines : ℕ) → ℕ
 taken_by (Ok written) lines = lines
 taken_by (Err fault) lines = 0
+
+-- ---- no more is of the promise: the rest is for proofs, and for contracts of parts
+
+-- these lines are those of these items, one of each, in order
+abbrev pub AreTaken : (plus : Bool) → List ItemData → List Line → Type 0
+AreTaken plus [] [] = ⊤
+AreTaken plus (i ∷ items) (l ∷ lines) = IsLine plus i l × AreTaken plus items lines
+AreTaken plus items lines = ⊥
 
 -- an item was added with what it got, or why it wasn't
 pub record AddsItem (plus : Bool) (max : ℕ) (i : ItemData) (old : Written) (result : Result ℕ (Option ℕ))

@@ -76,6 +76,8 @@ IsSaid a text room kind (Failed fault) =
     IsFailed a fault ⊎ ((a.error ≡ pos 0) × IsUnfit a text room kind fault)
 IsSaid a text room kind answer = (a.error ≡ pos 0) × IsValue a text room kind answer
 
+-- ---- no more is of the promise: the rest is for proofs, and for contracts of parts
+
 -- the answer of a call that answers a text, where it stands beside
 abbrev pub text_said : Result (Unit {0}) (Option ℕ) → (text : List ℕ) → Answer
 text_said (Ok _) text = Text text

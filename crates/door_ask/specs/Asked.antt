@@ -28,6 +28,31 @@ use Rattle.door_calls.specs.declared.call.Range.{Range}
 use Rattle.door_ask.specs.declared.asked.Asked.{Asked}
 use Rattle.door_ask.specs.declared.asked.Asked.TheVariants as asked
 
+-- ---- of the door's promise: where in a request something is
+
+-- the bytes of a request in this range
+abbrev pub bytes_in : (request : List ℕ) → Range → List ℕ
+bytes_in request range = take range.len (drop range.at request)
+
+-- this range lies within the request, and has these bytes there
+pub record Stand (request : List ℕ) (range : Range) (bytes : List ℕ) : Type 0 where
+  pub within : range.at + range.len ≤ length request
+  pub bytes_are : bytes_in request range ≡ bytes
+
+-- This range lies within the request, and has this name there: the first 0 from there on is the byte after the
+-- range. So a name that lies in one piece is a string of C where it lies.
+pub record IsNameIn (request : List ℕ) (range : Range) (name : List ℕ) : Type 0 where
+  pub within : range.at + range.len < length request
+  pub bytes_are : bytes_in request range ≡ name
+  pub ended : position (λ b. b == 0) (drop range.at request) ≡ Some range.len
+
+-- this range lies within the request, and its bytes spell these pairs of a node and a count
+pub record Spell (request : List ℕ) (range : Range) (pairs : List (ℕ × ℕ)) : Type 0 where
+  pub within : range.at + range.len ≤ length request
+  pub pairs_are : pairs_of (length pairs) (bytes_in request range) ≡ pairs
+
+-- ---- no more is of the promise: the rest is for proofs, and for contracts of parts
+
 -- ---- a call as data
 
 -- the length of a call: of a READ how many bytes of data there is room for
@@ -82,27 +107,6 @@ without_places told = record told {
 }
 
 -- ---- the places of its names and values
-
--- the bytes of a request in this range
-abbrev pub bytes_in : (request : List ℕ) → Range → List ℕ
-bytes_in request range = take range.len (drop range.at request)
-
--- this range lies within the request, and has these bytes there
-pub record Stand (request : List ℕ) (range : Range) (bytes : List ℕ) : Type 0 where
-  pub within : range.at + range.len ≤ length request
-  pub bytes_are : bytes_in request range ≡ bytes
-
--- This range lies within the request, and has this name there: the first 0 from there on is the byte after the
--- range. So a name that lies in one piece is a string of C where it lies.
-pub record IsNameIn (request : List ℕ) (range : Range) (name : List ℕ) : Type 0 where
-  pub within : range.at + range.len < length request
-  pub bytes_are : bytes_in request range ≡ name
-  pub ended : position (λ b. b == 0) (drop range.at request) ≡ Some range.len
-
--- this range lies within the request, and its bytes spell these pairs of a node and a count
-pub record Spell (request : List ℕ) (range : Range) (pairs : List (ℕ × ℕ)) : Type 0 where
-  pub within : range.at + range.len ≤ length request
-  pub pairs_are : pairs_of (length pairs) (bytes_in request range) ≡ pairs
 
 -- the name and the value of a context, where there is one, are in the ranges of the request that are told
 abbrev pub IsContextPlaced : (request : List ℕ) → Option (List ℕ × List ℕ) → CallData → Type 0

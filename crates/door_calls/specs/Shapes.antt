@@ -1,5 +1,6 @@
 -- A call as data: which numbers each call has. Names and values are shown by their lengths alone; where they
--- are in the request is told by the request's form.
+-- are in the request is told by the request's form. Of the door's promise only `bit` is to be read:
+-- `tests/c/data.py` compiles `nothing` and `setattr_of` against `nizwarf.h`.
 use Rattle.std.specs.Prelude.{ℕ, pos, ◌+◌, List, Bool, true, false, length, Option, Some, None, unwrap_or}
 use Rattle.fuse_flags.specs.Numbers.{eio}
 use Rattle.fuse_wire.specs.declared.attributes.SetattrIn.{SetattrIn}

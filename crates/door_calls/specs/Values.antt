@@ -1,4 +1,4 @@
--- An answer as data: what its numbers stand for.
+-- An answer as data: what its numbers stand for. `tests/c/data.py` compiles `attr_of` against `nizwarf.h`.
 use Rattle.std.specs.Prelude.{◌≡◌, ◌==◌, ℕ, ℤ, pos, ◌≤ℤ◌, min, Option, None, Some, MatchOption, if◌then◌else◌}
 use Rattle.fuse_wire.specs.declared.attributes.Attr.{Attr}
 use Rattle.fuse_wire.specs.declared.entries.EntryOut.{EntryOut}

@@ -50,6 +50,103 @@ pub data Handed (I : Type 0) : Type 0 where
   Plain : Answer → Handed I
   Iterator : I → Handed I
 
+-- the answer of `read`: the bytes that were put, or the fault
+abbrev pub read_answer : Result ℕ (Option ℕ) → List ℕ → Answer
+read_answer (Ok count) bytes = Put bytes
+read_answer (Err fault) bytes = Failed fault
+
+-- the kinds of answers: which of them a call may have beside a fault
+pub data Kind : Type 0 where
+  -- none at all, and no fault either: there is no reply
+  Quiet : Kind
+  -- that it was done, which is replied
+  Told : Kind
+  -- that it was done, which is not replied
+  Untold : Kind
+  -- bytes that were put into the reply, at most that many
+  Data : (size : ℕ) → Kind
+  -- options
+  Agreements : Kind
+  -- an entry
+  Entries : Kind
+  -- attributes with their timeout
+  TimedAttributes : Kind
+  -- a handle, where there is one, and how to use it
+  Openings : Kind
+  -- an entry, and a handle as above
+  Creations : Kind
+  -- what a file system holds
+  Capacities : Kind
+  -- a text
+  Texts : Kind
+  -- a text, or how long it is
+  TextsOrCounts : Kind
+  -- a place in a file
+  Offsets : Kind
+  -- how many bytes were written
+  Writes : Kind
+  -- an iterator over a directory, which is no answer by value
+  Iterators : Kind
+  -- a fault and nothing else
+  Faults : Kind
+
+-- a fault's number, where it has one, is from 1 to 2 ^ 31 - 1
+abbrev pub IsFault : Option ℕ → Type 0
+IsFault None = Unit {0}
+IsFault (Some number) = (0 < number) × (number < 2 ^ 31)
+
+-- each number of an entry is within its width in the reply
+abbrev pub FitsEntry : Entry → Type 0
+FitsEntry entry = Fit entry_out.widths (entry_out.fields (entry_out_of entry))
+
+-- a handle's number, or 0 where there is no handle, and the bits of how to use it are within their
+-- widths in the reply, of 8 and 4 bytes; 4 bytes after them are padding
+abbrev pub FitsOpening : Option ℕ → ℕ → Type 0
+FitsOpening handle opening = Fit (8 ∷ 4 ∷ 4 ∷ []) (unwrap_or handle 0 ∷ opening ∷ 0 ∷ [])
+
+-- the length of a reply with this text, 16 bytes of its header included, is below 2 ^ 32
+abbrev pub FitsText : List ℕ → Type 0
+FitsText bytes = length bytes < 2 ^ 32 - 16
+
+-- an answer of this kind, with its numbers in their widths in the reply: a fault is one of every kind but
+-- `Quiet`; a time is in whole seconds and the nanoseconds beyond
+abbrev pub IsAnswer : Kind → Answer → Type 0
+IsAnswer Quiet Done = Unit {0}
+IsAnswer Quiet _ = ⊥
+IsAnswer _ (Failed fault) = IsFault fault
+IsAnswer Told Done = Unit {0}
+IsAnswer Untold Done = Unit {0}
+IsAnswer (Data size) (Put bytes) = (length bytes ≤ size) × FitsText bytes
+IsAnswer Agreements (Options want) = want < 2 ^ 64
+IsAnswer Entries (Found entry) = FitsEntry entry
+IsAnswer TimedAttributes (Attributes attributes timeout) =
+    Fit attr_out.widths
+    (whole_seconds timeout ∷ nanoseconds_beyond timeout ∷ 0 ∷ attr.fields attributes)
+IsAnswer Openings (Opened handle opening) = FitsOpening handle opening
+IsAnswer Creations (Created entry handle opening) = FitsEntry entry × FitsOpening handle opening
+IsAnswer Capacities (Statistics statistics) =
+    Fit kstatfs.widths (kstatfs.fields (kstatfs_of statistics))
+IsAnswer Texts (Text bytes) = FitsText bytes
+IsAnswer TextsOrCounts (Text bytes) = FitsText bytes
+IsAnswer TextsOrCounts (Count length) = length < 2 ^ 32
+IsAnswer Offsets (Offset offset) = offset < 2 ^ 64
+IsAnswer Writes (Wrote count) = count < 2 ^ 32
+IsAnswer _ _ = ⊥
+
+-- ---- no more is of the promise but its premise, the trait's contract: which answer the
+-- result of each method is
+
+-- where the answer is a text, its length leaves room for a header
+abbrev pub KeepsTextShort : Answer → Type 0
+KeepsTextShort (Text bytes) = FitsText bytes
+KeepsTextShort _ = ⊤
+
+-- where `read` answers a number, it is that of the bytes put, at most `size`, and their length leaves
+-- room for a header
+abbrev pub Counts : Result ℕ (Option ℕ) → List ℕ → ℕ → Type 0
+Counts (Ok count) bytes size = (count ≡ length bytes) × (count ≤ size) × FitsText bytes
+Counts (Err fault) bytes size = ⊤
+
 -- the answer of `init`
 abbrev pub init_answer : Result FsOptions (Option ℕ) → Answer
 init_answer (Ok want) = Options (fs_options_bits want)
@@ -123,101 +220,7 @@ abbrev pub written_answer : Result ℕ (Option ℕ) → Answer
 written_answer (Ok count) = Wrote count
 written_answer (Err fault) = Failed fault
 
--- the answer of `read`: the bytes that were put, or the fault
-abbrev pub read_answer : Result ℕ (Option ℕ) → List ℕ → Answer
-read_answer (Ok count) bytes = Put bytes
-read_answer (Err fault) bytes = Failed fault
-
 -- what `readdir` hands back: an iterator over the directory, or the fault
 abbrev pub directory_answer : {I : Type 0} → Result I (Option ℕ) → Handed I
 directory_answer (Ok it) = Iterator it
 directory_answer (Err fault) = Plain (Failed fault)
-
--- the kinds of answers: which of them a call may have beside a fault
-pub data Kind : Type 0 where
-  -- none at all, and no fault either: there is no reply
-  Quiet : Kind
-  -- that it was done, which is replied
-  Told : Kind
-  -- that it was done, which is not replied
-  Untold : Kind
-  -- bytes that were put into the reply, at most that many
-  Data : (size : ℕ) → Kind
-  -- options
-  Agreements : Kind
-  -- an entry
-  Entries : Kind
-  -- attributes with their timeout
-  TimedAttributes : Kind
-  -- a handle, where there is one, and how to use it
-  Openings : Kind
-  -- an entry, and a handle as above
-  Creations : Kind
-  -- what a file system holds
-  Capacities : Kind
-  -- a text
-  Texts : Kind
-  -- a text, or how long it is
-  TextsOrCounts : Kind
-  -- a place in a file
-  Offsets : Kind
-  -- how many bytes were written
-  Writes : Kind
-  -- an iterator over a directory, which is no answer by value
-  Iterators : Kind
-  -- a fault and nothing else
-  Faults : Kind
-
--- a fault's number, where it has one, is from 1 to 2 ^ 31 - 1
-abbrev pub IsFault : Option ℕ → Type 0
-IsFault None = Unit {0}
-IsFault (Some number) = (0 < number) × (number < 2 ^ 31)
-
--- each number of an entry is within its width in the reply
-abbrev pub FitsEntry : Entry → Type 0
-FitsEntry entry = Fit entry_out.widths (entry_out.fields (entry_out_of entry))
-
--- a handle's number, or 0 where there is no handle, and the bits of how to use it are within their
--- widths in the reply, of 8 and 4 bytes; 4 bytes after them are padding
-abbrev pub FitsOpening : Option ℕ → ℕ → Type 0
-FitsOpening handle opening = Fit (8 ∷ 4 ∷ 4 ∷ []) (unwrap_or handle 0 ∷ opening ∷ 0 ∷ [])
-
--- the length of a reply with this text, 16 bytes of its header included, is below 2 ^ 32
-abbrev pub FitsText : List ℕ → Type 0
-FitsText bytes = length bytes < 2 ^ 32 - 16
-
--- where the answer is a text, its length leaves room for a header
-abbrev pub KeepsTextShort : Answer → Type 0
-KeepsTextShort (Text bytes) = FitsText bytes
-KeepsTextShort _ = ⊤
-
--- where `read` answers a number, it is that of the bytes put, at most `size`, and their length leaves
--- room for a header
-abbrev pub Counts : Result ℕ (Option ℕ) → List ℕ → ℕ → Type 0
-Counts (Ok count) bytes size = (count ≡ length bytes) × (count ≤ size) × FitsText bytes
-Counts (Err fault) bytes size = ⊤
-
--- an answer of this kind, with its numbers in their widths in the reply: a fault is one of every kind but
--- `Quiet`; a time is in whole seconds and the nanoseconds beyond
-abbrev pub IsAnswer : Kind → Answer → Type 0
-IsAnswer Quiet Done = Unit {0}
-IsAnswer Quiet _ = ⊥
-IsAnswer _ (Failed fault) = IsFault fault
-IsAnswer Told Done = Unit {0}
-IsAnswer Untold Done = Unit {0}
-IsAnswer (Data size) (Put bytes) = (length bytes ≤ size) × FitsText bytes
-IsAnswer Agreements (Options want) = want < 2 ^ 64
-IsAnswer Entries (Found entry) = FitsEntry entry
-IsAnswer TimedAttributes (Attributes attributes timeout) =
-    Fit attr_out.widths
-    (whole_seconds timeout ∷ nanoseconds_beyond timeout ∷ 0 ∷ attr.fields attributes)
-IsAnswer Openings (Opened handle opening) = FitsOpening handle opening
-IsAnswer Creations (Created entry handle opening) = FitsEntry entry × FitsOpening handle opening
-IsAnswer Capacities (Statistics statistics) =
-    Fit kstatfs.widths (kstatfs.fields (kstatfs_of statistics))
-IsAnswer Texts (Text bytes) = FitsText bytes
-IsAnswer TextsOrCounts (Text bytes) = FitsText bytes
-IsAnswer TextsOrCounts (Count length) = length < 2 ^ 32
-IsAnswer Offsets (Offset offset) = offset < 2 ^ 64
-IsAnswer Writes (Wrote count) = count < 2 ^ 32
-IsAnswer _ _ = ⊥

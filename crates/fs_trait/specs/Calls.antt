@@ -72,6 +72,55 @@ pub data Call : Type 0 where
   Syncfs : (ctx : Context) (inode : ℕ) → Call
   Tmpfile : Call
 
+-- which kind of answer a call has, each in a row of its own
+abbrev pub kind_of : Call → Kind
+kind_of (Lookup _ _ _) = Entries
+kind_of (Forget _ _ _) = Quiet
+kind_of (Getattr _ _ _) = TimedAttributes
+kind_of (Setattr _ _ _ _ _) = TimedAttributes
+kind_of (Readlink _ _) = Texts
+kind_of (Symlink _ _ _ _ _) = Entries
+kind_of (Mknod _ _ _ _ _ _ _) = Entries
+kind_of (Mkdir _ _ _ _ _ _) = Entries
+kind_of (Unlink _ _ _) = Told
+kind_of (Rmdir _ _ _) = Told
+kind_of (Rename _ _ _ _ _ _) = Told
+kind_of (Link _ _ _ _) = Entries
+kind_of (Open _ _ _ _) = Openings
+kind_of (Read _ _ _ _ size _ _ _) = Data size
+kind_of (Write _ _ _ _ _ _ _ _ _ _) = Writes
+kind_of (Statfs _ _) = Capacities
+kind_of (Release _ _ _ _ _ _ _) = Told
+kind_of (Fsync _ _ _ _) = Told
+kind_of (Setxattr _ _ _ _ _ _) = Told
+kind_of (Getxattr _ _ _ _) = TextsOrCounts
+kind_of (Listxattr _ _ _) = TextsOrCounts
+kind_of (Removexattr _ _ _) = Told
+kind_of (Flush _ _ _ _) = Told
+kind_of (Init _) = Agreements
+kind_of (Opendir _ _ _) = Openings
+kind_of (Readdir _ _ _ _ _) = Iterators
+kind_of (Releasedir _ _ _ _) = Told
+kind_of (Fsyncdir _ _ _ _) = Told
+kind_of Getlk = Untold
+kind_of Setlk = Untold
+kind_of Setlkw = Untold
+kind_of (Access _ _ _) = Told
+kind_of (Create _ _ _ _ _ _ _ _) = Creations
+kind_of Bmap = Untold
+kind_of Destroy = Quiet
+kind_of Ioctl = Untold
+kind_of Poll = Untold
+kind_of NotifyReply = Untold
+kind_of (BatchForget _ _) = Quiet
+kind_of (Fallocate _ _ _ _ _ _) = Told
+kind_of (Lseek _ _ _ _ _) = Offsets
+kind_of (Copyfilerange _ _ _ _ _ _ _ _ _) = Writes
+kind_of (Syncfs _ _) = Told
+kind_of Tmpfile = Faults
+
+-- ---- no more is of the promise: the rest is for proofs, and for contracts of parts
+
 -- the call that is asked by value
 abbrev pub call_of : CallValue → Call
 call_of (asked.Lookup ctx parent name) = Lookup ctx parent (name_text name)
@@ -125,53 +174,6 @@ call_of (asked.Copyfilerange ctx inode_in handle_in offset_in inode_out handle_o
     Copyfilerange ctx inode_in handle_in offset_in inode_out handle_out offset_out len flags
 call_of (asked.Syncfs ctx inode) = Syncfs ctx inode
 call_of asked.Tmpfile = Tmpfile
-
--- which kind of answer a call has, each in a row of its own
-abbrev pub kind_of : Call → Kind
-kind_of (Lookup _ _ _) = Entries
-kind_of (Forget _ _ _) = Quiet
-kind_of (Getattr _ _ _) = TimedAttributes
-kind_of (Setattr _ _ _ _ _) = TimedAttributes
-kind_of (Readlink _ _) = Texts
-kind_of (Symlink _ _ _ _ _) = Entries
-kind_of (Mknod _ _ _ _ _ _ _) = Entries
-kind_of (Mkdir _ _ _ _ _ _) = Entries
-kind_of (Unlink _ _ _) = Told
-kind_of (Rmdir _ _ _) = Told
-kind_of (Rename _ _ _ _ _ _) = Told
-kind_of (Link _ _ _ _) = Entries
-kind_of (Open _ _ _ _) = Openings
-kind_of (Read _ _ _ _ size _ _ _) = Data size
-kind_of (Write _ _ _ _ _ _ _ _ _ _) = Writes
-kind_of (Statfs _ _) = Capacities
-kind_of (Release _ _ _ _ _ _ _) = Told
-kind_of (Fsync _ _ _ _) = Told
-kind_of (Setxattr _ _ _ _ _ _) = Told
-kind_of (Getxattr _ _ _ _) = TextsOrCounts
-kind_of (Listxattr _ _ _) = TextsOrCounts
-kind_of (Removexattr _ _ _) = Told
-kind_of (Flush _ _ _ _) = Told
-kind_of (Init _) = Agreements
-kind_of (Opendir _ _ _) = Openings
-kind_of (Readdir _ _ _ _ _) = Iterators
-kind_of (Releasedir _ _ _ _) = Told
-kind_of (Fsyncdir _ _ _ _) = Told
-kind_of Getlk = Untold
-kind_of Setlk = Untold
-kind_of Setlkw = Untold
-kind_of (Access _ _ _) = Told
-kind_of (Create _ _ _ _ _ _ _ _) = Creations
-kind_of Bmap = Untold
-kind_of Destroy = Quiet
-kind_of Ioctl = Untold
-kind_of Poll = Untold
-kind_of NotifyReply = Untold
-kind_of (BatchForget _ _) = Quiet
-kind_of (Fallocate _ _ _ _ _ _) = Told
-kind_of (Lseek _ _ _ _ _) = Offsets
-kind_of (Copyfilerange _ _ _ _ _ _ _ _ _) = Writes
-kind_of (Syncfs _ _) = Told
-kind_of Tmpfile = Faults
 
 -- the fault of a call that a file system doesn't serve: ENOSYS
 abbrev pub not_served : Option ℕ

@@ -28,6 +28,8 @@ module _ {S I : Type 0}
       (before after : I) × (it ≡ Some before)
       × gives before item after × IsRun (Some after) old es new
 
+  -- ---- no more is of the promise: the rest is for proofs, and for contracts of parts
+
   -- a run, and after it one that begins with no iterator at hand, are a run
   abbrev pub RunsJoin : Type 0
   RunsJoin =

@@ -23,14 +23,6 @@ abbrev pub name_of : List ℕ → Option (List ℕ)
 name_of bytes = option_and_then (λ i. if i + 1 == length bytes then Some (take i bytes) else None)
     (position (λ b. b == 0) bytes)
 
--- the bytes of a name, without the 0 after them
-abbrev pub name_text : CStr → List ℕ
-name_text name = name.bytes.now
-
--- a byte list whose last byte is 0 and no other is, and its text
-abbrev pub IsName : List ℕ → List ℕ → Type 0
-IsName bytes text = (bytes ≡ text ++ 0 ∷ []) × ((k : ℕ) → k < length text → slice_index text k ≢ 0)
-
 -- the text of the first name in a byte list, and what follows the 0 after it, where there is a 0
 abbrev pub first_name : List ℕ → Option (List ℕ × List ℕ)
 first_name bytes = option_map (λ i. (take i bytes, drop (i + 1) bytes)) (position (λ b. b == 0) bytes)
@@ -71,6 +63,21 @@ pub record ExtensionValues : Type 0 where
   pub context : Option (List ℕ × List ℕ)
   pub group : Option ℕ
 
+-- ---- directories' items
+
+-- an item of a directory: its four values, the name as bytes without the 0
+pub record Item : Type 0 where
+  pub ino : ℕ
+  pub offset : ℕ
+  pub type_ : ℕ
+  pub name : List ℕ
+
+-- ---- no more is of the promise but its premise, the trait's contract
+
+-- the bytes of a name, without the 0 after them
+abbrev pub name_text : CStr → List ℕ
+name_text name = name.bytes.now
+
 -- the name of a security context, without the 0 after it, and its value
 abbrev pub context_values : SecContext → List ℕ × List ℕ
 context_values context = (context.name, context.secctx.items)
@@ -81,15 +88,6 @@ extension_values_of ext = record {
   context = option_map context_values ext.secctx;
   group = ext.sup_gid;
 }
-
--- ---- directories' items
-
--- an item of a directory: its four values, the name as bytes without the 0
-pub record Item : Type 0 where
-  pub ino : ℕ
-  pub offset : ℕ
-  pub type_ : ℕ
-  pub name : List ℕ
 
 -- the values of an item as `next` gives it
 abbrev pub item : DirEntry → Item
@@ -103,3 +101,9 @@ item_of (Some e) = Some (item e)
 -- P holds of the value after a mutable reference once what was lent of it has come back
 abbrev pub Rests : (R : RattleType) → MutBor R.Denot → (R.Denot → Type 0) → Fml
 Rests R s P = follows_so R R s.ghost_name none (λ _ _. ⊤) P
+
+-- ---- no more is of the promise: the rest is for proofs, and for contracts of parts
+
+-- a byte list whose last byte is 0 and no other is, and its text
+abbrev pub IsName : List ℕ → List ℕ → Type 0
+IsName bytes text = (bytes ≡ text ++ 0 ∷ []) × ((k : ℕ) → k < length text → slice_index text k ≢ 0)

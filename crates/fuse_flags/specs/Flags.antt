@@ -1,4 +1,5 @@
 -- The flag sets as numbers: the bits of a set, and those that are known. Names are in FlagTables.
+-- `tests/c/kernel.py` compiles SETXATTR_EXT, INIT_EXT and SECURITY_CTX against the kernel's header.
 use Rattle.std.specs.Prelude.{ℕ, ◌+◌, ◌^◌}
 use Rattle.fuse_flags.specs.declared.fs_options.FsOptions.{FsOptions}
 use Rattle.fuse_flags.specs.declared.setattr_valid.SetattrValid.{SetattrValid}
@@ -7,10 +8,6 @@ use Rattle.fuse_flags.specs.declared.ioctl_flags.IoctlFlags.{IoctlFlags}
 use Rattle.fuse_flags.specs.declared.setxattr_flags.SetxattrFlags.{SetxattrFlags}
 use Rattle.fuse_flags.specs.declared.notify_inval_entry_out_flags.NotifyInvalEntryOutFlags.{NotifyInvalEntryOutFlags}
 use Rattle.fuse_flags.specs.declared.setupmapping_flags.SetupmappingFlags.{SetupmappingFlags}
-
--- a set of the options of INIT, as a number
-abbrev pub fs_options_bits : FsOptions → ℕ
-fs_options_bits flags = flags.0
 
 -- the option SETXATTR_EXT: SETXATTR has its longer record
 abbrev pub setxattr_ext : ℕ
@@ -40,21 +37,37 @@ abbrev pub supported_fs_options : ℕ
 supported_fs_options =
     2 ^ 0 + 2 ^ 3 + 2 ^ 5 + 2 ^ 11 + 2 ^ 12 + 2 ^ 15 + 2 ^ 18 + 2 ^ 22 + 2 ^ 27 + 2 ^ 30 + 2 ^ 34 + 2 ^ 40
 
--- a set of the attributes that a SETATTR changes, as a number
-abbrev pub setattr_valid_bits : SetattrValid → ℕ
-setattr_valid_bits flags = flags.0
-
 -- the bits of SETATTR's `valid` that are passed on: all of `fuse.h` but FATTR_FH and FATTR_LOCKOWNER
 abbrev pub known_setattr_valid : ℕ
 known_setattr_valid = 0xdbf
+
+-- the bits of all the properties of an open file
+abbrev pub known_open_options : ℕ
+known_open_options = 0x7f
+
+-- the bits of all the further flags of a SETXATTR
+abbrev pub known_setxattr_flags : ℕ
+known_setxattr_flags = 1
+
+-- ---- no more is of the promise but its premise, the trait's contract
+
+-- a set of the options of INIT, as a number
+abbrev pub fs_options_bits : FsOptions → ℕ
+fs_options_bits flags = flags.0
+
+-- a set of the attributes that a SETATTR changes, as a number
+abbrev pub setattr_valid_bits : SetattrValid → ℕ
+setattr_valid_bits flags = flags.0
 
 -- a set of the properties of an open file, as a number
 abbrev pub open_options_bits : OpenOptions → ℕ
 open_options_bits flags = flags.0
 
--- the bits of all the properties of an open file
-abbrev pub known_open_options : ℕ
-known_open_options = 0x7f
+-- a set of the further flags of a SETXATTR, as a number
+abbrev pub setxattr_flags_bits : SetxattrFlags → ℕ
+setxattr_flags_bits flags = flags.0
+
+-- ---- no more is of the promise: the rest is for proofs, and for contracts of parts
 
 -- a set of the flags of an IOCTL, as a number
 abbrev pub ioctl_flags_bits : IoctlFlags → ℕ
@@ -63,14 +76,6 @@ ioctl_flags_bits flags = flags.0
 -- the bits of all the flags of an IOCTL
 abbrev pub known_ioctl_flags : ℕ
 known_ioctl_flags = 0x13f
-
--- a set of the further flags of a SETXATTR, as a number
-abbrev pub setxattr_flags_bits : SetxattrFlags → ℕ
-setxattr_flags_bits flags = flags.0
-
--- the bits of all the further flags of a SETXATTR
-abbrev pub known_setxattr_flags : ℕ
-known_setxattr_flags = 1
 
 -- a set of the flags of the notice that a name is out of date, as a number
 abbrev pub notify_inval_entry_out_flags_bits : NotifyInvalEntryOutFlags → ℕ

@@ -1,4 +1,5 @@
--- The numbers of requests, of extensions and of errors.
+-- The numbers of requests, of extensions and of errors. Of the promise only `ext_type_of` is to be read:
+-- `tests/c/kernel.py` compiles the others against the kernel's headers.
 use Rattle.std.specs.Prelude.{◌≢◌, ◌≤◌, ◌==◌, ℕ, Option, Some, None, if◌then◌else◌, nat_lt}
 use Rattle.fuse_flags.specs.declared.opcode.Opcode.{Opcode}
 use Rattle.fuse_flags.specs.declared.opcode.Opcode.TheVariants.{Lookup, Forget, Getattr, Setattr, Readlink, Symlink, Mknod, Mkdir, Unlink, Rmdir, Rename, Link, Open, Read, Write, Statfs, Release, Fsync, Setxattr, Getxattr, Listxattr, Removexattr, Flush, Init, Opendir, Readdir, Releasedir, Fsyncdir, Getlk, Setlk, Setlkw, Access, Create, Interrupt, Bmap, Destroy, Ioctl, Poll, NotifyReply, BatchForget, Fallocate, Readdirplus, Rename2, Lseek, CopyFileRange, SetupMapping, RemoveMapping, Syncfs, TmpFile}

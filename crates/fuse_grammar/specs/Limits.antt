@@ -11,6 +11,8 @@ max_len limits = limits.max_buffer + 4096
 abbrev pub max_pages : Limits → ℕ
 max_pages limits = (limits.max_buffer - 1) / limits.page_size + 1
 
+-- ---- no more is of the promise: the rest is for proofs, and for contracts of parts
+
 -- what a server may be made for: pages of at least 4 KiB, and payloads of 4 KiB to 128 MiB
 pub record AreLimits (limits : Limits) : Type 0 where
   pub page : 4096 ≤ limits.page_size

@@ -12,15 +12,17 @@ options_offered flags flags2 = bit_and (flags2 * 2 ^ 32 + flags) known_fs_option
 abbrev pub agreed : (offered want : ℕ) → ℕ
 agreed offered want = bit_and offered (bit_or want supported_fs_options)
 
--- each option is one that was offered, and each one offered that the server supports is among them
-pub record AreAgreed (offered options : ℕ) : Type 0 where
-  pub offered_only : (k : ℕ) → bit_at options k ≡ 1 → bit_at offered k ≡ 1
-  pub supported_too :
-      (k : ℕ) → bit_at offered k ≡ 1 → bit_at supported_fs_options k ≡ 1 → bit_at options k ≡ 1
-
 -- The options after a call with this answer: those agreed after an INIT that was answered, none
 -- after DESTROY, and the old ones after every other call, an INIT that failed too.
 abbrev pub options_after : Call → Answer → (options : ℕ) → ℕ
 options_after (Init offered) (Options want) options = agreed offered want
 options_after Destroy answer options = 0
 options_after _ answer options = options
+
+-- ---- no more is of the promise: the rest is for proofs, and for contracts of parts
+
+-- each option is one that was offered, and each one offered that the server supports is among them
+pub record AreAgreed (offered options : ℕ) : Type 0 where
+  pub offered_only : (k : ℕ) → bit_at options k ≡ 1 → bit_at offered k ≡ 1
+  pub supported_too :
+      (k : ℕ) → bit_at offered k ≡ 1 → bit_at supported_fs_options k ≡ 1 → bit_at options k ≡ 1

@@ -59,14 +59,16 @@ abbrev pub IsTurn : Limits → (options : ℕ) → Turn → (after : ℕ) → Ty
 IsTurn limits options t after =
     Follows t limits options (ask limits options (length t.room) t.request) after
 
+-- the events of turns, in order
+abbrev pub events_in : List Turn → List Event
+events_in [] = []
+events_in (t ∷ ts) = t.events ++ events_in ts
+
+-- ---- no more is of the promise: the rest is for proofs, and for contracts of parts
+
 -- turns in order, from these options to those: each begins with the options that the one before
 -- it left
 abbrev pub AreTurns : Limits → (options : ℕ) → List Turn → (after : ℕ) → Type 0
 AreTurns limits options [] after = after ≡ options
 AreTurns limits options (t ∷ ts) after =
     (mid : ℕ) × IsTurn limits options t mid × AreTurns limits mid ts after
-
--- the events of turns, in order
-abbrev pub events_in : List Turn → List Event
-events_in [] = []
-events_in (t ∷ ts) = t.events ++ events_in ts

@@ -1,5 +1,5 @@
 -- Parts of the other definitions by names of their own, for contracts of parts and for proofs. No
--- promise is read in them.
+-- definition of the promise names one of them.
 use Rattle.std.specs.Prelude.{◌≡◌, ◌≤◌, ◌+◌, ◌==◌, ◌||◌, ◌⊎◌, ℕ, List, [], ◌∷◌, ◌++◌, Bool, true, false, length, take, drop, nat_lt, nat_le, ◌&&◌, if◌then◌else◌, sum_by, Option, Some, None, Result, Ok, Err, ok_or, unwrap_or}
 use Rattle.std.specs.declared.time.Duration.{Duration}
 use Rattle.fuse_flags.specs.Numbers.{eio, ext_type_of, opcode_of}

@@ -9,6 +9,9 @@ pub record Unread : Type 0 where
   pub taken : ℕ
   pub pieces : List ℕ
 
+-- ---- no more is of the promise but `IsUnread`, by `Reader::new`, and of the clause `memory` `are_together`:
+-- the rest is for contracts of a reader's calls
+
 -- a reader of these bytes that has given nothing
 abbrev pub IsUnread : List ℕ → Unread → Type 0
 IsUnread bytes u = (u.left ≡ bytes) × (u.taken ≡ 0)

@@ -14,6 +14,19 @@ pub record Written : Type 0 where
   pub held : ℕ
   pub lengths : List ℕ
 
+-- all bytes of a writer, those passed and those left
+abbrev pub whole : Written → List ℕ
+whole w = w.passed ++ w.left
+
+-- A writer keeps the bytes that it had passed, and those of its room are `room_after`, as many as
+-- before, in segments of the same lengths. Where it stands isn't said.
+pub record Leaves (old : Written) (room_after : List ℕ) (new : Written) : Type 0 where
+  pub kept : whole new ≡ old.passed ++ room_after
+  pub same_length : length room_after ≡ length old.left
+  pub same_segments : new.lengths ≡ old.lengths
+
+-- ---- no more is of the promise but `unwritten`, by `Writer::new`: the rest is for contracts of a writer's calls
+
 -- a writer that has passed nothing, over these segments
 abbrev pub unwritten : List (List ℕ) → Written
 unwritten segments = record {
@@ -66,17 +79,6 @@ held_over w n = record w {
 -- the held bytes are bs, and nothing is held any more
 abbrev pub held_filled : Written → List ℕ → Written
 held_filled w bs = record w { passed = with_bytes_at w.held_at bs w.passed; held = 0 }
-
--- all bytes of a writer, those passed and those left
-abbrev pub whole : Written → List ℕ
-whole w = w.passed ++ w.left
-
--- A writer keeps the bytes that it had passed, and those of its room are `room_after`, as many as
--- before, in segments of the same lengths. Where it stands isn't said.
-pub record Leaves (old : Written) (room_after : List ℕ) (new : Written) : Type 0 where
-  pub kept : whole new ≡ old.passed ++ room_after
-  pub same_length : length room_after ≡ length old.left
-  pub same_segments : new.lengths ≡ old.lengths
 
 -- The bytes bs were put into the next bytes of the room, and count as written. What comes after
 -- them there is open.

@@ -43,6 +43,8 @@ abbrev pub WantsNoMemory : Limits → (options room_len : ℕ) → Unread → Ty
 WantsNoMemory limits options room_len u =
     WantsNoneBehind limits options room_len (opcode_of (header_of u.left).opcode) (header_of u.left) u
 
+-- ---- no more is of the promise: the rest is for proofs, and for contracts of parts
+
 -- memory may be wanted for the request that a reader has left
 abbrev pub MayWant : Limits → (options room_len : ℕ) → Unread → Type 0
 MayWant limits options room_len u =

@@ -3,10 +3,6 @@ use Rattle.std.specs.Prelude.{ℕ, zero, suc, ◌+◌, ◌*◌, ◌^◌, ◌<◌
 use Rattle.fuse_wire.specs.declared.bytes.Field.{Field}
 use Rattle.fuse_wire.specs.declared.bytes.Field.TheVariants.{One, Two, Four, Eight}
 
--- every number of the list is a byte
-abbrev pub AreBytes : List ℕ → Type 0
-AreBytes bytes = (i : ℕ) → slice_index bytes i < 256
-
 -- the n bytes of a number, the lowest first
 unfoldable pub little : ℕ → ℕ → List ℕ
 little zero x = []
@@ -24,12 +20,6 @@ row [] xs = []
 row (w ∷ ws) [] = []
 row (w ∷ ws) (x ∷ xs) = little w x ++ row ws xs
 
--- the same, and what comes after them
-abbrev pub row_onto : List ℕ → List ℕ → List ℕ → List ℕ
-row_onto [] xs rest = rest
-row_onto (w ∷ ws) [] rest = rest
-row_onto (w ∷ ws) (x ∷ xs) rest = little w x ++ row_onto ws xs rest
-
 -- the numbers of these widths that the bytes from place i on stand for
 abbrev pub numbers_at : ℕ → List ℕ → List ℕ → List ℕ
 numbers_at i [] bytes = []
@@ -45,6 +35,41 @@ Fit [] [] = ⊤
 Fit [] (x ∷ xs) = ⊥
 Fit (w ∷ ws) [] = ⊥
 Fit (w ∷ ws) (x ∷ xs) = (x < 256 ^ w) × Fit ws xs
+
+-- how the values of a type are spelled: the widths of a value's fields in bytes, the fields as
+-- numbers in order, and the value of such numbers
+pub record Table (R : Type 0) : Type 0 where
+  pub widths : List ℕ
+  pub fields : R → List ℕ
+  pub made : List ℕ → R
+
+-- a table with these widths, fields and way to make a value
+abbrev pub table : {R : Type 0} → List ℕ → (R → List ℕ) → (List ℕ → R) → Table R
+table widths fields made = record { widths = widths; fields = fields; made = made }
+
+-- the bytes that stand for a value
+abbrev pub bytes_of : {R : Type 0} → Table R → R → List ℕ
+bytes_of t r = row t.widths (t.fields r)
+
+-- the value that bytes begin with
+abbrev pub value_of : {R : Type 0} → Table R → List ℕ → R
+value_of t bytes = t.made (numbers t.widths bytes)
+
+-- a number of this width by itself
+abbrev pub lone_number : ℕ → Table ℕ
+lone_number w = table (w ∷ []) (λ x. x ∷ []) (λ xs. slice_index xs 0)
+
+-- ---- no more is of the promise: the rest is for proofs, and for contracts of parts
+
+-- every number of the list is a byte
+abbrev pub AreBytes : List ℕ → Type 0
+AreBytes bytes = (i : ℕ) → slice_index bytes i < 256
+
+-- the same, and what comes after them
+abbrev pub row_onto : List ℕ → List ℕ → List ℕ → List ℕ
+row_onto [] xs rest = rest
+row_onto (w ∷ ws) [] rest = rest
+row_onto (w ∷ ws) (x ∷ xs) rest = little w x ++ row_onto ws xs rest
 
 -- the bytes that a field is written in
 abbrev pub width_of : Field → ℕ
@@ -79,26 +104,3 @@ total (f ∷ fs) = width_of f + total fs
 abbrev pub AllFit : List Field → Type 0
 AllFit [] = ⊤
 AllFit (f ∷ fs) = (field_number f < 256 ^ width_of f) × AllFit fs
-
--- how the values of a type are spelled: the widths of a value's fields in bytes, the fields as
--- numbers in order, and the value of such numbers
-pub record Table (R : Type 0) : Type 0 where
-  pub widths : List ℕ
-  pub fields : R → List ℕ
-  pub made : List ℕ → R
-
--- a table with these widths, fields and way to make a value
-abbrev pub table : {R : Type 0} → List ℕ → (R → List ℕ) → (List ℕ → R) → Table R
-table widths fields made = record { widths = widths; fields = fields; made = made }
-
--- the bytes that stand for a value
-abbrev pub bytes_of : {R : Type 0} → Table R → R → List ℕ
-bytes_of t r = row t.widths (t.fields r)
-
--- the value that bytes begin with
-abbrev pub value_of : {R : Type 0} → Table R → List ℕ → R
-value_of t bytes = t.made (numbers t.widths bytes)
-
--- a number of this width by itself
-abbrev pub lone_number : ℕ → Table ℕ
-lone_number w = table (w ∷ []) (λ x. x ∷ []) (λ xs. slice_index xs 0)

@@ -1,5 +1,7 @@
 -- The records that most requests and replies are made of: the width of each field in bytes, in order.
--- How bytes become a record again is in Decoders; it is the one inverse of this.
+-- How bytes become a record again is in Decoders; it is the one inverse of this. Of the promise only
+-- `low_word` and `kstatfs_of`, after the tables, are to be read: `tests/c/kernel.py` compiles the
+-- tables against the kernel's header.
 use Rattle.std.specs.Int.{w32, cast_signed, cast_unsigned, w64}
 use Rattle.std.specs.Prelude.{[], ◌∷◌, slice_index, ◌++◌, ℕ, ℤ, ◌%◌, ◌^◌}
 use Rattle.fuse_wire.specs.Fields.{Table, table}
@@ -35,20 +37,6 @@ abbrev pub in_header : Table InHeader
 in_header = table (4 ∷ 4 ∷ 8 ∷ 8 ∷ 4 ∷ 4 ∷ 4 ∷ 2 ∷ 2 ∷ [])
     (λ r. r.len ∷ r.opcode ∷ r.unique ∷ r.nodeid ∷ r.uid ∷ r.gid ∷ r.pid ∷ r.total_extlen ∷
     r.padding ∷ []) made_in_header
-
--- the header of a request with this length, of the user and the group 0 and of no process
-abbrev pub request_header : (len : ℕ) → Opcode → (unique nodeid : ℕ) → InHeader
-request_header len opcode unique nodeid = record {
-  len = len;
-  opcode = number_of opcode;
-  unique = unique;
-  nodeid = nodeid;
-  uid = 0;
-  gid = 0;
-  pid = 0;
-  total_extlen = 0;
-  padding = 0;
-}
 
 -- OutHeader: 16 bytes
 abbrev pub out_header : Table OutHeader
@@ -157,13 +145,44 @@ supp_groups = table (4 ∷ []) (λ r. r.nr_groups ∷ []) made_supp_groups
 
 -- ---- from what the host's system says of files and file systems
 
--- the number that has the 64 bits of a signed one
-abbrev pub bits_of : ℤ → ℕ
-bits_of z = cast_unsigned w64 z
-
 -- the low 32 bits of a number
 abbrev pub low_word : ℕ → ℕ
 low_word n = n % 2 ^ 32
+
+-- what the reply to STATFS says of a file system
+abbrev pub kstatfs_of : Statvfs64 → Kstatfs
+kstatfs_of st = record {
+  blocks = st.f_blocks;
+  bfree = st.f_bfree;
+  bavail = st.f_bavail;
+  files = st.f_files;
+  ffree = st.f_ffree;
+  bsize = low_word st.f_bsize;
+  namelen = low_word st.f_namemax;
+  frsize = low_word st.f_frsize;
+  padding = 0;
+  spare = 0 ∷ 0 ∷ 0 ∷ 0 ∷ 0 ∷ 0 ∷ [];
+}
+
+-- ---- no more is of the promise: the rest is for proofs, and for contracts of parts
+
+-- the header of a request with this length, of the user and the group 0 and of no process
+abbrev pub request_header : (len : ℕ) → Opcode → (unique nodeid : ℕ) → InHeader
+request_header len opcode unique nodeid = record {
+  len = len;
+  opcode = number_of opcode;
+  unique = unique;
+  nodeid = nodeid;
+  uid = 0;
+  gid = 0;
+  pid = 0;
+  total_extlen = 0;
+  padding = 0;
+}
+
+-- the number that has the 64 bits of a signed one
+abbrev pub bits_of : ℤ → ℕ
+bits_of z = cast_unsigned w64 z
 
 -- the attributes of a file with these flags, whose owner and group the guest numbers so
 abbrev pub attr_of : Stat64 → ℕ → ℕ → ℕ → Attr
@@ -184,19 +203,4 @@ attr_of st flags uid gid = record {
   rdev = low_word st.st_rdev;
   blksize = low_word (bits_of st.st_blksize);
   flags = flags;
-}
-
--- what the reply to STATFS says of a file system
-abbrev pub kstatfs_of : Statvfs64 → Kstatfs
-kstatfs_of st = record {
-  blocks = st.f_blocks;
-  bfree = st.f_bfree;
-  bavail = st.f_bavail;
-  files = st.f_files;
-  ffree = st.f_ffree;
-  bsize = low_word st.f_bsize;
-  namelen = low_word st.f_namemax;
-  frsize = low_word st.f_frsize;
-  padding = 0;
-  spare = 0 ∷ 0 ∷ 0 ∷ 0 ∷ 0 ∷ 0 ∷ [];
 }

@@ -1,6 +1,7 @@
 -- The records of the requests on files, names, ranges and extended attributes: what bytes become (the one
 -- inverse of its fields), the width of each field in bytes, in order, and how a compiler lays it out: what the
--- bytes 1, 2, 3, .. of it say, field by field.
+-- bytes 1, 2, 3, .. of it say, field by field. Of the promise nothing here is to be read: `tests/c/kernel.py`
+-- compiles the tables against the kernel's header.
 use Rattle.std.specs.Prelude.{ℕ, List, slice_index, [], ◌∷◌}
 use Rattle.fuse_wire.specs.Fields.{Table, table}
 use Rattle.fuse_wire.specs.Layouts.{LiesAs}

@@ -1,4 +1,5 @@
--- What C is told of a call that was answered.
+-- What C is told of a call that was answered. Of the promise only `entry_of` is to be read: the rest is for the
+-- clause `answered`, which says the same over writers.
 use Rattle.std.specs.Prelude.{◌≡◌, ◌≤◌, ◌==◌, ◌||◌, ◌&&◌, if◌then◌else◌, ◌⊎◌, ℕ, ℤ, pos, List, [], length, Option, Some, None, IfSome}
 use Rattle.std.specs.Ordering.{int_eq}
 use Rattle.fuse_segments.specs.Written.{Written}

@@ -1,4 +1,5 @@
--- What C is told of a request that was asked for its call.
+-- What C is told of a request that was asked for its call. Of the promise only `IsNotAsked` is to be read: the rest
+-- is for the clause `asked`, which says the same over writers.
 use Rattle.std.specs.Prelude.{◌≡◌, ◌≤◌, ◌^◌, ◌⊎◌, ℕ, ℤ, List, [], length, Result}
 use Rattle.fuse_segments.specs.Lengths.{lengths_from}
 use Rattle.fuse_segments.specs.Segments.{flat_bytes, lengths_of}

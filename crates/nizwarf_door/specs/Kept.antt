@@ -1,4 +1,5 @@
--- Which memory a slot has.
+-- Which memory a slot has. Of the promise `put_of` is to be read, and of the clause `kept` `HasRoomFor`, `Holds`
+-- and `HoldsAnswer`.
 use Rattle.std.specs.Prelude.{◌≡◌, ◌≤◌, ◌==◌, ◌⊎◌, if◌then◌else◌, ⊤, ℕ, ℤ, length, min, Option, Some}
 use Rattle.fuse_segments.specs.Written.{whole}
 use Rattle.fuse_grammar.specs.Forms.{Ask, Ends, Asks, Lists, WithMemory}
