@@ -3,7 +3,7 @@
 
 Usage: tools/dev/begin.py [--check]
 The first page quotes the five definitions of the promise, and fills in a turn for each case of what may follow from a
-request: of stored requests and their answers (crates/test_sessions), and of proved callers, by the tables of records.
+request: of stored requests and their answers (crates/test_sessions), by the tables of records.
 The second is the table of the protocol: of each opcode the record of fuse.h, its row of form_of, and what is answered.
 It stops if a stored line or a definition is no more as the pages say. With --check nothing is written, and it is told
 which page is not as it would be made.
@@ -23,7 +23,6 @@ SESSION, TURN, BOOKS = "fuse_server/specs/Session.antt", "fuse_grammar/specs/Tur
 ASK, REPLY = "fuse_grammar/specs/Ask.antt", "fuse_grammar/specs/Reply.antt"
 CALLS, ANSWERS = "fs_trait/specs/Calls.antt", "fs_trait/specs/Answers.antt"
 NUMBERS, EXAMPLES = "fuse_flags/specs/Numbers.antt", "laws_turns/proofs/Examples.antt"
-SAMPLES, DOOR = "fuse_grammar/specs/Samples.antt", "door_ask/src/uses.rt"
 
 
 def read(path):
@@ -169,7 +168,7 @@ def lookup(found):
     proved = re.search(r"^lookup_of_a : ask usual 0 144 \(header 42 1 9 1 \+\+ \(0x61 ∷ 0 ∷ \[\]\)\) ≡ WithMemory \(Asks \(echo 9\) "
                        r"\(call\.Lookup nobody 1 \(0x61 ∷ \[\]\)\)\)$", crate(EXAMPLES), re.M)
     expect(proved and it.room == 144, f"{EXAMPLES} has no such lookup_of_a")
-    return opcode, it, f"""## It asks a call: LOOKUP
+    return f"""## It asks a call: LOOKUP
 
 Stored in `crates/test_sessions/stdin`, below `LOOKUP of a finds node {node}`:
 
@@ -187,23 +186,13 @@ That `ask` gives this is proved (`lookup_of_a`, `crates/{EXAMPLES}`). The next s
        (f"of node {node}", books(1, 0, 0, 1)))}"""
 
 
-def memory(opcode, it):
-    sample = re.search(r"^lookup_of_a = header_9 (\d+) (\d+) \+\+ \(0x61 ∷ 0 ∷ \[\]\)$", crate(SAMPLES), re.M)
-    header = [int(sample[1]), int(sample[2])] if sample else []
-    expect(header == [little(it.request[:4]), little(it.request[4:8])], f"{SAMPLES} has another lookup_of_a")
-    clause = re.search(r"^fn look_up_a\(.*?^    requires \{ (r\.left ≡ lookup_of_a) \}\n    ensures \{ (.*?) \}\n\{",
-                       crate(DOOR), re.M | re.S)
-    expect(clause, f"{DOOR} has no look_up_a")
+def memory():
+    tried = re.search(r"a LOOKUP of `a` twice, cut after its header, which wants no memory, and inside\n# its name",
+                      read("tests/allocations/check.sh"))
+    expect(tried, "tests/allocations/check.sh refuses another allocation")
     return f"""## It lacks memory: the same LOOKUP
 
-A name in two segments is copied first. Without memory for that the other side of `⊎` follows. `look_up_a` (`crates/{DOOR}`) is proved to tell the call of these bytes, however cut, or
-
-<!-- crates/{DOOR} -->
-```
-        {clause[2].split(chr(10))[-1].strip()} }}
-```
-
-and `tests/allocations/check.sh` refuses that allocation:
+A name in two segments is copied first. Without memory for that the other side of `⊎` follows (`tests/allocations/check.sh`, of the server):
 
 {block(("events", "[]"), ("outcome", "Err OutOfMemory"), ("room_after", "room"), ("after", "options"))}"""
 
@@ -254,7 +243,7 @@ Below `READDIR of . and .. with a size of {size}`:
 
 def begin():
     found = stored()
-    opcode, it, asks = lookup(found)
+    asks = lookup(found)
     quotes = ["\n".join([f"<!-- crates/{path} -->", "```antt", *(quoted(path, name) + "\n" for name in names)]).rstrip("\n")
               + "\n```" for path, names in ((SESSION, ["IsSession", "IsServed"]), (TURN, ["Turn", "Follows"]),
                                             (BOOKS, ["KeepsBooks"]))]
@@ -276,7 +265,7 @@ The four sums of a node balance:
 
 {asks}
 
-{memory(opcode, it)}
+{memory()}
 
 {interrupt(found)}
 

@@ -1,6 +1,9 @@
 """Holds the Markdown pages against the sources, for documents.sh, which says how: the toolchain is that of $kit."""
 import glob, os, re, subprocess, sys
 
+sys.path.append("tools/measure")
+from statement import WORD, Specs, start_of
+
 KIT = os.environ["kit"]
 COUNTED = ["README.md", *sorted(glob.glob("docs/*.md")), "CONTRIBUTING.md", "CHANGELOG.md", "NOTICE.md",
            *sorted(glob.glob("crates/*/README.md"))]
@@ -248,15 +251,11 @@ for said in re.findall(r"^\| (?!Words )(\w[^|`]*) \|", read("docs/PROMISE.md"), 
     if said.lower() not in promise.lower():
         faults.append(f"docs/PROMISE.md: the promise does not say '{said}'")
 items = [(int(number), re.findall(r"(\w+\.(?:antt|rt))`", files))
-         for number, files in re.findall(r"^([3-8])\. (.*)", read("docs/PROMISE.md"), re.M)]
+         for number, files in re.findall(r"^([3-7])\. (.*)", read("docs/PROMISE.md"), re.M)]
 check_order(lambda text: faults.append(f"docs/PROMISE.md: {text}"), items)
 *reached, counted, decoded = subprocess.run(["tools/measure/statement.sh", "--files"], capture_output=True, text=True,
                                             check=True).stdout.splitlines()
 order = read("docs/PROMISE.md").split("## Reading order")[1].split("\n## ")[0]
-for path in (line.split(":")[0] for line in reached):
-    crate, file = path.split("/")[0], path.split("/")[-1]
-    if not re.search(rf"`{crate}/specs/[^;]*`?{file}`", order):
-        faults.append(f"docs/PROMISE.md: the reading order lacks {path}")
 COUNTS = re.compile(r"(\d+) definitions,? (?:of )?([\d,]+) lines")
 # What is told as so much more than the session, and begins with these.
 BESIDE = {"the clause `memory`": ["fuse_server/Sparing.IsSparing"],
@@ -269,14 +268,38 @@ for what, starts in BESIDE.items():
     further += files
     if f"Of {what} {more[0]} definitions of {more[1]:,} lines more" not in order:
         faults.append(f"docs/PROMISE.md: of {what} there are {more[0]} definitions of {more[1]:,} lines more")
+for path in sorted({line.split(":")[0] for line in reached + further}):
+    crate, file = path.split("/")[0], path.split("/")[-1]
+    if not re.search(rf"`{crate}/specs/[^;]*`?{file}`", order):
+        faults.append(f"docs/PROMISE.md: the reading order lacks {path}")
+# In these files what is of the promise ends at a line, or the first comment says what it is.
+specs = Specs()
+SESSION = specs.reach([start_of(specs, "fuse_server/Session.IsSession")])
+PROMISED = specs.reach([start_of(specs, it) for it in ["fuse_server/Session.IsSession", *sum(BESIDE.values(), [])]])
+for path in sorted({f"crates/{line.split(':')[0]}" for line in reached + further}):
+    module, text = path[len("crates/"):-len(".antt")].replace("/", "."), sources[path]
+    above, line, after = text.partition("-- ---- no more is of the promise")
+    for name in specs.of[module]:
+        places = [bool(re.search(rf"\bpub (?:record |data )?{name}\b", it)) for it in (above, after)]
+        if line and (places[0] if (module, name) not in PROMISED else places[1] and (module, name) in SESSION):
+            faults.append(f"{path}: {name} is on the wrong side of the line below which no more is of the promise")
+        elif not line and (module, name) not in PROMISED and "to be read" not in text.split("\nuse ")[0]:
+            faults.append(f"{path}: no line, and no first comment, says that {name} is not of the promise")
 # The signs of the definitions' language, and those that some file of the reading order has and the key does not say.
 SIGNS = r"[^\w\s(){}\[\],;.:λ=\"]+|λ|==|\b(?:abbrev|unfoldable|opaque|record|data|module|where|elim|let|suc|zero|pos|tt)\b"
-key = "".join(CODE.findall(read("docs/PROMISE.md").split("## Key")[1].split("\n## ")[0]))
+WORDS = sources["crates/fuse_server/specs/Session.antt"].split("\nuse ")[0]
+key = " ".join(CODE.findall(read("docs/PROMISE.md").split("## Key")[1].split("\n## ")[0] + WORDS))
 unsaid = {}
 for path in sorted({f"crates/{it.split(':')[0]}" for it in reached + further} | {f"crates/{it}" for it in CODE.findall(order)}):
     for sign in re.findall(SIGNS, re.sub(r"(?m)--.*|^(pub )?use .*", "", sources.get(path, "") if path.endswith(".antt") else "")):
         if sign not in key:
             unsaid.setdefault(sign, path)
+# The words of the toolchain's library that are counted, but for types and values that Rust has by these names.
+RUSTS = set("Bool List Option Some None Result Ok Err Duration true false not min map sum length take".split())
+for module, name in PROMISED:
+    for word in WORD.findall(specs.of[module][name].text) if module != "declared" else []:
+        if specs.brought[module][0].get(word, ("",))[0].startswith("std.") and word not in RUSTS | set(WORD.findall(key)):
+            unsaid.setdefault(word, specs.of[module][name].path)
 faults += [f"docs/PROMISE.md: the key lacks {sign}, which {path} has" for sign, path in unsaid.items()]
 COUNT = r"(\d+) definitions of ([\d,]+) lines(?: in (\d+) files, and (\d+) types)?"
 for page in ("README.md", "docs/PROMISE.md"):

@@ -164,4 +164,5 @@ def main():
               f" {len(followed)} decoders of {length(followed)}, which a law gives")
 
 
-main()
+if __name__ == "__main__":
+    main()

@@ -1,4 +1,19 @@
 -- Requests in order, over one run of the file system.
+--
+-- A reader and a writer are made of segments by `Reader::new` and `Writer::new`, and `Writer::into_segments` gives
+-- the segments of a room back (`fuse_segments/src/reader.rt`, `writer.rt`).
+--
+-- Words of the toolchain's library, here and in the files that follow in the reading order of `docs/PROMISE.md`.
+-- Of lists: `drop n xs` is what `take n xs` leaves; `slice_index xs i` is item i, from 0 on, and 0 where there is
+-- none; `position p xs` is the place of the first item of which the test p holds; `sum xs`; `sum_by f xs` adds f of
+-- each item, and `count_by p xs` counts those of which p holds; `map f xs`, and `flat_map f xs`, whose lists are put
+-- in a row; `replicate n x` is n times x; `All P xs`: P of each item; `codes ".."` are the bytes of a text.
+-- Of options and results: `option_map f o`, `option_and_then f o`, `unwrap_or o x`, `ok_or o e`, `is_some o` are
+-- Rust's methods; `MatchOption o P Q` is P where o is None, and Q of what it has.
+-- Of numbers: `bit_and`, `bit_or` go by the bits; `cast_signed w32 n` and `cast_unsigned w32 z` have the same 32 bits;
+-- `next_multiple_of n m` is from n on; `as_nanos` is a time in nanoseconds; `min a b`.
+-- Tests are of `Bool`, and `not` is of these: `bytes_eq` and `int_eq` are `==` of lists and of `ℤ`; `IsTrue b` and
+-- `IsFalse b` are statements.
 use Rattle.std.specs.Prelude.{◌≡◌, ℕ, List, [], ◌∷◌, Option, None, Result, map}
 use Rattle.fuse_segments.specs.Unread.{Unread}
 use Rattle.fuse_segments.specs.Written.{Written, Leaves}
