@@ -9,16 +9,17 @@ use Rattle.door_calls.specs.Values.{IsFaultOf, attr_of, entry_out_for, statistic
 use Rattle.door_calls.specs.declared.data.AnswerData.{AnswerData}
 use Rattle.fuse_grammar.specs.Records.{size_of}
 
--- that many bytes of data can be in the reply to a READ of this size, for which there is this space
-pub record FitsData (size space count : ℕ) : Type 0 where
+-- that many bytes of data can be in the reply to a READ of this size, in a room of this length, which has the
+-- reply's header too
+pub record FitsData (size room_len count : ℕ) : Type 0 where
   pub asked_for : count ≤ size
-  pub room_for : size_of out_header + count ≤ space
+  pub room_for : size_of out_header + count ≤ room_len
   pub short : count < 2 ^ 32 - 16
 
 -- they can't
-abbrev pub IsTooMuch : (size space count : ℕ) → Type 0
-IsTooMuch size space count =
-    (size < count) ⊎ (space < size_of out_header + count) ⊎ (2 ^ 32 - 16 ≤ count)
+abbrev pub IsTooMuch : (size room_len count : ℕ) → Type 0
+IsTooMuch size room_len count =
+    (size < count) ⊎ (room_len < size_of out_header + count) ⊎ (2 ^ 32 - 16 ≤ count)
 
 -- the fault that was answered
 abbrev pub IsFailed : AnswerData → (fault : Option ℕ) → Type 0

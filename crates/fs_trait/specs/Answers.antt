@@ -55,7 +55,8 @@ abbrev pub read_answer : Result ℕ (Option ℕ) → List ℕ → Answer
 read_answer (Ok count) bytes = Put bytes
 read_answer (Err fault) bytes = Failed fault
 
--- the kinds of answers: which of them a call may have beside a fault
+-- the kinds of answers: which of them a call may have beside a fault. `kind_of` in Calls says which kind
+-- each call has, and `IsAnswer` below which answers are of it
 pub data Kind : Type 0 where
   -- none at all, and no fault either: there is no reply
   Quiet : Kind
@@ -108,8 +109,9 @@ FitsOpening handle opening = Fit (8 ∷ 4 ∷ 4 ∷ []) (unwrap_or handle 0 ∷ 
 abbrev pub FitsText : List ℕ → Type 0
 FitsText bytes = length bytes < 2 ^ 32 - 16
 
--- an answer of this kind, with its numbers in their widths in the reply: a fault is one of every kind but
--- `Quiet`; a time is in whole seconds and the nanoseconds beyond
+-- An answer of this kind, with its numbers in their widths in the reply: a fault is one of every kind but
+-- `Quiet`, and the only one of `Iterators` and `Faults`; a time is in whole seconds and the nanoseconds
+-- beyond. What begins with `Fit` says that numbers are within their widths, and nothing of a room.
 abbrev pub IsAnswer : Kind → Answer → Type 0
 IsAnswer Quiet Done = Unit {0}
 IsAnswer Quiet _ = ⊥

@@ -16,7 +16,9 @@ pub use Rattle.fs_trait.specs.Answers.{Kind, Quiet, Told, Untold, Data, Agreemen
 pub use Rattle.fs_trait.specs.Answers.{IsFault, FitsEntry, FitsOpening, FitsText, KeepsTextShort, Counts, IsAnswer}
 
 -- every call with its arguments as values: nodes, handles and groups by number, names as bytes,
--- options and other sets of flags as bits; READ has that much space for its bytes
+-- options and other sets of flags as bits; READ has that much space for its bytes, which is the room
+-- less the header of a reply. A READDIRPLUS is `Readdir`, and a `Lookup` of each
+-- item but `.` and `..`
 pub data Call : Type 0 where
   Lookup : (ctx : Context) (parent : ℕ) (name : List ℕ) → Call
   Forget : (ctx : Context) (inode count : ℕ) → Call

@@ -1,4 +1,6 @@
--- What a request asks, by its bytes alone: the table of the protocol.
+-- What a request asks, by its bytes alone: the table of the protocol. Begin with `ask`, the last
+-- definition, and `form_of`; then `Form` and `ask_form` of Forms. `call` is Calls, and the opcodes have
+-- their names in `fuse.h`.
 use Rattle.std.specs.Prelude.{ℕ, [], ◌∷◌, slice_index, ◌*◌, ◌==◌, ◌||◌, true, false, bit_and, bit_or, Bool, List, drop, nat_lt, not, if◌then◌else◌, Option, Some, None}
 use Rattle.fuse_flags.specs.Numbers.{enosys, opcode_of}
 use Rattle.fuse_flags.specs.Flags.{known_setattr_valid, known_setxattr_flags, setxattr_ext}

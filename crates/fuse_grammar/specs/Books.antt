@@ -87,7 +87,7 @@ nodes_after (Some opcode.Readdirplus) reply = nodes_in (drop (size_of out_header
 nodes_after _ reply = []
 
 -- the nodes that a reply delivers: none where its header says an error, in the four bytes from place
--- 4 on
+-- 4 on, after `len`
 abbrev pub delivered_nodes : Option Opcode → (reply : List ℕ) → List ℕ
 delivered_nodes opcode reply = if number 4 (drop 4 reply) == 0 then nodes_after opcode reply else []
 
@@ -109,7 +109,8 @@ delivered_by n opcode (Ok m) room_after =
     if m == 0 then 0 else times n (delivered_nodes opcode (take m room_after))
 delivered_by n opcode (Err error) room_after = 0
 
--- the forgets of a node in a request's bytes, if its outcome is `Ok 0`
+-- the forgets of a node in a request's bytes, if its outcome is `Ok 0`: a FORGET or BATCH_FORGET that was
+-- served has no reply, and one that is above a limit has a fault's
 abbrev pub accepted_by : (n : ℕ) → (request : List ℕ) → Result ℕ Error → ℕ
 accepted_by n request (Ok m) =
     if m == 0 then forgotten n (forgets_in (opcode_in request) request) else 0

@@ -31,17 +31,18 @@ pub data Ask : Type 0 where
 abbrev pub faulted : (number : ℕ) → InHeader → Ask
 faulted number h = Ends (Bytes (fault_reply (Some number) h.unique))
 
--- a part of a request that is at fault refuses it; otherwise the next part says what it asks
+-- a part of a request that is at fault refuses it; otherwise the next part says what it asks (`error_or`
+-- of Extensions is the same within a part)
 abbrev pub refused_or : {A : Type 0} → Result A Error → (next : A → Ask) → Ask
 refused_or (Err error) next = Ends (Refusal error)
 refused_or (Ok part) next = next part
 
--- what is above a limit is answered by the fault ENOMEM
+-- what is above a limit, by a test, is answered by the fault ENOMEM; what is within it asks this
 abbrev pub within : (above : Bool) → InHeader → (next : Ask) → Ask
 within above h next = if above then faulted enomem h else next
 
 -- the tail of a request, of what follows the header and a record of `size` bytes: `len` counts all
--- three, and the tail is what it leaves
+-- three, and the tail is what it leaves. `behind` is what comes after the record
 abbrev pub tail_of : InHeader → (size : ℕ) → (behind : List ℕ) → Result (List ℕ) Error
 tail_of h size behind =
     if nat_lt h.len (size_of in_header + size) then Err InvalidHeaderLength

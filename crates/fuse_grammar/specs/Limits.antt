@@ -3,7 +3,7 @@ use Rattle.std.specs.Prelude.{◌≤◌, ◌+◌, ◌-◌, ◌/◌, ℕ}
 use Rattle.fuse_flags.specs.declared.constants.TheConstants.{LEAST_MAX_BUFFER, GREATEST_MAX_BUFFER, DEFAULT_MAX_BUFFER}
 use Rattle.fuse_grammar.specs.declared.limits.Limits.{Limits}
 
--- the largest `len` of a request: the largest payload, and the 4096 bytes that may are before it
+-- the largest `len` of a request: the largest payload, and the 4096 bytes that may come before it
 abbrev pub max_len : Limits → ℕ
 max_len limits = limits.max_buffer + 4096
 

@@ -28,7 +28,7 @@ pub record Listing : Type 0 where
   pub offset : ℕ
   pub space : ℕ
 
--- ---- the record of an item
+-- ---- the record of an item: `.._len` is the length of `.._bytes`, without and with the entry
 
 -- how long the record of an item with a name of this length is, without an entry: a `Dirent`
 -- and the name, rounded up to a multiple of 8
@@ -138,7 +138,7 @@ module _ (ctx : Context) (parent : ℕ) where
   stop_events plus End = Taken None ∷ []
   stop_events plus (At l) = line_events plus l ++ given_back ctx (node_got l.got)
 
--- ---- records
+-- ---- records, by what their item got: a fault has none
 
 -- how long the record of an item is that got this
 abbrev pub len_of : Got → Item → ℕ

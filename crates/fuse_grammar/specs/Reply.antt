@@ -74,7 +74,7 @@ init_out_of limits max_readahead options = record version_out {
 }
 
 -- The body of the reply to an answer, by what it is: nothing where it says that something was done.
--- A fault has none, and that of INIT doesn't are in its answer alone.
+-- A fault has none, and INIT's is not of its answer alone: `reply_of` has it.
 abbrev pub body_of : Answer → List ℕ
 body_of Done = []
 body_of (Put bytes) = bytes

@@ -19,7 +19,7 @@ impl Limits {
     ghost use Rattle.fuse_grammar.specs.Limits.{AreLimits};
     ghost use Rattle.fuse_grammar.specs.Limits as limit;
 
-    /// The largest `len` of a request: the largest payload, and what may are before it.
+    /// The largest `len` of a request: the largest payload, and what may come before it.
     pub fn max_len(self) -> u32
         requires { AreLimits self }
         ensures { result ≡ limit.max_len self }

@@ -24,7 +24,7 @@ TailIsTogether h u layout =
     (h.len - (size_of in_header + layout_size layout)))
 
 -- of a request of this form that a reader has left, no memory is wanted for it: it has no tail and
--- no pairs; or its tail lies in one segment, and no context may are in it
+-- no pairs; or its tail lies in one segment, and no context can be in it
 abbrev pub WantsNone : InHeader → Unread → Form → Type 0
 WantsNone h u form =
     by_memory (Unit {0}) (λ R layout. TailIsTogether h u layout)

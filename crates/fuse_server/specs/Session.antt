@@ -28,7 +28,7 @@ use Rattle.fuse_server.specs.State.{ServerState}
 
 -- A request was served, by this turn, with these options before it and after it: the turn is of the
 -- bytes that its reader has left and of the room that its writer has left. The writer is left as the
--- turn says, and holds nothing.
+-- turn says, and holds nothing: a held place is one that a caller of a writer keeps to fill in later.
 pub record IsServed (limits : Limits) (options : ℕ) (reader : Unread) (writer : Written) (t : Turn)
     (writer_after : Written) (after : ℕ) : Type 0 where
   pub request : t.request ≡ reader.left

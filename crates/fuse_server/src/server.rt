@@ -203,6 +203,8 @@ impl<F: FileSystem> Server<F> {
 
     /// Handles requests in order, each by [`handle_message`](Server::handle_message): the k-th from
     /// the k-th reader, with the k-th writer, and its outcome goes to the k-th place of `outcomes`.
+    /// [`Reader::new`] and [`Writer::new`] make them of segments, and [`Writer::into_segments`] gives
+    /// those of a room back.
     /// An outcome of one request never ends the list, and no writer holds anything afterwards. It takes
     /// no memory of its own: a request that wants none, under the options before it, isn't refused for
     /// want of it.

@@ -8,7 +8,7 @@ unfoldable pub little : ℕ → ℕ → List ℕ
 little zero x = []
 little (suc n) x = x % 256 ∷ little n (x / 256)
 
--- the number that the first n bytes stand for, the lowest first
+-- the number that the first n bytes stand for, the lowest first; bytes that are not there count 0
 unfoldable pub number : ℕ → List ℕ → ℕ
 number zero bytes = 0
 number (suc n) [] = 0
