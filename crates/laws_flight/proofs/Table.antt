@@ -29,7 +29,7 @@ use Rattle.door_answer.specs.Told.{TellsEcho, TellsOffer, TellsCall}
 use Rattle.door_ask.specs.Asked.{IsAsked, IsTold, IsNameIn, IsContextPlaced, Stand, bytes_in, long_range, without_places, told_of, told_of_listing, interrupted_by, interrupted_or_none, unique_or_none}
 use Rattle.door_ask.specs.Asked.{Tells as TellsWith}
 use Rattle.door_ask.specs.declared.asked.Asked.TheVariants as asked
-use Rattle.laws_flight.specs.Table.{Tells, TellsAsked, TellsContext, AreOf, of_request, interrupted}
+use Rattle.laws_flight.specs.Table.{TellsByTable, TellsAsked, TellsContext, AreOf, of_request, interrupted}
 
 -- data with the places of others, and with what these were asked with
 abbrev with_places : (told x : CallData) → CallData
@@ -87,7 +87,7 @@ context_told q told None name value h = (name, value)
 context_told q told (Some context) name value h = h
 
 module _ (q : List ℕ) (options room : ℕ) (echo : Echo) (told : CallData) where
-  pub row : (c : Call) → IsTold q options room echo c told → Tells q told (of_request echo told) c
+  pub row : (c : Call) → IsTold q options room echo c told → TellsByTable q told (of_request echo told) c
   row (call.Lookup ctx parent name) is =
       (own_name told _ (placed told _ is.numbers), is.places)
   row (call.Forget ctx inode count) is =
@@ -196,7 +196,7 @@ from_row c echo told x h e n o = (
 )
 
 module _ (q : List ℕ) (echo : Echo) (told : CallData) where
-  pub tells_call : (c : Call) → Tells q told (of_request echo told) c → TellsEcho told echo × TellsCall told c
+  pub tells_call : (c : Call) → TellsByTable q told (of_request echo told) c → TellsEcho told echo × TellsCall told c
   tells_call (call.Lookup ctx parent name) h = from_row (call.Lookup ctx parent name) echo told _ h.0 (refl, refl) (refl, refl, refl) tt
   tells_call (call.Forget ctx inode count) h = from_row (call.Forget ctx inode count) echo told _ h (refl, refl) (refl, refl, refl) tt
   tells_call (call.Getattr ctx inode handle) h = from_row (call.Getattr ctx inode handle) echo told _ h (refl, refl) (refl, refl, refl) tt
@@ -326,7 +326,7 @@ fit_has : (told x : CallData) (n : ℕ) → without_places told ≡ record x { h
 fit_has told x n h e = h ∙ ap (λ (n : ℕ). let d : CallData = record x { has = n } in d) e
 
 module _ (q : List ℕ) (echo : Echo) (told : CallData) where
-  pub is_told : (c : Call) → Tells q told (of_request echo told) c → IsTold q told.options told.room echo c told
+  pub is_told : (c : Call) → TellsByTable q told (of_request echo told) c → IsTold q told.options told.room echo c told
   is_told (call.Lookup ctx parent name) h = record {
     numbers = fit_name told _ (ap without_places h.0) (name_range q told.name name h.1);
     places = h.1;

@@ -68,101 +68,101 @@ module _ (q : List ℕ) (told c : CallData) where
     has = bit kill_priv KILL_PRIV + (bit (is_some ext.context) CONTEXT + bit (is_some ext.group) GROUP);
   }
 
-  abbrev pub Tells : Call → Type 0
-  Tells (call.Lookup ctx parent name) =
+  abbrev pub TellsByTable : Call → Type 0
+  TellsByTable (call.Lookup ctx parent name) =
       (told ≡ record (by LOOKUP ENTRY ctx parent) { name = told.name }) × IsNameIn q told.name name
-  Tells (call.Forget ctx inode count) = told ≡ record (by FORGET QUIET ctx inode) { length = count }
-  Tells (call.Getattr ctx inode handle) =
+  TellsByTable (call.Forget ctx inode count) = told ≡ record (by FORGET QUIET ctx inode) { length = count }
+  TellsByTable (call.Getattr ctx inode handle) =
       told ≡ record (by GETATTR ATTR ctx inode) { handle = unwrap_or handle 0; has = bit (is_some handle) HANDLE }
-  Tells (call.Setattr ctx inode attr handle valid) =
+  TellsByTable (call.Setattr ctx inode attr handle valid) =
       told ≡ record (record (by SETATTR ATTR ctx inode) { attr = setattr_of attr; flags = valid })
       { handle = unwrap_or handle 0; has = bit (is_some handle) HANDLE }
-  Tells (call.Readlink ctx inode) = told ≡ by READLINK TEXT ctx inode
-  Tells (call.Symlink ctx text parent name ext) =
+  TellsByTable (call.Readlink ctx inode) = told ≡ by READLINK TEXT ctx inode
+  TellsByTable (call.Symlink ctx text parent name ext) =
       (told ≡ record (made (by SYMLINK ENTRY ctx parent) false ext) { other_name = told.other_name })
       × IsNameIn q told.name name × IsNameIn q told.other_name text × TellsContext q told ext.context
-  Tells (call.Mknod ctx inode name mode rdev umask ext) =
+  TellsByTable (call.Mknod ctx inode name mode rdev umask ext) =
       (told ≡ record (made (by MKNOD ENTRY ctx inode) false ext) { mode = mode; rdev = rdev; umask = umask })
       × IsNameIn q told.name name × TellsContext q told ext.context
-  Tells (call.Mkdir ctx parent name mode umask ext) =
+  TellsByTable (call.Mkdir ctx parent name mode umask ext) =
       (told ≡ record (made (by MKDIR ENTRY ctx parent) false ext) { mode = mode; umask = umask })
       × IsNameIn q told.name name × TellsContext q told ext.context
-  Tells (call.Unlink ctx parent name) =
+  TellsByTable (call.Unlink ctx parent name) =
       (told ≡ record (by UNLINK DONE ctx parent) { name = told.name }) × IsNameIn q told.name name
-  Tells (call.Rmdir ctx parent name) =
+  TellsByTable (call.Rmdir ctx parent name) =
       (told ≡ record (by RMDIR DONE ctx parent) { name = told.name }) × IsNameIn q told.name name
-  Tells (call.Rename ctx olddir oldname newdir newname flags) =
+  TellsByTable (call.Rename ctx olddir oldname newdir newname flags) =
       (told ≡ record (record (by RENAME DONE ctx olddir) { other_node = newdir; flags = flags })
       { name = told.name; other_name = told.other_name })
       × IsNameIn q told.name oldname × IsNameIn q told.other_name newname
-  Tells (call.Link ctx inode newparent newname) =
+  TellsByTable (call.Link ctx inode newparent newname) =
       (told ≡ record (by LINK ENTRY ctx inode) { other_node = newparent; name = told.name })
       × IsNameIn q told.name newname
-  Tells (call.Open ctx inode kill_priv flags) =
+  TellsByTable (call.Open ctx inode kill_priv flags) =
       told ≡ record (by OPEN OPENED ctx inode) { has = bit kill_priv KILL_PRIV; flags = flags }
-  Tells (call.Read ctx inode handle space size offset owner flags) =
+  TellsByTable (call.Read ctx inode handle space size offset owner flags) =
       told ≡ record (record (by READ DATA ctx inode) { handle = handle; size = size; offset = offset; flags = flags })
       { length = space; lock_owner = unwrap_or owner 0; has = bit (is_some owner) OWNER }
-  Tells (call.Write ctx inode handle bytes size offset owner delayed kill_priv flags) =
+  TellsByTable (call.Write ctx inode handle bytes size offset owner delayed kill_priv flags) =
       (told ≡ record (record (record (by WRITE WRITTEN ctx inode) { handle = handle; size = size; offset = offset })
       { «data» = told.data; flags = flags; lock_owner = unwrap_or owner 0 })
       { has = bit (is_some owner) OWNER + (bit delayed DELAYED + bit kill_priv KILL_PRIV) })
       × Stand q told.data bytes
-  Tells (call.Statfs ctx inode) = told ≡ by STATFS STATISTICS ctx inode
-  Tells (call.Release ctx inode flags handle flush flock_release owner) =
+  TellsByTable (call.Statfs ctx inode) = told ≡ by STATFS STATISTICS ctx inode
+  TellsByTable (call.Release ctx inode flags handle flush flock_release owner) =
       told ≡ record (record (by RELEASE DONE ctx inode) { handle = handle; flags = flags })
       { lock_owner = unwrap_or owner 0; has = bit (is_some owner) OWNER + (bit flush FLUSHES + bit flock_release FLOCK_RELEASE) }
-  Tells (call.Fsync ctx inode datasync handle) =
+  TellsByTable (call.Fsync ctx inode datasync handle) =
       told ≡ record (by FSYNC DONE ctx inode) { has = bit datasync DATASYNC; handle = handle }
-  Tells (call.Setxattr ctx inode name value flags extra) =
+  TellsByTable (call.Setxattr ctx inode name value flags extra) =
       (told ≡ record (record (by SETXATTR DONE ctx inode) { flags = flags; more = extra })
       { name = told.name; «data» = told.data })
       × IsNameIn q told.name name × Stand q told.data value
-  Tells (call.Getxattr ctx inode name size) =
+  TellsByTable (call.Getxattr ctx inode name size) =
       (told ≡ record (by GETXATTR TEXT_OR_COUNT ctx inode) { name = told.name; size = size })
       × IsNameIn q told.name name
-  Tells (call.Listxattr ctx inode size) = told ≡ record (by LISTXATTR TEXT_OR_COUNT ctx inode) { size = size }
-  Tells (call.Removexattr ctx inode name) =
+  TellsByTable (call.Listxattr ctx inode size) = told ≡ record (by LISTXATTR TEXT_OR_COUNT ctx inode) { size = size }
+  TellsByTable (call.Removexattr ctx inode name) =
       (told ≡ record (by REMOVEXATTR DONE ctx inode) { name = told.name }) × IsNameIn q told.name name
-  Tells (call.Flush ctx inode handle lock_owner) =
+  TellsByTable (call.Flush ctx inode handle lock_owner) =
       told ≡ record (by FLUSH DONE ctx inode) { handle = handle; lock_owner = lock_owner }
-  Tells (call.Init capable) = told ≡ record (asks INIT WANT) { length = capable }
-  Tells (call.Opendir ctx inode flags) = told ≡ record (by OPENDIR OPENED ctx inode) { flags = flags }
-  Tells (call.Readdir ctx inode handle size offset) =
+  TellsByTable (call.Init capable) = told ≡ record (asks INIT WANT) { length = capable }
+  TellsByTable (call.Opendir ctx inode flags) = told ≡ record (by OPENDIR OPENED ctx inode) { flags = flags }
+  TellsByTable (call.Readdir ctx inode handle size offset) =
       told ≡ record (by READDIR DIRECTORY ctx inode) { handle = handle; size = size; offset = offset }
-  Tells (call.Releasedir ctx inode flags handle) =
+  TellsByTable (call.Releasedir ctx inode flags handle) =
       told ≡ record (by RELEASEDIR DONE ctx inode) { flags = flags; handle = handle }
-  Tells (call.Fsyncdir ctx inode datasync handle) =
+  TellsByTable (call.Fsyncdir ctx inode datasync handle) =
       told ≡ record (by FSYNCDIR DONE ctx inode) { has = bit datasync DATASYNC; handle = handle }
-  Tells call.Getlk = told ≡ asks GETLK FAULT_OR_SILENCE
-  Tells call.Setlk = told ≡ asks SETLK FAULT_OR_SILENCE
-  Tells call.Setlkw = told ≡ asks SETLKW FAULT_OR_SILENCE
-  Tells (call.Access ctx inode mask) = told ≡ record (by ACCESS DONE ctx inode) { more = mask }
-  Tells (call.Create ctx parent name mode kill_priv flags umask ext) =
+  TellsByTable call.Getlk = told ≡ asks GETLK FAULT_OR_SILENCE
+  TellsByTable call.Setlk = told ≡ asks SETLK FAULT_OR_SILENCE
+  TellsByTable call.Setlkw = told ≡ asks SETLKW FAULT_OR_SILENCE
+  TellsByTable (call.Access ctx inode mask) = told ≡ record (by ACCESS DONE ctx inode) { more = mask }
+  TellsByTable (call.Create ctx parent name mode kill_priv flags umask ext) =
       (told ≡ record (made (by CREATE CREATED ctx parent) kill_priv ext) { mode = mode; flags = flags; umask = umask })
       × IsNameIn q told.name name × TellsContext q told ext.context
-  Tells call.Bmap = told ≡ asks BMAP FAULT_OR_SILENCE
-  Tells call.Destroy = told ≡ asks DESTROY QUIET
-  Tells call.Ioctl = told ≡ asks IOCTL FAULT_OR_SILENCE
-  Tells call.Poll = told ≡ asks POLL FAULT_OR_SILENCE
-  Tells call.NotifyReply = told ≡ asks NOTIFY_REPLY FAULT_OR_SILENCE
-  Tells (call.BatchForget ctx pairs) =
+  TellsByTable call.Bmap = told ≡ asks BMAP FAULT_OR_SILENCE
+  TellsByTable call.Destroy = told ≡ asks DESTROY QUIET
+  TellsByTable call.Ioctl = told ≡ asks IOCTL FAULT_OR_SILENCE
+  TellsByTable call.Poll = told ≡ asks POLL FAULT_OR_SILENCE
+  TellsByTable call.NotifyReply = told ≡ asks NOTIFY_REPLY FAULT_OR_SILENCE
+  TellsByTable (call.BatchForget ctx pairs) =
       (told ≡ record (by BATCH_FORGET QUIET ctx 0) { length = length pairs; «data» = told.data })
       × (told.data.len ≡ length pairs * size_of forget_one) × Spell q told.data pairs
-  Tells (call.Fallocate ctx inode handle mode offset length) =
+  TellsByTable (call.Fallocate ctx inode handle mode offset length) =
       told ≡ record (by FALLOCATE DONE ctx inode) { handle = handle; mode = mode; offset = offset; length = length }
-  Tells (call.Lseek ctx inode handle offset whence) =
+  TellsByTable (call.Lseek ctx inode handle offset whence) =
       told ≡ record (by LSEEK OFFSET ctx inode) { handle = handle; offset = offset; more = whence }
-  Tells (call.Copyfilerange ctx inode_in handle_in offset_in inode_out handle_out offset_out len flags) =
+  TellsByTable (call.Copyfilerange ctx inode_in handle_in offset_in inode_out handle_out offset_out len flags) =
       told ≡ record (record (by COPY WRITTEN ctx inode_in) { handle = handle_in; offset = offset_in; length = len })
       { other_node = inode_out; other_handle = handle_out; other_offset = offset_out; lock_owner = flags }
-  Tells (call.Syncfs ctx inode) = told ≡ by SYNCFS DONE ctx inode
-  Tells call.Tmpfile = told ≡ asks TMPFILE FAULT
+  TellsByTable (call.Syncfs ctx inode) = told ≡ by SYNCFS DONE ctx inode
+  TellsByTable call.Tmpfile = told ≡ asks TMPFILE FAULT
 
 -- What is asked for is a call, or a directory, and these data tell it.
 abbrev pub TellsAsked : (q : List ℕ) → (told : CallData) → Ask → Type 0
 TellsAsked q told (Ends reply) = ⊥
-TellsAsked q told (Asks echo call) = Tells q told (of_request echo told) call
+TellsAsked q told (Asks echo call) = TellsByTable q told (of_request echo told) call
 TellsAsked q told (Lists echo l) =
     told ≡ record (by q told (of_request echo told) READDIR DIRECTORY l.ctx l.parent)
     { handle = l.handle; size = l.size; offset = l.offset; has = bit l.plus PLUS }

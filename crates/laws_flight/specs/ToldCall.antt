@@ -4,7 +4,7 @@ use Rattle.fs_trait.specs.Calls.{Call}
 use Rattle.fuse_grammar.specs.Reply.{Echo}
 use Rattle.door_calls.specs.declared.call.CallData.{CallData}
 use Rattle.door_ask.specs.Asked.{IsTold}
-use Rattle.laws_flight.specs.Table.{Tells, of_request}
+use Rattle.laws_flight.specs.Table.{TellsByTable, of_request}
 
 -- Two calls that the same data tell, over the bytes of one request, are one call: no two calls have the same
 -- number, arguments, names and values.
@@ -17,10 +17,10 @@ ToldIsCall =
 abbrev pub TableSays : Type 0
 TableSays =
     (request : List ℕ) (echo : Echo) (call : Call) (told : CallData)
-    → (IsTold request told.options told.room echo call told ↔ Tells request told (of_request echo told) call)
+    → (IsTold request told.options told.room echo call told ↔ TellsByTable request told (of_request echo told) call)
 
 -- no two calls have a row with the same data
 abbrev pub TableIsCall : Type 0
 TableIsCall =
     (request : List ℕ) (one other : Echo) (a b : Call) (told : CallData)
-    → Tells request told (of_request one told) a → Tells request told (of_request other told) b → a ≡ b
+    → TellsByTable request told (of_request one told) a → TellsByTable request told (of_request other told) b → a ≡ b
