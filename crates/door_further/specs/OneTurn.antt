@@ -18,7 +18,7 @@ use Rattle.door_answer.specs.Told.{AnswersEachCall, AnswersEachListing}
 use Rattle.door_answer.specs.declared.answered.Answered.{Answered}
 use Rattle.door_ask.specs.Asked.{IsAsked}
 use Rattle.door_ask.specs.declared.asked.Asked.TheVariants as asked
-use Rattle.laws_flight.specs.OneTurn.{Happened}
+use Rattle.laws_flight.specs.OneTurn.{HappenedBetween}
 use Rattle.door_further.specs.Fitting.{answer_offered}
 use Rattle.door_further.specs.Further.{What, Ordinary, Short, Row, Unnamed, told_under, what_of}
 use Rattle.door_further.specs.Turns.{IsOfferedTurn, OfferedTurn, as_create, row_kind}
@@ -46,14 +46,14 @@ abbrev pub HappenedOffered : Limits → (options : ℕ) → (request : List ℕ)
     → (text : List ℕ) → (items : List ItemData) → (room : List ℕ) → Answered → List Event
     → Option (CallData × Answer) → Type 0
 HappenedOffered limits options request Ordinary told a text items room came events row =
-    (row ≡ None) × Happened limits (ask limits options (length room) request) a text items room came events
+    (row ≡ None) × HappenedBetween limits (ask limits options (length room) request) a text items room came events
 HappenedOffered limits options request Short told a text items room came events row = ⊥
 HappenedOffered limits options request (Row _) told a text items room came events row =
     (answer : Answer) × (row ≡ Some (told, answer)) × IsSaid a text room (row_kind told.answer) answer
     × (events ≡ []) × (came.given ≡ 0)
 HappenedOffered limits options request Unnamed told a text items room came events row =
     (row ≡ None)
-    × Happened limits (ask limits options (length room) (as_create request)) a text items room came events
+    × HappenedBetween limits (ask limits options (length room) (as_create request)) a text items room came events
 
 -- the turn of these bytes, this room and these events
 abbrev pub offered_turn : (offers : ℕ) → (request : List ℕ) → (old : Written) → List Event → Answered

@@ -23,7 +23,7 @@ use Rattle.door_answer.specs.Told.{TellsEcho, TellsOffer, TellsCall, CallIsAnswe
 use Rattle.door_answer.specs.declared.answered.Answered.{Answered}
 use Rattle.door_ask.specs.Asked.{IsAsked, IsTold, Tells, told_of_listing, length_of_call}
 use Rattle.door_ask.specs.declared.asked.Asked.TheVariants as asked
-use Rattle.laws_flight.specs.OneTurn.{Happened, IsAnsweredTurn, AreOneTurn, AreFinishedTurns}
+use Rattle.laws_flight.specs.OneTurn.{HappenedBetween, IsAnsweredTurn, AreOneTurn, AreFinishedTurns}
 use Rattle.laws_flight.proofs.Asking.{IsUsual, is_usual}
 
 -- what came back through a writer, as a reader of the room's bytes sees it
@@ -61,7 +61,7 @@ module _ (limits : Limits) (options : ℕ) (request : List ℕ) (a : AnswerData)
   record Turned (asks : Ask) : Type 0 where
     events : List Event
     room_after : List ℕ
-    happened : Happened limits asks a text items old.left came events
+    happened : HappenedBetween limits asks a text items old.left came events
     leaves : Leaves old room_after new
     follows : Follows (turn_of events room_after) limits options asks came.options
 
@@ -184,7 +184,7 @@ are_one_turn limits options request asked_in after told a text items old behind 
     record {
       events = t.events;
       room_after = t.room_after;
-      happened = subst (λ q. Happened limits q a text items (old.left ++ behind) came t.events) asks t.happened;
+      happened = subst (λ q. HappenedBetween limits q a text items (old.left ++ behind) came t.events) asks t.happened;
       leaves = t.leaves;
       turn = subst (λ q. Follows (turn_of limits options request a text items (with_after old behind) came (with_after new behind) t.events t.room_after) limits options q came.options) asks t.follows;
     }

@@ -35,19 +35,19 @@ pub record AreOfItems (l : Listing) (a : AnswerData) (items : List ItemData) (ta
 -- What happened between ask and answer, of a request that asks this: the call that was told, with the
 -- answer that the data say; and after it, that the entry which is told to be given back was given back.
 -- Or that the directory was read from the items that were offered.
-abbrev pub Happened : Limits → Ask → AnswerData → (text : List ℕ) → (items : List ItemData)
+abbrev pub HappenedBetween : Limits → Ask → AnswerData → (text : List ℕ) → (items : List ItemData)
     → (room : List ℕ) → Answered → List Event → Type 0
-Happened limits (Ends reply) a text items room came events = ⊥
-Happened limits (Asks echo call) a text items room came events =
+HappenedBetween limits (Ends reply) a text items room came events = ⊥
+HappenedBetween limits (Asks echo call) a text items room came events =
     (answer : Answer) × (back : Option ℕ)
     × IsSaid a text room (kind_of call) answer
     × (back ≡ unseen (length room) (reply_of limits echo came.options (kind_of call) answer)
     (node_answered (kind_of call) answer))
     × (came.given ≡ unwrap_or back 0)
     × (events ≡ Called call answer ∷ given_back echo.ctx back)
-Happened limits (Lists echo l) a text items room came events = AreOfItems l a items came.taken events
-Happened limits (WithMemory rest) a text items room came events =
-    Happened limits rest a text items room came events
+HappenedBetween limits (Lists echo l) a text items room came events = AreOfItems l a items came.taken events
+HappenedBetween limits (WithMemory rest) a text items room came events =
+    HappenedBetween limits rest a text items room came events
 
 -- A turn of the grammar, of these bytes and this room, under the options that the request was asked with.
 pub record IsAnsweredTurn (limits : Limits) (options : ℕ) (request : List ℕ) (a : AnswerData)
@@ -55,7 +55,7 @@ pub record IsAnsweredTurn (limits : Limits) (options : ℕ) (request : List ℕ)
   pub events : List Event
   pub room_after : List ℕ
   pub happened :
-      Happened limits (ask limits options (length old.left) request) a text items old.left came events
+      HappenedBetween limits (ask limits options (length old.left) request) a text items old.left came events
   pub leaves : Leaves old room_after new
   pub turn : IsTurn limits options (record {
     request = request;

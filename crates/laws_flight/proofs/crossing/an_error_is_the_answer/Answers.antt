@@ -5,7 +5,7 @@ use Rattle.fuse_grammar.specs.Forms.{Ask}
 use Rattle.fuse_grammar.specs.Listing.{given_back}
 use Rattle.door_calls.specs.declared.data.AnswerData.{AnswerData}
 use Rattle.door_answer.specs.Said.{IsSaid, IsFailed}
-use Rattle.laws_flight.specs.OneTurn.{Happened}
+use Rattle.laws_flight.specs.OneTurn.{HappenedBetween}
 use Rattle.laws_flight.proofs.crossing.an_error_is_the_answer.Goals as goal
 
 module _ (a : AnswerData) (text room : List ℕ) (some : a.error ≢ pos 0) where
@@ -28,7 +28,7 @@ module _ (a : AnswerData) (text room : List ℕ) (some : a.error ≢ pos 0) wher
 
 pub returns : goal.returns
 returns c limits options request a text items old came new echo ctx inode handle asks some t =
-    let h = subst (λ (q : Ask). Happened limits q a text items old.left came t.events) asks t.happened in
+    let h = subst (λ (q : Ask). HappenedBetween limits q a text items old.left came t.events) asks t.happened in
     let s = said a text old.left some h.0 h.2 in
     let none : h.1 ≡ None = h.3 in (
       s.0,

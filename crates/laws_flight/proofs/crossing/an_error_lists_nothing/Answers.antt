@@ -6,7 +6,7 @@ use Rattle.fuse_grammar.specs.Words.{IsRead}
 use Rattle.door_calls.specs.declared.data.AnswerData.{AnswerData}
 use Rattle.door_calls.specs.declared.data.ItemData.{ItemData}
 use Rattle.door_answer.specs.Listing.{IsOfferedBy}
-use Rattle.laws_flight.specs.OneTurn.{Happened}
+use Rattle.laws_flight.specs.OneTurn.{HappenedBetween}
 use Rattle.laws_flight.proofs.crossing.an_error_lists_nothing.Goals as goal
 
 none_taken : (a : AnswerData) (items : List ItemData) (l : Listing) (events : List Event) (records : List ℕ)
@@ -17,5 +17,5 @@ none_taken a items l events records answer (inr opened) taken some offered = abs
 
 pub returns : goal.returns
 returns c limits options request a text items old came new echo l lists some t =
-    let h = subst (λ (q : Ask). Happened limits q a text items old.left came t.events) lists t.happened in
+    let h = subst (λ (q : Ask). HappenedBetween limits q a text items old.left came t.events) lists t.happened in
     none_taken a items l t.events h.records h.answer h.read came.taken some h.offered
