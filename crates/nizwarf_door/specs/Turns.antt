@@ -24,7 +24,7 @@ use Rattle.nizwarf_door.specs.declared.data.ToldData.{ToldData}
 module _ (limits : Limits) (options : ℕ) (request : List ℕ) (room : ℕ) (code : ℤ) (call : CallData)
     (told told_after : ToldData) (shown : List ℕ) where
   -- The call that the request asks for is told, with the options and the room that it was asked with.
-  pub record TellsCall : Type 0 where
+  pub record TellsItsCall : Type 0 where
     pub code_is : code ≡ is_asked
     pub is_of : AreOf limits request call
     pub same_options : call.options ≡ options
@@ -51,7 +51,7 @@ module _ (limits : Limits) (options : ℕ) (request : List ℕ) (room : ℕ) (co
 
   -- what comes of asking: one of these, or it was not asked
   abbrev pub IsAskedOrNot : Type 0
-  IsAskedOrNot = TellsCall ⊎ Finishes ⊎ IsNotAsked request code call told told_after shown
+  IsAskedOrNot = TellsItsCall ⊎ Finishes ⊎ IsNotAsked request code call told told_after shown
 
 module _ (a : AnswerData) (text : List ℕ) (items : List ItemData) where
   -- What happened since the request was asked, which asks this: the call, with the answer that the data say, and that
