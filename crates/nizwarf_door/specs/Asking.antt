@@ -37,7 +37,7 @@ IsPassedOn (asked.Finished outcome interrupts) before after code told told_after
 
 -- The request was asked, as the grammar says, with a writer that had that many bytes left. A call that is
 -- asked for is in `call_after`.
-pub record Asks (limits : Limits) (options : ℕ) (request : List ℕ) (room : ℕ) (code : ℤ)
+pub record AsksOver (limits : Limits) (options : ℕ) (request : List ℕ) (room : ℕ) (code : ℤ)
     (call_after : CallData) (told told_after : ToldData) (shown : List ℕ) : Type 0 where
   pub before : Written
   pub space : length before.left ≡ room
@@ -59,7 +59,7 @@ pub record IsNotAsked (request : List ℕ) (code : ℤ) (call_after : CallData) 
 abbrev pub AsksOrNot : (limits : Limits) → (options : ℕ) → (request : List ℕ) → (room : ℕ)
     → (code : ℤ) → (call_after : CallData) → (told told_after : ToldData) → (shown : List ℕ) → Type 0
 AsksOrNot limits options request room code call_after told told_after shown =
-    Asks limits options request room code call_after told told_after shown
+    AsksOver limits options request room code call_after told told_after shown
     ⊎ IsNotAsked request code call_after told told_after shown
 
 -- a reader of all bytes of a request that lies in these segments
