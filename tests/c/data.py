@@ -92,10 +92,10 @@ CALLED = {"no_memory": "OUT_OF_MEMORY", "is_asked": "ASKED"}
 CODE = dict(re.findall(r"^abbrev pub (\w+) : ℤ\n\1 = pos (\d+)$", CODES, re.M))
 for name, value in CODE.items():
     hold_number([f"NIZWARF_{CALLED.get(name, name.upper())}"], value, "a code")
-for error, value in re.findall(r"^number_of \((?:Err )?\(?(\w+)[^=]*\) = (?:pos )?(\w+)$", CODES, re.M):
+for error, value in re.findall(r"^outcome_code \((?:Err )?\(?(\w+)[^=]*\) = (?:pos )?(\w+)$", CODES, re.M):
     plain = "ok" if error == "Ok" else error.lower()
     hold_number([it for it in sorted(NAMES) if it[len("NIZWARF_"):].replace("_", "").lower() == plain],
-                CODE.get(value, value), f"number_of {error}")
+                CODE.get(value, value), f"outcome_code {error}")
 
 # ---- definitions
 

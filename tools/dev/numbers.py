@@ -106,7 +106,7 @@ hold(CALLS, CALL, NAMES, {SHORT.get(it, it): n for it, n in {**NUMBER, **BEYOND}
 for at, bit in enumerate(HAS.values()):
     if bit != 1 << at:
         faults.append(f"{CALLS}: the bits of `has` are not one after another")
-said = part(CODES, "number_of : ", r"\n\n")
+said = part(CODES, "outcome_code : ", r"\n\n")
 CODE = {"OK": 0, "NULL": 14}
 for name, n in re.findall(r"\(Err \(?(\w+).*\) = (pos \d+|no_memory)", said):
     CODE[re.sub(r"(?<=[a-z])(?=[A-Z2])|(?<=C)(?=String)", "_", name).upper()] = 10 if n == "no_memory" else int(n[4:])

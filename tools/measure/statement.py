@@ -117,7 +117,7 @@ def is_held(specs, it):
     of a record by the names of its fields, or a record of zeros."""
     text = specs.of[it[0]][it[1]].text
     if it[0] == "c_rooms.specs.Codes":
-        return it[1] == "number_of" or bool(re.match(r"abbrev pub \w+ : ℤ\n\w+ = pos \d+$", text.strip()))
+        return it[1] == "outcome_code" or bool(re.match(r"abbrev pub \w+ : ℤ\n\w+ = pos \d+$", text.strip()))
     if it[0].startswith("door_calls"):
         return bool(re.match(COPIED, text.strip()) or re.match(ZEROS, text.strip()))
     if it[0].startswith("fuse_wire"):

@@ -1,6 +1,6 @@
 -- The numbers that C sees of what a call came to. Those of a request's outcome are 0, where it was
 -- answered, and 1 to 10, by the error. Of the door's promise only `length_of` is to be read: `tests/c/data.py`
--- compiles the codes and `number_of` against `nizwarf.h`.
+-- compiles the codes and `outcome_code` against `nizwarf.h`.
 use Rattle.std.specs.Prelude.{ℕ, ℤ, pos, nat_lt, if◌then◌else◌, Result, Ok, Err}
 use Rattle.fuse_grammar.specs.declared.error.Error.{Error}
 use Rattle.fuse_grammar.specs.declared.error.Error.TheVariants.{DecodeMessage, EncodeMessage, FlushMessage, MissingParameter, InvalidCString, InvalidCString2, InvalidHeaderLength, InvalidXattrSize, MissingExtension, OutOfMemory}
@@ -34,18 +34,18 @@ abbrev pub not_asked : ℤ
 not_asked = pos 16
 
 -- the number of an outcome
-abbrev pub number_of : Result ℕ Error → ℤ
-number_of (Ok len) = ok
-number_of (Err DecodeMessage) = pos 1
-number_of (Err EncodeMessage) = pos 2
-number_of (Err FlushMessage) = pos 3
-number_of (Err MissingParameter) = pos 4
-number_of (Err InvalidCString) = pos 5
-number_of (Err InvalidCString2) = pos 6
-number_of (Err InvalidHeaderLength) = pos 7
-number_of (Err (InvalidXattrSize sizes)) = pos 8
-number_of (Err MissingExtension) = pos 9
-number_of (Err OutOfMemory) = no_memory
+abbrev pub outcome_code : Result ℕ Error → ℤ
+outcome_code (Ok len) = ok
+outcome_code (Err DecodeMessage) = pos 1
+outcome_code (Err EncodeMessage) = pos 2
+outcome_code (Err FlushMessage) = pos 3
+outcome_code (Err MissingParameter) = pos 4
+outcome_code (Err InvalidCString) = pos 5
+outcome_code (Err InvalidCString2) = pos 6
+outcome_code (Err InvalidHeaderLength) = pos 7
+outcome_code (Err (InvalidXattrSize sizes)) = pos 8
+outcome_code (Err MissingExtension) = pos 9
+outcome_code (Err OutOfMemory) = no_memory
 
 -- the length of the reply, 0 where there is none
 abbrev pub length_of : Result ℕ Error → ℕ

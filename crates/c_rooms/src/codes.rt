@@ -1,7 +1,7 @@
 //! The numbers that C sees of what a call came to.
 
 ghost use Rattle.std.specs.Prelude.{◌≡◌, Err};
-ghost use Rattle.c_rooms.specs.Codes.{number_of, shown_of};
+ghost use Rattle.c_rooms.specs.Codes.{outcome_code, shown_of};
 
 use fuse_grammar::Error;
 
@@ -32,7 +32,7 @@ const HEADER_SIZE: usize = 16;
 /// The number of an error, and how many bytes of a room of `total` are there to be copied out after
 /// it.
 pub fn told(error: &Error, total: usize) -> (i32, usize)
-    ensures number { result.0 ≡ number_of (Err error.now) }
+    ensures number { result.0 ≡ outcome_code (Err error.now) }
     ensures shown { result.1 ≡ shown_of (Err error.now) total }
 {
     match error {

@@ -17,7 +17,7 @@ use Rattle.door_answer.specs.Kinds.{kind_told}
 use Rattle.door_answer.specs.Answering.{Answers, AnswersCall, can_answer, echo_told}
 use Rattle.door_answer.specs.Told.{AnswersEachCall, AnswersEachListing}
 use Rattle.door_answer.specs.declared.answered.Answered.{Answered}
-use Rattle.c_rooms.specs.Codes.{number_of, length_of}
+use Rattle.c_rooms.specs.Codes.{outcome_code, length_of}
 use Rattle.nizwarf_door.specs.Answering.{AnswersOrNot}
 use Rattle.nizwarf_door.specs.Kept.{HasRoomFor, put_of}
 use Rattle.nizwarf_door.specs.Shown.{shown_of}
@@ -131,7 +131,7 @@ module _ (limits : Limits) (call : CallData) (a : AnswerData) (text : List ℕ) 
   -- it was answered
   pub told_answered : (code : ℤ) (start len put : ℕ) (came : Answered)
       → Clauses result → result ≡ Some came → start ≡ length before.passed → length before.lengths ≡ 1
-      → code ≡ number_of came.outcome → len ≡ length_of came.outcome → put ≡ put_of call len
+      → code ≡ outcome_code came.outcome → len ≡ length_of came.outcome → put ≡ put_of call len
       → AnswersOrNot limits call a text items code told (told_by told came len put)
       (shown_of after.lengths (whole after) start put)
   told_answered code start len put came clauses some_is at one number length_is put_is =

@@ -21,7 +21,7 @@ use Rattle.door_ask.specs.Memory.{MayWant}
 use Rattle.door_ask.specs.Asked.{IsAsked, LiesWithin, Tells, interrupted_by}
 use Rattle.door_ask.specs.declared.asked.Asked.{Asked}
 use Rattle.door_ask.specs.declared.asked.Asked.TheVariants as asked
-use Rattle.c_rooms.specs.Codes.{is_asked, length_of, no_memory, number_of}
+use Rattle.c_rooms.specs.Codes.{is_asked, length_of, no_memory, outcome_code}
 use Rattle.nizwarf_door.specs.Asking.{AsksOrNot, unread_in}
 use Rattle.nizwarf_door.specs.Kept.{HasFor, HasRoomFor, HoldsAnswer, HoldsFor, TellsOrNot, put_of}
 use Rattle.nizwarf_door.specs.declared.data.ToldData.{ToldData}
@@ -69,7 +69,7 @@ want_same limits options room u segments left pieces want =
     (subst (λ (q : List ℕ). MayWant limits options room (record { left = q; taken = 0; pieces = u.pieces })) left want)
 
 -- an outcome that isn't for want of memory has another number
-pub other_number : (outcome : Result ℕ Error) → outcome ≢ Err OutOfMemory → number_of outcome ≡ no_memory → ⊥
+pub other_number : (outcome : Result ℕ Error) → outcome ≢ Err OutOfMemory → outcome_code outcome ≡ no_memory → ⊥
 other_number (Ok len) other is = cc
 other_number (Err error.OutOfMemory) other is = other refl
 other_number (Err error.DecodeMessage) other is = cc
@@ -147,7 +147,7 @@ module _ (limits : Limits) (options : ℕ) (request : List ℕ) (room : ℕ) (ca
   pub told_finished : (code : ℤ) (start len : ℕ) (outcome : Result ℕ Error) (interrupts : ℕ)
       → result ≡ asked.Finished outcome interrupts
       → start ≡ length before.passed → length before.lengths ≡ 1
-      → code ≡ number_of outcome → len ≡ length_of outcome
+      → code ≡ outcome_code outcome → len ≡ length_of outcome
       → AsksOrNot limits options request room code call_after told (told_by told len interrupts)
       (shown_of after.lengths (whole after) start len)
   told_finished code start len outcome interrupts finished at one number length_is =
@@ -208,7 +208,7 @@ held_for code call call_after slot (inl t) asks = subst (λ (c : CallData). Hold
 held_for code call call_after slot (inr n) asks = absurd (let e = n.0 in cc)
 
 -- no outcome has the number of a call
-pub no_call : (outcome : Result ℕ Error) → number_of outcome ≡ is_asked → ⊥
+pub no_call : (outcome : Result ℕ Error) → outcome_code outcome ≡ is_asked → ⊥
 no_call (Ok len) is = cc
 no_call (Err error.DecodeMessage) is = cc
 no_call (Err error.EncodeMessage) is = cc

@@ -30,7 +30,7 @@ use Rattle.door_ask.specs.declared.checked.Checked.TheVariants as checked
 use Rattle.door_answer.proofs.Using.{agrees, in_room}
 use Rattle.door_answer.specs.Told.{CallIsAnswered, IsShort, TellsCall, TellsEcho}
 use Rattle.door_answer.specs.declared.answered.Answered.{Answered}
-use Rattle.c_rooms.specs.Codes.{ok, no_memory, too_long, is_asked, number_of, length_of}
+use Rattle.c_rooms.specs.Codes.{ok, no_memory, too_long, is_asked, outcome_code, length_of}
 use Rattle.nizwarf_door.specs.Answering.{AnswersOrNot, IsPassedOn}
 use Rattle.nizwarf_door.specs.Asking.{AsksOrNot, IsPassedOn as IsAskedOn}
 use Rattle.nizwarf_door.specs.Checking.{Checks, checked_code, interrupts_of}
@@ -63,7 +63,7 @@ finished_so i before after (asked.Finished outcome n) call code told told_after 
     let len : length_of outcome ≡ 16 = ap length_of fits in
     let bytes : shown ≡ not_served_reply =
     first_of before after _ shown w.room_after on.2 w.leaves.kept ∙ ap (λ (k : ℕ). take k w.room_after) len ∙ first in
-    (f.2, inl (on.0 ∙ ap number_of fits, bytes, ap (λ (t : ToldData). t.len) on.1 ∙ len, ap (λ (t : ToldData). t.put) on.1 ∙ len))
+    (f.2, inl (on.0 ∙ ap outcome_code fits, bytes, ap (λ (t : ToldData). t.len) on.1 ∙ len, ap (λ (t : ToldData). t.put) on.1 ∙ len))
 
 pub not_served : (request : List ℕ) (code : ℤ) (call : CallData) (told told_after : ToldData) (shown : List ℕ)
     → request ≡ request_of_99 → AsksOrNot limits 0 request 4096 code call told told_after shown
@@ -96,7 +96,7 @@ none_told wanted q options i room (WithMemory rest) before after outcome n call 
 none_told wanted q options i room (WithMemory rest) before after outcome n call (inr t) = t.1.2
 
 -- no outcome is told by the code of pieces that are too long
-never_long : (outcome : Result ℕ Error) → number_of outcome ≡ too_long → ⊥
+never_long : (outcome : Result ℕ Error) → outcome_code outcome ≡ too_long → ⊥
 never_long (Ok len) is = cc
 never_long (Err error.DecodeMessage) is = cc
 never_long (Err error.EncodeMessage) is = cc

@@ -30,7 +30,7 @@ use Rattle.door_answer.specs.Said.{IsSaid}
 use Rattle.door_answer.specs.Told.{TellsEcho, TellsCall, CallIsAnswered}
 use Rattle.door_answer.specs.declared.answered.Answered.{Answered}
 use Rattle.door_answer.proofs.Using.{in_room}
-use Rattle.c_rooms.specs.Codes.{ok, no_memory, is_asked, number_of, length_of}
+use Rattle.c_rooms.specs.Codes.{ok, no_memory, is_asked, outcome_code, length_of}
 use Rattle.nizwarf_door.specs.Answering.{AnswersIn, AnswersOrNot, IsPassedOn}
 use Rattle.nizwarf_door.specs.Asking.{AsksOrNot, IsPassedOn as IsAskedOn}
 use Rattle.nizwarf_door.specs.Kept.{put_of}
@@ -90,7 +90,7 @@ by_asked i space before after result call code told told_after shown room is (in
     subst (λ (n : ℕ). IsTold lookup_of_a 0 n echo lookup call) (is ∙ room) t.1 in
     inl (p.0, told_lookup call told_is, p.1, p.2)
 by_asked i space before after (asked.Finished outcome n) call code told told_after shown r is (inr t) on =
-    inr (on.0 ∙ ap number_of t.1.0.0)
+    inr (on.0 ∙ ap outcome_code t.1.0.0)
 by_asked i space before after asked.Call call code told told_after shown room is (inr t) on = absurd t.1
 
 pub looked_up : (request : List ℕ) (code : ℤ) (call_after : CallData) (told told_after : ToldData)
@@ -237,7 +237,7 @@ found_by a text room _ none h = absurd h.1
 
 -- a reply that was put, or cut, wants no memory
 put_or_cut : (reply room : List ℕ) (fits : Bool) → nat_le (length reply) (length room) ≡ fits
-    → number_of (put_outcome reply room) ≡ no_memory → ⊥
+    → outcome_code (put_outcome reply room) ≡ no_memory → ⊥
 put_or_cut reply room true fits is = let e : ok ≡ no_memory = rw fits at is in cc
 put_or_cut reply room false fits is = let e : pos 2 ≡ no_memory = rw fits at is in cc
 
@@ -252,7 +252,7 @@ no_want call a text before after (Some came) code told told_after shown fine h o
     let w : Came came.options (Found found.0) before came.outcome after =
     subst (λ (x : Answer). Came came.options x before came.outcome after) found.1 h.replied in
     put_or_cut (body_reply (bytes_of entry_out (entry_out_of found.0)) echo.unique) before.left _ refl
-    (sym (ap number_of w.says.says) ∙ sym on.0 ∙ want)
+    (sym (ap outcome_code w.says.says) ∙ sym on.0 ∙ want)
 
 pub entry_back : (call : CallData) (a : AnswerData) (text : List ℕ) (items : List ItemData) (node : ℕ)
     (code : ℤ) (told told_after : ToldData) (shown : List ℕ) → IsLookupOfA call → a.error ≡ pos 0

@@ -18,7 +18,7 @@ use Rattle.door_further.specs.Turns.{as_create}
 use Rattle.door_further.specs.Further.{What, Ordinary, Short, Row, Unnamed, Tells, told_under, what_after, what_of}
 use Rattle.door_further.specs.declared.row.Further.{Further}
 use Rattle.door_further.specs.declared.row.Further.TheVariants as further
-use Rattle.c_rooms.specs.Codes.{is_asked, no_memory, number_of}
+use Rattle.c_rooms.specs.Codes.{is_asked, no_memory, outcome_code}
 use Rattle.nizwarf_door.specs.Asking.{AsksOrNot, finished}
 use Rattle.nizwarf_door.specs.Checking.{Checks, IsWhole}
 use Rattle.nizwarf_door.specs.Further.{AsksOffered, ChecksOffered, HoldsOffered, MayWantOffered, named}
@@ -41,7 +41,7 @@ module _ (limits : Limits) (options : ℕ) (q : List ℕ) (room : ℕ) (old mid 
     ordinary Unnamed is t asks = absurd (let e = sym t.0 ∙ is in cc)
 
     pub short : (what : What) → result ≡ further.Short → Told what
-        → code ≡ number_of (Err DecodeMessage) → call_after ≡ nothing
+        → code ≡ outcome_code (Err DecodeMessage) → call_after ≡ nothing
         → told_after ≡ finished (Err DecodeMessage) 0 told → shown ≡ []
         → AsksOffered limits options q room what code call_after told told_after shown
     short Short is t code_is call_is told_is none = (code_is, call_is, told_is, none)
@@ -113,7 +113,7 @@ module _ (limits : Limits) (options : ℕ) (q : List ℕ) (room : ℕ) (old mid 
   checks_ordinary code call_after n (Row row) is t checks = absurd (let e = sym t.0 ∙ is in cc)
   checks_ordinary code call_after n Unnamed is t checks = absurd (let e = sym t.0 ∙ is in cc)
 
-  pub checks_short : (code : ℤ) (what : What) → result ≡ further.Short → Told what → code ≡ number_of (Err DecodeMessage)
+  pub checks_short : (code : ℤ) (what : What) → result ≡ further.Short → Told what → code ≡ outcome_code (Err DecodeMessage)
       → ChecksOffered limits options q room what code nothing 0
   checks_short code Short is t code_is = (code_is, refl, refl)
   checks_short code Ordinary is t code_is = absurd (let e = sym t.0 ∙ is in cc)

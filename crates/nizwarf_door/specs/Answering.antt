@@ -12,7 +12,7 @@ use Rattle.door_answer.specs.Kinds.{kind_told}
 use Rattle.door_answer.specs.Answering.{Answers}
 use Rattle.door_answer.specs.Told.{AnswersEachCall, AnswersEachListing}
 use Rattle.door_answer.specs.declared.answered.Answered.{Answered}
-use Rattle.c_rooms.specs.Codes.{no_memory, not_asked, number_of, length_of}
+use Rattle.c_rooms.specs.Codes.{no_memory, not_asked, outcome_code, length_of}
 use Rattle.nizwarf_door.specs.Kept.{put_of}
 use Rattle.nizwarf_door.specs.Shown.{AreFirst}
 use Rattle.nizwarf_door.specs.declared.data.ToldData.{ToldData}
@@ -40,7 +40,7 @@ abbrev pub IsPassedOn : Option Answered → CallData → (before after : Written
 IsPassedOn None call before after code told told_after shown =
     (code ≡ not_asked) × (told_after ≡ told) × (shown ≡ [])
 IsPassedOn (Some came) call before after code told told_after shown =
-    (code ≡ number_of came.outcome)
+    (code ≡ outcome_code came.outcome)
     × (told_after ≡ answered call came told)
     × AreFirst (put_of call (length_of came.outcome)) before after shown
 

@@ -12,7 +12,7 @@ use Rattle.door_calls.specs.declared.call.CallData.{CallData}
 use Rattle.door_ask.specs.Asked.{IsAsked}
 use Rattle.door_ask.specs.declared.asked.Asked.{Asked}
 use Rattle.door_ask.specs.declared.asked.Asked.TheVariants as asked
-use Rattle.c_rooms.specs.Codes.{no_memory, too_long, is_asked, number_of, length_of}
+use Rattle.c_rooms.specs.Codes.{no_memory, too_long, is_asked, outcome_code, length_of}
 use Rattle.nizwarf_door.specs.Shown.{AreFirst}
 use Rattle.nizwarf_door.specs.declared.data.ToldData.{ToldData}
 
@@ -31,7 +31,7 @@ abbrev pub IsPassedOn : Asked → (before after : Written) → (code : ℤ) → 
 IsPassedOn asked.Call before after code told told_after shown =
     (code ≡ is_asked) × (told_after ≡ told) × (shown ≡ [])
 IsPassedOn (asked.Finished outcome interrupts) before after code told told_after shown =
-    (code ≡ number_of outcome)
+    (code ≡ outcome_code outcome)
     × (told_after ≡ finished outcome interrupts told)
     × AreFirst (length_of outcome) before after shown
 

@@ -7,13 +7,13 @@ use Rattle.door_calls.specs.declared.call.CallData.{CallData}
 use Rattle.door_ask.specs.Checked.{IsChecked}
 use Rattle.door_ask.specs.declared.checked.Checked.{Checked}
 use Rattle.door_ask.specs.declared.checked.Checked.TheVariants as checked
-use Rattle.c_rooms.specs.Codes.{ok, is_asked, number_of}
+use Rattle.c_rooms.specs.Codes.{ok, is_asked, outcome_code}
 
 -- the code of what a request is
 abbrev pub checked_code : Checked → ℤ
 checked_code checked.Call = is_asked
 checked_code (checked.Finished interrupts) = ok
-checked_code (checked.Refused error) = number_of (Err error)
+checked_code (checked.Refused error) = outcome_code (Err error)
 
 -- the request that it interrupts, and 0 where it interrupts none
 abbrev pub interrupts_of : Checked → ℕ

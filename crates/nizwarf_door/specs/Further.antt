@@ -15,7 +15,7 @@ use Rattle.door_ask.specs.WithOpcode.{unread_with_opcode}
 use Rattle.door_further.specs.Further.{What, Ordinary, Short, Row, Unnamed, told_under}
 use Rattle.door_further.specs.OneTurn.{named_tmpfile}
 use Rattle.door_further.specs.Turns.{as_create}
-use Rattle.c_rooms.specs.Codes.{is_asked, number_of}
+use Rattle.c_rooms.specs.Codes.{is_asked, outcome_code}
 use Rattle.nizwarf_door.specs.Asking.{AsksOrNot, finished}
 use Rattle.nizwarf_door.specs.Checking.{Checks}
 use Rattle.nizwarf_door.specs.Kept.{HoldsAnswer, HoldsFor, TellsOrNot}
@@ -33,7 +33,7 @@ abbrev pub AsksOffered : Limits → (options : ℕ) → (request : List ℕ) →
 AsksOffered limits options q room Ordinary code call_after told told_after shown =
     AsksOrNot limits options q room code call_after told told_after shown
 AsksOffered limits options q room Short code call_after told told_after shown =
-    (code ≡ number_of (Err DecodeMessage)) × (call_after ≡ nothing)
+    (code ≡ outcome_code (Err DecodeMessage)) × (call_after ≡ nothing)
     × (told_after ≡ finished (Err DecodeMessage) 0 told) × (shown ≡ [])
 AsksOffered limits options q room (Row row) code call_after told told_after shown =
     TellsOrNot code (told_under options room row) call_after ⊤ × (told_after ≡ told) × (shown ≡ [])
@@ -63,7 +63,7 @@ abbrev pub ChecksOffered : Limits → (options : ℕ) → (request : List ℕ) �
 ChecksOffered limits options q room Ordinary code call interrupts =
     Checks limits options q room code call interrupts
 ChecksOffered limits options q room Short code call interrupts =
-    (code ≡ number_of (Err DecodeMessage)) × (call ≡ nothing) × (interrupts ≡ 0)
+    (code ≡ outcome_code (Err DecodeMessage)) × (call ≡ nothing) × (interrupts ≡ 0)
 ChecksOffered limits options q room (Row row) code call interrupts =
     (code ≡ is_asked) × (call ≡ told_under options room row) × (interrupts ≡ 0)
 ChecksOffered limits options q room Unnamed code call interrupts =

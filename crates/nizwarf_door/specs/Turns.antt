@@ -15,7 +15,7 @@ use Rattle.door_calls.specs.declared.data.ItemData.{ItemData}
 use Rattle.door_answer.specs.Listing.{IsOfferedBy}
 use Rattle.door_answer.specs.Said.{IsSaid}
 use Rattle.laws_flight.specs.Table.{AreOf, interrupted}
-use Rattle.c_rooms.specs.Codes.{is_asked, no_memory, not_asked, number_of, length_of}
+use Rattle.c_rooms.specs.Codes.{is_asked, no_memory, not_asked, outcome_code, length_of}
 use Rattle.nizwarf_door.specs.Answering.{entry_of}
 use Rattle.nizwarf_door.specs.Asking.{IsNotAsked}
 use Rattle.nizwarf_door.specs.Kept.{put_of}
@@ -40,7 +40,7 @@ module _ (limits : Limits) (options : ℕ) (request : List ℕ) (room : ℕ) (co
     pub of_request : turn.request ≡ request
     pub in_room : length turn.room ≡ room
     pub no_event : turn.events ≡ []
-    pub code_is : code ≡ number_of turn.outcome
+    pub code_is : code ≡ outcome_code turn.outcome
     pub no_call : call ≡ nothing
     pub told_is : told_after ≡ record told {
       len = length_of turn.outcome;
@@ -87,7 +87,7 @@ module _ (limits : Limits) (call : CallData) (a : AnswerData) (text : List ℕ) 
           outcome = outcome;
           room_after = room_after ++ behind;
         }) told_after.options
-    pub code_is : code ≡ number_of outcome
+    pub code_is : code ≡ outcome_code outcome
     pub len : told_after.len ≡ length_of outcome
     pub put : told_after.put ≡ put_of call (length_of outcome)
     pub same_interrupts : told_after.interrupts ≡ told.interrupts

@@ -11,7 +11,7 @@ ghost use Rattle.door_calls.specs.Shapes.{nothing};
 ghost use Rattle.door_ask.specs.Asked.{IsAsked};
 ghost use Rattle.door_ask.specs.Memory.{MayWant};
 ghost use Rattle.door_ask.specs.declared.asked.Asked.TheVariants.{Call as IsCall};
-ghost use Rattle.c_rooms.specs.Codes.{is_asked, length_of, no_memory, number_of};
+ghost use Rattle.c_rooms.specs.Codes.{is_asked, length_of, no_memory, outcome_code};
 ghost use Rattle.nizwarf_door.specs.Asking.{AsksOrNot, unread_in};
 ghost use Rattle.nizwarf_door.specs.Kept.{HasFor, HasRoomFor, TellsOrNot, put_of};
 ghost use Rattle.nizwarf_door.specs.Session.{limits_of, options_of};
@@ -36,7 +36,7 @@ const OPCODE_PLACE: usize = 4;
 
 /// The number of an outcome, and the length of the reply, 0 where there is none.
 pub fn number_and_length(outcome: &Result<usize>) -> (i32, usize)
-    ensures number { result.0 ≡ number_of outcome.now }
+    ensures number { result.0 ≡ outcome_code outcome.now }
     ensures length { result.1 ≡ length_of outcome.now }
 {
     match outcome {

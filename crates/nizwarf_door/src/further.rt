@@ -13,7 +13,7 @@ ghost use Rattle.door_ask.specs.WithOpcode.{unread_with_opcode};
 ghost use Rattle.door_further.specs.Fitting.{answer_offered};
 ghost use Rattle.door_further.specs.Further.{Unnamed, what_of};
 ghost use Rattle.door_further.specs.Turns.{as_create};
-ghost use Rattle.c_rooms.specs.Codes.{is_asked, no_memory, number_of, wrong_size};
+ghost use Rattle.c_rooms.specs.Codes.{is_asked, no_memory, outcome_code, wrong_size};
 ghost use Rattle.nizwarf_door.specs.Answering.{AnswersOrNot};
 ghost use Rattle.nizwarf_door.specs.Asking.{AsksOrNot, finished, unread_in};
 ghost use Rattle.nizwarf_door.specs.Further.{AsksOffered, ChecksOffered, HoldsOffered, MayWantOffered, named};
@@ -96,7 +96,7 @@ pub extern "C" fn nizwarf_ask_offered_at(
 
 // Refuses a request that is cut.
 fn refuse(alloc: Global, handle: &mut Handle, call: &mut CallData, told: &mut ToldData) -> i32
-    ensures code { result ≡ number_of (Err DecodeMessage) }
+    ensures code { result ≡ outcome_code (Err DecodeMessage) }
     ensures call { call.new ≡ nothing }
     ensures told { told.new ≡ finished (Err DecodeMessage) 0 told.old }
     ensures shown { shown_in handle.new.value ≡ [] }

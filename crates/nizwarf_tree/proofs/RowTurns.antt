@@ -23,7 +23,7 @@ use Rattle.door_further.specs.Fitting.{answer_offered, fits, is_unfit}
 use Rattle.door_further.specs.Further.{What, Short, Row, told_under, what_of}
 use Rattle.door_further.specs.OneTurn.{AreOneOfferedTurn, HappenedOffered, IsAnsweredOffered, IsToldOffered, offered_turn}
 use Rattle.door_further.specs.Turns.{FollowsOffered, IsOfferedTurn, OfferedTurn, row_kind}
-use Rattle.c_rooms.specs.Codes.{number_of, length_of, shown_of}
+use Rattle.c_rooms.specs.Codes.{outcome_code, length_of, shown_of}
 use Rattle.fuse_server.specs.Step.{ServerState}
 use Rattle.nizwarf_tree.specs.Files.{State, row_answer}
 use Rattle.nizwarf_tree.specs.Offered.{AsksRow, row_limits, what_asked}
@@ -128,7 +128,7 @@ module _ (old middle new : ServerState State) (request : List ℕ) (total : ℕ)
     (asks : AsksRow old total request call) (is_text : call.answer ≡ kind.TEXT)
     (says : SaysText call a text (row_answer old.fs call)) (space : length before.left ≡ total)
     (is : bytes ≡ whole after) (end : room ≡ drop (length bytes - total) bytes)
-    (numbered : number ≡ number_of came.outcome) (counted : len ≡ length_of came.outcome)
+    (numbered : number ≡ outcome_code came.outcome) (counted : len ≡ length_of came.outcome)
     (copied : shown ≡ shown_of came.outcome total) where
   abbrev of_turn : AnswerData → Written → Written → Type 0
   of_turn b w v = IsAnsweredOffered limits OFFERS old.options request call b text [] w came v
@@ -223,7 +223,7 @@ pub refused_short : (old middle new : ServerState State) (request : List ℕ) (t
     }) options)
     → middle ≡ old → new ≡ middle → what_asked old.limits request ≡ Short → length before.left ≡ total
     → bytes ≡ whole before → room ≡ drop (length bytes - total) bytes
-    → number ≡ number_of (Err DecodeMessage) → len ≡ 0 → shown ≡ 0
+    → number ≡ outcome_code (Err DecodeMessage) → len ≡ 0 → shown ≡ 0
     → RowInC old request total number len room shown new
 refused_short old middle new request total number len bytes room shown before short same kept asks space is end numbered counted copied =
     record {

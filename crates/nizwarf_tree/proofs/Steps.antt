@@ -4,7 +4,7 @@ use Rattle.std.proofs.lemmas.List.{drop_at}
 use Rattle.fuse_segments.specs.Written.{Written, whole}
 use Rattle.fuse_grammar.specs.declared.error.Error.{Error}
 use Rattle.fuse_server.specs.Step.{ServerState, IsStep, ReadsDirectories}
-use Rattle.c_rooms.specs.Codes.{no_memory, too_long, number_of, length_of, shown_of}
+use Rattle.c_rooms.specs.Codes.{no_memory, too_long, outcome_code, length_of, shown_of}
 use Rattle.nizwarf_tree.specs.Files.{State, Allows, Gives}
 use Rattle.door_calls.specs.declared.call.CallData.{CallData}
 use Rattle.door_further.specs.Further.{What, Ordinary, Short, Row, Unnamed}
@@ -38,7 +38,7 @@ pub stepped : (old middle answered new : ServerState State) (request : List ℕ)
     → ReadsDirectories Allows Gives middle request before outcome after answered
     → length before.left ≡ total → bytes ≡ whole after
     → room ≡ drop (length bytes - total) bytes
-    → number ≡ number_of outcome → len ≡ length_of outcome → shown ≡ shown_of outcome total
+    → number ≡ outcome_code outcome → len ≡ length_of outcome → shown ≡ shown_of outcome total
     → SteppedInC old request total number len room shown new ⊎ Refused old request number len shown new
 stepped old middle answered new request total number len bytes room shown before after outcome same kept step dirs space is end numbered counted copied =
     inl (record {

@@ -4,7 +4,7 @@ use Rattle.std.proofs.Common.{◌≡◌, ◌∙◌, ◌⊎◌, ℕ, ◌-◌, ℤ
 use Rattle.fuse_server.specs.Step.{ServerState}
 use Rattle.fuse_grammar.specs.declared.error.Error.{Error}
 use Rattle.fuse_grammar.specs.declared.error.Error.TheVariants.{DecodeMessage, EncodeMessage, FlushMessage, MissingParameter, InvalidCString, InvalidCString2, InvalidHeaderLength, InvalidXattrSize, MissingExtension, OutOfMemory}
-use Rattle.c_rooms.specs.Codes.{ok, no_memory, no_server, number_of, length_of, shown_of}
+use Rattle.c_rooms.specs.Codes.{ok, no_memory, no_server, outcome_code, length_of, shown_of}
 use Rattle.nizwarf_tree.specs.Files.{State}
 use Rattle.door_further.specs.Further.{What, Ordinary, Short, Row, Unnamed}
 use Rattle.nizwarf_tree.specs.History.{Answered, AnsweredAs}
@@ -14,7 +14,7 @@ use Rattle.nizwarf_tree.specs.declared.memory.Place.{Place}
 use Rattle.nizwarf_tree.proofs.Calling.{answered_as}
 
 -- of an answered request the whole reply is there
-all_shown : (o : Result ℕ Error) (total : ℕ) → number_of o ≡ ok → shown_of o total ≡ length_of o
+all_shown : (o : Result ℕ Error) (total : ℕ) → outcome_code o ≡ ok → shown_of o total ≡ length_of o
 all_shown (Ok len) total is = refl
 all_shown (Err DecodeMessage) total is = absurd (cc is)
 all_shown (Err EncodeMessage) total is = absurd (cc is)

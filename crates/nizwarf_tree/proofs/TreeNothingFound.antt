@@ -18,7 +18,7 @@ use Rattle.fuse_grammar.specs.declared.limits.Limits.{Limits}
 use Rattle.fuse_server.specs.Step.{ServerState}
 use Rattle.laws_history.specs.History.{Handled, IsHistory, IsHandled}
 use Rattle.door_further.specs.Further.{What, Ordinary}
-use Rattle.c_rooms.specs.Codes.{ok, number_of, shown_of}
+use Rattle.c_rooms.specs.Codes.{ok, outcome_code, shown_of}
 use Rattle.nizwarf_tree.specs.Files.{State, Allows, Gives, new_state, at_time}
 use Rattle.nizwarf_tree.specs.History.{Turned, Answered, AnsweredAs, HandlesTwo}
 use Rattle.nizwarf_tree.specs.Offered.{what_asked}
@@ -74,7 +74,7 @@ reply_is after room outcome room_after long is =
 
 turn_is : (settings : Settings) (t : Turn) (after : ℕ) (new : State)
     → IsRun Allows Gives None (at_time (new_state settings) 1 0) t.events new
-    → length t.room ≡ 4096 → number_of t.outcome ≡ ok
+    → length t.room ≡ 4096 → outcome_code t.outcome ≡ ok
     → Follows t limits 0 (WithMemory (Asks echo lookup)) after
     → (t.outcome ≡ Ok 16) × (take 16 t.room_after ≡ no_such_name)
 turn_is settings t after new is long answered (inl f) =
@@ -84,7 +84,7 @@ turn_is settings t after new is long answered (inl f) =
     (subst (λ (a : Answer). IsReplied (reply_of limits echo after Entries a) t.room t.outcome t.room_after)
     failed f.3)
 turn_is settings t after new is long answered (inr f) =
-    absurd (let no : number_of t.outcome ≡ pos 10 = ap number_of f.1.0 in cc)
+    absurd (let no : outcome_code t.outcome ≡ pos 10 = ap outcome_code f.1.0 in cc)
 
 -- a message that was answered
 looked_up : (settings : Settings) (old new : ServerState State) (code : ℤ) (len : ℕ)

@@ -6,7 +6,7 @@ use Rattle.fuse_server.specs.Step.{ServerState}
 use Rattle.laws_history.specs.History.{Moment, Handled, Changed, IsHistory, turns_in}
 use Rattle.door_further.specs.Further.{What, Ordinary, Short, Row, Unnamed}
 use Rattle.door_further.specs.Turns.{as_create}
-use Rattle.c_rooms.specs.Codes.{number_of, length_of, shown_of}
+use Rattle.c_rooms.specs.Codes.{outcome_code, length_of, shown_of}
 use Rattle.nizwarf_tree.specs.Files.{State, Allows, Gives, at_time}
 use Rattle.nizwarf_tree.specs.Offered.{what_asked}
 use Rattle.nizwarf_tree.specs.Served.{Refused, RowInC}
@@ -26,7 +26,7 @@ pub record Turned (old : ServerState State) (request : List ℕ) (total : ℕ) (
   pub t : Turn
   pub asked : t.request ≡ request
   pub space : length t.room ≡ total
-  pub numbered : number ≡ number_of t.outcome
+  pub numbered : number ≡ outcome_code t.outcome
   pub counted : len ≡ length_of t.outcome
   pub left : room ≡ t.room_after
   pub copied : shown ≡ shown_of t.outcome total

@@ -13,7 +13,7 @@ use Rattle.nizwarf_tree.specs.Files.{State, new_state, at_time, Allows, Gives, r
 use Rattle.nizwarf_tree.specs.Offered.{row_limits, what_asked}
 use Rattle.nizwarf_tree.specs.declared.files.TheConstants.{OFFERS}
 use Rattle.nizwarf_tree.specs.declared.settings.Settings.{Settings}
-use Rattle.c_rooms.specs.Codes.{no_memory, too_long, number_of, length_of, shown_of}
+use Rattle.c_rooms.specs.Codes.{no_memory, too_long, outcome_code, length_of, shown_of}
 
 -- a new server over a new file system: no options are agreed on
 abbrev pub new_server : (page_size max_buffer : ℕ) → Settings → ServerState State
@@ -39,7 +39,7 @@ pub record SteppedInC (old : ServerState State) (request : List ℕ) (total : �
   pub after : Written
   pub step : IsStep Allows Gives old request before outcome after new
   pub directories : ReadsDirectories Allows Gives old request before outcome after new
-  pub numbered : number ≡ number_of outcome
+  pub numbered : number ≡ outcome_code outcome
   pub counted : len ≡ length_of outcome
   pub left : whole after ≡ before.passed ++ room
   pub copied : shown ≡ shown_of outcome total
@@ -64,7 +64,7 @@ pub record RowInC (old : ServerState State) (request : List ℕ) (total : ℕ) (
   pub space : length t.turn.room ≡ total
   pub turn : IsOfferedTurn (row_limits old.limits) old.options t old.options
   pub answered : IfSome t.row (λ r. r.1 ≡ row_answer old.fs r.0)
-  pub numbered : number ≡ number_of t.turn.outcome
+  pub numbered : number ≡ outcome_code t.turn.outcome
   pub counted : len ≡ length_of t.turn.outcome
   pub left : room ≡ t.turn.room_after
   pub copied : shown ≡ shown_of t.turn.outcome total

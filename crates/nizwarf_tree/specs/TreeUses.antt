@@ -16,7 +16,7 @@ use Rattle.door_calls.specs.declared.call.number.TheConstants as number
 use Rattle.door_further.specs.Further.{Ordinary}
 use Rattle.door_further.specs.Turns.{OfferedTurn, IsOfferedTurn}
 use Rattle.fuse_server.specs.Step.{ServerState}
-use Rattle.c_rooms.specs.Codes.{ok, length_of, no_memory, number_of, too_long}
+use Rattle.c_rooms.specs.Codes.{ok, length_of, no_memory, outcome_code, too_long}
 use Rattle.nizwarf_tree.specs.Files.{State, Allows, Gives}
 use Rattle.nizwarf_tree.specs.History.{AnsweredAs}
 use Rattle.nizwarf_tree.specs.Offered.{row_limits, what_asked}
@@ -44,7 +44,7 @@ pub record IsRow (old : ServerState State) (call : CallData) (answer : Answer) (
   pub turn : IsOfferedTurn (row_limits old.limits) old.options t old.options
   pub row : t.row ≡ Some (call, answer)
   pub space : length t.turn.room ≡ total
-  pub fine : number_of t.turn.outcome ≡ ok
+  pub fine : outcome_code t.turn.outcome ≡ ok
   pub counted : len ≡ length_of t.turn.outcome
   pub left : room ≡ t.turn.room_after
   pub same : new ≡ old

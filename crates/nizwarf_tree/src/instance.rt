@@ -8,7 +8,7 @@ ghost use Rattle.laws_history.specs.History.{Handled, turn_of_end};
 ghost use Rattle.nizwarf_tree.specs.History.{Extends};
 ghost use Rattle.nizwarf_tree.specs.Served.{new_server, told_time, Refused, ServedInC, SteppedInC};
 ghost use Rattle.nizwarf_tree.specs.Taken.{place_of};
-ghost use Rattle.c_rooms.specs.Codes.{number_of, length_of, shown_of};
+ghost use Rattle.c_rooms.specs.Codes.{outcome_code, length_of, shown_of};
 ghost use Rattle.c_rooms.specs.Parts.{part_from};
 
 use crate::files::{Files, new_files, tell_time};
@@ -147,7 +147,7 @@ impl Instance {
     /// Notes how a request ended, for which there were `total` bytes of room: the outcome's number, and
     /// the length of the reply.
     pub(crate) fn end(&mut self, outcome: &Result<usize>, total: usize) -> (i32, usize)
-        ensures number { result.0 ≡ number_of outcome.now }
+        ensures number { result.0 ≡ outcome_code outcome.now }
         ensures len { result.1 ≡ length_of outcome.now }
         ensures shown { self.new.shown ≡ shown_of outcome.now total }
         ensures server { self.new.server ≡ self.old.server }

@@ -1,5 +1,5 @@
 use Rattle.std.proofs.Common.{◌≡◌, true, rules}
-use Rattle.c_rooms.specs.Codes.{no_memory, number_of}
+use Rattle.c_rooms.specs.Codes.{no_memory, outcome_code}
 use Rattle.nizwarf_door.proofs.Answering.{none_keeps, told_answered, told_keeps, told_wants_none}
 use Rattle.nizwarf_door.proofs.Asking.{other_number}
 use Rattle.nizwarf_door.proofs.answer.answer_call.Goals as goal
@@ -21,7 +21,7 @@ returns-in-Some-clause-answered c =
 pub returns-in-Some-clause-memory : goal.returns-in-Some-clause-memory
 returns-in-Some-clause-memory c = λ has code.
     let number = c.number_and_length-code.ensures.number in
-    let is : number_of c.in-Some.came.outcome ≡ no_memory = search (rules, code, number) in
+    let is : outcome_code c.in-Some.came.outcome ≡ no_memory = search (rules, code, number) in
     let begun : c.begin_answer.result ≡ true = search rules in
     let other = told_wants_none _ _ _ _ _ _ c.args.told.now c.begin_answer.new.self.answers.writer c.answer.new.w c.answer.result
     (c.begin_answer.ensures.left begun) c.put_of-room.ensures c.in-Some.came (

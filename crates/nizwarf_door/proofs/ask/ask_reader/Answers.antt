@@ -1,6 +1,6 @@
 use Rattle.std.proofs.Common.{◌≡◌, ◌≤◌, true, length, rules}
 use Rattle.fuse_flags.specs.Flags.{fs_options_bits}
-use Rattle.c_rooms.specs.Codes.{is_asked, no_memory, number_of}
+use Rattle.c_rooms.specs.Codes.{is_asked, no_memory, outcome_code}
 use Rattle.nizwarf_door.proofs.Asking.{kept_for, no_call, other_number, told_call, told_finished, told_has, told_or_not}
 use Rattle.nizwarf_door.proofs.Leaving.{nothing_shown}
 use Rattle.nizwarf_door.proofs.ask.ask_reader.Goals as goal
@@ -46,11 +46,11 @@ returns-in-Finished-clause-asked c =
 pub returns-in-Finished-clause-memory : goal.returns-in-Finished-clause-memory
 returns-in-Finished-clause-memory c reply answer none code =
     let number = c.number_and_length-code.ensures.number in
-    let is : number_of c.in-Finished.outcome ≡ no_memory = search (rules, code, number) in
+    let is : outcome_code c.in-Finished.outcome ≡ no_memory = search (rules, code, number) in
     other_number c.in-Finished.outcome (c.in-Finished.ensures.memory none) is
 
 pub returns-in-Finished-clause-kept : goal.returns-in-Finished-clause-kept
 returns-in-Finished-clause-kept c code =
     let number = c.number_and_length-code.ensures.number in
-    let is : number_of c.in-Finished.outcome ≡ is_asked = search (rules, code, number) in
+    let is : outcome_code c.in-Finished.outcome ≡ is_asked = search (rules, code, number) in
     absurd (no_call c.in-Finished.outcome is)

@@ -4,7 +4,7 @@ use Rattle.fuse_messages.specs.Rooms.{with_after}
 use Rattle.door_ask.specs.Asked.{IsAsked}
 use Rattle.door_ask.specs.Memory.{MayWantBehindHeader}
 use Rattle.fuse_flags.specs.Flags.{fs_options_bits}
-use Rattle.c_rooms.specs.Codes.{is_asked, no_memory, number_of}
+use Rattle.c_rooms.specs.Codes.{is_asked, no_memory, outcome_code}
 use Rattle.nizwarf_door.proofs.Asking.{kept_for, no_call, other_number, told_call, told_finished, told_has, told_or_not}
 use Rattle.nizwarf_door.proofs.Leaving.{nothing_shown}
 use Rattle.nizwarf_door.proofs.rest.ask_pieces.Goals as goal
@@ -62,7 +62,7 @@ returns-in-Finished-clause-asked c =
 pub returns-in-Finished-clause-memory : goal.returns-in-Finished-clause-memory
 returns-in-Finished-clause-memory c reply answer none code =
     let number = c.number_and_length-code.ensures.number in
-    let is : number_of c.in-Finished.outcome ≡ no_memory = search (rules, code, number) in
+    let is : outcome_code c.in-Finished.outcome ≡ no_memory = search (rules, code, number) in
     let r = c.reader_of-reader.result in
     let wanted = λ (b p : List ℕ). MayWantBehindHeader c.args.limits (fs_options_bits c.args.options) c.args.room (c.args.head.now ++ b) p in
     let left : r.left ≡ c.args.rest.now = c.reader_of-reader.ensures.left ∙ append-nil c.args.rest.now in
@@ -74,5 +74,5 @@ returns-in-Finished-clause-memory c reply answer none code =
 pub returns-in-Finished-clause-kept : goal.returns-in-Finished-clause-kept
 returns-in-Finished-clause-kept c code =
     let number = c.number_and_length-code.ensures.number in
-    let is : number_of c.in-Finished.outcome ≡ is_asked = search (rules, code, number) in
+    let is : outcome_code c.in-Finished.outcome ≡ is_asked = search (rules, code, number) in
     absurd (no_call c.in-Finished.outcome is)
