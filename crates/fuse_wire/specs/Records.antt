@@ -185,8 +185,8 @@ abbrev pub bits_of : ℤ → ℕ
 bits_of z = cast_unsigned w64 z
 
 -- the attributes of a file with these flags, whose owner and group the guest numbers so
-abbrev pub attr_of : Stat64 → ℕ → ℕ → ℕ → Attr
-attr_of st flags uid gid = record {
+abbrev pub attr_of_stat : Stat64 → ℕ → ℕ → ℕ → Attr
+attr_of_stat st flags uid gid = record {
   ino = st.st_ino;
   size = bits_of st.st_size;
   blocks = bits_of st.st_blocks;

@@ -2,7 +2,7 @@
 //! it by.
 
 ghost use Rattle.std.specs.Prelude.{◌≡◌, ◌⊎◌, ℕ, [], ◌∷◌, IfOk, IfErr};
-ghost use Rattle.fuse_wire.specs.Records.{attr_of, bits_of, kstatfs_of, low_word};
+ghost use Rattle.fuse_wire.specs.Records.{attr_of_stat, bits_of, kstatfs_of, low_word};
 
 use crate::{Attr, Kstatfs};
 use fuse_flags::{Fault, GuestGid, GuestUid, HostGid, HostUid};
@@ -75,7 +75,7 @@ impl Attr {
         requires gid_map { G.pre gid_map st.st_gid }
         ensures owner { IfOk result (λ a. U.post uid_map st.st_uid (Ok a.uid)) }
         ensures group { IfOk result (λ a. G.post gid_map st.st_gid (Ok a.gid)) }
-        ensures shown { IfOk result (λ a. a ≡ attr_of st 0 a.uid a.gid) }
+        ensures shown { IfOk result (λ a. a ≡ attr_of_stat st 0 a.uid a.gid) }
         ensures err { IfErr result (λ f. U.post uid_map st.st_uid (Err f)
             ⊎ ((uid : ℕ) × U.post uid_map st.st_uid (Ok uid) × G.post gid_map st.st_gid (Err f))) }
     {
@@ -101,7 +101,7 @@ impl Attr {
         requires gid_map { G.pre gid_map st.st_gid }
         ensures owner { IfOk result (λ a. U.post uid_map st.st_uid (Ok a.uid)) }
         ensures group { IfOk result (λ a. G.post gid_map st.st_gid (Ok a.gid)) }
-        ensures shown { IfOk result (λ a. a ≡ attr_of st flags a.uid a.gid) }
+        ensures shown { IfOk result (λ a. a ≡ attr_of_stat st flags a.uid a.gid) }
         ensures err { IfErr result (λ f. U.post uid_map st.st_uid (Err f)
             ⊎ ((uid : ℕ) × U.post uid_map st.st_uid (Ok uid) × G.post gid_map st.st_gid (Err f))) }
     {
@@ -134,7 +134,7 @@ impl From<Statvfs64> for Kstatfs {
 
 /// The attributes of a file whose owner and group are these.
 fn attributes(st: &Stat64, flags: u32, uid: GuestUid, gid: GuestGid) -> Attr
-    ensures { result ≡ attr_of st.now flags uid gid }
+    ensures { result ≡ attr_of_stat st.now flags uid gid }
 {
     let blksize = low_of(st.st_blksize);
     let [atimensec, mtimensec, ctimensec] = nanoseconds(st);

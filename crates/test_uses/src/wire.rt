@@ -2,7 +2,7 @@
 
 ghost use Rattle.std.specs.Prelude.{ℕ, ◌≡◌, ◌+◌, ◌≤◌, ◌<◌, ◌^◌, [], ◌∷◌, ◌++◌, replicate, pos, negsuc, length, Ok, Err, Some};
 ghost use Rattle.fuse_wire.specs.Fields.{bytes_of, value_of};
-ghost use Rattle.fuse_wire.specs.Records.{out_header, attr_of, forget_one};
+ghost use Rattle.fuse_wire.specs.Records.{out_header, attr_of_stat, forget_one};
 
 use fuse_flags::{Errno, Fault, GuestGid, GuestUid};
 use fuse_wire::parts::part_at;
@@ -89,7 +89,7 @@ fn reply_header_at(bytes: &[u8], at: usize) -> OutHeader
 
 /// The attributes of a file of the host, whose users and groups the guest numbers as the host does.
 fn as_on_the_host(st: Stat64) -> Result<Attr, Fault>
-    ensures { result ≡ Ok (attr_of st 0 st.st_uid st.st_gid) }
+    ensures { result ≡ Ok (attr_of_stat st 0 st.st_uid st.st_gid) }
 {
     Attr::try_from_stat64(
         st,
@@ -100,7 +100,7 @@ fn as_on_the_host(st: Stat64) -> Result<Attr, Fault>
 
 /// The attributes of a submount, where all files are the root's.
 fn submount_of_root(st: Stat64) -> Result<Attr, Fault>
-    ensures { result ≡ Ok (attr_of st 1 0 0) }
+    ensures { result ≡ Ok (attr_of_stat st 1 0 0) }
 {
     Attr::try_with_flags(
         st,
