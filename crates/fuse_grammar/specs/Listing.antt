@@ -17,8 +17,8 @@ use Rattle.fs_trait.specs.Answers.{FitsEntry}
 use Rattle.fuse_grammar.specs.Records.{size_of}
 
 -- A directory that is to be read for this caller from this offset on, where `plus` with an
--- `EntryOut` in front of each record; at most `size` bytes of records, into this space, which is
--- the room less a header.
+-- `EntryOut` in front of each record; at most `size` bytes of records, into this space: here and in
+-- READ, space is the room less the header of a reply.
 pub record Listing : Type 0 where
   pub plus : Bool
   pub ctx : Context
@@ -222,7 +222,7 @@ pub record IsUnopened (call : Call) (events : List Event) (records : List ℕ)
   pub records_are : records ≡ []
   pub answer_is : result ≡ Err fault
 
--- `readdir` handed back an iterator, and the directory is read from it
+-- `readdir` handed back an iterator, and the directory is read from it (`Opened` is the answer of another call)
 pub record IsOpened (plus : Bool) (call : Call) (ctx : Context) (parent size space : ℕ)
     (events : List Event) (records : List ℕ) (result : Result ℕ (Option ℕ)) : Type 0 where
   pub takings : List Event

@@ -14,7 +14,7 @@ pub record Written : Type 0 where
   pub held : ℕ
   pub lengths : List ℕ
 
--- all bytes of a writer, those passed and those left
+-- all bytes of a writer, those passed and those left. (Elsewhere what is whole lacks nothing of it.)
 abbrev pub whole : Written → List ℕ
 whole w = w.passed ++ w.left
 

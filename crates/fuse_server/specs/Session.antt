@@ -11,7 +11,7 @@
 -- Of options and results: `option_map f o`, `option_and_then f o`, `unwrap_or o x`, `ok_or o e`, `is_some o` are
 -- Rust's methods; `MatchOption o P Q` is P where o is None, and Q of what it has.
 -- Of numbers: `bit_and`, `bit_or` go by the bits; `cast_signed w32 n` and `cast_unsigned w32 z` have the same 32 bits;
--- `next_multiple_of n m` is from n on; `as_nanos` is a time in nanoseconds; `min a b`.
+-- `next_multiple_of n m` is the first multiple of m from n on; `as_nanos` is a time in nanoseconds; `min a b`.
 -- Tests are of `Bool`, and `not` is of these: `bytes_eq` and `int_eq` are `==` of lists and of `ℤ`; `IsTrue b` and
 -- `IsFalse b` are statements.
 use Rattle.std.specs.Prelude.{◌≡◌, ℕ, List, [], ◌∷◌, Option, None, Result, map}
