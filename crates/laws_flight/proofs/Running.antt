@@ -153,7 +153,7 @@ module _ {S I : Type 0} (allows : S → Call → Handed I → S → Type 0) (giv
   pub alone_run : AloneRun allows gives
   alone_run limits old new points made by =
       let none : Running I = record {
-        going = record { waiting = record { request = []; options = 0; space = 0 }; events = [] };
+        going = record { waiting = record { request = []; options = 0; room_len = 0 }; events = [] };
         iterator = None;
       } in
       alone limits None false none old new points (inr refl) made by

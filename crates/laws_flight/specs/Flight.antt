@@ -11,7 +11,7 @@ use Rattle.fuse_grammar.specs.declared.limits.Limits.{Limits}
 pub record Waiting : Type 0 where
   pub request : List ℕ
   pub options : ℕ
-  pub space : ℕ
+  pub room_len : ℕ
 
 -- A moment of a transport: it asked a request, or it answered one, by this turn, with these options from
 -- then on. What the calls of a turn are is seen when it is answered: its events.
@@ -28,7 +28,7 @@ turns_answered (Answered w t after ∷ moments) = t ∷ turns_answered moments
 -- a turn of a request that waits, under the options that it was asked with
 pub record IsTurnOf (limits : Limits) (w : Waiting) (t : Turn) (after : ℕ) : Type 0 where
   pub asked : t.request ≡ w.request
-  pub space : length t.room ≡ w.space
+  pub room_len : length t.room ≡ w.room_len
   pub turn : IsTurn limits w.options t after
 
 -- Each answer is that of a request that waits, which then waits no more.

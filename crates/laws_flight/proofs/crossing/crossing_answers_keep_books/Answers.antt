@@ -14,7 +14,7 @@ module _ (limits : Limits) (options : ℕ) (request : List ℕ) (a : AnswerData)
     (is : IsAnsweredTurn limits options request a text items old came new) where
   -- the request as it waited, and its turn
   abbrev waited : Waiting
-  waited = record { request = request; options = options; space = length old.left }
+  waited = record { request = request; options = options; room_len = length old.left }
 
   abbrev turn : Turn
   turn = record {
@@ -26,7 +26,7 @@ module _ (limits : Limits) (options : ℕ) (request : List ℕ) (a : AnswerData)
   }
 
   is_turn : IsTurnOf limits waited turn came.options
-  is_turn = record { asked = refl; space = refl; turn = is.turn }
+  is_turn = record { asked = refl; room_len = refl; turn = is.turn }
 
 pub returns : goal.returns
 returns c limits options others request other a b text words items entries old before came went new after one two =
