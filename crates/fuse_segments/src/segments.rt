@@ -88,6 +88,9 @@ pub(crate) fn total_of<L: SegmentList>(list: &L) -> Option<usize>
     ensures { MatchOption result (2 ^ 64 ≤ length (flat_bytes (L.bytes list.now)))
         (λ n. n ≡ length (flat_bytes (L.bytes list.now))) }
 {
+    if list.count() == 1 {
+        return Some(list.len_of(0));
+    }
     if list.count() > FEW {
         sum_of_many(list)
     } else {
@@ -209,6 +212,11 @@ impl<L: SegmentList + Drop> Segments<L> {
         ensures bytes { IfOk result (λ segments. segments ≡ L.bytes list) }
         ensures few { length (L.bytes list) ≤ 4 → IsOk result }
     {
+        if list.count() == 1 {
+            let len = list.len_of(0);
+            let totals = Running::new(len, 0, 0, 0, 1, Vec::new(alloc));
+            return Ok(Segments { list, totals });
+        }
         let many = if list.count() > FEW {
             many_totals(alloc, &list)?
         } else {
