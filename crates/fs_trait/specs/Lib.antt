@@ -5,6 +5,7 @@ pub mod BytesMut
 pub mod Calls
 pub mod Listing
 pub mod Migrations
+pub mod Nonzero
 pub mod Places
 pub mod ReadingLaws
 pub mod RunLaws

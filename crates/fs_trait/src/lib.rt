@@ -20,6 +20,7 @@ mod listing;
 mod memory;
 mod migration;
 mod name;
+mod nonzero;
 mod number;
 mod partial;
 mod transfer;

@@ -6,6 +6,7 @@
 ghost use Rattle.std.specs.Prelude.{◌≡◌, ◌≢◌, ℕ, ◌<◌, ◌==◌, length, slice_index, position};
 
 use crate::memory::copy_of;
+use crate::nonzero::all_nonzero;
 use fuse_flags::Fault;
 use memchr::memchr;
 use std::alloc::Global;
@@ -35,19 +36,20 @@ impl<'a> CStr<'a> {
     /// The name in these bytes: all but the last, where the last is 0 and no other is. `None`
     /// where there is no 0, where one is before the end, and for no bytes at all. A single 0
     /// is the empty name.
-    #[tactic(auto, using(crate::proofs::Texts::text_has_no_nul))]
+    #[inline(always)]
     pub fn from_bytes_with_nul(bytes: &'a [u8]) -> Option<CStr<'a>>
         ensures { MatchOption result
             (name_of bytes.now ≡ None)
             (λ name. name_of bytes.now ≡ Some (name_text name)) }
     {
-        let end = first_nul(bytes)?;
-        if end + 1 == bytes.len() {
-            let bytes = &bytes[..end];
-            Some(CStr { bytes })
-        } else {
-            None
+        if bytes.is_empty() {
+            return None;
         }
+        let end = bytes.len() - 1;
+        if bytes[end] != 0 || !all_nonzero(&bytes[..end]) {
+            return None;
+        }
+        Some(CStr::before_nul(bytes, end))
     }
 
     /// The name that runs to the first 0 in these bytes. `None` where there is no 0.
