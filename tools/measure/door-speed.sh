@@ -1,7 +1,8 @@
 #!/usr/bin/env bash
 # Counts the instructions of an ask by the door (include/nizwarf.h), of an ask with its answer, and of both by a table of
 # functions that answer at once (include/nizwarf_ops.h), for some requests in one piece, and takes their time: a line for
-# each class, as a row of a table.
+# each class, as a row of a table. If cargo is installed, of three classes also those of both by the crate of
+# bindings/rust.
 #
 # Usage: tools/measure/door-speed.sh
 # It takes the proved library where that is built (`rt lib` in crates/nizwarf_door), and says which one it is.
@@ -20,24 +21,43 @@ program=$folder/door_speed
 cc -std=c11 -O2 -Wall -Wextra -Werror -I "$here/include" -o "$program" "$here/tools/measure/door_speed.c" \
     "$here/tools/measure/door_speed_table.c" "${library[@]}"
 
+# The same by the crate of bindings/rust.
+by_rust=''
+if command -v cargo > /dev/null; then
+    by_rust=$folder/door_speed_rust
+    mkdir "$folder/lib"
+    cp "${library[@]}" "$folder/lib"
+    NIZWARF_LIB_DIR=$folder/lib cargo build --quiet --offline --release --manifest-path "$here/bindings/rust/Cargo.toml" \
+        --target-dir "$folder/rust"
+    rustc --edition 2021 -C opt-level=3 --extern "nizwarf=$folder/rust/release/libnizwarf.rlib" -o "$by_rust" \
+        "$here/tools/measure/door_speed.rs"
+fi
+
 # How many instructions a run takes: counted WORD.. Valgrind counts `rep movsb`, by which glibc copies some KiB and
 # more, once for each byte, so glibc copies by vectors here.
 counted() {
-    GLIBC_TUNABLES=glibc.cpu.x86_rep_movsb_threshold=1000000000 valgrind --tool=callgrind --callgrind-out-file=/dev/null "$program" "$@" 2>&1 \
+    GLIBC_TUNABLES=glibc.cpu.x86_rep_movsb_threshold=1000000000 valgrind --tool=callgrind --callgrind-out-file=/dev/null "$@" 2>&1 \
         | sed -n 's/.*Collected : \([0-9]*\).*/\1/p'
 }
 
-# Those of one request: instructions CLASS [ask]
+# Those of one request: instructions PROGRAM CLASS [ask]
 instructions() {
-    local class=$1 short long
-    shift
-    short=$(counted "$class" 100 "$@")
-    long=$(counted "$class" 300 "$@")
+    local program=$1 class=$2 short long
+    shift 2
+    short=$(counted "$program" "$class" 100 "$@")
+    long=$(counted "$program" "$class" 300 "$@")
     echo $(((long - short) / 200))
 }
 
-echo "| Request | instructions of an ask | of an ask and its answer | of both by a table of functions | ns of both |"
-echo "|---|---|---|---|---|"
+# The same by the crate of bindings/rust, if that has the class.
+in_rust() {
+    if [ -n "$by_rust" ] && "$by_rust" "$1" 1; then
+        instructions "$by_rust" "$1"
+    fi
+}
+
+echo "| Request | instructions of an ask | of an ask and its answer | of both by a table of functions | of both by the crate for Rust | ns of both |"
+echo "|---|---|---|---|---|---|"
 for class in $("$program" || true); do
-    echo "| $class | $(instructions "$class" ask) | $(instructions "$class") | $(instructions "$class" table) | $("$program" "$class" 2000) |"
+    echo "| $class | $(instructions "$program" "$class" ask) | $(instructions "$program" "$class") | $(instructions "$program" "$class" table) | $(in_rust "$class") | $("$program" "$class" 2000) |"
 done
