@@ -52,22 +52,10 @@ static int fill_standard(void)
 	return 0;
 }
 
-static const int ending[] = { SIGINT, SIGTERM, SIGHUP };
-
-/* Holds back the signals that end it, up to where it serves: one that came before would leave a socket, or a mount. */
-static void hold_signals(int how)
-{
-	sigset_t held;
-
-	sigemptyset(&held);
-	for (size_t i = 0; i < sizeof(ending) / sizeof(*ending); i++)
-		sigaddset(&held, ending[i]);
-	sigprocmask(how, &held, NULL);
-}
-
-/* Those that came before there was a child are for it. */
+/* Signals that came before there was a child are for it. */
 static void pass_signals(pid_t child)
 {
+	static const int ending[] = { SIGINT, SIGTERM, SIGHUP };
 	sigset_t came;
 
 	sigpending(&came);
@@ -145,7 +133,7 @@ static int go_to_background(void)
 	if (child) {
 		close(ends[1]);
 		pass_signals(child);
-		hold_signals(SIG_UNBLOCK);
+		transport_hold_signals(SIG_UNBLOCK);
 		_exit(read(ends[0], &told, 1) == 1 ? 0 : 1);
 	}
 	close(ends[0]);
@@ -472,7 +460,8 @@ int main(int count, char **given)
 	/* (a sandbox has none) */
 	if ((words.daemonizes || words.is_off) && (nothing = open("/dev/null", O_RDWR | O_CLOEXEC)) < 0)
 		return failed("/dev/null"), 1;
-	hold_signals(SIG_BLOCK);
+	/* (one that came before it serves would leave the file of its process too) */
+	transport_hold_signals(SIG_BLOCK);
 	if (words.mount_point && (device = fuse_device_open(&by)) < 0)
 		return 1;
 	if (!words.mount_point)

@@ -1018,13 +1018,8 @@ static void wait_for_end(struct device *d, int signals)
 static int await_signals(void)
 {
 	const struct sigaction interrupts = { .sa_handler = interrupted };
-	sigset_t ending;
+	const sigset_t ending = transport_hold_signals(SIG_BLOCK);
 
-	sigemptyset(&ending);
-	sigaddset(&ending, SIGINT);
-	sigaddset(&ending, SIGTERM);
-	sigaddset(&ending, SIGHUP);
-	pthread_sigmask(SIG_BLOCK, &ending, NULL);
 	signal(SIGPIPE, SIG_IGN);
 	sigaction(SIGRTMIN, &interrupts, NULL);
 	return signalfd(-1, &ending, SFD_CLOEXEC);

@@ -117,6 +117,7 @@ int fuse_device_mount_on(const transport *by, int device, const char *source, co
 	find_mount_point(folder);
 	if (made.directory >= 0)
 		made.above = number_of_mount(made.directory, made.name);
+	transport_hold_signals(SIG_BLOCK);
 	errno = E2BIG;
 	if (len < 0 || (size_t)len >= sizeof(words) ||
 	    mount(source, mount_point(folder, place, sizeof(place)), type, flags, words))

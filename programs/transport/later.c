@@ -1,5 +1,6 @@
 /* Requests that are answered later: transport.h. One lock is for all, since few are: so whoever completes one and
  * whoever ends the transport have not to know of each other. */
+#define _GNU_SOURCE
 #include <pthread.h>
 #include <stdlib.h>
 #include "later.h"

@@ -6,7 +6,8 @@
  * Workers. Each is a thread of its own, which calls `begin` first, then `serve` for one request
  * after another, then `end`. So what may have one caller at a time, as a nizwarf_server, has one
  * worker or a lock; what stands on the door has any number of them, each with a slot. The thread
- * that calls a transport waits for signals: SIGINT, SIGTERM and SIGHUP end it.
+ * that calls a transport waits for signals: SIGINT, SIGTERM and SIGHUP end it. They are blocked from where it is
+ * mounted, or a socket is listened on, so that one which comes before it serves leaves neither.
  *
  * Requests. /dev/fuse gives each in one segment, with one room, of which the data of a WRITE and
  * those of a READ's reply begin at a page. Over io_uring there are two rooms, of which the second is
@@ -21,6 +22,7 @@
 
 #include <linux/fuse.h>
 #include <pthread.h>
+#include <signal.h>
 #include <stddef.h>
 #include <string.h>
 #include <sys/types.h>
@@ -42,6 +44,19 @@ typedef struct {
 	{                                     \
 		PTHREAD_MUTEX_INITIALIZER, -1 \
 	}
+
+/* Blocks the signals that end a transport, or with SIG_UNBLOCK lets them come, and tells which they are. */
+static inline sigset_t transport_hold_signals(int how)
+{
+	sigset_t ending;
+
+	sigemptyset(&ending);
+	sigaddset(&ending, SIGINT);
+	sigaddset(&ending, SIGTERM);
+	sigaddset(&ending, SIGHUP);
+	pthread_sigmask(how, &ending, NULL);
+	return ending;
+}
 
 struct fuse_rings;
 struct fuse_ring_calls;

@@ -614,8 +614,8 @@ static int serve_guarded(struct guard *g, int listener, int client)
 
 static int serve_with_workers(const transport *with, int listener, int client)
 {
+	const sigset_t ending = transport_hold_signals(SIG_BLOCK);
 	struct guard guard;
-	sigset_t ending;
 	int status = 1;
 
 	by = with;
@@ -625,11 +625,6 @@ static int serve_with_workers(const transport *with, int listener, int client)
 		offer.features |= LOG_ALL;
 		offer.protocol |= LOG_IN_FILE | DEVICE_STATE;
 	}
-	sigemptyset(&ending);
-	sigaddset(&ending, SIGINT);
-	sigaddset(&ending, SIGTERM);
-	sigaddset(&ending, SIGHUP);
-	pthread_sigmask(SIG_BLOCK, &ending, NULL);
 	signal(SIGPIPE, SIG_IGN);
 	guard.signals = signalfd(-1, &ending, SFD_CLOEXEC);
 	guard.ended = eventfd(0, EFD_CLOEXEC);
@@ -689,6 +684,7 @@ int vhost_user_listen(const transport *with, const char *path)
 		if (why != ECONNREFUSED || unlink(path))
 			return refuse(with, -1, path, strerror(why != ECONNREFUSED ? why : errno));
 	}
+	transport_hold_signals(SIG_BLOCK);
 	listener = socket(AF_UNIX, SOCK_STREAM | SOCK_CLOEXEC | SOCK_NONBLOCK, 0);
 	if (listener < 0)
 		return refuse(with, -1, "socket", strerror(errno));

@@ -4,7 +4,7 @@
 # Usage: tests/mount/check.sh
 # Words that can't be are refused. In a mount files are made without a name (nameless.py), births and flags are told as
 # by a tmpfs beside (rows.py), session.sh does what a person does, memory goes back that was written and cut, and it is unmounted; then so with writeback, and with
-# no_io_uring; with other options, where it ends by a signal; with a link above it, and over vhost-user with an event
+# no_io_uring; with other options, where it ends by a signal, also by an early one; with a link above it, and over vhost-user with an event
 # that is full (tests/share/ends.py); and once more, with limits, which bound the server's memory, and hold again once
 # what was there is removed.
 #
@@ -150,6 +150,16 @@ options_hold() {
     ended "Ended by a signal"
 }
 
+# A signal that comes as soon as there is a mount, or a socket, leaves neither.
+early_signals() {
+    local before=(timeout 600 env LD_PRELOAD="$ends/early_signal.so")
+    cc -shared -fPIC -Wall -Wextra -Werror -o "$ends/early_signal.so" "$here/tests/share/early_signal.c"
+    "${before[@]}" "$transport" "$folder" || wrong "a signal just after the mount: $?"
+    ! umount -l "$folder" 2> /dev/null || wrong "a mount is left of an early signal"
+    "${before[@]}" "$vhost" "$ends/early" || wrong "a signal just after the socket: $?"
+    [ ! -e "$ends/early" ] || wrong "a socket is left of an early signal"
+}
+
 status=0
 part "words that can't be"
 refuses_words || wrong "a word that can't be is not refused by its name."
@@ -159,8 +169,9 @@ part "a session with what is written later"
 session "with writeback" allow_other,writeback
 part "a session without io_uring"
 session "with no_io_uring" allow_other,no_io_uring
-part "options, and a signal"
+part "options, and signals"
 options_hold
+early_signals
 part "ends"
 unshare --mount timeout 60 python3 -B "$here/tests/share/ends.py" --tree "$transport" "$vhost" "$ends" ||
     wrong "the ends of a mount and of a machine."

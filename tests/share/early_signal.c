@@ -1,4 +1,5 @@
-/* Loaded before a share, for check.sh: a signal that ends it comes as soon as there is a socket, or a mount. */
+/* Loaded before a server, for check.sh and tests/mount/check.sh: a signal that ends it comes as soon as there is a
+ * socket, or a mount. */
 #define _GNU_SOURCE
 #include <dlfcn.h>
 #include <signal.h>
