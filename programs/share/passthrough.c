@@ -126,9 +126,20 @@ static bool gives_back(const nizwarf_segment *request)
 	       header.opcode == FUSE_DESTROY;
 }
 
+/* The request in one piece, which the door asks with fewer steps. (If it isn't in one, it is a WRITE, of which the door
+ * reads the first alone; and behind that is memory for all of it.) */
+static nizwarf_segment in_one(const nizwarf_segment *request, size_t segments)
+{
+	nizwarf_segment whole = { request->at, 0 };
+
+	for (size_t i = 0; i < segments; i++)
+		whole.len += request[i].len;
+	return whole;
+}
+
 /* Asks what a request asks for. One that gives something back waits for memory, up to ten seconds. */
 static int32_t ask(struct worker *w, const nizwarf_session *session, uint32_t offers,
-		   const nizwarf_segment *request, size_t segments, const nizwarf_room *room, size_t rooms,
+		   const nizwarf_segment *request, const nizwarf_room *room, size_t rooms,
 		   nizwarf_call *asked, nizwarf_told *told)
 {
 	int32_t code = NIZWARF_OUT_OF_MEMORY;
@@ -138,8 +149,7 @@ static int32_t ask(struct worker *w, const nizwarf_session *session, uint32_t of
 			break;
 		if (tries)
 			let_pass();
-		code = nizwarf_ask_offered(&w->slot, session, offers, request, segments, room, rooms, asked,
-					   told);
+		code = nizwarf_ask_offered(&w->slot, session, offers, request, 1, room, rooms, asked, told);
 	}
 	return code;
 }
@@ -149,6 +159,7 @@ int32_t passthrough_serve(void *user, unsigned worker, const nizwarf_segment *re
 {
 	struct passthrough *all = user;
 	struct worker *w = all->worker[worker];
+	const nizwarf_segment whole = in_one(request, segments);
 	const nizwarf_session session = { atomic_load(&all->agreed), 4096, all->options.payload };
 	nizwarf_answer answer = NIZWARF_NO_ANSWER;
 	nizwarf_call asked;
@@ -163,7 +174,7 @@ int32_t passthrough_serve(void *user, unsigned worker, const nizwarf_segment *re
 	ssize_t pieces = 0;
 	int32_t code;
 
-	code = ask(w, &session, all->offers, request, segments, room, rooms, &asked, &told);
+	code = ask(w, &session, all->offers, &whole, room, rooms, &asked, &told);
 	if (told.interrupts && all->locks)
 		locks_interrupt(all->locks, told.interrupts);
 	if (code != NIZWARF_ASKED) {

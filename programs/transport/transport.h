@@ -16,7 +16,8 @@
  * in memory of yours in both, to be copied. A machine's requests are copied into one segment, since it
  * may change its memory at any time. With `writes_in_place` the data of a WRITE are not: they come in
  * segments behind the first, which has the header and the record. Nothing is to be believed of them
- * that is read twice; the door reads none of them. */
+ * that is read twice; the door reads none of them. So it may be asked with one segment: there is
+ * memory behind the first one for all the request, of which nothing is told. */
 #ifndef TRANSPORT_H
 #define TRANSPORT_H
 
