@@ -30,6 +30,16 @@ static void move_on(struct iovec **data, size_t *pieces, size_t moved)
 	}
 }
 
+/* Moves data of an open file from or into pieces, as preadv and pwritev do. (Of one piece the calls without a list cost
+ * less.) */
+static ssize_t move(int fd, bool is_read, const struct iovec *data, int pieces, off_t at)
+{
+	if (pieces == 1)
+		return is_read ? pread(fd, data->iov_base, data->iov_len, at) :
+				 pwrite(fd, data->iov_base, data->iov_len, at);
+	return is_read ? preadv(fd, data, pieces, at) : pwritev(fd, data, pieces, at);
+}
+
 /* READ and WRITE: of all that is there, right from or into the pieces. */
 static int transfer(const struct call *call)
 {
@@ -58,8 +68,7 @@ static int transfer(const struct call *call)
 	while (pieces) {
 		const int most = pieces < IOV_MAX ? (int)pieces : IOV_MAX;
 		const size_t others = pieces - (size_t)most;
-		const off_t at = (off_t)(asked->offset + done);
-		const ssize_t moved = is_read ? preadv(fd, data, most, at) : pwritev(fd, data, most, at);
+		const ssize_t moved = move(fd, is_read, data, most, (off_t)(asked->offset + done));
 
 		if (moved < 0 && errno == EINTR)
 			continue;

@@ -356,6 +356,9 @@ static bool some_handle(struct nodes *all, const struct statx *seen)
 {
 	bool is_some;
 
+	/* (where files are never held so) */
+	if (all->handles_from == UINT_MAX)
+		return false;
 	pthread_rwlock_rdlock(&all->nodes.lock);
 	is_some = is_by_handle(all, seen);
 	pthread_rwlock_unlock(&all->nodes.lock);
