@@ -12,9 +12,9 @@
  * requests come the calling thread looks from time to time whether some wait and no one reads, and
  * calls one too; and if it is calm, one less is wanted.
  *
- * To sleep and to be woken takes longer than most clients take from a reply to the next request. So a
- * worker that is alone, and that was woken soon time after time, looks for a while whether one comes
- * before it sleeps.
+ * To sleep and to be woken takes longer than many clients take from a reply to the next request. So a
+ * worker that is alone, and that was woken soon time after time, looks for as long as that takes whether
+ * one comes before it sleeps.
  *
  * Many data take the way of a pipe, which has references to pages. Those of a READ are copied from the
  * file's pages to the client's, and those of a WRITE from the client's to the file's. A worker takes
@@ -56,8 +56,9 @@ enum { STUCK_TICKS = 2, WAITED_TICKS = 4 };
  * and how many in turn that find some call one more. */
 enum { BULK = 32768, LOOK_EACH = 8, BACKLOGS = 3 };
 /* In nanoseconds: how long a request that didn't wait already takes to come at least, and one that
- * comes soon at most. Behind so many of these more than of others a worker looks before it sleeps. */
-enum { LEAST_WAIT = 1500, SHORT_WAIT = 20000, SHORT_WAITS = 4 };
+ * comes soon at most, which is about what it takes to sleep and be woken: to look for longer costs more than
+ * that. Behind so many of these more than of others a worker looks before it sleeps. */
+enum { LEAST_WAIT = 1500, SHORT_WAIT = 5000, SHORT_WAITS = 4 };
 /* In nanoseconds: how long what is read beside io_uring gathers. */
 enum { GATHER = 1000000 };
 /* In bytes: how large a pipe is, which has a place for each page; from how many data on to use it takes

@@ -84,7 +84,7 @@ What the share alone does: each file that is looked up is opened with O_PATH, an
 a request goes to the file that was looked up, whatever is renamed meanwhile, and no path is walked or link followed.
 bindfs holds no file and walks the path of each request, so it may reach another file. What the share opens by a name is
 compared with that file by `fstat`; and each system call passes a filter. By read(2) its data of 64 KiB and more go by a
-pipe, without a copy of its own; and a worker that is alone looks up to 20 microseconds for the next request before it
+pipe, without a copy of its own; and a worker that is alone looks up to 5 microseconds for the next request before it
 sleeps. Over io_uring Linux takes no pipe, so data are copied twice, as by the others: with `--passthrough` it reads and
 writes files itself, in {} to {} of the quicker other's time.
 """
