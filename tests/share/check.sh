@@ -641,8 +641,8 @@ try_locks() {
     umount "$work/mount"
     wait "$server" || wrong "the server with locks ended with $?, with $*"
     server=
-    timeout 900 python3 -B "$here/tests/share/waits.py" "$work" "$share" "$@" || wrong "locks that are waited for, with $*"
-    rm -rf "$work/waits" "$work/waits.socket"
+    timeout 300 python3 -B "$here/tests/share/waits.py" "$work" "$share" "$@" || wrong "locks that are waited for, with $*"
+    rm -rf "$work"/waits*
     echo "Locks are those of the folder${*:+, with $*}."
 }
 

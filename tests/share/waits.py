@@ -22,7 +22,7 @@ READ, WRITE, NONE = fcntl.F_RDLCK, fcntl.F_WRLCK, fcntl.F_UNLCK
 EINTR, EAGAIN, ENOLCK, O_RDWR, FLOCK, LOCK_FLAGS = 4, 11, 37, 2, 1, 1 << 1 | 1 << 10
 SIZE, BASE, QUEUE = 1 << 20, 1 << 32, 1
 DESCRIPTORS, AVAILABLE, USED, BUFFERS, SLOT, ROOM = 0, 0x4000, 0x8000, 0x10000, 0x1000, 0x800
-SLOTS, WAITERS, SOON, LONG = 64, 12, 0.3, 10
+SLOTS, WAITERS, LONG = 64, 12, 60
 faults = []
 
 
@@ -31,12 +31,26 @@ def hold(what, came, wanted):
         faults.append(f"{what}: wanted {wanted}, came {came}")
 
 
+def connected(path):
+    """A socket to who listens on this path. (One that is bound is not listened on at once.)"""
+    until = time.time() + LONG
+    while True:
+        one = socket.socket(socket.AF_UNIX)
+        try:
+            one.connect(path)
+            return one
+        except OSError:
+            one.close()
+            if time.time() > until:
+                raise
+        time.sleep(0.01)
+
+
 class Machine:
     """A front end with memory of its own and one queue of requests."""
 
     def __init__(self, path):
-        self.socket = socket.socket(socket.AF_UNIX)
-        self.socket.connect(path)
+        self.socket = connected(path)
         self.socket.settimeout(LONG)
         self.memory = os.memfd_create("memory")
         os.ftruncate(self.memory, SIZE)
@@ -54,7 +68,10 @@ class Machine:
         socket.send_fds(self.socket, [struct.pack("<III", message, 1, len(body)) + body], fds)
 
     def share(self):
+        """Shares the memory, and waits until that is done: up to then no request is kept."""
         self.tell(5, 1, 0, BASE, SIZE, BASE, 0, shape="IIQQQQ", fds=[self.memory])
+        self.tell(1)
+        self.socket.recv(100)
 
     def begin(self, base):
         self.tell(8, QUEUE, SLOTS, shape="II")
@@ -97,15 +114,17 @@ class Machine:
             self.done[self.heads.pop(head)] = self.view[at:at + length]
             self.seen = (self.seen + 1) % 65536
 
-    def reply(self, unique, wait=LONG):
-        """The reply to a request; None: there is none so far."""
-        until = time.time() + wait
+    def reply(self, unique, wait=None):
+        """The reply to a request, which is due; or with a time to wait None, if there is none so far."""
+        until = time.time() + (wait or LONG)
         while unique not in self.done and time.time() < until:
             self.look()
             time.sleep(0.001)
+        if not wait and unique not in self.done:
+            raise TimeoutError(f"no reply to request {unique}")
         return self.done.pop(unique, None)
 
-    def error(self, unique, wait=LONG):
+    def error(self, unique, wait=None):
         reply = self.reply(unique, wait)
         return None if reply is None else -struct.unpack_from("<i", reply, 4)[0] if len(reply) >= 16 else 0
 
@@ -168,18 +187,8 @@ def stopped(one, node, handle):
     hold("unlock", one.error(one.lock(node, handle, 1, NONE)), 0)
 
 
-def main():
-    if len(sys.argv) < 3:
-        print(__doc__.strip())
-        return 0 if sys.argv[1:] in (["-h"], ["--help"]) else 2
-    work, *share = sys.argv[1:]
-    folder, path = work + "/waits", work + "/waits.socket"
-    os.makedirs(folder, exist_ok=True)
-    open(folder + "/file", "w").close()
-    words = ["--flock", "--posix-lock", "--thread-pool-size=1", "--log-level=warn", "--socket-path=" + path, folder]
-    server = subprocess.Popen([*share, *words], stdout=subprocess.PIPE, stderr=subprocess.STDOUT, text=True)
-    while not os.path.exists(path) and server.poll() is None:
-        time.sleep(0.02)
+def ask_all(path):
+    """The machine whose requests wait at the end."""
     one, node, handle = begun(path)
     freed(one, node, handle, False)
     freed(one, node, handle, True)
@@ -190,13 +199,31 @@ def main():
     hold("no lock is left", one.error(one.lock(node, handle, 5, WRITE)), 0)
     hold("unlock", one.error(one.lock(node, handle, 5, NONE)), 0)
     waiting(one, node, handle, False)
-    server.send_signal(signal.SIGTERM)
-    try:
-        said = server.communicate(timeout=LONG)[0]
-    except subprocess.TimeoutExpired:
-        server.kill()
-        said = server.communicate()[0] + "it does not end"
-    hold("the server's end", (server.returncode, said), (0, ""))
+    return one
+
+
+def main():
+    if len(sys.argv) < 3:
+        print(__doc__.strip())
+        return 0 if sys.argv[1:] in (["-h"], ["--help"]) else 2
+    work, *share = sys.argv[1:]
+    folder, path = work + "/waits", work + "/waits.socket"
+    os.makedirs(folder, exist_ok=True)
+    open(folder + "/file", "w").close()
+    words = ["--flock", "--posix-lock", "--thread-pool-size=1", "--log-level=warn", "--socket-path=" + path, folder]
+    with open(work + "/waits.said", "w+", encoding="utf-8") as said:
+        server = subprocess.Popen([*share, *words], stdout=said, stderr=subprocess.STDOUT)
+        try:
+            one = ask_all(path)
+            server.send_signal(signal.SIGTERM)
+            ended = server.wait(LONG)
+            one.end()
+        except (OSError, subprocess.TimeoutExpired) as why:
+            ended = why
+        finally:
+            server.kill()
+        said.seek(0)
+        hold("the server's end", (ended, said.read()), (0, ""))
     print(*faults, f"waits.py: {len(faults)} faults", sep="\n")
     return 1 if faults else 0
 
