@@ -83,8 +83,8 @@ static inline int door_pause(int *tries)
 
 /* What a reply and a listing tell of an entry. */
 static void fill_entry(struct fuse_entry_out *out, const struct fuse_entry_param *e);
-/* Whether records of a directory are whole, and what Linux takes. */
-static int are_records(const nizwarf_call *call, const char *at, size_t len);
+/* How many bytes of a listing are whole records, if each is what Linux takes. 0: one isn't, or none is whole. */
+static size_t count_whole(const nizwarf_call *call, const char *records, size_t len);
 
 /* Each reply and each notice but those with data goes by these two. */
 static int send_reply_iov(fuse_req_t req, int error, struct iovec *iov, int count);

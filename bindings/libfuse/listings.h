@@ -2,6 +2,9 @@
 
 enum { WORD = sizeof(uint64_t), PIECE = 16 };
 
+/* (called without the jump that calls to other libraries go by) */
+extern __attribute__((noplt)) size_t strlen(const char *text);
+
 static inline uint64_t word_at(const char *at)
 {
 	uint64_t word;
@@ -85,9 +88,10 @@ static inline __m128i least_of(__m128i least, const char *at, size_t len)
 {
 	const char *last = at + len - PIECE;
 
+	least = _mm_min_epu8(least, _mm_loadu_si128((const __m128i *)(const void *)last));
 	for (; at < last; at += PIECE)
 		least = _mm_min_epu8(least, _mm_loadu_si128((const __m128i *)(const void *)at));
-	return _mm_min_epu8(least, _mm_loadu_si128((const __m128i *)(const void *)last));
+	return least;
 }
 
 /* 0, if no byte of a short name is 0, and there is one. Those bytes are there, too, that fill its last eight up. */
@@ -99,27 +103,123 @@ static inline uint64_t fault_of(const char *at, size_t len)
 	return len ? zeros_in(word_at(at) | UINT64_MAX << 8 * len) : 1;
 }
 
-/* Whether records of a directory are whole, and what Linux takes. What is wrong of names is looked at once, at the
+/* A walk over records: where the next one begins, and what is wrong with names before, which is looked at once, at the
  * end. */
-static int are_records(const nizwarf_call *call, const char *at, size_t len)
-{
-	const size_t front = call->has & NIZWARF_PLUS ? sizeof(struct fuse_entry_out) : 0;
-	__m128i least = _mm_set1_epi8(-1);
-	uint64_t faults = 0;
-	uint32_t name_len;
-	size_t whole;
+struct door_walk {
+	size_t at;
+	__m128i least;
+	uint64_t faults;
+};
 
-	while (len >= front + FUSE_NAME_OFFSET) {
-		memcpy(&name_len, at + front + offsetof(struct fuse_dirent, namelen), sizeof(name_len));
-		whole = front + FUSE_DIRENT_ALIGN(FUSE_NAME_OFFSET + (size_t)name_len);
-		if (unlikely(whole > len))
-			return 0;
-		if (name_len >= PIECE)
-			least = least_of(least, at + front + FUSE_NAME_OFFSET, name_len);
-		else
-			faults |= fault_of(at + front + FUSE_NAME_OFFSET, name_len);
-		at += whole;
-		len -= whole;
+/* A listing: where the name of a record at 0 is, and how far before a name its record begins. */
+struct door_listing {
+	const char *names;
+	size_t front;
+};
+
+/* The length of a name, as the header says, which is there. */
+static inline uint32_t name_len_at(struct door_listing l, size_t at)
+{
+	uint32_t len;
+
+	memcpy(&len, l.names + at - FUSE_NAME_OFFSET + offsetof(struct fuse_dirent, namelen), sizeof(len));
+	return len;
+}
+
+/* Where a record ends, as its header says. */
+static inline size_t end_of_record(struct door_listing l, size_t at)
+{
+	return at + FUSE_DIRENT_ALIGN(l.front + name_len_at(l, at));
+}
+
+/* Goes past a record, which is there up to its end. */
+static inline void pass_record(struct door_walk *walk, struct door_listing l, size_t end)
+{
+	const uint32_t len = name_len_at(l, walk->at);
+
+	if (len >= PIECE)
+		walk->least = least_of(walk->least, l.names + walk->at, len);
+	else
+		walk->faults |= fault_of(l.names + walk->at, len);
+	walk->at = end;
+}
+
+enum {
+	LONG_LISTING = 1024,
+	MOST_GUESSED = 256,
+	/* As Linux has it, filled up. */
+	LONGEST_NAME = 4096,
+};
+
+/* Where a record in the middle may begin: there a short length and a type are beside each other. 0: nowhere. */
+static inline size_t guess_middle(struct door_listing l, size_t len)
+{
+	const size_t first = len / 2 / WORD * WORD;
+	uint64_t numbers;
+	size_t at;
+
+	for (at = first; at < first + MOST_GUESSED; at += WORD) {
+		numbers = word_at(l.names + at - WORD);
+		if (!(numbers & ~UINT64_C(0xf000000ff)) && numbers & 255 && numbers >> 32)
+			return at;
 	}
-	return !len && !faults && !_mm_movemask_epi8(_mm_cmpeq_epi8(least, _mm_setzero_si128()));
+	return 0;
+}
+
+_Static_assert(LONG_LISTING / 2 + MOST_GUESSED + sizeof(struct fuse_entry_out) + FUSE_NAME_OFFSET <=
+		       LONG_LISTING,
+	       "a guess has a header");
+_Static_assert(offsetof(struct fuse_dirent, type) + sizeof(uint32_t) == FUSE_NAME_OFFSET &&
+		       offsetof(struct fuse_dirent, namelen) + WORD == FUSE_NAME_OFFSET,
+	       "both numbers are before a name");
+
+/* Goes over records in two halves at once: each says where the next one is, and to wait for that takes longer than all
+ * else. The second half counts if the first one ends where it began: a wrong guess costs time alone. `last` is where
+ * the last header may be. */
+static inline void pass_halves(struct door_walk *walk, struct door_listing l, size_t middle, size_t last)
+{
+	struct door_walk half = { middle, walk->least, 0 };
+	size_t end, other_end;
+
+	for (;;) {
+		end = end_of_record(l, walk->at);
+		other_end = end_of_record(l, half.at);
+		if (end > middle || other_end > last)
+			break;
+		pass_record(walk, l, end);
+		pass_record(&half, l, other_end);
+	}
+	for (; end <= middle; end = end_of_record(l, walk->at))
+		pass_record(walk, l, end);
+	if (walk->at == middle) {
+		walk->at = half.at;
+		walk->least = _mm_min_epu8(walk->least, half.least);
+		walk->faults |= half.faults;
+	}
+}
+
+/* How many bytes of a listing are whole records, if each is what Linux takes. 0: one isn't, or none is whole. Linux takes
+ * no notice of a last one that is cut, and asks for it again. */
+static __attribute__((noinline)) size_t count_whole(const nizwarf_call *call, const char *records, size_t len)
+{
+	const size_t front =
+		FUSE_NAME_OFFSET + (call->has & NIZWARF_PLUS ? sizeof(struct fuse_entry_out) : 0);
+	const struct door_listing l = { records + front, front };
+	struct door_walk walk = { 0, _mm_set1_epi8(-1), 0 };
+	size_t middle, end;
+
+	if (len < front)
+		return 0;
+	middle = len >= LONG_LISTING ? guess_middle(l, len) : 0;
+	if (middle)
+		pass_halves(&walk, l, middle, len - front);
+	while ((end = end_of_record(l, walk.at)) <= len - front)
+		pass_record(&walk, l, end);
+	if (end <= len)
+		pass_record(&walk, l, end);
+	else if (end - walk.at > front + LONGEST_NAME)
+		return 0;
+	if (walk.faults || _mm_movemask_epi8(_mm_cmpeq_epi8(walk.least, _mm_setzero_si128())))
+		return 0;
+	return walk.at;
 }

@@ -637,9 +637,8 @@ static __attribute__((noinline)) int join_pieces(struct iovec *iov, int count, s
 static int send_data(fuse_req_t req, struct iovec *iov, int count)
 {
 	const nizwarf_call *call = call_of(req);
-	const size_t len = iov_length(iov + 1, count - 1);
 	_Alignas(struct fuse_out_header) uint8_t header[HEADER];
-	size_t whole;
+	size_t len = iov_length(iov + 1, count - 1), whole;
 
 	if (call->answer == NIZWARF_DIRECTORY && len) {
 		if (len > call->size)
@@ -649,8 +648,10 @@ static int send_data(fuse_req_t req, struct iovec *iov, int count)
 				return send_plain(req, ENOMEM);
 			count = 2;
 		}
-		if (!are_records(call, iov[1].iov_base, len))
+		len = count_whole(call, iov[1].iov_base, len);
+		if (unlikely(!len))
 			return send_plain(req, EIO);
+		iov[1].iov_len = len;
 	}
 	whole = put_data_header(req, len, header);
 	if (unlikely(!whole))

@@ -268,6 +268,28 @@ static void list_by_pieces(fuse_req_t req)
 	fuse_reply_iov(req, pieces, 3);
 }
 
+/* A listing of many records, which is replied with as it is here, in memory of its own length. */
+enum { MANY = 60 };
+static _Alignas(8) char listing[SIZE];
+static size_t listing_len;
+
+static void list_many(fuse_req_t req)
+{
+	char *at = malloc(listing_len);
+
+	if (!at)
+		exit(2);
+	memcpy(at, listing, listing_len);
+	fuse_reply_buf(req, at, listing_len);
+	free(at);
+}
+
+static void on_readdirplus(fuse_req_t req, fuse_ino_t ino, size_t size, off_t off, struct fuse_file_info *fi)
+{
+	(void)ino, (void)size, (void)off, (void)fi;
+	list_many(req);
+}
+
 /* A directory's records: whole, with a name that ends after them, without a name, with a 0 in it, or too many. */
 static void on_readdir(fuse_req_t req, fuse_ino_t ino, size_t size, off_t off, struct fuse_file_info *fi)
 {
@@ -283,6 +305,10 @@ static void on_readdir(fuse_req_t req, fuse_ino_t ino, size_t size, off_t off, s
 	}
 	if (ino == 7) {
 		list_by_pieces(req);
+		return;
+	}
+	if (ino == 8) {
+		list_many(req);
 		return;
 	}
 	if (ino == 3)
@@ -359,6 +385,7 @@ static const struct fuse_lowlevel_ops ops = {
 	.read = on_read,
 	.write_buf = on_write,
 	.readdir = on_readdir,
+	.readdirplus = on_readdirplus,
 	.open = on_open,
 	.ioctl = on_ioctl,
 	.forget = on_forget,
@@ -439,7 +466,8 @@ static const struct fuse_init_in init = {
 	.major = 7, .minor = 38, .max_readahead = 65536, .flags = FUSE_BIG_WRITES
 };
 static const struct fuse_getxattr_in attribute[] = { { .size = 8 }, { .size = 0 } };
-static const struct fuse_read_in reading = { .size = 64 }, much = { .size = 4096 };
+static const struct fuse_read_in reading = { .size = 64 }, much = { .size = 4096 },
+				 most = { .size = SIZE / 2 };
 static const struct fuse_open_in opening = { 0 };
 static const struct fuse_ioctl_in asking = { .out_size = 8 };
 static const struct fuse_forget_in one_forget = { .nlookup = 1 };
@@ -713,6 +741,89 @@ static void try_pieces(void)
 					     !memcmp(at + 24, "name", 4) && !memcmp(at + 56, "other", 5));
 }
 
+/* Makes a listing: with types, without, or with inode numbers that look like the length of a name and a type. */
+static void make_listing(size_t front, int kind)
+{
+	const struct fuse_entry_param e = { .ino = 2,
+					    .attr = { .st_ino = kind == 2 ? UINT64_C(0x800000005) : 2,
+						      .st_mode = kind == 1 ? 0 : S_IFREG } };
+	char name[LONGEST_NAME + 1], *at = listing;
+	size_t i, len;
+
+	for (i = 1; i <= MANY; i++) {
+		len = 1 + i * 7 % LONGEST_NAME;
+		memcpy(name, text, len);
+		name[len] = 0;
+		if (front)
+			at += fuse_add_direntry_plus(NULL, at, SIZE, name, &e, (off_t)i);
+		else
+			at += fuse_add_direntry(NULL, at, SIZE, name, &e.attr, (off_t)i);
+	}
+	listing_len = (size_t)(at - listing);
+}
+
+/* How many bytes of the listing Linux takes, record by record: up to one that is cut. 0: it is to be refused. */
+static size_t taken_of_listing(size_t front)
+{
+	size_t at, whole;
+	uint32_t len;
+
+	for (at = 0; listing_len - at >= front + 24; at += whole) {
+		memcpy(&len, listing + at + front + 16, sizeof(len));
+		whole = front + 24 + ((size_t)len + 7) / 8 * 8;
+		if (!len)
+			return 0;
+		if (whole > listing_len - at)
+			return len > 4096 ? 0 : at;
+		if (memchr(listing + at + front + 24, 0, len))
+			return 0;
+	}
+	return at;
+}
+
+/* Whether that many bytes of it come to the client, or EIO. */
+static int is_listed(size_t front)
+{
+	const size_t taken_len = taken_of_listing(front);
+	const struct request asked = { front ? FUSE_READDIRPLUS : FUSE_READDIR,
+				       8,
+				       &most,
+				       sizeof(most),
+				       taken_len ? 0 : EIO,
+				       "a listing",
+				       0 };
+
+	send_request(&asked);
+	if (!taken_len)
+		return is_answered(&asked);
+	return is_answered(&asked) && reply_len == sizeof(struct fuse_out_header) + taken_len &&
+	       !memcmp(reply + sizeof(struct fuse_out_header), listing, taken_len);
+}
+
+/* Long listings: whole, cut anywhere, and with up to three bytes that are others. */
+static void try_listings(size_t front)
+{
+	enum { EDITED = 20000 };
+	size_t right = 0, asked = 0, whole;
+	int kind, i, edits;
+
+	srandom(1);
+	for (kind = 0; kind < 3; kind++) {
+		make_listing(front, kind);
+		whole = listing_len;
+		judge("a long listing", taken_of_listing(front) == whole && is_listed(front));
+		for (listing_len = 1; listing_len < whole; listing_len++, asked++)
+			right += is_listed(front);
+		for (i = 0; i < EDITED; i++, asked++) {
+			make_listing(front, kind);
+			for (edits = i % 3; edits >= 0; edits--)
+				listing[(size_t)random() % whole] = (char)(random() & 1 ? random() : 0);
+			right += is_listed(front);
+		}
+	}
+	judge("long listings that are wrong", right == asked);
+}
+
 static void try_times(void)
 {
 	struct request asked = { FUSE_LOOKUP, 1, NULL, 0, 0, "a time", 0 };
@@ -867,6 +978,8 @@ static void try_answers(const struct fuse_custom_io *io)
 	judge("told that it is no answer", !taken);
 	try_pieces();
 	try_names();
+	try_listings(0);
+	try_listings(sizeof(struct fuse_entry_out));
 	try_times();
 	try_retrieve(1, 0);
 	try_retrieve(64, 0);
