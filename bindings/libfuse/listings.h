@@ -117,26 +117,17 @@ struct door_listing {
 	size_t front;
 };
 
-/* The length of a name, as the header says, which is there. */
-static inline uint32_t name_len_at(struct door_listing l, size_t at)
+/* Where a record ends, as its header says, which is there. The length of its name is read once: a thread of the program
+ * may write there. */
+static inline size_t end_of_record(struct door_listing l, size_t at, uint32_t *len)
 {
-	uint32_t len;
-
-	memcpy(&len, l.names + at - FUSE_NAME_OFFSET + offsetof(struct fuse_dirent, namelen), sizeof(len));
-	return len;
-}
-
-/* Where a record ends, as its header says. */
-static inline size_t end_of_record(struct door_listing l, size_t at)
-{
-	return at + FUSE_DIRENT_ALIGN(l.front + name_len_at(l, at));
+	memcpy(len, l.names + at - FUSE_NAME_OFFSET + offsetof(struct fuse_dirent, namelen), sizeof(*len));
+	return at + FUSE_DIRENT_ALIGN(l.front + *len);
 }
 
 /* Goes past a record, which is there up to its end. */
-static inline void pass_record(struct door_walk *walk, struct door_listing l, size_t end)
+static inline void pass_record(struct door_walk *walk, struct door_listing l, uint32_t len, size_t end)
 {
-	const uint32_t len = name_len_at(l, walk->at);
-
 	if (len >= PIECE)
 		walk->least = least_of(walk->least, l.names + walk->at, len);
 	else
@@ -180,17 +171,18 @@ static inline void pass_halves(struct door_walk *walk, struct door_listing l, si
 {
 	struct door_walk half = { middle, walk->least, 0 };
 	size_t end, other_end;
+	uint32_t len, other;
 
 	for (;;) {
-		end = end_of_record(l, walk->at);
-		other_end = end_of_record(l, half.at);
+		end = end_of_record(l, walk->at, &len);
+		other_end = end_of_record(l, half.at, &other);
 		if (end > middle || other_end > last)
 			break;
-		pass_record(walk, l, end);
-		pass_record(&half, l, other_end);
+		pass_record(walk, l, len, end);
+		pass_record(&half, l, other, other_end);
 	}
-	for (; end <= middle; end = end_of_record(l, walk->at))
-		pass_record(walk, l, end);
+	for (; end <= middle; end = end_of_record(l, walk->at, &len))
+		pass_record(walk, l, len, end);
 	if (walk->at == middle) {
 		walk->at = half.at;
 		walk->least = _mm_min_epu8(walk->least, half.least);
@@ -207,16 +199,17 @@ static __attribute__((noinline)) size_t count_whole(const nizwarf_call *call, co
 	const struct door_listing l = { records + front, front };
 	struct door_walk walk = { 0, _mm_set1_epi8(-1), 0 };
 	size_t middle, end;
+	uint32_t name_len;
 
 	if (len < front)
 		return 0;
 	middle = len >= LONG_LISTING ? guess_middle(l, len) : 0;
 	if (middle)
 		pass_halves(&walk, l, middle, len - front);
-	while ((end = end_of_record(l, walk.at)) <= len - front)
-		pass_record(&walk, l, end);
+	while ((end = end_of_record(l, walk.at, &name_len)) <= len - front)
+		pass_record(&walk, l, name_len, end);
 	if (end <= len)
-		pass_record(&walk, l, end);
+		pass_record(&walk, l, name_len, end);
 	else if (end - walk.at > front + LONGEST_NAME)
 		return 0;
 	if (walk.faults || _mm_movemask_epi8(_mm_cmpeq_epi8(walk.least, _mm_setzero_si128())))
