@@ -1,9 +1,52 @@
 //! Records, taken off the front of a message and printed field by field.
 
+use crate::flags::{Name, Word};
 use crate::stop::Stop;
 use crate::take::take_record;
+use crate::text::{Octal, Time};
 use fuse_wire::ByteValued;
-use std::fmt::{self, Write};
+use std::fmt::{self, Display, Formatter, Write};
+
+/// What a field is, which says how it is printed.
+#[derive(Clone, Copy)]
+pub enum Value {
+    /// A number of 64 bits.
+    Number(u64),
+    /// A number of 32 bits.
+    Small(u32),
+    /// A number in octal.
+    Octal(u32),
+    /// A number in hex.
+    Hex(u64),
+    /// A time: the bits of its signed seconds, and nanoseconds.
+    Time(u64, u32),
+    /// How long an answer is valid: seconds, and nanoseconds.
+    Timeout(u64, u32),
+    /// Flags, and the names of their bits.
+    Word(u32, &'static [Name]),
+}
+
+impl Display for Value {
+    fn fmt<W: Write>(&self, f: &mut Formatter<W>) -> fmt::Result {
+        match *self {
+            Value::Number(number) => write!(f, "{number}"),
+            Value::Small(number) => write!(f, "{number}"),
+            Value::Hex(number) => write!(f, "0x{number:x}"),
+            Value::Timeout(seconds, nanoseconds) => write!(f, "{seconds}.{nanoseconds:09}"),
+            Value::Octal(number) => Octal(number).fmt(f),
+            Value::Time(seconds, nanoseconds) => Time(seconds, nanoseconds).fmt(f),
+            Value::Word(bits, names) => Word(bits, names).fmt(f),
+        }
+    }
+}
+
+/// Prints each field after a space, as its name, `=` and its value.
+pub fn print_fields<W: Write>(w: &mut W, fields: &[(&'static str, Value)]) -> fmt::Result {
+    for (name, value) in fields {
+        write!(w, " {name}={value}")?;
+    }
+    Ok(())
+}
 
 /// A record whose fields can be printed.
 pub trait Fields: ByteValued + Copy {

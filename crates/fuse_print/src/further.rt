@@ -3,11 +3,12 @@
 
 ghost use Rattle.std.specs.Prelude.{◌+◌, ◌≤◌, length};
 
-use crate::fields::{print_alone, print_if_whole, print_record};
+use crate::fields::Value::{self, Hex, Number, Octal, Small, Time, Timeout};
+use crate::fields::{print_alone, print_fields, print_if_whole, print_record};
 use crate::request::print_named;
 use crate::stop::Stop;
 use crate::take::{take_bytes, take_record};
-use crate::text::{Data, Octal, Time};
+use crate::text::print_data;
 use fuse_flags::FsOptions;
 use fuse_wire::bytes::{u16_at, u32_at, u64_at};
 use fuse_wire::{ByteValued, InHeader};
@@ -64,7 +65,7 @@ pub fn print_ioctl<'a, W: Write>(w: &mut W, bytes: &'a [u8]) -> Result<&'a [u8],
         return Ok(bytes);
     }
     let (record, behind) = print_record::<IoctlIn, W>(w, bytes)?;
-    print_data(w, record.in_size, behind)
+    print_sized(w, record.in_size, behind)
 }
 
 /// The record of NOTIFY_REPLY, and the `size` bytes after it, if they are there.
@@ -73,17 +74,17 @@ pub fn print_notify_reply<'a, W: Write>(w: &mut W, bytes: &'a [u8]) -> Result<&'
         return Ok(bytes);
     }
     let (record, behind) = print_record::<NotifyRetrieveIn, W>(w, bytes)?;
-    print_data(w, record.size, behind)
+    print_sized(w, record.size, behind)
 }
 
 /// So many bytes of data, if there are to be any, and all of them are there.
-fn print_data<'a, W: Write>(w: &mut W, size: u32, bytes: &'a [u8]) -> Result<&'a [u8], Stop> {
+fn print_sized<'a, W: Write>(w: &mut W, size: u32, bytes: &'a [u8]) -> Result<&'a [u8], Stop> {
     if size == 0 {
         return Ok(bytes);
     }
     match take_bytes(bytes, size as usize) {
         Ok((data, behind)) => {
-            write!(w, " data{}", Data(data))?;
+            print_data(w, "data", data)?;
             Ok(behind)
         }
         Err(_) => Ok(bytes),
@@ -107,7 +108,7 @@ pub fn print_tmpfile<'a, W: Write>(
 pub fn print_handed_out<'a, W: Write>(w: &mut W, body: &'a [u8]) -> Result<&'a [u8], Stop> {
     let behind = print_alone::<IoctlOut, W>(w, body)?;
     if !behind.is_empty() {
-        write!(w, " data{}", Data(behind))?;
+        print_data(w, "data", behind)?;
     }
     Ok(&[])
 }
@@ -122,9 +123,13 @@ fn print_copied<'a, W: Write>(w: &mut W, body: &'a [u8]) -> Result<&'a [u8], Sto
 /// The record of the reply to STATX (`struct fuse_statx_out`).
 fn print_statx<'a, W: Write>(w: &mut W, body: &'a [u8]) -> Result<&'a [u8], Stop> {
     let (out, behind) = take_bytes(body, STATX_OUT_SIZE)?;
-    let (seconds, nanoseconds) = (u64_at(out, 0), u32_at(out, 8));
-    write!(w, " attr_valid={seconds}.{nanoseconds:09}")?;
-    write!(w, " flags=0x{:x}", u32_at(out, 12))?;
+    print_fields(
+        w,
+        &[
+            ("attr_valid", Timeout(u64_at(out, 0), u32_at(out, 8))),
+            ("flags", Hex(u32_at(out, 12).into())),
+        ],
+    )?;
     print_stat(w, out)?;
     Ok(behind)
 }
@@ -133,27 +138,77 @@ fn print_statx<'a, W: Write>(w: &mut W, body: &'a [u8]) -> Result<&'a [u8], Stop
 fn print_stat<W: Write>(w: &mut W, out: &[u8]) -> fmt::Result
     requires { 288 ≤ length out.now }
 {
-    write!(w, " mask=0x{:x}", u32_at(out, 32))?;
-    write!(w, " blksize={}", u32_at(out, 36))?;
-    write!(w, " attributes=0x{:x}", u64_at(out, 40))?;
-    write!(w, " nlink={}", u32_at(out, 48))?;
-    write!(w, " uid={} gid={}", u32_at(out, 52), u32_at(out, 56))?;
-    write!(w, " mode={}", Octal(u32::from(u16_at(out, 60))))?;
-    write!(w, " ino={} size={}", u64_at(out, 64), u64_at(out, 72))?;
-    write!(w, " blocks={}", u64_at(out, 80))?;
-    write!(w, " attributes_mask=0x{:x}", u64_at(out, 88))?;
-    write!(w, " atime={}", time_at(out, 96))?;
-    write!(w, " btime={}", time_at(out, 112))?;
-    write!(w, " ctime={}", time_at(out, 128))?;
-    write!(w, " mtime={}", time_at(out, 144))?;
-    let (major, minor) = (u32_at(out, 160), u32_at(out, 164));
-    write!(w, " rdev_major={major} rdev_minor={minor}")?;
-    let (major, minor) = (u32_at(out, 168), u32_at(out, 172));
-    write!(w, " dev_major={major} dev_minor={minor}")
+    print_stat_owner(w, out)?;
+    print_stat_size(w, out)?;
+    print_stat_times(w, out)?;
+    print_stat_devices(w, out)
+}
+
+/// The fields up to the mode.
+fn print_stat_owner<W: Write>(w: &mut W, out: &[u8]) -> fmt::Result
+    requires { 288 ≤ length out.now }
+{
+    print_fields(
+        w,
+        &[
+            ("mask", Hex(u32_at(out, 32).into())),
+            ("blksize", Small(u32_at(out, 36))),
+            ("attributes", Hex(u64_at(out, 40))),
+            ("nlink", Small(u32_at(out, 48))),
+            ("uid", Small(u32_at(out, 52))),
+            ("gid", Small(u32_at(out, 56))),
+            ("mode", Octal(u16_at(out, 60).into())),
+        ],
+    )
+}
+
+/// The fields from the node's number on, up to the times.
+fn print_stat_size<W: Write>(w: &mut W, out: &[u8]) -> fmt::Result
+    requires { 288 ≤ length out.now }
+{
+    print_fields(
+        w,
+        &[
+            ("ino", Number(u64_at(out, 64))),
+            ("size", Number(u64_at(out, 72))),
+            ("blocks", Number(u64_at(out, 80))),
+            ("attributes_mask", Hex(u64_at(out, 88))),
+        ],
+    )
+}
+
+/// The times.
+fn print_stat_times<W: Write>(w: &mut W, out: &[u8]) -> fmt::Result
+    requires { 288 ≤ length out.now }
+{
+    print_fields(
+        w,
+        &[
+            ("atime", time_at(out, 96)),
+            ("btime", time_at(out, 112)),
+            ("ctime", time_at(out, 128)),
+            ("mtime", time_at(out, 144)),
+        ],
+    )
+}
+
+/// The device that a node is, and the one that it is on.
+fn print_stat_devices<W: Write>(w: &mut W, out: &[u8]) -> fmt::Result
+    requires { 288 ≤ length out.now }
+{
+    print_fields(
+        w,
+        &[
+            ("rdev_major", Small(u32_at(out, 160))),
+            ("rdev_minor", Small(u32_at(out, 164))),
+            ("dev_major", Small(u32_at(out, 168))),
+            ("dev_minor", Small(u32_at(out, 172))),
+        ],
+    )
 }
 
 /// The time from place `at` on (`struct fuse_sx_time`).
-fn time_at(out: &[u8], at: usize) -> Time
+fn time_at(out: &[u8], at: usize) -> Value
     requires { at + 12 ≤ length out.now }
 {
     Time(u64_at(out, at), u32_at(out, at + 8))

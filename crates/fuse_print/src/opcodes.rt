@@ -1,35 +1,109 @@
 //! What is printed of each opcode: its name, the parts of its request, the body of its reply, and the fields
 //! of its records. What a sender leaves 0 isn't printed.
 
-use crate::directory::{print_entries, print_items};
-use crate::fields::{Fields, print_alone, print_if_whole};
-use crate::flags::{Name, Set, Word};
-use crate::further::{print_handed_out, print_ioctl, print_notify_reply, print_tmpfile};
-use crate::reply::{asks_length, print_created};
-use crate::request::{
-    print_init, print_link, print_name, print_named, print_pairs, print_record_and_name,
-    print_setxattr, print_two_names, print_write,
-};
+use crate::directory::print_entries;
+use crate::directory::print_items;
+use crate::fields::Fields;
+use crate::fields::Value;
+use crate::fields::Value::Hex;
+use crate::fields::Value::Number;
+use crate::fields::Value::Small;
+use crate::fields::Value::Timeout;
+use crate::fields::print_alone;
+use crate::fields::print_fields;
+use crate::fields::print_if_whole;
+use crate::flags::Name;
+use crate::flags::Set;
+use crate::flags::Word;
+use crate::further::print_handed_out;
+use crate::further::print_ioctl;
+use crate::further::print_notify_reply;
+use crate::further::print_tmpfile;
+use crate::reply::asks_length;
+use crate::reply::print_created;
+use crate::request::print_init;
+use crate::request::print_link;
+use crate::request::print_name;
+use crate::request::print_named;
+use crate::request::print_pairs;
+use crate::request::print_record_and_name;
+use crate::request::print_setxattr;
+use crate::request::print_two_names;
+use crate::request::print_write;
 use crate::stop::Stop;
-use crate::text::{Data, Octal, Quoted, Time};
+use crate::text::Octal;
+use crate::text::print_data;
+use crate::text::print_text;
 use bitflags::Flags;
-use fuse_flags::{
-    ATTR_DAX, ATTR_SUBMOUNT, FATTR_FH, FATTR_LOCKOWNER, FSYNC_FDATASYNC, FsOptions, GETATTR_FH,
-    IoctlFlags, LK_FLOCK, OPEN_KILL_SUIDGID, Opcode, OpenOptions, POLL_SCHEDULE_NOTIFY,
-    READ_LOCKOWNER, RELEASE_FLOCK_UNLOCK, RELEASE_FLUSH, SetattrValid, SetxattrFlags, WRITE_CACHE,
-    WRITE_KILL_PRIV, WRITE_LOCKOWNER,
-};
-use fuse_wire::{
-    Attr, AttrOut, BatchForgetIn, EntryOut, ForgetIn, ForgetOne, GetattrIn, InHeader, InitOut,
-    Kstatfs, SetattrIn,
-};
-use fuse_wire_more::{
-    AccessIn, BmapIn, BmapOut, CopyfilerangeIn, CreateIn, FallocateIn, FileLock, FlushIn, FsyncIn,
-    GetxattrIn, GetxattrOut, InterruptIn, IoctlIn, IoctlOut, LinkIn, LkIn, LkOut, LseekIn,
-    LseekOut, MkdirIn, MknodIn, NotifyRetrieveIn, OpenIn, OpenOut, PollIn, PollOut, ReadIn,
-    ReleaseIn, Rename2In, RenameIn, SetxattrIn, SetxattrInCompat, StatxIn, WriteIn, WriteOut,
-};
-use std::fmt::{self, Write};
+use fuse_flags::ATTR_DAX;
+use fuse_flags::ATTR_SUBMOUNT;
+use fuse_flags::FATTR_FH;
+use fuse_flags::FATTR_LOCKOWNER;
+use fuse_flags::FSYNC_FDATASYNC;
+use fuse_flags::FsOptions;
+use fuse_flags::GETATTR_FH;
+use fuse_flags::IoctlFlags;
+use fuse_flags::LK_FLOCK;
+use fuse_flags::OPEN_KILL_SUIDGID;
+use fuse_flags::Opcode;
+use fuse_flags::OpenOptions;
+use fuse_flags::POLL_SCHEDULE_NOTIFY;
+use fuse_flags::READ_LOCKOWNER;
+use fuse_flags::RELEASE_FLOCK_UNLOCK;
+use fuse_flags::RELEASE_FLUSH;
+use fuse_flags::SetattrValid;
+use fuse_flags::SetxattrFlags;
+use fuse_flags::WRITE_CACHE;
+use fuse_flags::WRITE_KILL_PRIV;
+use fuse_flags::WRITE_LOCKOWNER;
+use fuse_wire::Attr;
+use fuse_wire::AttrOut;
+use fuse_wire::BatchForgetIn;
+use fuse_wire::EntryOut;
+use fuse_wire::ForgetIn;
+use fuse_wire::ForgetOne;
+use fuse_wire::GetattrIn;
+use fuse_wire::InHeader;
+use fuse_wire::InitOut;
+use fuse_wire::Kstatfs;
+use fuse_wire::SetattrIn;
+use fuse_wire_more::AccessIn;
+use fuse_wire_more::BmapIn;
+use fuse_wire_more::BmapOut;
+use fuse_wire_more::CopyfilerangeIn;
+use fuse_wire_more::CreateIn;
+use fuse_wire_more::FallocateIn;
+use fuse_wire_more::FileLock;
+use fuse_wire_more::FlushIn;
+use fuse_wire_more::FsyncIn;
+use fuse_wire_more::GetxattrIn;
+use fuse_wire_more::GetxattrOut;
+use fuse_wire_more::InterruptIn;
+use fuse_wire_more::IoctlIn;
+use fuse_wire_more::IoctlOut;
+use fuse_wire_more::LinkIn;
+use fuse_wire_more::LkIn;
+use fuse_wire_more::LkOut;
+use fuse_wire_more::LseekIn;
+use fuse_wire_more::LseekOut;
+use fuse_wire_more::MkdirIn;
+use fuse_wire_more::MknodIn;
+use fuse_wire_more::NotifyRetrieveIn;
+use fuse_wire_more::OpenIn;
+use fuse_wire_more::OpenOut;
+use fuse_wire_more::PollIn;
+use fuse_wire_more::PollOut;
+use fuse_wire_more::ReadIn;
+use fuse_wire_more::ReleaseIn;
+use fuse_wire_more::Rename2In;
+use fuse_wire_more::RenameIn;
+use fuse_wire_more::SetxattrIn;
+use fuse_wire_more::SetxattrInCompat;
+use fuse_wire_more::StatxIn;
+use fuse_wire_more::WriteIn;
+use fuse_wire_more::WriteOut;
+use std::fmt::Write;
+use std::fmt::{self};
 
 /// The name that an opcode has in the kernel's `enum fuse_opcode`, without `FUSE_`.
 pub fn opcode_name(opcode: Opcode) -> &'static str {
@@ -168,10 +242,10 @@ pub fn print_answer<'a, W: Write>(
 /// Prints the body of a reply that is no record, to its end, if there is one.
 fn print_bytes<'a, W: Write>(w: &mut W, opcode: Opcode, body: &'a [u8]) -> Result<&'a [u8], Stop> {
     match opcode {
-        Opcode::Read => write!(w, " data{}", Data(body))?,
-        Opcode::Getxattr => write!(w, " value{}", Data(body))?,
-        Opcode::Readlink => write!(w, " text={}", Quoted(body))?,
-        Opcode::Listxattr => write!(w, " names={}", Quoted(body))?,
+        Opcode::Read => print_data(w, "data", body)?,
+        Opcode::Getxattr => print_data(w, "value", body)?,
+        Opcode::Readlink => print_text(w, "text", body)?,
+        Opcode::Listxattr => print_text(w, "names", body)?,
         Opcode::Readdir => print_items(w, body)?,
         Opcode::Readdirplus => print_entries(w, body)?,
         _ => return Ok(body),
@@ -252,14 +326,21 @@ impl Fields for GetattrIn {
 impl Fields for SetattrIn {
     fn print<W: Write>(&self, w: &mut W) -> fmt::Result {
         let valid = Set(SetattrValid::from_bits_retain(self.valid), SETATTR_ALSO);
-        write!(w, " valid={valid} fh={} size={}", self.fh, self.size)?;
-        write!(w, " lock_owner={}", self.lock_owner)?;
-        write!(w, " atime={}", Time(self.atime, self.atimensec))?;
-        write!(w, " mtime={}", Time(self.mtime, self.mtimensec))?;
-        write!(w, " ctime={}", Time(self.ctime, self.ctimensec))?;
-        write!(w, " mode={}", Octal(self.mode))?;
-        write!(w, " uid={}", self.uid.into_inner())?;
-        write!(w, " gid={}", self.gid.into_inner())
+        write!(w, " valid={valid}")?;
+        print_fields(
+            w,
+            &[
+                ("fh", Number(self.fh)),
+                ("size", Number(self.size)),
+                ("lock_owner", Number(self.lock_owner)),
+                ("atime", Value::Time(self.atime, self.atimensec)),
+                ("mtime", Value::Time(self.mtime, self.mtimensec)),
+                ("ctime", Value::Time(self.ctime, self.ctimensec)),
+                ("mode", Value::Octal(self.mode)),
+                ("uid", Small(self.uid.into_inner())),
+                ("gid", Small(self.gid.into_inner())),
+            ],
+        )
     }
 }
 
@@ -312,21 +393,33 @@ impl Fields for CreateIn {
 
 impl Fields for ReadIn {
     fn print<W: Write>(&self, w: &mut W) -> fmt::Result {
-        let read_flags = Word(self.read_flags, READ_FLAGS);
-        write!(w, " fh={} offset={}", self.fh, self.offset)?;
-        write!(w, " size={} read_flags={read_flags}", self.size)?;
-        write!(w, " lock_owner={}", self.lock_owner)?;
-        write!(w, " flags={}", Octal(self.flags))
+        print_fields(
+            w,
+            &[
+                ("fh", Number(self.fh)),
+                ("offset", Number(self.offset)),
+                ("size", Small(self.size)),
+                ("read_flags", Value::Word(self.read_flags, READ_FLAGS)),
+                ("lock_owner", Number(self.lock_owner)),
+                ("flags", Value::Octal(self.flags)),
+            ],
+        )
     }
 }
 
 impl Fields for WriteIn {
     fn print<W: Write>(&self, w: &mut W) -> fmt::Result {
-        let write_flags = Word(self.write_flags, WRITE_FLAGS);
-        write!(w, " fh={} offset={}", self.fh, self.offset)?;
-        write!(w, " size={} write_flags={write_flags}", self.size)?;
-        write!(w, " lock_owner={}", self.lock_owner)?;
-        write!(w, " flags={}", Octal(self.flags))
+        print_fields(
+            w,
+            &[
+                ("fh", Number(self.fh)),
+                ("offset", Number(self.offset)),
+                ("size", Small(self.size)),
+                ("write_flags", Value::Word(self.write_flags, WRITE_FLAGS)),
+                ("lock_owner", Number(self.lock_owner)),
+                ("flags", Value::Octal(self.flags)),
+            ],
+        )
     }
 }
 
@@ -399,10 +492,18 @@ impl Fields for LseekIn {
 
 impl Fields for CopyfilerangeIn {
     fn print<W: Write>(&self, w: &mut W) -> fmt::Result {
-        write!(w, " fh_in={} off_in={}", self.fh_in, self.off_in)?;
-        write!(w, " node_out={} fh_out={}", self.nodeid_out, self.fh_out)?;
-        write!(w, " off_out={} len={}", self.off_out, self.len)?;
-        write!(w, " flags=0x{:x}", self.flags)
+        print_fields(
+            w,
+            &[
+                ("fh_in", Number(self.fh_in)),
+                ("off_in", Number(self.off_in)),
+                ("node_out", Number(self.nodeid_out)),
+                ("fh_out", Number(self.fh_out)),
+                ("off_out", Number(self.off_out)),
+                ("len", Number(self.len)),
+                ("flags", Hex(self.flags)),
+            ],
+        )
     }
 }
 
@@ -410,8 +511,15 @@ impl Fields for CopyfilerangeIn {
 
 /// Prints a lock: its range, its kind as for `fcntl`, and its holder.
 pub fn print_lock<W: Write>(w: &mut W, lock: &FileLock) -> fmt::Result {
-    write!(w, " start={} end={}", lock.start, lock.end)?;
-    write!(w, " type={} pid={}", lock.type_, lock.pid)
+    print_fields(
+        w,
+        &[
+            ("start", Number(lock.start)),
+            ("end", Number(lock.end)),
+            ("type", Small(lock.type_)),
+            ("pid", Small(lock.pid)),
+        ],
+    )
 }
 
 impl Fields for LkIn {
@@ -439,16 +547,29 @@ impl Fields for IoctlIn {
     fn print<W: Write>(&self, w: &mut W) -> fmt::Result {
         let flags = Set(IoctlFlags::from_bits_retain(self.flags), &[]);
         write!(w, " fh={} flags={flags}", self.fh)?;
-        write!(w, " cmd=0x{:x} arg=0x{:x}", self.cmd, self.arg)?;
-        write!(w, " in_size={} out_size={}", self.in_size, self.out_size)
+        print_fields(
+            w,
+            &[
+                ("cmd", Hex(self.cmd.into())),
+                ("arg", Hex(self.arg)),
+                ("in_size", Small(self.in_size)),
+                ("out_size", Small(self.out_size)),
+            ],
+        )
     }
 }
 
 impl Fields for PollIn {
     fn print<W: Write>(&self, w: &mut W) -> fmt::Result {
-        let flags = Word(self.flags, POLL_FLAGS);
-        write!(w, " fh={} kh={}", self.fh, self.kh)?;
-        write!(w, " flags={flags} events=0x{:x}", self.events)
+        print_fields(
+            w,
+            &[
+                ("fh", Number(self.fh)),
+                ("kh", Number(self.kh)),
+                ("flags", Value::Word(self.flags, POLL_FLAGS)),
+                ("events", Hex(self.events.into())),
+            ],
+        )
     }
 }
 
@@ -460,10 +581,18 @@ impl Fields for NotifyRetrieveIn {
 
 impl Fields for StatxIn {
     fn print<W: Write>(&self, w: &mut W) -> fmt::Result {
-        let flags = Word(self.getattr_flags, GETATTR_FLAGS);
-        write!(w, " getattr_flags={flags} fh={}", self.fh)?;
-        write!(w, " sx_flags=0x{:x}", self.sx_flags)?;
-        write!(w, " sx_mask=0x{:x}", self.sx_mask)
+        print_fields(
+            w,
+            &[
+                (
+                    "getattr_flags",
+                    Value::Word(self.getattr_flags, GETATTR_FLAGS),
+                ),
+                ("fh", Number(self.fh)),
+                ("sx_flags", Hex(self.sx_flags.into())),
+                ("sx_mask", Hex(self.sx_mask.into())),
+            ],
+        )
     }
 }
 
@@ -471,32 +600,41 @@ impl Fields for StatxIn {
 
 impl Fields for Attr {
     fn print<W: Write>(&self, w: &mut W) -> fmt::Result {
-        write!(w, " ino={} size={}", self.ino, self.size)?;
-        write!(w, " blocks={}", self.blocks)?;
-        write!(w, " atime={}", Time(self.atime, self.atimensec))?;
-        write!(w, " mtime={}", Time(self.mtime, self.mtimensec))?;
-        write!(w, " ctime={}", Time(self.ctime, self.ctimensec))?;
-        write!(w, " mode={} nlink={}", Octal(self.mode), self.nlink)?;
-        write!(w, " uid={}", self.uid.into_inner())?;
-        write!(w, " gid={} rdev={}", self.gid.into_inner(), self.rdev)?;
-        let flags = Word(self.flags, ATTR_FLAGS);
-        write!(w, " blksize={} attr_flags={flags}", self.blksize)
+        print_fields(
+            w,
+            &[
+                ("ino", Number(self.ino)),
+                ("size", Number(self.size)),
+                ("blocks", Number(self.blocks)),
+                ("atime", Value::Time(self.atime, self.atimensec)),
+                ("mtime", Value::Time(self.mtime, self.mtimensec)),
+                ("ctime", Value::Time(self.ctime, self.ctimensec)),
+                ("mode", Value::Octal(self.mode)),
+                ("nlink", Small(self.nlink)),
+                ("uid", Small(self.uid.into_inner())),
+                ("gid", Small(self.gid.into_inner())),
+                ("rdev", Small(self.rdev)),
+                ("blksize", Small(self.blksize)),
+                ("attr_flags", Value::Word(self.flags, ATTR_FLAGS)),
+            ],
+        )
     }
 }
 
 impl Fields for EntryOut {
     fn print<W: Write>(&self, w: &mut W) -> fmt::Result {
-        write!(w, " entry node={}", self.nodeid)?;
-        write!(w, " generation={}", self.generation)?;
-        write!(
+        w.write_str(" entry")?;
+        print_fields(
             w,
-            " entry_valid={}.{:09}",
-            self.entry_valid, self.entry_valid_nsec
-        )?;
-        write!(
-            w,
-            " attr_valid={}.{:09}",
-            self.attr_valid, self.attr_valid_nsec
+            &[
+                ("node", Number(self.nodeid)),
+                ("generation", Number(self.generation)),
+                (
+                    "entry_valid",
+                    Timeout(self.entry_valid, self.entry_valid_nsec),
+                ),
+                ("attr_valid", Timeout(self.attr_valid, self.attr_valid_nsec)),
+            ],
         )?;
         self.attr.print(w)
     }
@@ -566,27 +704,47 @@ impl Fields for PollOut {
 
 impl Fields for Kstatfs {
     fn print<W: Write>(&self, w: &mut W) -> fmt::Result {
-        write!(w, " blocks={} bfree={}", self.blocks, self.bfree)?;
-        write!(w, " bavail={} files={}", self.bavail, self.files)?;
-        write!(w, " ffree={} bsize={}", self.ffree, self.bsize)?;
-        write!(w, " namelen={} frsize={}", self.namelen, self.frsize)
+        print_fields(
+            w,
+            &[
+                ("blocks", Number(self.blocks)),
+                ("bfree", Number(self.bfree)),
+                ("bavail", Number(self.bavail)),
+                ("files", Number(self.files)),
+                ("ffree", Number(self.ffree)),
+                ("bsize", Small(self.bsize)),
+                ("namelen", Small(self.namelen)),
+                ("frsize", Small(self.frsize)),
+            ],
+        )
     }
 }
 
 impl Fields for InitOut {
     fn print<W: Write>(&self, w: &mut W) -> fmt::Result {
-        let options = Set(options_of(self), &[]);
-        write!(w, " major={} minor={}", self.major, self.minor)?;
-        write!(w, " max_readahead={} flags={options}", self.max_readahead)?;
-        write!(w, " max_background={}", self.max_background)?;
-        write!(w, " congestion_threshold={}", self.congestion_threshold)?;
-        write!(
+        print_fields(
             w,
-            " max_write={} time_gran={}",
-            self.max_write, self.time_gran
+            &[
+                ("major", Small(self.major)),
+                ("minor", Small(self.minor)),
+                ("max_readahead", Small(self.max_readahead)),
+            ],
         )?;
-        write!(w, " max_pages={}", self.max_pages)?;
-        write!(w, " map_alignment={}", self.map_alignment)
+        write!(w, " flags={}", Set(options_of(self), &[]))?;
+        print_fields(
+            w,
+            &[
+                ("max_background", Small(self.max_background.into())),
+                (
+                    "congestion_threshold",
+                    Small(self.congestion_threshold.into()),
+                ),
+                ("max_write", Small(self.max_write)),
+                ("time_gran", Small(self.time_gran)),
+                ("max_pages", Small(self.max_pages.into())),
+                ("map_alignment", Small(self.map_alignment.into())),
+            ],
+        )
     }
 }
 

@@ -3,7 +3,8 @@
 ghost use Rattle.std.specs.Prelude.{◌<◌, ◌≤◌, OnOk, codes, length};
 
 use crate::extensions::print_extensions;
-use crate::fields::{Fields, print_record};
+use crate::fields::Value::{Number, Small};
+use crate::fields::{Fields, print_fields, print_record};
 use crate::flags::Set;
 use crate::further::{print_further_parts, print_number};
 use crate::opcodes::{opcode_name, print_parts};
@@ -49,9 +50,16 @@ pub fn print_request<W: Write>(w: &mut W, bytes: &[u8], options: FsOptions) -> f
 
 /// Prints the fields of a header but the opcode, of a request of that many bytes.
 fn print_header<W: Write>(w: &mut W, header: &InHeader, count: usize) -> fmt::Result {
-    write!(w, " unique={} node={}", header.unique, header.nodeid)?;
-    write!(w, " uid={}", header.uid.into_inner())?;
-    write!(w, " gid={} pid={}", header.gid.into_inner(), header.pid)?;
+    print_fields(
+        w,
+        &[
+            ("unique", Number(header.unique)),
+            ("node", Number(header.nodeid)),
+            ("uid", Small(header.uid.into_inner())),
+            ("gid", Small(header.gid.into_inner())),
+            ("pid", Small(header.pid)),
+        ],
+    )?;
     if header.len as usize != count {
         write!(w, " len={}", header.len)?;
     }
@@ -212,22 +220,35 @@ fn print_value<W: Write>(w: &mut W, size: u32, tail: &[u8]) -> Result<(), Stop> 
 /// The records of INIT: the second one is there if the first one's flags say so.
 pub fn print_init<'a, W: Write>(w: &mut W, bytes: &'a [u8]) -> Result<&'a [u8], Stop> {
     let (first, behind) = take_record::<InitInCompat>(bytes)?;
-    write!(w, " major={} minor={}", first.major, first.minor)?;
-    write!(w, " max_readahead={}", first.max_readahead)?;
-    let flags = FsOptions::from_bits_retain(u64::from(first.flags));
-    if !flags.contains(FsOptions::INIT_EXT) {
-        write!(w, " flags={}", Set(flags, &[]))?;
-        judge_version(&first)?;
-        return Ok(behind);
-    }
-    let Ok((second, left)) = take_record::<InitInExt>(behind) else {
-        write!(w, " flags={}", Set(flags, &[]))?;
+    print_fields(
+        w,
+        &[
+            ("major", Small(first.major)),
+            ("minor", Small(first.minor)),
+            ("max_readahead", Small(first.max_readahead)),
+        ],
+    )?;
+    let (options, left) = take_offered(&first, behind);
+    write!(w, " flags={}", Set(options, &[]))?;
+    let Some(left) = left else {
         return Err(Stop::Refused(Error::DecodeMessage));
     };
-    let all = u64::from(first.flags) | (u64::from(second.flags2) << 32);
-    write!(w, " flags={}", Set(FsOptions::from_bits_retain(all), &[]))?;
     judge_version(&first)?;
     Ok(left)
+}
+
+/// The options that an INIT of this first record offers, and what comes after its records. None if the
+/// second one is to be there and isn't whole: then the options are those of the first.
+fn take_offered<'a>(first: &InitInCompat, behind: &'a [u8]) -> (FsOptions, Option<&'a [u8]>) {
+    let options = FsOptions::from_bits_retain(u64::from(first.flags));
+    if !options.contains(FsOptions::INIT_EXT) {
+        return (options, Some(behind));
+    }
+    let Ok((second, left)) = take_record::<InitInExt>(behind) else {
+        return (options, None);
+    };
+    let bits = u64::from(first.flags) | (u64::from(second.flags2) << 32);
+    (FsOptions::from_bits_retain(bits), Some(left))
 }
 
 /// Whether the version that a kernel speaks is served.

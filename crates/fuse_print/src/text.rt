@@ -102,3 +102,13 @@ impl Display for Octal {
         write!(f, "0{number:o}")
     }
 }
+
+/// Prints data after its name.
+pub fn print_data<W: Write>(w: &mut W, name: &str, data: &[u8]) -> fmt::Result {
+    write!(w, " {name}{}", Data(data))
+}
+
+/// Prints bytes that are a text after its name.
+pub fn print_text<W: Write>(w: &mut W, name: &str, text: &[u8]) -> fmt::Result {
+    write!(w, " {name}={}", Quoted(text))
+}
