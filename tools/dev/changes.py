@@ -73,7 +73,7 @@ def main():
             command = command.replace("CRATE", " ".join(crates))
             takes = takes.replace("ABOVE", f"the {crates_above(crates)} crates above")
             files = crates
-        if files and not command.startswith("nothing"):
+        if files and not command.startswith("nothing") and not any(command in it.split(", ") for it, _ in told):
             told.append((command, takes))
     print("Besides, these judge what is changed:" if told else "What is changed wants no other check.")
     for command, takes in dict(told).items():

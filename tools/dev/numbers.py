@@ -128,6 +128,15 @@ def enum_with(name):
 
 in_header = {name: f"HAS_{name}" if f"HAS_{name}" in IN_C else name for name in HAS}
 hold(HEADER, enum_with("LOOKUP"), CALLS, CALL, "call")
+# The comment before a call in the header, of which the manual page is made, says its kind.
+ASKING = "crates/door_calls/src/asking.rt"
+NOTED = dict(re.findall(r"number::(\w+),\s*kind::(\w+)", read(ASKING)))
+SAID = {name: comment for comment, names in re.findall(
+    r"\t/\* ((?:(?!\*/).)*?) \*/\n((?:\tNIZWARF_\w+ = \d+,\n)+)",
+    part(HEADER, "\n/* Calls, ", r"\};"), re.S) for name in re.findall(r"NIZWARF_(\w+)", names)}
+for name, kind in NOTED.items():
+    if not re.search(rf"\({kind}\b", SAID.get(name, "")):
+        faults.append(f"{HEADER}: the comment before call {name} lacks its fields and its kind, ({kind}), of {ASKING}")
 hold(HEADER, enum_with("QUIET"), CALLS, KIND, "kind")
 hold(HEADER, enum_with("PLUS"), CALLS, {in_header[it]: bit for it, bit in HAS.items()}, "bit")
 hold(HEADER, {**enum_with("OK"), **enum_with("ASKED")}, CODES, CODE, "code")
@@ -253,6 +262,6 @@ for crate in ("door_calls", "door_ask", "door_answer", "laws_flight", "nizwarf_d
             if BARE.search(line.partition("--")[0]):
                 faults.append(f"{path}:{at}: a number that has a name in {CALLS}")
 
-counted = f"{len(NUMBER)} opcodes, {len(CALL)} calls, {len(KIND)} kinds, {len(HAS)} bits, {len(CODE)} codes"
+counted = f"{len(OPCODE)} opcodes, {len(CALL)} calls, {len(KIND)} kinds, {len(HAS)} bits, {len(CODE)} codes"
 print("\n".join([*faults, f"{counted}: {len(faults)} differences"]))
 sys.exit(1 if faults else 0)

@@ -1,13 +1,15 @@
 #!/usr/bin/env python3
 """Holds the list of CONTRIBUTING.md, To add an opcode, against the files in which opcodes stand.
 
-Usage: tools/dev/opcode.py [--opcodes | --count | --files OPCODE]
+Usage: tools/dev/opcode.py [--opcodes | --count | --files OPCODE | --lacks NEW MODEL]
 Of some opcodes that are there, in all spellings (LSEEK, Lseek, lseek, NIZWARF_LSEEK), each file that git knows or would
 that has one must be named in that section, and each file or pattern that is named must have one. --opcodes prints
-which opcodes, --count how many files each stands in, --files these files. Not counted are pages that a tool writes,
+which opcodes, --count how many files each stands in, --files these files; --lacks those in which NEW, an opcode that you
+add, as SYNC_RANGE, does not stand yet, and MODEL, one of these opcodes, does. Both take COPY_64 too, as the row that
+it is. Not counted are pages that a tool writes,
 recorded lines, and where the word is not the opcode; and apart are interfaces of others, as libfuse's and fuser's, which
 have the opcodes that they have.
-Status 0: the list holds; 1: it does not.
+Status 0: the list holds, or NEW stands everywhere; 1: it does not.
 """
 import fnmatch
 import os
@@ -19,6 +21,8 @@ HERE = os.path.dirname(os.path.dirname(os.path.dirname(os.path.abspath(__file__)
 # Of each opcode how it is spelled, in any case.
 SPELLED = {"LSEEK": "lseek", "FALLOCATE": "fallocate", "SYNCFS": "syncfs",
            "COPY_FILE_RANGE": r"copy_?file_?range|nizwarf_copy\b|number(::|\.)copy\b"}
+# Of a row that a file system offers, for --files and --lacks alone.
+ROWS = {"COPY_64": r"copy_?64|copy_?file_?range_?64"}
 PAGE = "CONTRIBUTING.md"
 # Written by tools or recorded, and what tells of the past or of this list.
 APART = ["docs/generated/*", "crates/test_sessions/std*", "crates/text_decode/std*", "crates/text_demo/std*",
@@ -51,7 +55,7 @@ def fits(path, patterns):
 
 
 def files_of(opcode, texts):
-    spelled = re.compile(SPELLED[opcode], re.I)
+    spelled = re.compile({**SPELLED, **ROWS}[opcode], re.I)
     return [path for path, text in texts.items() if spelled.search(text)]
 
 
@@ -83,11 +87,18 @@ def main():
     if sys.argv[1:] == ["--count"]:
         print(counts)
         return 0
-    if sys.argv[1:2] == ["--files"] and len(sys.argv) == 3 and sys.argv[2] in counted:
-        print(*counted[sys.argv[2]], sep="\n")
-        return 0
     if len(sys.argv) > 1:
-        print("Usage: tools/dev/opcode.py [--opcodes | --count | --files OPCODE]", file=sys.stderr)
+        rows = {row: [it for it in files_of(row, texts) if not fits(it, [*APART, *OTHERS])] for row in ROWS}
+        if sys.argv[1:2] == ["--files"] and len(sys.argv) == 3 and sys.argv[2] in {**counted, **rows}:
+            print(*{**counted, **rows}[sys.argv[2]], sep="\n")
+            return 0
+        if sys.argv[1:2] == ["--lacks"] and len(sys.argv) == 4 and sys.argv[3] in {**own, **rows}:
+            new, model = re.compile(re.escape(sys.argv[2]).replace("_", "_?"), re.I), {**own, **rows}[sys.argv[3]]
+            lacking = [path for path in model if not new.search(texts[path])]
+            print(*lacking, f"{sys.argv[2]} is not in {len(lacking)} of {len(model)} files of {sys.argv[3]}", sep="\n")
+            return 1 if lacking else 0
+        print("Usage: tools/dev/opcode.py [--opcodes | --count | --files OPCODE | --lacks NEW MODEL]", file=sys.stderr)
+        print(f"OPCODE and MODEL are of {', '.join([*SPELLED, *ROWS])}.", file=sys.stderr)
         return 2
     patterns = list(listed())
     faults = []

@@ -4,9 +4,10 @@
 Usage: tools/dev/record.py NAME | --check
 
 It prints, for the struct NAME, whose fields are unsigned numbers: its impl of ByteValued, which is after it; its
-decoder, its table and its layout, for the definitions in specs. `rt fmt` lays them out. What else names a record is in
-CONTRIBUTING.md. With --check it derives those of all records, and tells how many stand as they are derived; others
-have parts, arrays or signed fields, or are put in another order for speed.
+decoder, its table and its layout, for the definitions in specs; and the lines that name these. Before each it says
+which file it is for. `rt fmt` lays them out. What else names a record is in CONTRIBUTING.md. With --check it derives
+those of all records, and tells how many stand as they are derived; others have parts, arrays or signed fields, or are
+put in another order for speed.
 Status 0: it was written; 1: there is no such struct, or another field; 2: it was started otherwise.
 """
 import glob
@@ -35,9 +36,14 @@ def fields_of(name):
     return None
 
 
+def table_of(name):
+    """The name of a record's table."""
+    return re.sub(r"(?<=[a-z0-9])(?=[A-Z])", "_", name).lower()
+
+
 def derive(name, fields):
     """The impl, the decoder, the table and the layout of a record of these fields."""
-    table = re.sub(r"(?<=[a-z0-9])(?=[A-Z])", "_", name).lower()
+    table = table_of(name)
     widths = [WIDTHS[it][1] for _, it in fields]
     places = [sum(widths[:at]) for at in range(len(widths) + 1)]
     size = places[-1]
@@ -93,6 +99,32 @@ def check():
     print(f"{same} of {len(names)} records stand as their structs say")
 
 
+def tell(name, fields):
+    """Prints what is derived of a struct, each piece with its place."""
+    path = next(it for it, text in SOURCES.items() if f"pub struct {name} {{" in text)
+    crate, module = path.split("/")[1], os.path.basename(path).removesuffix(".rt")
+    declared = f"declared.{name}" if module == "lib" else f"declared.{module}.{name}"
+    after, made, table, lies = derive(name, fields)
+    size = re.search(r"SIZE: usize = (\d+)", after)[1]
+    print(f"""// {path}, after the struct:
+{after}
+
+-- crates/{crate}/specs, in the file that has records like it:
+use Rattle.{crate}.specs.{declared}.{{{name}}}
+
+-- the {name} of its fields
+{made}
+
+-- {name}: {size} bytes
+{table}
+
+-- the bytes 1, 2, 3, .. of it
+{lies}
+
+-- the same file, in one of the records `..Lie`, of which src/layouts.rt has the laws:
+  pub {table_of(name)} : {name}Lies""")
+
+
 def main(words):
     if words == ["--help"] or len(words) != 1:
         print(__doc__.strip())
@@ -105,7 +137,7 @@ def main(words):
     if not fields or other:
         sys.exit(f"record.py: {words[0]} has a field {other} that is no unsigned number" if other
                  else f"record.py: there is no struct {words[0]}")
-    print("\n\n".join(derive(words[0], fields)))
+    tell(words[0], fields)
 
 
 main(sys.argv[1:])
