@@ -165,14 +165,14 @@ typedef struct nizwarf_ops {
 	int (*conn)(const nizwarf_req *req, nizwarf_conn_info *conn);
 	/* At most NIZWARF_MOST_FORGETS at a time. */
 	void (*forget_multi)(const nizwarf_req *req, size_t count, const nizwarf_forget *forgets);
-	/* Locks of fcntl(2), where POSIX_LOCKS is agreed on: `fi->lock_owner` is who asks. getlk answers in
-	 * `lock` one that is in the way, or F_UNLCK as its type. With `sleep`, setlk waits until it has the
-	 * lock: it answers later, or holds the thread. A close of a file is a flush, which gives up all locks
-	 * of its owner. */
+	/* Locks of fcntl(2), if `init` added FUSE_POSIX_LOCKS to `*want`: otherwise Linux keeps them itself, and asks for
+	 * none. `fi->lock_owner` is who asks. getlk answers in `lock` one that is in the way, or F_UNLCK as its type.
+	 * With `sleep`, setlk waits until it has the lock: it answers later, or holds the thread. A close of a file is
+	 * a flush, which gives up all locks of its owner. */
 	int (*getlk)(const nizwarf_req *req, uint64_t ino, const nizwarf_file_info *fi, nizwarf_lock *lock);
 	int (*setlk)(const nizwarf_req *req, uint64_t ino, const nizwarf_file_info *fi,
 		     const nizwarf_lock *lock, int sleep);
-	/* Locks of flock(2), where FLOCK_LOCKS is agreed on: `op` is LOCK_SH, LOCK_EX or LOCK_UN, with LOCK_NB
+	/* Locks of flock(2), if `init` added FUSE_FLOCK_LOCKS likewise. `op` is LOCK_SH, LOCK_EX or LOCK_UN, with LOCK_NB
 	 * where it does not wait. A release with NIZWARF_FLOCK_RELEASE in `req->call->has` gives the lock up. */
 	int (*flock)(const nizwarf_req *req, uint64_t ino, const nizwarf_file_info *fi, int op);
 	/* Linux asks it of block devices alone (fuseblk). */
