@@ -47,7 +47,8 @@ impl Part {
         ensures start { result ≡ true → self.new.start ≡ length self.new.writer.passed }
         ensures same { result ≡ false → self.new ≡ self.old }
     {
-        let Some(writer) = lend(alloc, Vec::new(alloc), Vec::new(alloc), total) else {
+        let (mut list, mut room) = (Vec::new(alloc), Vec::new(alloc));
+        let Some(writer) = lend(alloc, &mut list, &mut room, total) else {
             return false;
         };
         self.writer = writer;

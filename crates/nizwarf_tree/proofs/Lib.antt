@@ -12,3 +12,4 @@ mod TreeTmpfile
 mod TreeRows
 mod Texts
 mod TreeKept
+pub mod Keeping

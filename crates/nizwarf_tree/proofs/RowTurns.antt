@@ -29,6 +29,7 @@ use Rattle.nizwarf_tree.specs.Files.{State, row_answer}
 use Rattle.nizwarf_tree.specs.Offered.{AsksRow, row_limits, what_asked}
 use Rattle.nizwarf_tree.specs.Served.{RowInC, SaysText}
 use Rattle.nizwarf_tree.specs.declared.files.TheConstants.{OFFERS}
+use Rattle.nizwarf_tree.proofs.Keeping.{whole_stays}
 use Rattle.nizwarf_tree.proofs.Steps.{room_is}
 
 -- ---- what data and a text say
@@ -114,6 +115,34 @@ same_lengths limits call a text old new result is_text space x =
         let answered = x.1 [] all in
         replied_lengths (reply_of limits (echo_told call) came.options Texts answered.answer) (with_after old [])
         (with_after new []) came.outcome answered.comes.1
+
+-- and the room is as long
+replied_whole : (reply : Reply) (old new : Written) (outcome : Result ℕ Error) → Replies reply old outcome new
+    → length (whole new) ≡ length (whole old)
+replied_whole (Refusal error) old new outcome h = ap (λ (w : Written). length (whole w)) h.1
+replied_whole NoReply old new outcome h = ap (λ (w : Written). length (whole w)) h.1
+replied_whole (Bytes reply) old new outcome h = whole_stays old new h.room_after h.leaves
+replied_whole (OpenBehind reply) old new outcome h = whole_stays old new h.room_after h.leaves
+
+none_more : (w : Written) → length (whole (with_after w [])) ≡ length (whole w)
+none_more w = ap (λ (left : List ℕ). length (w.passed ++ left)) (append-nil w.left)
+
+pub same_whole : (limits : Limits) (call : CallData) (a : AnswerData) (text : List ℕ) (old new : Written)
+    (result : Option Answered) → call.answer ≡ kind.TEXT → length old.left ≡ call.room
+    → Answers limits (kind_told call.answer call.size) call a text [] old result new
+    → length (whole new) ≡ length (whole old)
+same_whole limits call a text old new result is_text space x =
+    by result (subst (λ (n : ℕ). Answers limits (kind_told n call.size) call a text [] old result new) is_text x)
+  where
+    by : (result : Option Answered) → Answers limits (Some Texts) call a text [] old result new
+        → length (whole new) ≡ length (whole old)
+    by None x = ap (λ (w : Written). length (whole w)) x.1
+    by (Some came) x =
+        let all : length old.left + 0 ≡ call.room = omega (arith, space) in
+        let answered = x.1 [] all in
+        let same = replied_whole (reply_of limits (echo_told call) came.options Texts answered.answer) (with_after old [])
+        (with_after new []) came.outcome answered.comes.1 in
+        sym (none_more new) ∙ same ∙ none_more old
 
 -- ---- the turn
 

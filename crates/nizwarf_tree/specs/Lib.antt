@@ -6,3 +6,4 @@ pub mod TreeLaws
 pub mod Served
 pub mod Taken
 pub mod TreeUses
+pub mod Kept

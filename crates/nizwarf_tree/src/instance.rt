@@ -1,14 +1,17 @@
 //! A server and the room of its replies, as they live between calls.
 
-ghost use Rattle.std.specs.Prelude.{◌≡◌, ◌≤◌, ◌⊎◌, ◌-◌, ◌++◌, ◌∷◌, [], length, take, drop, min, IfSome};
+ghost use Rattle.std.specs.Prelude.{◌≡◌, ◌≢◌, ◌≤◌, ◌⊎◌, ◌-◌, ◌++◌, ◌∷◌, ℕ, [], None, length, take, drop, min, IfSome, IsSome};
 ghost use Rattle.fuse_flags.specs.declared.constants.TheConstants.{LEAST_MAX_BUFFER, GREATEST_MAX_BUFFER};
 ghost use Rattle.fuse_segments.specs.Segments.{segments_of, contents, flat_bytes, lengths_of};
+ghost use Rattle.fuse_segments.specs.Written.{whole};
+ghost use Rattle.fuse_server.specs.Memory.{WantsNoMemory};
 ghost use Rattle.door_further.specs.Turns.{as_create};
 ghost use Rattle.laws_history.specs.History.{Handled, turn_of_end};
 ghost use Rattle.nizwarf_tree.specs.History.{Extends};
 ghost use Rattle.nizwarf_tree.specs.Served.{new_server, told_time, Refused, ServedInC, SteppedInC};
 ghost use Rattle.nizwarf_tree.specs.Taken.{place_of};
-ghost use Rattle.c_rooms.specs.Codes.{outcome_code, length_of, shown_of};
+ghost use Rattle.nizwarf_tree.specs.Kept.{KeepsFor, WantsNone, unread_in};
+ghost use Rattle.c_rooms.specs.Codes.{length_of, no_memory, outcome_code, shown_of, too_long};
 ghost use Rattle.c_rooms.specs.Parts.{part_from};
 
 use crate::files::{Files, new_files, tell_time};
@@ -38,7 +41,7 @@ pub struct Instance {
     /// How many bytes at the front of the last room are there to be copied out.
     pub shown: usize,
     /// What holds `room` while a request is handled, kept for its memory.
-    list: Vec<Vec<u8>>,
+    pub list: Vec<Vec<u8>>,
 }
 
 impl Instance {
@@ -83,9 +86,14 @@ impl Instance {
     /// Answers the request in these segments, with `total` bytes of room: the outcome's number, and
     /// the length of the reply, 0 where there is none.
     pub fn answer(&mut self, alloc: Global, request: &[&[u8]], total: usize) -> (i32, usize)
-        ensures { ServedInC self.old.server (flat_bytes (segments_of request.now)) total
+        ensures served { ServedInC self.old.server (flat_bytes (segments_of request.now)) total
             result.0 result.1 (drop self.new.start self.new.room.items) self.new.shown
             self.new.server }
+        ensures memory { length request.now ≤ 4 →
+            WantsNone self.old.server total (segments_of request.now) →
+            KeepsFor total self.old → result.0 ≢ no_memory }
+        ensures keeps { (n : ℕ) → KeepsFor n self.old → KeepsFor n self.new }
+        ensures kept { result.0 ≢ no_memory → result.0 ≢ too_long → KeepsFor total self.new }
     {
         let mut call = CallData::NONE;
         match asked(&self.server, request, total, &mut call) {
@@ -98,11 +106,13 @@ impl Instance {
 
     // Answers a TMPFILE, as the CREATE of the same bytes.
     fn answer_tmpfile(&mut self, alloc: Global, request: &[&[u8]], total: usize) -> (i32, usize)
-        ensures { SteppedInC self.old.server (as_create (flat_bytes (segments_of request.now))) total
+        ensures served { SteppedInC self.old.server (as_create (flat_bytes (segments_of request.now))) total
             result.0 result.1 (drop self.new.start self.new.room.items) self.new.shown
             self.new.server
             ⊎ Refused self.old.server (flat_bytes (segments_of request.now)) result.0 result.1
             self.new.shown self.new.server }
+        ensures keeps { (n : ℕ) → KeepsFor n self.old → KeepsFor n self.new }
+        ensures kept { result.0 ≢ no_memory → result.0 ≢ too_long → KeepsFor total self.new }
     {
         let Ok(list) = as_create(alloc, request) else {
             self.shown = 0;
@@ -113,11 +123,16 @@ impl Instance {
 
     // Answers the request of the bytes in these segments, by virtiofsd's table.
     fn answer_bytes(&mut self, alloc: Global, request: &[&[u8]], total: usize) -> (i32, usize)
-        ensures { SteppedInC self.old.server (flat_bytes (segments_of request.now)) total
+        ensures served { SteppedInC self.old.server (flat_bytes (segments_of request.now)) total
             result.0 result.1 (drop self.new.start self.new.room.items) self.new.shown
             self.new.server
             ⊎ Refused self.old.server (flat_bytes (segments_of request.now)) result.0 result.1
             self.new.shown self.new.server }
+        ensures memory { length request.now ≤ 4 →
+            WantsNoMemory self.old.server.limits self.old.server.options total
+            (unread_in (segments_of request.now)) → KeepsFor total self.old → result.0 ≢ no_memory }
+        ensures keeps { (n : ℕ) → KeepsFor n self.old → KeepsFor n self.new }
+        ensures kept { result.0 ≢ no_memory → result.0 ≢ too_long → KeepsFor total self.new }
     {
         self.shown = 0;
         match Reader::new(alloc, request) {
@@ -130,11 +145,15 @@ impl Instance {
     // Answers the request that this reader has left.
     fn answer_reader(&mut self, alloc: Global, reader: Reader<'_>, total: usize) -> (i32, usize)
         requires { self.old.shown ≡ 0 }
-        ensures { SteppedInC self.old.server reader.entry.left total
+        ensures served { SteppedInC self.old.server reader.entry.left total
             result.0 result.1 (drop self.new.start self.new.room.items) self.new.shown
             self.new.server
             ⊎ Refused self.old.server reader.entry.left result.0 result.1 self.new.shown
             self.new.server }
+        ensures memory { WantsNoMemory self.old.server.limits self.old.server.options total reader.entry →
+            KeepsFor total self.old → result.0 ≢ no_memory }
+        ensures keeps { (n : ℕ) → KeepsFor n self.old → KeepsFor n self.new }
+        ensures kept { result.0 ≢ no_memory → result.0 ≢ too_long → KeepsFor total self.new }
     {
         let Some(mut writer) = self.lend_room(alloc, total) else {
             return (OUT_OF_MEMORY, 0);
@@ -152,6 +171,7 @@ impl Instance {
         ensures shown { self.new.shown ≡ shown_of outcome.now total }
         ensures server { self.new.server ≡ self.old.server }
         ensures room { drop self.new.start self.new.room.items ≡ drop self.old.start self.old.room.items }
+        ensures keeps { (n : ℕ) → KeepsFor n self.old → KeepsFor n self.new }
     {
         match outcome {
             Ok(len) => {
@@ -167,16 +187,17 @@ impl Instance {
     }
 
     /// A writer with `total` bytes left, the last ones of the kept memory. `None` where there is no
-    /// memory.
+    /// memory: then what is kept stays.
     pub(crate) fn lend_room(&mut self, alloc: Global, total: usize) -> Option<Writer>
         ensures server { self.new.server ≡ self.old.server }
         ensures shown { self.new.shown ≡ self.old.shown }
         ensures left { IfSome result (λ w. length w.left ≡ total) }
         ensures one { IfSome result (λ w. length w.lengths ≡ 1) }
+        ensures has { KeepsFor total self.old → IsSome result }
+        ensures longer { (n : ℕ) → KeepsFor n self.old → IfSome result (λ w. n ≤ length (whole w)) }
+        ensures stays { result ≡ None → (n : ℕ) → KeepsFor n self.old → KeepsFor n self.new }
     {
-        let room = mem::replace(&mut self.room, Vec::new(alloc));
-        let list = mem::replace(&mut self.list, Vec::new(alloc));
-        lend(alloc, list, room, total)
+        lend(alloc, &mut self.list, &mut self.room, total)
     }
 
     /// Takes the memory back, and keeps the list that it stood in. The last room is its last `total`
@@ -188,6 +209,7 @@ impl Instance {
         ensures room { drop self.new.start self.new.room.items ≡
             drop (length (flat_bytes (contents rooms.items)) - total)
             (flat_bytes (contents rooms.items)) }
+        ensures holds { KeepsFor (length (flat_bytes (contents rooms.items))) self.new }
     {
         self.room = only_room(alloc, &mut rooms);
         self.start = self.room.len().saturating_sub(total);

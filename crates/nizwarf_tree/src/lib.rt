@@ -21,15 +21,16 @@ mod taken;
 mod tree;
 mod uses;
 
-ghost use Rattle.std.specs.Prelude.{◌≡◌, ◌≢◌, ◌≤◌, ◌<◌, ◌⊎◌, ◌++◌, ◌∷◌, [], length, take, drop, min, IfSome, MatchOption};
+ghost use Rattle.std.specs.Prelude.{◌≡◌, ◌≢◌, ◌≤◌, ◌<◌, ◌⊎◌, ◌++◌, ◌∷◌, ℕ, [], length, take, drop, min, IfSome, MatchOption};
 ghost use Rattle.std.specs.declared.option.Option.TheVariants.{None, Some};
 ghost use Rattle.fuse_flags.specs.declared.constants.TheConstants.{LEAST_MAX_BUFFER, GREATEST_MAX_BUFFER};
 ghost use Rattle.fuse_segments.specs.Segments.{segments_of, flat_bytes};
-ghost use Rattle.c_rooms.specs.Codes.{ok, no_memory, no_server, wrong_size};
+ghost use Rattle.c_rooms.specs.Codes.{ok, no_memory, no_server, too_long, wrong_size};
 ghost use Rattle.laws_history.specs.History.{Handled, turn_of_end};
 ghost use Rattle.fuse_server.specs.Step.{ServerState};
 ghost use Rattle.nizwarf_tree.specs.Files.{State};
 ghost use Rattle.nizwarf_tree.specs.History.{Answered, Extends, Told};
+ghost use Rattle.nizwarf_tree.specs.Kept.{KeepsFor, WantsNone};
 ghost use Rattle.nizwarf_tree.specs.Served.{new_server, told_time, ServedInC};
 ghost use Rattle.nizwarf_tree.specs.Taken.{place_of};
 ghost use Rattle.c_rooms.specs.Parts.{part_from};
@@ -136,6 +137,15 @@ pub extern "C" fn nizwarf_message_at(
     ensures history { IfSome handle.old.value (λ s. MatchOption handle.new.value ⊥ (λ t.
         Answered s.server (flat_bytes (segments_of request.now)) room
         result len.new (drop t.start t.room.items) t.shown t.server)) }
+
+    // A server that keeps memory for the room lacks none for a request in up to four segments, unless its tail is cut, it
+    // may have a context, it has pairs, or it is a row. It keeps it, and has it after each message of so much room.
+    ensures memory { IfSome handle.old.value (λ s. length request.now ≤ 4 →
+        WantsNone s.server room (segments_of request.now) → KeepsFor room s → result ≢ no_memory) }
+    ensures keeps { (n : ℕ) → IfSome handle.old.value (λ s. KeepsFor n s →
+        MatchOption handle.new.value ⊥ (λ t. KeepsFor n t)) }
+    ensures kept { result ≢ no_memory → result ≢ too_long →
+        IfSome handle.old.value (λ _. MatchOption handle.new.value ⊥ (λ t. KeepsFor room t)) }
 {
     history_goes_on::<Files>();
     *len = 0;

@@ -1,10 +1,12 @@
 //! How requests of rows are answered.
 
-ghost use Rattle.std.specs.Prelude.{◌≡◌, ◌⊎◌, ℕ, List, drop};
+ghost use Rattle.std.specs.Prelude.{◌≡◌, ◌≢◌, ◌⊎◌, ℕ, List, drop};
 ghost use Rattle.fs_trait.specs.Calls.{Answer};
 ghost use Rattle.door_calls.specs.declared.call.kind.TheConstants as kind;
 ghost use Rattle.door_further.specs.Further.{Short};
 ghost use Rattle.nizwarf_tree.specs.Files.{row_answer};
+ghost use Rattle.c_rooms.specs.Codes.{no_memory, too_long};
+ghost use Rattle.nizwarf_tree.specs.Kept.{KeepsFor};
 ghost use Rattle.nizwarf_tree.specs.Offered.{AsksRow, what_asked};
 ghost use Rattle.nizwarf_tree.specs.Served.{Refused, RowInC, SaysText};
 
@@ -25,11 +27,13 @@ impl Instance {
     pub fn answer_row(&mut self, alloc: Global, call: &CallData, total: usize) -> (i32, usize)
         requires text { call.now.answer ≡ kind.TEXT }
         requires room { call.now.room ≡ total }
-        ensures { (request : List ℕ) → AsksRow self.old.server total request call.now →
+        ensures served { (request : List ℕ) → AsksRow self.old.server total request call.now →
             RowInC self.old.server request total
             result.0 result.1 (drop self.new.start self.new.room.items) self.new.shown
             self.new.server
             ⊎ Refused self.old.server request result.0 result.1 self.new.shown self.new.server }
+        ensures keeps { (n : ℕ) → KeepsFor n self.old → KeepsFor n self.new }
+        ensures kept { result.0 ≢ no_memory → result.0 ≢ too_long → KeepsFor total self.new }
     {
         let mut text = [0; MOST_TEXT];
         match answer_row(self.server.fs(), call, &mut text) {
@@ -55,12 +59,14 @@ impl Instance {
     ) -> (i32, usize)
         requires text { call.now.answer ≡ kind.TEXT }
         requires room { call.now.room ≡ total }
-        ensures { (request : List ℕ) → AsksRow self.old.server total request call.now →
+        ensures served { (request : List ℕ) → AsksRow self.old.server total request call.now →
             SaysText call.now answer.now text.now (row_answer self.old.server.fs call.now) →
             RowInC self.old.server request total
             result.0 result.1 (drop self.new.start self.new.room.items) self.new.shown
             self.new.server
             ⊎ Refused self.old.server request result.0 result.1 self.new.shown self.new.server }
+        ensures keeps { (n : ℕ) → KeepsFor n self.old → KeepsFor n self.new }
+        ensures kept { result.0 ≢ no_memory → result.0 ≢ too_long → KeepsFor total self.new }
     {
         asked_and_answered_is_one_offered_turn();
         self.shown = 0;
@@ -79,11 +85,13 @@ impl Instance {
 
     /// Refuses a request of a row whose record, or what it says that follows, is cut.
     pub fn refuse_short(&mut self, alloc: Global, total: usize) -> (i32, usize)
-        ensures { (request : List ℕ) → what_asked self.old.server.limits request ≡ Short →
+        ensures served { (request : List ℕ) → what_asked self.old.server.limits request ≡ Short →
             RowInC self.old.server request total
             result.0 result.1 (drop self.new.start self.new.room.items) self.new.shown
             self.new.server
             ⊎ Refused self.old.server request result.0 result.1 self.new.shown self.new.server }
+        ensures keeps { (n : ℕ) → KeepsFor n self.old → KeepsFor n self.new }
+        ensures kept { result.0 ≢ no_memory → result.0 ≢ too_long → KeepsFor total self.new }
     {
         a_short_request_is_one_offered_turn();
         self.shown = 0;

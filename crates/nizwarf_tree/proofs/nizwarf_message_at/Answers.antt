@@ -7,5 +7,5 @@ returns-in_default-clause-none c = search rules
 
 pub returns-clause-history : goal.returns-clause-history
 returns-clause-history c =
-    let a = answered c.history_goes_on.ensures.handled _ _ _ _ _ _ _ _ c.answer-code.ensures in
+    let a = answered c.history_goes_on.ensures.handled _ _ _ _ _ _ _ _ c.answer-code.ensures.served in
     search rules
