@@ -1,20 +1,22 @@
 -- A file system that notes its call is asked for what the grammar says.
-use Rattle.std.proofs.Common.{◌≡◌, ◌∙◌, ℕ, List, [], ◌∷◌, Option, None, Some, Result, length, refl, ap, subst, inl, inr}
-use Rattle.fuse_segments.specs.Written.{Written}
+use Rattle.std.proofs.Common.{◌≡◌, ◌∙◌, ◌+◌, ℕ, List, [], ◌∷◌, Option, None, Some, Result, length, length-append, refl, ap, sym, subst, inl, inr}
+use Rattle.fuse_segments.specs.Written.{Written, Leaves, whole}
+use Rattle.fuse_messages.specs.Rooms.{Replies}
 use Rattle.fs_trait.specs.Values.{Item}
-use Rattle.fs_trait.specs.Calls.{Call, Readdir, Answer, Failed, Handed, Plain, kind_of}
+use Rattle.fs_trait.specs.Calls.{Call, Readdir, Answer, Failed, Handed, Plain, kind_of, read_answer}
 use Rattle.fs_trait.specs.Answers.{Kind, Quiet, Told, Untold, Data, Agreements, Entries, TimedAttributes, Openings, Creations, Capacities, Texts, TextsOrCounts, Offsets, Writes, Iterators, Faults}
 use Rattle.fs_trait.specs.Runs.{Event, Called, OpenedDirectory, IsRun}
 use Rattle.fs_trait.specs.declared.entry.Context.{Context}
 use Rattle.fuse_grammar.specs.Forms.{Ask, Ends, Asks, Lists, WithMemory}
 use Rattle.fuse_grammar.specs.Listing.{Listing}
-use Rattle.fuse_grammar.specs.Reply.{Reply, reply_of}
+use Rattle.fuse_grammar.specs.Reply.{Reply, Refusal, NoReply, Bytes, OpenBehind, reply_of}
 use Rattle.fuse_grammar.specs.Room.{unseen}
 use Rattle.fuse_grammar.specs.Turn.{node_answered}
 use Rattle.fuse_grammar.specs.Words.{IsRead}
 use Rattle.fuse_grammar.specs.Witnesses.{FollowsFor}
 use Rattle.fuse_grammar.specs.declared.limits.Limits.{Limits}
 use Rattle.fuse_grammar.specs.declared.error.Error.{Error}
+use Rattle.fuse_grammar.specs.declared.error.Error.TheVariants.{OutOfMemory}
 use Rattle.fuse_server.specs.Delivery.{CallsAndGivesBack}
 use Rattle.door_calls.specs.Asked.{Notes}
 use Rattle.door_calls.specs.Shapes.{shape_of, shape_over, nothing, held_back, held_back_kind}
@@ -24,6 +26,7 @@ use Rattle.door_calls.specs.declared.call.CallData.{CallData}
 use Rattle.fuse_server.specs.Handling.{server_tells}
 use Rattle.fuse_server.specs.State.{ServerState}
 use Rattle.door_ask.specs.Noting.{IsNoted}
+use Rattle.door_ask.specs.Room.{KeepsRoom}
 
 -- an answer that is held back names no node
 no_node : (k : Kind) → node_answered k (held_back_kind k) ≡ None
@@ -101,6 +104,40 @@ listed l records answer old new events start r (inl u) =
 listed l records answer old new events start r (inr o) =
     absurd (none_opened (Readdir l.ctx l.parent l.handle l.size l.offset) o.takings old new
     (subst (λ (es : List Event). IsRun Notes GivesNone None old es new) o.events_are r))
+
+-- the room that a reply leaves
+same_room : (old new : Written) → new ≡ old → KeepsRoom old new
+same_room old new e = (ap (λ (w : Written). length (whole w)) e, ap (λ (w : Written). w.lengths) e)
+
+left_room : (old : Written) (room_after : List ℕ) (new : Written) → Leaves old room_after new → KeepsRoom old new
+left_room old room_after new l = (
+  ap length l.kept ∙ length-append old.passed room_after ∙ ap (λ (n : ℕ). length old.passed + n) l.same_length
+      ∙ sym (length-append old.passed old.left),
+  l.same_segments,
+)
+
+replied_room : (reply : Reply) (old new : Written) (outcome : Result ℕ Error) → Replies reply old outcome new
+    → KeepsRoom old new
+replied_room (Refusal error) old new outcome h = same_room old new h.1
+replied_room NoReply old new outcome h = same_room old new h.1
+replied_room (Bytes reply) old new outcome h = left_room old h.room_after new h.leaves
+replied_room (OpenBehind reply) old new outcome h = left_room old h.room_after new h.leaves
+
+-- whatever was handled leaves a writer its room
+pub handled_room : (wanted : Type 0) (limits : Limits) (options after : ℕ) (a : Ask) (old new : ServerState Asking)
+    (writer writer_after : Written) (outcome : Result ℕ Error)
+    → FollowsFor (server_tells Notes GivesNone wanted old writer outcome writer_after new) limits options a after
+    → KeepsRoom writer writer_after
+handled_room wanted limits options after (Ends reply) old new writer writer_after outcome f =
+    replied_room reply writer writer_after outcome f.1
+handled_room wanted limits options after (Asks echo c) old new writer writer_after outcome f =
+    replied_room (reply_of limits echo after (kind_of c) f.0) writer writer_after outcome f.3
+handled_room wanted limits options after (Lists echo l) old new writer writer_after outcome f =
+    replied_room (reply_of limits echo after (Data l.size) (read_answer f.1 f.0)) writer writer_after outcome f.4
+handled_room wanted limits options after (WithMemory rest) old new writer writer_after outcome (inl f) =
+    handled_room wanted limits options after rest old new writer writer_after outcome f
+handled_room wanted limits options after (WithMemory rest) old new writer writer_after outcome (inr f) =
+    replied_room (Refusal OutOfMemory) writer writer_after outcome f.1
 
 -- what is noted, and that the record is the caller's still
 pub record Noted (wanted : Type 0) (a : Ask) (old new : Asking) (writer : Written) (outcome : Result ℕ Error) (writer_after : Written) : Type 0 where

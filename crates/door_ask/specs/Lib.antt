@@ -9,3 +9,4 @@ pub mod Checked
 pub mod Terms
 pub mod WithOpcode
 pub mod AtOnce
+pub mod Room

@@ -13,12 +13,13 @@ ghost use Rattle.fuse_grammar.specs.Limits.{AreLimits, max_len};
 ghost use Rattle.fuse_grammar.specs.Records.{record_of, size_of};
 ghost use Rattle.fuse_server.specs.MemoryByPieces.{MayWantBehind};
 ghost use Rattle.door_calls.specs.Shapes.{nothing};
-ghost use Rattle.door_ask.specs.declared.asked.Asked.TheVariants.{Finished};
+ghost use Rattle.door_ask.specs.declared.asked.Asked.TheVariants.{Finished, Call as IsCall};
 ghost use Rattle.door_ask.specs.Contexts.{may_have_context};
 ghost use Rattle.door_ask.specs.Memory.{LacksNoMemory, MayWant};
 ghost use Rattle.door_ask.specs.Noting.{IsNoted, NotedAndTold};
 ghost use Rattle.door_ask.specs.Terms.{TellsOfHeader, TellsOfOpcode};
 ghost use Rattle.door_ask.specs.Parts.{told_with};
+ghost use Rattle.door_ask.specs.Room.{KeepsRoom};
 ghost use Rattle.door_ask.specs.Asked.{IsAsked, IsEnough, LiesWithin, Tells, interrupted_after, interrupted_by, unique_or_none};
 
 use crate::clear::{clear_numbers, clear_places};
@@ -109,6 +110,9 @@ pub fn ask(
 
     // It is refused for want of memory only where its tail is cut, it may have a context, or it has pairs.
     ensures memory { ¬ (MayWant limits (fs_options_bits options) room r.entry) → LacksNoMemory result }
+
+    // The room is as long as before, for the next request.
+    ensures room { result ≡ IsCall → KeepsRoom w.old w.new }
 {
     ask_request(alloc, limits, options, r, room, w, call)
 }
@@ -125,9 +129,10 @@ pub(crate) fn ask_request(
     call: &mut CallData,
 ) -> Asked
     requires { AreLimits limits }
-    ensures { Tells (MayWant limits (fs_options_bits options) room r.entry) r.entry.left
+    ensures told { Tells (MayWant limits (fs_options_bits options) room r.entry) r.entry.left
         (fs_options_bits options) (interrupted_by limits r.entry.left) room
         (ask limits (fs_options_bits options) room r.entry.left) w.old result w.new call.new }
+    ensures room { result ≡ IsCall → KeepsRoom w.old w.new }
 {
     clear_places(call);
     let len = r.available_bytes() as u64;
@@ -159,7 +164,8 @@ pub(crate) fn ask_after(
     requires limits { AreLimits terms.limits }
     requires fits { terms.len < 2 ^ 64 }
     requires none { call.old ≡ nothing }
-    ensures { TellsOfHeader terms q.entry.header.now q.entry.r.now w.old result w.new call.new }
+    ensures told { TellsOfHeader terms q.entry.header.now q.entry.r.now w.old result w.new call.new }
+    ensures room { result ≡ IsCall → KeepsRoom w.old w.new }
 {
     let Terms {
         limits,
@@ -212,8 +218,9 @@ fn ask_of_opcode(
     requires no_readdir { opcode ≢ Opcode.Readdir }
     requires no_readdirplus { opcode ≢ Opcode.Readdirplus }
     requires no_init { opcode ≢ Opcode.Init }
-    ensures { TellsOfOpcode terms opcode q.entry.header.now q.entry.r.now w.old result w.new
+    ensures told { TellsOfOpcode terms opcode q.entry.header.now q.entry.r.now w.old result w.new
         call.new }
+    ensures room { result ≡ IsCall → KeepsRoom w.old w.new }
 {
     if may_have_context(opcode, terms.options) {
         ask_with_context(opcode, terms, q, w, call)
@@ -239,8 +246,9 @@ fn ask_with_context(
     requires no_readdir { opcode ≢ Opcode.Readdir }
     requires no_readdirplus { opcode ≢ Opcode.Readdirplus }
     requires context { may_have_context (fs_options_bits terms.options) opcode ≡ true }
-    ensures { TellsOfOpcode terms opcode q.entry.header.now q.entry.r.now w.old result w.new
+    ensures told { TellsOfOpcode terms opcode q.entry.header.now q.entry.r.now w.old result w.new
         call.new }
+    ensures room { result ≡ IsCall → KeepsRoom w.old w.new }
 {
     let mut again = match q.r.clone() {
         Ok(again) => again,
@@ -273,12 +281,13 @@ fn note_opcode(
     requires below { q.header.now.len ≤ max_len terms.limits }
     requires no_readdir { opcode ≢ Opcode.Readdir }
     requires no_readdirplus { opcode ≢ Opcode.Readdirplus }
-    ensures { IsNoted
+    ensures noted { IsNoted
         (MayWantBehind terms.limits (fs_options_bits terms.options) terms.room (Some opcode)
         q.entry.header.now q.entry.r.now.pieces)
         (ask_opcode terms.limits (fs_options_bits terms.options) terms.room opcode q.entry.header.now
         q.entry.r.now.left)
         w.old result w.new call.new }
+    ensures room { KeepsRoom w.old w.new }
 {
     match opcode {
         Opcode::Lookup => note_lookup(q, call),
@@ -304,7 +313,7 @@ fn tell(
     requires below { q.header.now.len ≤ max_len terms.limits }
     requires no_readdir { opcode ≢ Opcode.Readdir }
     requires no_readdirplus { opcode ≢ Opcode.Readdirplus }
-    ensures { NotedAndTold
+    ensures told { NotedAndTold
         (MayWantBehind terms.limits (fs_options_bits terms.options) terms.room (Some opcode)
         q.entry.header.now q.entry.r.now.pieces)
         (ask_opcode terms.limits (fs_options_bits terms.options) terms.room opcode q.entry.header.now
@@ -312,6 +321,7 @@ fn tell(
         (told_with q.entry.header.now.unique (fs_options_bits terms.options) terms.room terms.len
         opcode)
         w.old result w.new call.new }
+    ensures room { result ≡ IsCall → KeepsRoom w.old w.new }
 {
     let unique = q.header.unique;
     let outcome = note_opcode(opcode, terms, q, w, call);

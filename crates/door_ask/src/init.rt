@@ -4,6 +4,7 @@ ghost use Rattle.std.specs.Prelude.{◌≡◌, ℕ, List};
 ghost use Rattle.fuse_flags.specs.Flags.{fs_options_bits};
 ghost use Rattle.fuse_grammar.specs.Forms.{Versions, ask_form, ask_version};
 ghost use Rattle.door_calls.specs.Shapes.{nothing};
+ghost use Rattle.door_ask.specs.Room.{KeepsRoom};
 ghost use Rattle.door_ask.specs.Asked.{Tells, init_told};
 ghost use Rattle.door_ask.specs.declared.asked.Asked.TheVariants.{Call as IsCall};
 
@@ -26,8 +27,9 @@ pub fn ask_init(
     call: &mut CallData,
 ) -> Asked
     requires { call.old ≡ nothing }
-    ensures { (request : List ℕ) → Tells ⊥ request (fs_options_bits options) 0 room
+    ensures told { (request : List ℕ) → Tells ⊥ request (fs_options_bits options) 0 room
         (ask_form header.now r.old.left Versions) w.old result w.new call.new }
+    ensures room { result ≡ IsCall → KeepsRoom w.old w.new }
 {
     let init_in = match read_record::<InitInCompat>(r) {
         Ok(init_in) => init_in,
@@ -50,8 +52,9 @@ pub fn ask_of_version(
     call: &mut CallData,
 ) -> Asked
     requires { call.old ≡ nothing }
-    ensures { (request : List ℕ) → Tells ⊥ request (fs_options_bits options) 0 room
+    ensures told { (request : List ℕ) → Tells ⊥ request (fs_options_bits options) 0 room
         (ask_version header.now init_in.now flags2) w.old result w.new call.new }
+    ensures room { result ≡ IsCall → KeepsRoom w.old w.new }
 {
     match reply_unserved(header, init_in, w) {
         Some(outcome) => Asked::finished(outcome),

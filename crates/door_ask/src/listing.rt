@@ -6,6 +6,8 @@ ghost use Rattle.fuse_wire_more.specs.Records.{read_in};
 ghost use Rattle.door_calls.specs.Shapes.{nothing};
 ghost use Rattle.fuse_grammar.specs.Ask.{listing_of, lists_too_much};
 ghost use Rattle.fuse_grammar.specs.Forms.{Directories, Record, ask_form};
+ghost use Rattle.door_ask.specs.declared.asked.Asked.TheVariants.{Call as IsCall};
+ghost use Rattle.door_ask.specs.Room.{KeepsRoom};
 ghost use Rattle.door_ask.specs.Asked.{Tells};
 
 use crate::asked::Asked;
@@ -30,11 +32,12 @@ pub fn ask_listing(
     call: &mut CallData,
 ) -> Asked
     requires { call.old ≡ nothing }
-    ensures { (request : List ℕ) → Tells ⊥ request (fs_options_bits options) 0 room
+    ensures told { (request : List ℕ) → Tells ⊥ request (fs_options_bits options) 0 room
         (ask_form q.entry.header.now q.entry.r.now.left
         (Directories (Record read_in) (lists_too_much limits room) room
         (listing_of plus q.entry.header.now)))
         w.old result w.new call.new }
+    ensures room { result ≡ IsCall → KeepsRoom w.old w.new }
 {
     let read_in = match q.record::<ReadIn>() {
         Ok(read_in) => read_in,

@@ -8,6 +8,7 @@ ghost use Rattle.fuse_grammar.specs.Limits.{AreLimits};
 ghost use Rattle.fuse_server.specs.MemoryByPieces.{MayWantBehind};
 ghost use Rattle.door_calls.specs.Shapes.{nothing};
 ghost use Rattle.door_ask.specs.Noting.{IsNoted};
+ghost use Rattle.door_ask.specs.Room.{KeepsRoom};
 
 use door_calls::{Asking, CallData};
 use fuse_flags::FsOptions;
@@ -26,6 +27,7 @@ fn handle(session: &mut Session<Asking<'_>>, q: Request<'_, '_>, w: &mut Writer)
         (ask_header session.old.limits session.old.options (length w.old.left) q.entry.header.now
         q.entry.r.now.left)
         w.old result w.new session.new.fs.call.now }
+    ensures room { KeepsRoom w.old w.new }
 {
     session.handle_header(q, w)
 }
@@ -42,12 +44,13 @@ pub fn note(
 ) -> Result<usize>
     requires limits { AreLimits limits }
     requires none { call.old ≡ nothing }
-    ensures { IsNoted
+    ensures noted { IsNoted
         (MayWantBehind limits (fs_options_bits options) (length w.old.left)
         (opcode_of q.entry.header.now.opcode) q.entry.header.now q.entry.r.now.pieces)
         (ask_header limits (fs_options_bits options) (length w.old.left) q.entry.header.now
         q.entry.r.now.left)
         w.old result w.new call.new }
+    ensures room { KeepsRoom w.old w.new }
 {
     let mut session = Session {
         fs: Asking { call },

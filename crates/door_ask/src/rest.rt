@@ -6,6 +6,8 @@ ghost use Rattle.fuse_flags.specs.Flags.{fs_options_bits};
 ghost use Rattle.fuse_messages.specs.Rooms.{with_after};
 ghost use Rattle.fuse_grammar.specs.Ask.{ask};
 ghost use Rattle.fuse_grammar.specs.Limits.{AreLimits};
+ghost use Rattle.door_ask.specs.declared.asked.Asked.TheVariants.{Call as IsCall};
+ghost use Rattle.door_ask.specs.Room.{KeepsRoom};
 ghost use Rattle.door_ask.specs.Asked.{IsAsked, IsEnough, LiesWithin, Tells, interrupted_by};
 ghost use Rattle.door_ask.specs.Memory.{LacksNoMemory, MayWantBehindHeader};
 
@@ -43,6 +45,7 @@ pub fn ask_rest(
     ensures within { LiesWithin (length w.old.left) result }
     ensures memory { ¬ (MayWantBehindHeader limits (fs_options_bits options) room (head.now ++ r.entry.left)
         r.entry.pieces) → LacksNoMemory result }
+    ensures room { result ≡ IsCall → KeepsRoom w.old w.new }
 {
     ask_request_rest(alloc, limits, options, head, r, room, w, call)
 }
@@ -62,12 +65,13 @@ fn ask_request_rest(
     requires limits { AreLimits limits }
     requires head { length head.now ≡ 40 }
     requires fits { 40 + length r.left < 2 ^ 64 }
-    ensures { Tells (MayWantBehindHeader limits (fs_options_bits options) room
+    ensures told { Tells (MayWantBehindHeader limits (fs_options_bits options) room
         (head.now ++ r.entry.left) r.entry.pieces)
         (head.now ++ r.entry.left) (fs_options_bits options)
         (interrupted_by limits (head.now ++ r.entry.left)) room
         (ask limits (fs_options_bits options) room (head.now ++ r.entry.left)) w.old result w.new
         call.new }
+    ensures room { result ≡ IsCall → KeepsRoom w.old w.new }
 {
     clear_places(call);
     let rest = r.available_bytes();

@@ -5,6 +5,8 @@ ghost use Rattle.fuse_flags.specs.Flags.{fs_options_bits};
 ghost use Rattle.fuse_messages.specs.Rooms.{with_after};
 ghost use Rattle.fuse_grammar.specs.Ask.{ask};
 ghost use Rattle.fuse_grammar.specs.Limits.{AreLimits};
+ghost use Rattle.door_ask.specs.declared.asked.Asked.TheVariants.{Call as IsCall};
+ghost use Rattle.door_ask.specs.Room.{KeepsRoom};
 ghost use Rattle.door_ask.specs.Asked.{IsAsked, IsEnough, LiesWithin, Tells, interrupted_by};
 ghost use Rattle.door_ask.specs.Memory.{LacksNoMemory, MayWant};
 ghost use Rattle.door_ask.specs.WithOpcode.{unread_with_opcode, with_opcode as with_opcode_of};
@@ -38,6 +40,7 @@ pub fn ask_as(
     ensures within { LiesWithin (length w.old.left) result }
     ensures memory { ¬ (MayWant limits (fs_options_bits options) room (unread_with_opcode opcode r.entry)) →
         LacksNoMemory result }
+    ensures room { result ≡ IsCall → KeepsRoom w.old w.new }
 {
     ask_request_as(opcode, alloc, limits, options, r, room, w, call)
 }
@@ -55,11 +58,12 @@ pub(crate) fn ask_request_as(
     call: &mut CallData,
 ) -> Asked
     requires { AreLimits limits }
-    ensures { Tells (MayWant limits (fs_options_bits options) room (unread_with_opcode opcode r.entry))
+    ensures told { Tells (MayWant limits (fs_options_bits options) room (unread_with_opcode opcode r.entry))
         (with_opcode_of opcode r.entry.left) (fs_options_bits options)
         (interrupted_by limits (with_opcode_of opcode r.entry.left)) room
         (ask limits (fs_options_bits options) room (with_opcode_of opcode r.entry.left)) w.old result
         w.new call.new }
+    ensures room { result ≡ IsCall → KeepsRoom w.old w.new }
 {
     clear_places(call);
     let len = r.available_bytes() as u64;

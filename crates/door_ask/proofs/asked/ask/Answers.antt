@@ -16,7 +16,7 @@ returns-clause-asked c = λ behind sum.
     let less : Tells ⊤ q options by c.args.room (ask c.args.limits options c.args.room q) c.args.w.now
     c.ask_request.result c.ask_request.new.w c.ask_request.new.call =
     tells_less (MayWant c.args.limits options c.args.room c.args.r) ⊤ (λ w. tt) q options by c.args.room
-    (ask c.args.limits options c.args.room q) c.args.w.now _ _ _ c.ask_request.ensures in
+    (ask c.args.limits options c.args.room q) c.args.w.now _ _ _ c.ask_request.ensures.told in
     let all : length (c.args.w.now.left ++ behind) ≡ c.args.room = omega (arith, sum, length-append c.args.w.now.left behind) in
     rw all (told_in_room ⊤ q c.args.limits options by c.args.room c.args.w.now _ _ behind _ sum c.requires.enough less)
 
@@ -25,11 +25,11 @@ returns-clause-within c =
     let q = c.args.r.left in
     let options = fs_options_bits c.args.options in
     lies_within (MayWant c.args.limits options c.args.room c.args.r) q c.args.limits options (interrupted_by c.args.limits q)
-    c.args.room c.args.w.now _ _ _ c.ask_request.ensures
+    c.args.room c.args.w.now _ _ _ c.ask_request.ensures.told
 
 pub returns-clause-memory : goal.returns-clause-memory
 returns-clause-memory c = λ none.
     let q = c.args.r.left in
     let options = fs_options_bits c.args.options in
     lacks_no_memory (MayWant c.args.limits options c.args.room c.args.r) none q c.args.limits options
-    (interrupted_by c.args.limits q) c.args.room c.args.w.now _ _ _ c.requires.enough c.ask_request.ensures
+    (interrupted_by c.args.limits q) c.args.room c.args.w.now _ _ _ c.requires.enough c.ask_request.ensures.told

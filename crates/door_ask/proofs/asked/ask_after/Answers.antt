@@ -15,8 +15,8 @@ not_above limit len h = grind (arith, nat_tests, h)
 other_number : (n : ℕ) → (n ≡ 36 → ⊥) → (n == 36) ≡ false
 other_number n other = grind (arith, nat_tests, other)
 
-pub returns-then-q : goal.returns-then-q
-returns-then-q c = λ request long first rest.
+pub returns-then-q-clause-told : goal.returns-then-q-clause-told
+returns-then-q-clause-told c = λ request long first rest.
     let h = c.args.q.header.now in
     let below : nat_lt (max_len c.args.terms.limits) h.len ≡ false =
     not_above (max_len c.args.terms.limits) h.len (omega (arith, c.max_len.ensures, c.if-q-max_len.false)) in
@@ -24,38 +24,38 @@ returns-then-q c = λ request long first rest.
     let number : (h.opcode == 36) ≡ true = ap (λ n. n == 36) c.if-q.true in
     rw (below, known, number) ((refl, refl), c.interrupted.ensures, c.requires.none)
 
-pub returns-in-Ok-Init : goal.returns-in-Ok-Init
-returns-in-Ok-Init c = λ request long first rest.
+pub returns-in-Ok-Init-clause-told : goal.returns-in-Ok-Init-clause-told
+returns-in-Ok-Init-clause-told c = λ request long first rest.
     let h = c.args.q.header.now in
     let below : nat_lt (max_len c.args.terms.limits) h.len ≡ false =
     not_above (max_len c.args.terms.limits) h.len (omega (arith, c.max_len.ensures, c.if-q-max_len.false)) in
     let known : opcode_of h.opcode ≡ Some Init = sym c.in-Ok-Init.ensures.0 ∙ ap Some c.in-Ok-Init.field-0-is in
     let number = other_number h.opcode c.if-q.false in
-    rw (below, known, number) (c.ask_init.ensures request)
+    rw (below, known, number) (c.ask_init.ensures.told request)
 
-pub returns-in-Ok : goal.returns-in-Ok
-returns-in-Ok c = λ request long first rest.
+pub returns-in-Ok-clause-told : goal.returns-in-Ok-clause-told
+returns-in-Ok-clause-told c = λ request long first rest.
     let h = c.args.q.header.now in
     let below : nat_lt (max_len c.args.terms.limits) h.len ≡ false =
     not_above (max_len c.args.terms.limits) h.len (omega (arith, c.max_len.ensures, c.if-q-max_len.false)) in
     let known : opcode_of h.opcode ≡ Some c.in-Ok.opcode = sym c.in-Ok.ensures.0 in
     let number = other_number h.opcode c.if-q.false in
-    rw (below, known, number) (c.ask_of_opcode.ensures request long first rest)
+    rw (below, known, number) (c.ask_of_opcode.ensures.told request long first rest)
 
-pub returns-in-Ok-Readdir : goal.returns-in-Ok-Readdir
-returns-in-Ok-Readdir c = λ request long first rest.
+pub returns-in-Ok-Readdir-clause-told : goal.returns-in-Ok-Readdir-clause-told
+returns-in-Ok-Readdir-clause-told c = λ request long first rest.
     let h = c.args.q.header.now in
     let below : nat_lt (max_len c.args.terms.limits) h.len ≡ false =
     not_above (max_len c.args.terms.limits) h.len (omega (arith, c.max_len.ensures, c.if-q-max_len.false)) in
     let known : opcode_of h.opcode ≡ Some Readdir = sym c.in-Ok-Readdir.ensures.0 ∙ ap Some c.in-Ok-Readdir.field-0-is in
     let number = other_number h.opcode c.if-q.false in
-    rw (below, known, number) (c.ask_listing.ensures request)
+    rw (below, known, number) (c.ask_listing.ensures.told request)
 
-pub returns-in-Ok-Readdirplus : goal.returns-in-Ok-Readdirplus
-returns-in-Ok-Readdirplus c = λ request long first rest.
+pub returns-in-Ok-Readdirplus-clause-told : goal.returns-in-Ok-Readdirplus-clause-told
+returns-in-Ok-Readdirplus-clause-told c = λ request long first rest.
     let h = c.args.q.header.now in
     let below : nat_lt (max_len c.args.terms.limits) h.len ≡ false =
     not_above (max_len c.args.terms.limits) h.len (omega (arith, c.max_len.ensures, c.if-q-max_len.false)) in
     let known : opcode_of h.opcode ≡ Some Readdirplus = sym c.in-Ok-Readdirplus.ensures.0 ∙ ap Some c.in-Ok-Readdirplus.field-0-is in
     let number = other_number h.opcode c.if-q.false in
-    rw (below, known, number) (c.ask_listing-in-Ok-Readdirplus.ensures request)
+    rw (below, known, number) (c.ask_listing-in-Ok-Readdirplus.ensures.told request)

@@ -8,8 +8,8 @@ use Rattle.door_ask.specs.Memory.{MayWant}
 use Rattle.door_ask.proofs.Memory.{read_header_is, tells_less}
 use Rattle.door_ask.proofs.asked.ask_request.Goals as goal
 
-pub returns-in-Ok : goal.returns-in-Ok
-returns-in-Ok c =
+pub returns-in-Ok-clause-told : goal.returns-in-Ok-clause-told
+returns-in-Ok-clause-told c =
     let q = c.args.r.left in
     let options = fs_options_bits c.args.options in
     let by = interrupted_by c.args.limits q in

@@ -25,4 +25,4 @@ returns c = λ request long first rest.
     above_it (max_len limits) h.len below (c.is_init.ensures.other c.if-is_init.false is)) in
     rw (c.of.ensures) (judges_after _ request options _ room c.empty-nowhere.result c.ask_after.new.w
     (ap (λ w. length w.left) c.empty-nowhere.ensures) c.ask_after.new.call limits c.ask_after.result h
-    c.args.q.r.now.left first rest short (c.ask_after.ensures request long first rest))
+    c.args.q.r.now.left first rest short (c.ask_after.ensures.told request long first rest))

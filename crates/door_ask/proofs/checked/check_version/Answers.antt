@@ -15,4 +15,4 @@ returns c = λ request.
     rw (c.of.ensures) (judges_version _ request (fs_options_bits c.args.options) 0 c.args.room c.empty-nowhere.result
     c.ask_of_version.new.w (ap (λ w. length w.left) c.empty-nowhere.ensures) c.ask_of_version.new.call c.ask_of_version.result
     c.args.header.now c.args.init_in.now c.args.flags2
-    (not_above KERNEL_VERSION c.args.init_in.now.major c.if-init_in-gt-KERNEL_VERSION.false) (c.ask_of_version.ensures request))
+    (not_above KERNEL_VERSION c.args.init_in.now.major c.if-init_in-gt-KERNEL_VERSION.false) (c.ask_of_version.ensures.told request))

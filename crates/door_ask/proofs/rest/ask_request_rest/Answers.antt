@@ -14,8 +14,8 @@ use Rattle.door_ask.proofs.AtOnce.{front_header, front_rest}
 use Rattle.door_ask.proofs.Memory.{read_header_is, tells_less}
 use Rattle.door_ask.proofs.rest.ask_request_rest.Goals as goal
 
-pub returns : goal.returns
-returns c =
+pub returns-clause-told : goal.returns-clause-told
+returns-clause-told c =
     let head = c.args.head.now in
     let rest = c.args.r.left in
     let q = head ++ rest in
@@ -29,7 +29,7 @@ returns c =
     let long : length q ≡ 40 + length rest = length-append head rest ∙ ap (λ (n : ℕ). n + length rest) c.requires.head in
     let wanted = MayWantBehind limits options room (opcode_of h.opcode) h c.args.r.pieces in
     let told : Tells wanted q options by room (ask limits options room q) c.args.w.now c.ask_after.result
-    c.ask_after.new.w c.ask_after.new.call = rw (first, behind) (c.ask_after.ensures q (search (rules, long)) first behind) in
+    c.ask_after.new.w c.ask_after.new.call = rw (first, behind) (c.ask_after.ensures.told q (search (rules, long)) first behind) in
     tells_less wanted (MayWantBehindHeader limits options room q c.args.r.pieces)
     (λ w. subst (λ (g : InHeader). MayWantBehind limits options room (opcode_of g.opcode) g c.args.r.pieces)
     (read_header_is q h first) w)

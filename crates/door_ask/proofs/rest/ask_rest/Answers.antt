@@ -17,7 +17,7 @@ returns-clause-asked c = λ behind sum.
     let less : Tells ⊤ q options by c.args.room (ask c.args.limits options c.args.room q) c.args.w.now
     c.ask_request_rest.result c.ask_request_rest.new.w c.ask_request_rest.new.call =
     tells_less wanted ⊤ (λ w. tt) q options by c.args.room
-    (ask c.args.limits options c.args.room q) c.args.w.now _ _ _ c.ask_request_rest.ensures in
+    (ask c.args.limits options c.args.room q) c.args.w.now _ _ _ c.ask_request_rest.ensures.told in
     let all : length (c.args.w.now.left ++ behind) ≡ c.args.room = omega (arith, sum, length-append c.args.w.now.left behind) in
     rw all (told_in_room ⊤ q c.args.limits options by c.args.room c.args.w.now _ _ behind _ sum c.requires.enough less)
 
@@ -26,11 +26,11 @@ returns-clause-within c =
     let q = c.args.head.now ++ c.args.r.left in
     let options = fs_options_bits c.args.options in
     lies_within (MayWantBehindHeader c.args.limits options c.args.room q c.args.r.pieces) q c.args.limits options
-    (interrupted_by c.args.limits q) c.args.room c.args.w.now _ _ _ c.ask_request_rest.ensures
+    (interrupted_by c.args.limits q) c.args.room c.args.w.now _ _ _ c.ask_request_rest.ensures.told
 
 pub returns-clause-memory : goal.returns-clause-memory
 returns-clause-memory c = λ none.
     let q = c.args.head.now ++ c.args.r.left in
     let options = fs_options_bits c.args.options in
     lacks_no_memory (MayWantBehindHeader c.args.limits options c.args.room q c.args.r.pieces) none q c.args.limits
-    options (interrupted_by c.args.limits q) c.args.room c.args.w.now _ _ _ c.requires.enough c.ask_request_rest.ensures
+    options (interrupted_by c.args.limits q) c.args.room c.args.w.now _ _ _ c.requires.enough c.ask_request_rest.ensures.told

@@ -12,8 +12,8 @@ use Rattle.door_ask.proofs.Memory.{read_header_is, tells_less}
 use Rattle.door_ask.proofs.WithOpcode.{header_as, header_whole, none_as, same_length, same_rest}
 use Rattle.door_ask.proofs.with_opcode.ask_request_as.Goals as goal
 
-pub returns-in-Ok : goal.returns-in-Ok
-returns-in-Ok c =
+pub returns-in-Ok-clause-told : goal.returns-in-Ok-clause-told
+returns-in-Ok-clause-told c =
     let q = c.args.r.left in
     let n = c.args.opcode in
     let named = with_opcode n q in
@@ -30,7 +30,7 @@ returns-in-Ok c =
     let rest : drop 40 named ≡ left.left = same_rest n c.ranges.opcode.fits q eight ∙ sym moved in
     let long : length q ≡ c.available_bytes-len.result = search rules in
     let wanted = MayWantBehind limits options room (opcode_of n) h left.pieces in
-    let behind = c.ask_after.ensures named (same_length n c.ranges.opcode.fits q eight ∙ long) is rest in
+    let behind = c.ask_after.ensures.told named (same_length n c.ranges.opcode.fits q eight ∙ long) is rest in
     let told : Tells wanted named options by room (ask limits options room named) c.args.w.now c.ask_after.result
     c.ask_after.new.w c.ask_after.new.call = rw (is, rest) behind in
     tells_less wanted (MayWant limits options room (unread_with_opcode n c.args.r))
@@ -38,7 +38,7 @@ returns-in-Ok c =
     (read_header_is named h is) (rw c.in-Ok.ensures.pieces at w))
     named options by room (ask limits options room named) c.args.w.now _ _ _ told
 
-pub returns : goal.returns
-returns c =
+pub returns-clause-told : goal.returns-clause-told
+returns-clause-told c =
     rw (none_as c.args.opcode c.args.r.left c.in-Err.error c.in-Err.ensures.value, c.finished.ensures)
     ((refl, refl), refl, search rules)
