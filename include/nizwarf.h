@@ -168,7 +168,7 @@ enum {
 
 /* What came of a request. */
 typedef struct {
-	/* How long the reply is: the request is completed with so many bytes. 0 where there is
+	/* How long the reply is: the request is completed with that many bytes. 0 where there is
 	 * none. */
 	uint64_t len;
 	/* How many of these were put: all, or 16 of a READ that answered data. */
@@ -673,7 +673,7 @@ static inline void nizwarf_answer_offset(nizwarf_answer *answer, uint64_t offset
 
 /* What an INIT may agree on besides its options, if INIT is offered: the `text` of its answer, of this length. Bits of
  * `want` are those of nizwarf_init_further: PASSTHROUGH (37) with the most file systems over one another,
- * NO_EXPORT_SUPPORT (38), HAS_RESEND (39), OVER_IO_URING (41), REQUEST_TIMEOUT (42) with so many seconds. Of the other
+ * NO_EXPORT_SUPPORT (38), HAS_RESEND (39), OVER_IO_URING (41), REQUEST_TIMEOUT (42) with that many seconds. Of the other
  * fields 0 leaves what virtiofsd says; the first two only make that less, max_write no less than 4096 bytes. */
 typedef struct {
 	uint64_t want;

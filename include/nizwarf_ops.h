@@ -267,7 +267,7 @@ static inline uint32_t nizwarf_offers_of(const nizwarf_ops *ops)
 	return offers;
 }
 
-/* A time of so many seconds: 0, if it is less or no number. */
+/* A time of that many seconds: 0, if it is less or no number. */
 static inline struct timespec nizwarf_timeout(double seconds)
 {
 	struct timespec time = { 0, 0 };
@@ -383,7 +383,7 @@ static inline int nizwarf_add_item(nizwarf_dir *dir, const char *name, nizwarf_i
 	return 1;
 }
 
-/* Adds an item for readdir. `type` is DT_REG .., `off` that of a reading that goes on behind it, and
+/* Adds an item for readdir. `type` is DT_REG .., `off` that of a reading that goes on after it, and
  * not 0, which is that of the beginning. 0: it wasn't added, since there is no more room. */
 static inline int nizwarf_add_direntry(nizwarf_dir *dir, const char *name, uint64_t ino, uint32_t type,
 				       uint64_t off)

@@ -1,6 +1,6 @@
 #!/usr/bin/env bash
 # Makes a library for transports in C over a file system of your own: a copy of crates/nizwarf_tree under
-# another name, with the same functions behind the same header. docs/USE.md says what to change
+# another name, with the same functions and the same header. docs/USE.md says what to change
 # in it then.
 #
 # Usage: tools/new-library.sh NAME [TREE]

@@ -10,7 +10,7 @@
 #        tools/share.sh --load MINUTES
 # Words are those of virtiofsd, as --cache=always, --xattr, --thread-pool-size=4, and -o with the options of
 # a mount; --words lists them. `umount MOUNTPOINT` or Ctrl-C ends it. --check tests it by tests/share/check.sh, and
-# --load puts it under load for so many minutes by tests/share/load.sh.
+# --load puts it under load for that many minutes by tests/share/load.sh.
 #
 # It wants root, for a mount /dev/fuse, a C compiler and the Rattle toolchain; libseccomp-dev if there is to be
 # a filter of system calls. It links the proved library if that is built and no source is newer; otherwise

@@ -12,7 +12,7 @@
 #define unlikely(it) __builtin_expect(!!(it), 0)
 #endif
 
-/* A session and a request of libfuse, with what the door wants of them behind: whoever has the first has both. */
+/* A session and a request of libfuse, with what the door wants of them after it: whoever has the first has both. */
 struct door_session {
 	struct fuse_session se;
 	uint64_t options;

@@ -6,7 +6,7 @@
 enum {
 	/* So many are kept, before the oldest is sent back at the next call. */
 	MOST_KEPT = 64,
-	/* And so many at most, if no call comes. */
+	/* And that many at most, if no call comes. */
 	MOST_EVER = 8192,
 };
 

@@ -27,7 +27,7 @@ HAS = {
     "HAVE_RETRIEVE_HEADER": r"sizeof\(struct fuse_in_header\) \+\s*sizeof\(struct fuse_notify_retrieve_in\)",
 }
 SHORT = r'^\tif \((?:\(size_t\) ?)?res < sizeof\(struct fuse_in_header\)\) \{\n[^\n]*"short [^\n]*\n\t\treturn -EIO;\n\t\}\n'
-# How a session and a request are allocated and freed: with what the door wants of them behind. And where a file system
+# How a session and a request are allocated and freed: with what the door wants of them after it. And where a file system
 # asks for interrupts: only from then on others know of its request.
 OWN = (
     (r"\(struct fuse_session \*\) ?calloc\(1, sizeof\(struct fuse_session\)\)", "door_take_session()"),

@@ -255,7 +255,7 @@ static void gather(void *to, const struct iovec *iov, int count)
 	}
 }
 
-/* A record of so many bytes, if there are as many in all: where it is, or `to`, if it comes in pieces. */
+/* A record of that many bytes, if there are as many in all: where it is, or `to`, if it comes in pieces. */
 static inline const char *record_of(void *to, size_t size, const struct iovec *iov, int count)
 {
 	if (count == 1)

@@ -175,7 +175,7 @@ impl Pieces<'_> {
     }
 }
 
-/// Cuts `len` bytes out of pieces, behind the first `skip`, which are in the first piece.
+/// Cuts `len` bytes out of pieces, after the first `skip`, which are in the first piece.
 fn cut<'l>(pieces: &[Piece<'l>], mut skip: usize, len: usize) -> io::Result<Vec<Piece<'l>>> {
     let (mut cut, mut left) = (Vec::new(), len);
     for piece in pieces {

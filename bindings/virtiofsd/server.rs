@@ -159,7 +159,7 @@ fn options_of(request: &[u8]) -> nizwarf::FsOptions {
     options
 }
 
-/// Whether a security context is among the extensions behind so many names, which begin there.
+/// Whether a security context is among the extensions after that many names, which begin there.
 fn has_context(request: &[u8], begin: usize, names: usize) -> bool {
     let mut rest = request.get(begin..).unwrap_or_default();
     for _ in 0..names {

@@ -127,7 +127,7 @@ static bool gives_back(const nizwarf_segment *request)
 }
 
 /* The request in one piece, which the door asks with fewer steps. (If it isn't in one, it is a WRITE, of which the door
- * reads the first alone; and behind that is memory for all of it.) */
+ * reads the first alone; and after that is memory for all of it.) */
 static nizwarf_segment in_one(const nizwarf_segment *request, size_t segments)
 {
 	nizwarf_segment whole = { request->at, 0 };

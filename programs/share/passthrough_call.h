@@ -84,18 +84,18 @@ int make_call(struct call *call);
 
 /* 0 for what isn't below 0, or else the error of errno. */
 int failed(int result);
-/* A buffer of at least so many bytes: `buffer` is where a pointer to it is. False: there is no
+/* A buffer of at least that many bytes: `buffer` is where a pointer to it is. False: there is no
  * memory. */
 bool grow(void *buffer, size_t *size, size_t wanted);
 /* Whether a node is on the local file system of the folder. */
 bool is_local(const struct call *call);
-/* A name of the request, behind which a byte 0 is. */
+/* A name of the request, after which a byte 0 is. */
 const char *name_of(const struct call *call, nizwarf_range range);
 /* Whether a name is that of something in a directory. */
 bool is_plain(const char *name);
 /* What is told of a node that has a lookup more. */
 void tell_entry(const struct call *call, uint64_t number, const struct statx *seen, nizwarf_entry *entry);
-/* For how many milliseconds a name in a directory may be remembered, if it is so many where all names are. */
+/* For how many milliseconds a name in a directory may be remembered, if it is that many where all names are. */
 uint64_t name_time(const struct call *call, const struct node *directory, uint64_t time);
 /* Tells attributes, and how long they hold. `is_apart` is that of the node. */
 void tell_attr(const struct call *call, const struct statx *seen, bool is_apart, nizwarf_entry *entry);

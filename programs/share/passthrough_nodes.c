@@ -103,7 +103,7 @@ static void take(struct table *table, const struct counted *thing)
 	table->count--;
 }
 
-/* The number of the next thing behind a place; 0: there is none. */
+/* The number of the next thing after a place; 0: there is none. */
 static uint64_t next_in(struct table *table, uint32_t *place)
 {
 	const struct counted *thing = NULL;
@@ -118,7 +118,7 @@ static uint64_t next_in(struct table *table, uint32_t *place)
 	return number;
 }
 
-/* No slot is used again up to settle(), and those that are behind the last thing are none. */
+/* No slot is used again up to settle(), and those that are after the last thing are none. */
 static void begin_placing(struct table *table)
 {
 	pthread_rwlock_wrlock(&table->lock);
@@ -782,7 +782,7 @@ uint64_t file_next(struct nodes *all, uint32_t *place)
 	return next_in(&all->files, place);
 }
 
-/* How many descriptors may be kept, if so many are for others. Where that leaves few, it is a quarter. */
+/* How many descriptors may be kept, if that many are for others. Where that leaves few, it is a quarter. */
 static unsigned most_to_keep(unsigned others)
 {
 	struct rlimit limit;

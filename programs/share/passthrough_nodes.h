@@ -83,7 +83,7 @@ struct node {
 	bool is_apart;
 	/* How many bytes the handle has. */
 	uint8_t handle_size;
-	/* The handle, if there is one, and the name behind it. */
+	/* The handle, if there is one, and the name after it. */
 	_Alignas(uint32_t) char rest[];
 };
 
@@ -105,7 +105,7 @@ struct open_file {
 	char *buffer;
 	size_t at, end;
 	uint64_t offset;
-	/* The end was met behind what was told last. */
+	/* The end was met after what was told last. */
 	bool is_at_end;
 };
 
@@ -156,7 +156,7 @@ struct grip {
 int nodes_begin(struct nodes *all, int root, int proc, enum file_handles handles, bool no_devices,
 		unsigned most, unsigned others);
 void nodes_end(struct nodes *all);
-/* From now on files of this device are watched, which are held by descriptors; 0: none can be. It is to be ended behind
+/* From now on files of this device are watched, which are held by descriptors; 0: none can be. It is to be ended after
  * the nodes. */
 void nodes_watch(struct nodes *all, struct watch *watch, uint64_t device);
 
@@ -226,7 +226,7 @@ void file_put(struct open_file *file);
 /* 0, or EBADF where there is none. */
 int file_release(struct nodes *all, uint64_t number);
 
-/* The number of the next node, or open file, behind a place, which begins as 0; 0: there is none. */
+/* The number of the next node, or open file, after a place, which begins as 0; 0: there is none. */
 uint64_t node_next(struct nodes *all, uint32_t *place);
 uint64_t file_next(struct nodes *all, uint32_t *place);
 
@@ -239,7 +239,7 @@ struct file_handle *node_handle(const struct node *node);
  * open files have those that they had in another server. */
 void nodes_empty(struct nodes *all);
 void nodes_settle(struct nodes *all);
-/* Enters a node by its number, with so many lookups: of a file that was opened with O_PATH, by a descriptor that is the
+/* Enters a node by its number, with that many lookups: of a file that was opened with O_PATH, by a descriptor that is the
  * node's then, or closed. 0, or an error: EEXIST, if the number or the file is another node's. */
 int node_restore(struct nodes *all, int fd, const struct statx *seen, uint64_t number, uint64_t lookups,
 		 bool is_apart);

@@ -29,7 +29,7 @@ int paths_begin(struct paths *paths, struct nodes *nodes)
 	got = readlinkat(nodes->proc, name_fd(paths->root).bytes, paths->folder, sizeof(paths->folder));
 	if (got <= 0 || (size_t)got >= sizeof(paths->folder) || *paths->folder != '/')
 		return -1;
-	/* (below / a path begins behind it) */
+	/* (below / a path begins after it) */
 	paths->len = got == 1 ? 0 : (size_t)got;
 	return 0;
 }
@@ -99,7 +99,7 @@ ssize_t find_path(const struct paths *paths, int fd, const struct statx *seen, c
 	return len;
 }
 
-/* The path of the directory in which a node was found first, if that is known, and the name behind it. */
+/* The path of the directory in which a node was found first, if that is known, and the name after it. */
 static ssize_t find_first_path(const struct paths *paths, const struct node *node, char *path)
 {
 	const char *name;

@@ -4,7 +4,7 @@
 
 #include "passthrough_nodes.h"
 
-/* How many bytes a path has at most, with the 0 behind it. */
+/* How many bytes a path has at most, with the 0 after it. */
 enum { LONGEST_PATH = 65536 };
 
 /* The folder, and where it is, as /proc tells of its descriptors. */

@@ -433,7 +433,7 @@ static int lose(struct loading *l, const char *what, uint64_t number, char *path
 	return l->all->options.loses_files ? 0 : -1;
 }
 
-/* Whether a path is of plain names, each behind a / but the first. */
+/* Whether a path is of plain names, each after a / but the first. */
 static bool is_path(const char *path, size_t len)
 {
 	while (len) {

@@ -5,7 +5,7 @@
  * of files that the server can't open. A file is known by its handle.
  *
  * Notices are sent by a thread of its own: the kernel may wait in one for requests that are answered meanwhile. A name
- * that is looked up meanwhile is dropped behind the reply, for which the notice waits; attributes that are told meanwhile
+ * that is looked up meanwhile is dropped after the reply, for which the notice waits; attributes that are told meanwhile
  * are dropped by the kernel, if it has the file already. So attributes hold for long if GETATTR or STATX told them, and
  * for a second with what names the file first.
  *
@@ -341,7 +341,7 @@ static int copy_chain(struct part *part, size_t at, size_t skip, uint64_t *nodes
 	return count;
 }
 
-/* All that is remembered is old. (While chains become more, one that is before has what is then behind.) */
+/* All that is remembered is old. (While chains become more, one that is before has what is then after.) */
 static void tell_all(struct watch *all)
 {
 	uint64_t nodes[EACH];

@@ -452,7 +452,7 @@ int main(int count, char **given)
 		return 1;
 	if ((status = find_places()))
 		return status;
-	/* (to write behind the largest size of a file is an error, and no end) */
+	/* (to write after the largest size of a file is an error, and no end) */
 	signal(SIGXFSZ, SIG_IGN);
 	signal(SIGPIPE, SIG_IGN);
 	raise_limit();

@@ -72,7 +72,7 @@ static int one_of(const char *key, const char *value, const char *const *known)
 	refuse("it is not ", value);
 }
 
-/* Seconds, perhaps with digits behind a point, in milliseconds. */
+/* Seconds, perhaps with digits after a point, in milliseconds. */
 static uint64_t milliseconds(const char *key, const char *value)
 {
 	double seconds = -1;
@@ -717,7 +717,7 @@ static void take_given(int count, char **given)
 {
 	for (int found, i = -1; (found = getopt_long(count, given, ":dfho:V", known_words, &i)) != -1;
 	     i = -1) {
-		/* (a value may stand behind it, as a word of its own) */
+		/* (a value may stand after it, as a word of its own) */
 		const char *word = given[optind - 1 - (optarg == given[optind - 1])];
 
 		if (found == '?' || found == ':' ||

@@ -48,7 +48,7 @@ struct vhost_region {
 	uint64_t guest, size, user, offset;
 };
 
-/* Where what is written to the guest's memory is marked: so many bytes of a file. */
+/* Where what is written to the guest's memory is marked: that many bytes of a file. */
 struct vhost_log {
 	uint64_t size, offset;
 };
@@ -72,12 +72,12 @@ struct vhost_place {
 /* Tells the size of the payload that follows a header. The answer is a refusal. */
 uint32_t nizwarf_vhost_size_at(const unsigned char *head, size_t head_len, uint32_t *size);
 
-/* Tells the message of a header and a payload, which came with so many descriptors. The answer is a refusal. */
+/* Tells the message of a header and a payload, which came with that many descriptors. The answer is a refusal. */
 uint32_t nizwarf_vhost_message_at(const unsigned char *head, size_t head_len, const unsigned char *body,
 				  size_t len, size_t descriptors, const struct vhost_offer *offer,
 				  struct vhost_message *message);
 
-/* Tells where so many bytes from an address of the front end on are, in one region. The answer 1: nowhere. */
+/* Tells where that many bytes from an address of the front end on are, in one region. The answer 1: nowhere. */
 uint32_t nizwarf_vhost_user_at(const struct vhost_region *region, size_t regions, uint64_t address,
 			       uint64_t len, struct vhost_place *place);
 

@@ -57,12 +57,12 @@ enum { STUCK_TICKS = 2, WAITED_TICKS = 4 };
 enum { BULK = 32768, LOOK_EACH = 8, BACKLOGS = 3 };
 /* In nanoseconds: how long a request that didn't wait already takes to come at least, and one that
  * comes soon at most, which is about what it takes to sleep and be woken: to look for longer costs more than
- * that. Behind so many of these more than of others a worker looks before it sleeps. */
+ * that. After that many of these more than of others a worker looks before it sleeps. */
 enum { LEAST_WAIT = 1500, SHORT_WAIT = 5000, SHORT_WAITS = 4 };
 /* In nanoseconds: how long what is read beside io_uring gathers. */
 enum { GATHER = 1000000 };
 /* In bytes: how large a pipe is, which has a place for each page; from how many data on to use it takes
- * less than a copy; and how many it holds behind a header, if they don't begin at a page. */
+ * less than a copy; and how many it holds after a header, if they don't begin at a page. */
 enum { PIPE = 2 * FUSE_DEVICE_PIPED, LEAST_PIPED = 1 << 16, MOST_PIPED = PIPE - 2 * PAGE };
 
 /* In milliseconds, after a signal: how often it is looked what became of the requests; from when on they are
@@ -309,7 +309,7 @@ static int has_pipe(struct worker *w)
 	return w->is_large;
 }
 
-/* Takes so many bytes from the pipe, which has them. 0, or -1 with errno. */
+/* Takes that many bytes from the pipe, which has them. 0, or -1 with errno. */
 static int empty_pipe(struct worker *w, unsigned char *to, size_t len)
 {
 	while (len) {
@@ -503,7 +503,7 @@ static ssize_t read_request(struct worker *w)
 	return got;
 }
 
-/* Data, names and attributes have as much room as is asked for, others less than a page. (What stands behind
+/* Data, names and attributes have as much room as is asked for, others less than a page. (What stands after
  * may keep as much memory as the longest room.) */
 size_t fuse_device_room(const struct fuse_in_header *asked, const void *record, size_t len)
 {
@@ -546,7 +546,7 @@ static struct fuse_rings *take_rings(struct device *d, int fd)
 }
 
 /* Starts the workers over io_uring, if they can be and the reply to INIT can say so. That was answered with this
- * outcome, and with so many bytes; `offered`: by whether it offers io_uring. */
+ * outcome, and with that many bytes; `offered`: by whether it offers io_uring. */
 static void start_rings(struct worker *w, int offered, int32_t code, size_t len)
 {
 	struct device *d = w->of;

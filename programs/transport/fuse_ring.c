@@ -43,7 +43,7 @@ struct header {
 	uint64_t reserved;
 };
 
-/* What a command has of its own, behind the fields of others. */
+/* What a command has of its own, after the fields of others. */
 struct command {
 	uint64_t flags, commit;
 	uint16_t queue;
@@ -55,7 +55,7 @@ enum { PAGE = 4096, HEAD = sizeof(struct fuse_out_header) };
  * its processor. */
 enum { BULK = 1 << 16, BULKS = 8 };
 
-/* A header, and behind it, a page from its beginning, the payload. One whose request is kept belongs to who completes
+/* A header, and after it, a page from its beginning, the payload. One whose request is kept belongs to who completes
  * that, and then, in a list, to its worker. */
 struct entry {
 	struct worker *of;
@@ -332,7 +332,7 @@ static int is_last(const struct worker *w)
 }
 
 /* Hands its entries to the kernel. The last workers do before the others: so the kernel takes those of the others
- * first, of which none is behind another one of a worker that may be long about a request. */
+ * first, of which none is after another one of a worker that may be long about a request. */
 static int hand_over(struct worker *w)
 {
 	struct fuse_rings *r = w->of;

@@ -12,9 +12,9 @@ struct fuse_rings;
 struct fuse_ring_calls {
 	/* How many queues Linux has, one for each processor; 0: it doesn't say so, or root has not let it serve so. */
 	unsigned (*count)(void);
-	/* How many workers there are for so many queues, each with two descriptors. */
+	/* How many workers there are for that many queues, each with two descriptors. */
 	unsigned (*count_workers)(const transport *by, unsigned queues);
-	/* Makes the rings for a device of so many queues: nothing is asked of it yet. NULL: they can't be. From then on no
+	/* Makes the rings for a device of that many queues: nothing is asked of it yet. NULL: they can't be. From then on no
 	 * system call is made that io_uring has, but io_uring_enter, and io_uring_register to begin. */
 	struct fuse_rings *(*make)(const transport *by, int device, unsigned queues);
 	/* Whether this request is an INIT that offers io_uring. */
@@ -40,7 +40,7 @@ int32_t fuse_device_ask(struct device *of, unsigned worker, const nizwarf_segmen
 
 /* What both have, in fuse_device.c. The first answers the length of a reply to a request that was refused, 0
  * if none is awaited. The second: how much room a reply may want, at least that of a header; `record` is what
- * stands behind the header of the request. */
+ * stands after the header of the request. */
 size_t fuse_device_refuse(const transport *by, const struct fuse_in_header *asked, int32_t code, void *room);
 size_t fuse_device_room(const struct fuse_in_header *asked, const void *record, size_t len);
 

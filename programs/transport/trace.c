@@ -105,7 +105,7 @@ static void record_bytes(const struct bytes *bytes)
 		fprintf(file, "%02x", bytes->at[i]);
 }
 
-/* A request with its answer, behind one another, whichever worker has it. */
+/* A request with its answer, after one another, whichever worker has it. */
 static void record(const struct bytes *request, size_t room, int32_t code, const struct bytes *reply)
 {
 	static bool is_told;

@@ -15,9 +15,9 @@
  * right in its memory: the reply is written there, and must not be read back. So a table has its reply
  * in memory of yours in both, to be copied. A machine's requests are copied into one segment, since it
  * may change its memory at any time. With `writes_in_place` the data of a WRITE are not: they come in
- * segments behind the first, which has the header and the record. Nothing is to be believed of them
+ * segments after the first, which has the header and the record. Nothing is to be believed of them
  * that is read twice; the door reads none of them. So it may be asked with one segment: there is
- * memory behind the first one for all the request, of which nothing is told. */
+ * memory after the first one for all the request, of which nothing is told. */
 #ifndef TRANSPORT_H
 #define TRANSPORT_H
 
@@ -29,7 +29,7 @@
 #include <sys/types.h>
 #include "nizwarf.h"
 
-/* The largest payload of a request or a reply: what stands behind is made with this. */
+/* The largest payload of a request or a reply: what stands after is made with this. */
 enum { TRANSPORT_PAYLOAD = 1 << 20, TRANSPORT_MOST_WORKERS = 64 };
 /* The largest payload if it may go by a pipe: one that holds it must not take privileges. */
 enum { FUSE_DEVICE_PIPED = 1 << 19 };
@@ -87,7 +87,7 @@ typedef struct {
 	uint64_t withheld;
 	/* Not to print how many requests came to what, once a front end has gone. */
 	int quiet;
-	/* Where /dev/fuse is served by io_uring if Linux offers that (`fuse_ring`, of fuse_ring.c), by so many workers for
+	/* Where /dev/fuse is served by io_uring if Linux offers that (`fuse_ring`, of fuse_ring.c), by that many workers for
 	 * each processor, at least one, beside the others: each of them may call `serve`. The worker 0 begins before
 	 * them, and ends after them. NULL: it is served by read(2) and write(2) alone. */
 	const struct fuse_ring_calls *ring;
@@ -144,7 +144,7 @@ transport_later *transport_keep(void);
  * has gone, nothing is sent. */
 void transport_complete(transport_later *later, int32_t code, const void *reply, size_t len);
 
-/* Puts bytes of a state: 0, or -1. Gets up to so many: how many came, which are fewer at the end alone, or -1. Whether it
+/* Puts bytes of a state: 0, or -1. Gets up to that many: how many came, which are fewer at the end alone, or -1. Whether it
  * is still wanted: 0, or -1. With -1 the front end has gone, or a signal came, or errno says why. */
 int transport_put_state(transport_state *to, const void *bytes, size_t len);
 ssize_t transport_get_state(transport_state *from, void *bytes, size_t len);
@@ -171,7 +171,7 @@ static inline void transport_withhold(const transport *by, unsigned char *reques
 		memcpy(request + at, flags, size);
 }
 
-/* Mounts on the folder as `source`, with flags of mount(2). `options` stand behind those that it
+/* Mounts on the folder as `source`, with flags of mount(2). `options` stand after those that it
  * has itself, each with a comma before it. Answers the device's descriptor, or -1: it said why. */
 int fuse_device_mount(const transport *by, const char *source, const char *folder, unsigned long flags,
 		      const char *options);
@@ -198,8 +198,8 @@ enum { FUSE_DEVICE_UNMOUNTED = 0x756d6e74 };
 int fuse_device_serve(const transport *by, int device, const char *folder);
 
 /* Both move the data of the request that the calling worker serves right between a file and the kernel.
- * The first takes those of the reply to a READ, so many bytes as the file has there, up to `size`: they
- * are as if they stood in the room behind the first 16 bytes of the reply. -1: they can't be taken so,
+ * The first takes those of the reply to a READ, that many bytes as the file has there, up to `size`: they
+ * are as if they stood in the room after the first 16 bytes of the reply. -1: they can't be taken so,
  * and are to be put into the room. The second writes the first `size` bytes of the data of a WRITE, or
  * fewer, and tells how many: the others are in the segment from then on. -1: they are lost, as errno
  * says. */

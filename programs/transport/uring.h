@@ -23,7 +23,7 @@ struct uring {
 /* The number of what tells of the event. */
 #define URING_EVENT UINT64_MAX
 
-/* Makes a ring for so many commands at once, whose files are the device and its event. Once it has begun it takes
+/* Makes a ring for that many commands at once, whose files are the device and its event. Once it has begun it takes
  * nothing else: neither another command, nor another file, nor a change, whoever has it. 0, or -1 with errno. */
 int uring_make(struct uring *r, unsigned commands, int device);
 void uring_free(struct uring *r);

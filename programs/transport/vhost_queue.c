@@ -19,7 +19,7 @@
 #include <unistd.h>
 #include "vhost_queue.h"
 
-/* What is behind the longest request is not looked at, and no longer room is lent: a header and its
+/* What is after the longest request is not looked at, and no longer room is lent: a header and its
  * record take less than a page, and a guest that keeps to what INIT agreed on has no larger payload.
  * Of a WRITE the header and the record have WRITE_HEAD bytes. */
 enum { PIECES = 1024, LONGEST = TRANSPORT_PAYLOAD + 4096 };
@@ -91,7 +91,7 @@ static void tell(int event)
 		failed("eventfd");
 }
 
-/* ---- what is written, by workers: it is marked behind the writing, since who reads the marks takes them away first */
+/* ---- what is written, by workers: it is marked after the writing, since who reads the marks takes them away first */
 
 /* Marks bytes of the guest by their address there. What is past the end of the log is none of its memory. */
 static void mark(const struct log *log, uint64_t address, uint64_t len)
@@ -161,7 +161,7 @@ static void tell_log(const struct guest *g)
 
 /* ---- chains, by workers */
 
-/* Copies the next bytes of a request, until so many are copied. */
+/* Copies the next bytes of a request, until that many are copied. */
 static void copy_up_to(struct worker *w, size_t most, const unsigned char **at, size_t *len)
 {
 	size_t n = w->copied < most ? most - w->copied : 0;
@@ -619,7 +619,7 @@ static void lose_memory(int number, siginfo_t *about, void *context)
 	const struct guest *g = this_worker ? atomic_load(&this_worker->serves) : NULL;
 
 	(void)context;
-	/* (behind the regions: the log) */
+	/* (after the regions: the log) */
 	for (size_t i = 0; g && i <= g->regions; i++) {
 		unsigned char *map = i < g->regions ? g->region[i].map : g->log.map;
 		const size_t mapped = i < g->regions ? g->region[i].mapped : g->log.mapped;

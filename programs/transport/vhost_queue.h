@@ -33,7 +33,7 @@ struct queue {
 	int kick, call, enabled;
 	/* `call` is an event; and it is to tell of the next chain in any case. */
 	int calls, calls_anyway;
-	/* Both sides say by an index behind the ring of which chain they want to be told. */
+	/* Both sides say by an index after the ring of which chain they want to be told. */
 	int has_events;
 	/* A worker is to look at it. */
 	atomic_int look;

@@ -93,7 +93,7 @@ int transport_put_state(transport_state *to, const void *bytes, size_t len)
 	return 0;
 }
 
-/* Reads what comes next, behind what was got: how many bytes, 0 at the end, or -1. */
+/* Reads what comes next, after what was got: how many bytes, 0 at the end, or -1. */
 static ssize_t fill(transport_state *from)
 {
 	ssize_t got;

@@ -299,7 +299,7 @@ static void take_features(uint64_t features)
 
 		q->enabled |= !(features & PROTOCOL_FEATURES);
 		q->has_events = (features & EVENT_INDICES) != 0;
-		/* (a ring has its index behind it then) */
+		/* (a ring has its index after it then) */
 		queue_place(q);
 	}
 }
@@ -678,7 +678,7 @@ int vhost_user_listen(const transport *with, const char *path)
 												   errno;
 		if (probe >= 0)
 			close(probe);
-		/* EAGAIN: so many wait there already. */
+		/* EAGAIN: that many wait there already. */
 		if (why == EAGAIN)
 			return refuse(with, -1, path, "somebody listens on it");
 		if (why != ECONNREFUSED || unlink(path))

@@ -3,7 +3,7 @@
  * were not asked, and allocations that are refused.
  *
  * tests/c/check.sh links it with both libraries, and --wrap=malloc, --wrap=realloc and
- * --wrap=free. Status 0: all is as it should be, and no memory is left behind. */
+ * --wrap=free. Status 0: all is as it should be, and no memory is left. */
 #include <errno.h>
 #include "allocations.h"
 #include "door.h"

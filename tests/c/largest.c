@@ -3,7 +3,7 @@
  * taken keep what they have: then nothing is allocated.
  *
  * tests/c/check.sh links it with --wrap=malloc, --wrap=realloc and --wrap=free. Status 0: all is as it should be, and
- * no memory is left behind. It takes half a GiB. */
+ * no memory is left. It takes half a GiB. */
 #include <errno.h>
 #include <linux/fuse.h>
 #include <stdio.h>

@@ -3,7 +3,7 @@
  * stays in the rooms.
  *
  * tests/c/check.sh links it with --wrap=malloc, --wrap=realloc and --wrap=free. Status 0: all is as
- * it should be, and no memory is left behind. */
+ * it should be, and no memory is left. */
 #include <errno.h>
 #include <linux/fuse.h>
 #include <stdio.h>

@@ -8,7 +8,7 @@
 #   portal   the document portal of xdg-desktop-portal: test-doc-portal and test-document-fuse.sh
 #   rofiles  rofiles-fuse of ostree: test-rofiles-fuse.sh
 #   nbdfuse  libnbd's tests of nbdfuse
-#   raw, qcow2   QEMU's iotests of such images behind an export of qemu-storage-daemon, `check -fuse -g auto`
+#   raw, qcow2   QEMU's iotests of such images over an export of qemu-storage-daemon, `check -fuse -g auto`
 #   bindfs   bindfs's tests, by bindfs of Debian's sid, which links libfuse3.so.4: only if it is named, with that library
 #
 # apt-get downloads the packages and what tests of sources there are, 400 MB, by lists of its own into FOLDER/others, where

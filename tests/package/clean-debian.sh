@@ -9,7 +9,7 @@
 #   - the packages of tools/package.sh are installed, with a C compiler, make and pkg-config;
 #   - nizwarf-demo answers its session, and nizwarf-mount mounts a tree, where a file is written and read, and
 #     nizwarf-decode shows what was asked;
-#   - a manager of virtual machines finds nizwarf-share behind virtiofsd, where that is;
+#   - a manager of virtual machines finds nizwarf-share after virtiofsd, where that is;
 #   - the example hello.c is built by pkg-config, shared and static, and mounts its file, which is read;
 #   - so does bindings/rust/examples/hello.rs, if it is there, which Debian's cargo builds;
 #   - the packages are removed, and nothing of them is left.

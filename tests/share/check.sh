@@ -360,7 +360,7 @@ try_names() {
     echo "Files are the ones that were looked up, with $*"
 }
 
-# Who may not open a file may not by O_CREAT either, where it came behind a name that was remembered as none.
+# Who may not open a file may not by O_CREAT either, where it came after a name that was remembered as none.
 try_late() {
     rm -rf "$work/folder"
     mkdir -p "$work/folder" "$work/mount"

@@ -96,7 +96,7 @@ static int limit_naming(void *user)
 	return sandbox_filter_backing(of_naming);
 }
 
-/* Sends a message of so many bytes, a number, with so many descriptors. */
+/* Sends a message of that many bytes, a number, with that many descriptors. */
 static void send_message(int socket, uint32_t number, size_t len, const int *fds, size_t count)
 {
 	uint32_t numbers[4] = { number };

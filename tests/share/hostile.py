@@ -47,7 +47,7 @@ def make_folder():
         open(f"{FOLDER}/some{i}", "w").close()
     os.mkdir(FOLDER + "/mounted")
     subprocess.run(["mount", "-t", "tmpfs", "none", FOLDER + "/mounted"], check=True)
-    # One was left behind, on which nobody listens.
+    # One was left over, on which nobody listens.
     left = socket.socket(socket.AF_UNIX)
     left.bind(PATH)
     left.close()

@@ -133,7 +133,7 @@ class Keeper:
             self.note(error, what)
             if what != "remove":
                 self.hold_undone(error, other)
-            # (an error for want of memory may come behind what was done)
+            # (an error for want of memory may come after what was done)
             for it in (name, other):
                 if self.is_there(it):
                     self.files.setdefault(it, self.files.get(name) or self.files.get(other))

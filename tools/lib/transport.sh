@@ -1,4 +1,4 @@
-# For the scripts beside it that link the library for C, or another one behind the same header; they source
+# For the scripts beside it that link the library for C, or another one with the same header; they source
 # usage.sh first.
 # shellcheck shell=bash
 . "$(dirname "${BASH_SOURCE[0]}")/program.sh"

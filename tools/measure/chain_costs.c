@@ -1,4 +1,4 @@
-/* Serves the same chain of a queue so many times, for tools/measure/chain-costs.sh: all wait at once, and each is answered
+/* Serves the same chain of a queue that many times, for tools/measure/chain-costs.sh: all wait at once, and each is answered
  * by a function that does nothing.
  *
  * Usage: chain_costs one|four|table TIMES

@@ -19,7 +19,7 @@ enum { SMALL = 4096, LARGE = 1 << 20, LISTED = 40000, NAMES = 32768, HANDLE = 1,
 
 /* ---- a back end */
 
-/* Puts a header and a record into the room. How many bytes the reply has, with so many of data behind them. */
+/* Puts a header and a record into the room. How many bytes the reply has, with that many of data after them. */
 static size_t put(const nizwarf_room *room, size_t rooms, uint64_t unique, int error, const void *record,
 		  size_t len, size_t data)
 {
@@ -135,7 +135,7 @@ static void list(int looks)
 	need(!got, "names");
 }
 
-/* The data of a READ or a WRITE, right from or into the request's pieces: up to so many bytes, behind the header of a
+/* The data of a READ or a WRITE, right from or into the request's pieces: up to that many bytes, after the header of a
  * reply, or the first piece of a request. */
 static void transfer_pieces(const struct fuse_in_header *asked, const nizwarf_segment *request,
 			    size_t segments, const nizwarf_room *room, size_t rooms)

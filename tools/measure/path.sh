@@ -41,7 +41,7 @@ wraps=$(printf ' -Wl,--wrap=%s' malloc calloc realloc aligned_alloc)
 cc -O2 -no-pie -o "$folder/speed" "$here/tools/measure/speed.c" "$library" "$(dirname "$(rt doc)")/c/liblibc_c.a" $wraps
 objdump -d --no-show-raw-insn "$folder/speed" > "$folder/code"
 
-# Serves a class's requests so many times, and leaves what was counted: count CLASS ROUNDS
+# Serves a class's requests that many times, and leaves what was counted: count CLASS ROUNDS
 count() {
     valgrind --tool=callgrind --dump-instr=yes --compress-strings=no --compress-pos=no \
         --callgrind-out-file="$folder/counted.$2" "$folder/speed" --only "$1" --rounds "$2" 2> "$folder/said"

@@ -31,11 +31,11 @@ SAID = {"stat": "statx of 2,000 files, asked anew", "floor": "the same of the tr
         "git status": "git status of this repository", "untar": "untar of this repository",
         "names-100k": "create, ls -l, find and rm -r of 100,000 files in all"}
 COMMANDS = {"git status": ["git", "-C", "clone", "status"], "untar": ["tar", "-xf", "../../archive"]}
-# What is done so many times in a class, and what a system call is counted for.
+# What is done that many times in a class, and what a system call is counted for.
 TIMES = {"stat": (2000, "file"), "stat-missing": (2000, "name"), "open-close": (2000, "file"),
          "create-unlink": (2000, "file"), "readdir": (5, "listing"), "ls-l": (10000, "name"), "write-1m": (48, "MiB"), "overwrite-1m": (48, "MiB"),
          "read-1m": (48, "MiB"), "write-4k": (3000, "block"), "read-4k": (3000, "block")}
-# What takes long has so many rounds at most.
+# What takes long has that many rounds at most.
 FEW = {"names-100k": 3}
 # The names of our own.
 SHARE, BY_RING, PASSED = "nizwarf-share", "nizwarf-share, io_uring", "nizwarf-share, --passthrough"

@@ -6,7 +6,7 @@
  * It is linked with the library of crates/test_speed (tools/measure/speed.sh does it), makes the requests
  * itself, and compares the digests of the replies, over all cuttings and one to three rounds, before
  * it times anything. --write leaves the batches of requests in a folder and measures nothing; --rounds serves those of
- * the classes so many times, in one piece, for path.sh.
+ * the classes that many times, in one piece, for path.sh.
  */
 #define _GNU_SOURCE
 #include <stdint.h>
@@ -301,7 +301,7 @@ static void mkdir_secctx(struct bytes *batch, uint64_t unique, uint32_t n)
 	put_request(batch, 144, 9, unique, 1, &body);
 }
 
-/* What is set up behind the INIT. */
+/* What is set up after the INIT. */
 enum setup { NOTHING, FULL_FILE, FILES };
 
 static uint32_t put_setup(struct bytes *batch, enum setup setup)

@@ -22,7 +22,7 @@ static double now(void)
 	return (double)t.tv_sec * 1e3 + (double)t.tv_nsec / 1e6;
 }
 
-/* Asks, with so many bytes behind the header in the first of so many segments, and gives the milliseconds
+/* Asks, with that many bytes after the header in the first of that many segments, and gives the milliseconds
  * that it took. */
 static double ask(uint32_t opcode, uint64_t node, const void *behind, size_t size, size_t count)
 {

@@ -24,7 +24,7 @@ struct RawSlot {
 impl RawSlot {
     /// Copies bytes of the reply, from offset `at` on, and returns how many.
     fn copy(&mut self, at: usize, piece: &mut [u8]) -> usize {
-        // SAFETY: the pointers are valid for this call, and the piece has so many bytes.
+        // SAFETY: the pointers are valid for this call, and the piece has that many bytes.
         unsafe { nizwarf_copy_slot_at(self, at, piece.as_mut_ptr(), piece.len()) }
     }
 }
@@ -316,7 +316,7 @@ pub(crate) fn further_of(request: &[IoSlice<'_>]) -> u64 {
     let mut front = [0; FRONT];
     let bytes = request.iter().flat_map(|piece| piece.iter());
     let len = front.iter_mut().zip(bytes).map(|(to, byte)| *to = *byte).count();
-    // SAFETY: the pointer is that of an array, which has at least so many bytes.
+    // SAFETY: the pointer is that of an array, which has at least that many bytes.
     unsafe { nizwarf_init_offered_at(front.as_ptr(), len) }
 }
 

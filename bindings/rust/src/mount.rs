@@ -154,7 +154,7 @@ impl<F: FileSystem + Sync> Server<F> {
         Ok(Mounted { point, server: Some(server) })
     }
 
-    /// Serves a mount on so many threads. The first that fails ends it.
+    /// Serves a mount on that many threads. The first that fails ends it.
     pub(crate) fn serve_at(&self, point: &Point, count: usize) -> io::Result<()> {
         let serve = || {
             let _ends = Ends(point);

@@ -27,7 +27,7 @@ const WANTED: FsOptions =
 #[must_use = "the client waits for the reply"]
 #[derive(Clone, Copy, Debug, PartialEq, Eq)]
 pub struct Served {
-    /// The length of the reply, which is at the start of the buffers. The request is completed with so many
+    /// The length of the reply, which is at the start of the buffers. The request is completed with that many
     /// bytes. It is 0 if there is no reply.
     pub len: usize,
     /// Why there is no reply, if there should be one.

@@ -247,7 +247,7 @@ fn results_of_ioctl() {
     assert_eq!(made, replied(fault(25)));
 }
 
-/// A READ of so many bytes.
+/// A READ of that many bytes.
 fn read(size: u32) -> Request {
     Request::new(15, 2).u64(8).u64(0).u32(size).u32(0).u64(0).u32(0).u32(0)
 }
@@ -420,7 +420,7 @@ fn what_may_have_to_be_given_back_is_not_forgotten() {
     }
 }
 
-/// A READDIR or a READDIRPLUS of so many bytes.
+/// A READDIR or a READDIRPLUS of that many bytes.
 fn readdir(opcode: u32, size: u32) -> Request {
     Request::new(opcode, 1).u64(8).u64(0).u32(size).u32(0).u64(0).u32(0).u32(0)
 }

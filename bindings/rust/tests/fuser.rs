@@ -308,7 +308,7 @@ impl Served {
         Self::on(2, files, acl)
     }
 
-    /// One that so many threads serve.
+    /// One that this many threads serve.
     fn on(threads: usize, files: Files, acl: SessionACL) -> Self {
         let (client, session) = begin(files, acl, threads);
         let session = session.unwrap();
