@@ -1,24 +1,28 @@
 #!/usr/bin/env python3
-"""Weakens each conjunct of what crates define and promise, in turn, and tells which nothing notices.
+"""Weakens each conjunct of what crates define and promise, and tells which nothing notices.
 
-Usage: tests/weaken/weaken.py [--list] [--only WORD] [--above CRATE[,CRATE..]] [--minutes N] [--tell] CRATE..
-A conjunct is a factor or a field of a definition in specs, or a clause (or a factor of it) of a public function. It is
-replaced by what always holds, under its name, in a copy of the crate, which is then checked. That counts as noticed only
-where a goal is not proved any more. So what is in the way before is mended first: a proof that builds the conjunct gives
-what always holds, and one that cites it has to find the fact otherwise. The function whose own clause it is does not
-count. --above also checks these crates over the weakened one, where it notices nothing itself.
+Usage: tests/weaken/weaken.py [--list] [--tell] [--only WORD] [--minutes N] [--pause FILE] [--anew] CRATE..
+A conjunct is a factor or a field of a definition in specs, or a clause (or a factor of it) of a public function. Many are
+weakened at once, in a copy of the crate: each becomes an equation of a number of its own with itself, so that what the
+prover refuses names those that it misses. A proof that only builds one gives that equation instead, and does not count,
+nor does the function whose own clause it is. What was noticed is put back, and the rest is checked again, halved where no
+refusal tells one from another, and at last one by one.
 
-Told of each:
-  goal     a goal is not proved: it is noticed
-  line     lines of proofs that can't be mended are refused, and no goal: look at it
-  nothing  all is proved: nothing notices it, if known.txt has no reason
+How each ends:
+  named    the text of a proof names it, for something else, and nothing else has that name: this needs no check
+  cited    a proof uses it for something else
+  goal     a goal is not proved any more
+  nothing  all is proved, here and in the crates above that name it
+  own      all is proved in its own crate, and those above were not asked
+  line     lines that can't be mended are refused, and no goal: look at it
+  none     it is no fact, or the crate can't be stated without it
   limit    the prover gave no verdict
-  none     it is no fact, or another one can't be stated without it
 
-out/weaken/CRATE.txt gets a line for each, so that a run goes on where another one ended, while the crate's files stay as
-they are. --only takes those whose file or text has the word, --list shows them and checks nothing, --tell prints what is
-known so far. tests/weaken/known.txt has what is known and why. A check takes 5 seconds to 2 minutes, and the crate itself
-is proved first (`rt check`).
+tests/weaken/noticed.tsv keeps that, with where it shows, so that a run goes on where another ended. A conjunct is judged
+again once its text has changed, or the file that noticed it. --only takes those whose file or text has the word, --list
+shows them and checks nothing, --tell prints what is known so far. While the file of --pause is there, nothing starts.
+--anew forgets what these crates have. tests/weaken/known.txt has what nothing may notice, and why. The crate itself is
+proved first, with all below (`rt check`).
 Status 0: each is noticed or known, or a part was looked at; 1: one is neither; 2: it could not start.
 """
 import argparse
@@ -32,28 +36,25 @@ import tempfile
 import time
 
 import conjuncts
-from conjuncts import ITS_PROOF, TRIVIAL
 
 HERE = os.path.dirname(os.path.dirname(os.path.dirname(os.path.abspath(__file__))))
-OUT = f"{HERE}/out/weaken"
+RESULTS = f"{HERE}/tests/weaken/noticed.tsv"
 KNOWN = f"{HERE}/tests/weaken/known.txt"
-CLASSES = ("goal", "line", "nothing", "limit", "none")
-# How often proofs are mended.
-MOST_ROUNDS = 8
-# What a proof gives in place of what it cites: a fact that it has otherwise, and in the list of a tactic the rules of numbers.
-CITED, ENTRY = "(search rules)", "arith"
+CLASSES = ("named", "cited", "goal", "nothing", "own", "line", "none", "limit")
+NOTICED = ("named", "cited", "goal")
+HEAD = "# By tests/weaken/weaken.py: crate, what has the conjunct, a sum of its text, how it ended, where, a sum of that file.\n"
+# The number of the first conjunct: nothing else is as large.
+FIRST = 7_000_000
+TAG = re.compile(r"\b7\d{6}\b")
+MOST_ROUNDS = 12
 
 ERROR = re.compile(r"(?:\./)?(\S+?\.(?:antt|rt)):(\d+):(\d+): error: (?:`([^`]*)`: )?(.*)")
-NO_PROOF = re.compile(r"fn (\S+): no proof: .* did not prove ")
-# What a tactic says where it finds nothing.
-GAVE_UP = re.compile(r"^`(search|grind|omega|simp|rw|cc)\b[^`]*`|no proof of .* was found|is not proved|does not hold|rewrites nothing")
-# A proof builds what is weakened, or cites it.
-SAID = re.escape(f"`{TRIVIAL}`")
-BUILDS = re.compile(rf"expected type {SAID}|.* is checked against .*{SAID}")
-CITES = re.compile(rf".*(this has type {SAID}|record `Prim\.Unit` has no field)")
-LISTS = re.compile(rf".*(does not read the entry .* whose type is|the entry .* is no equation: its type) {SAID}")
-
-MENDS = ((BUILDS, ITS_PROOF), (CITES, CITED), (LISTS, ENTRY))
+NO_PROOF = re.compile(r"fn (\S+): no proof: (.*)")
+UNCHECKED = re.compile(r"which was (not admitted|rejected)|were not checked|was not checked")
+# What a tactic says if it finds nothing.
+GAVE_UP = re.compile(r"^`(search|grind|omega|simp|rw|cc)\b[^`]*`|no proof of .* was found|is not proved|does not hold|rewrites nothing|did not prove")
+HAS = re.compile(r"(?:but this has type|projects from a record, but this has type|but has type|whose type is|its type) `([^`]*)`")
+WANTS = re.compile(r"expected type `([^`]*)`")
 
 
 def stop(why):
@@ -87,24 +88,39 @@ def all_below(name, below):
     return found
 
 
+def equation(tag):
+    """What always holds, and names its conjunct."""
+    return f"(◌≡◌ {{A = ℕ}} {tag} {tag})"
+
+
+def its_proof(tag):
+    return f"(λ _. {tag})"
+
+
 class Prover:
     """Checks copies of crates, over what a check of the crate as it stands kept."""
 
-    def __init__(self, folder):
+    def __init__(self, pause):
         said = subprocess.run(["rt", "doc"], stdout=subprocess.PIPE, text=True, check=True).stdout
         self.kit = os.path.dirname(said.strip())
-        self.folder = folder
+        self.folder, self.pause = None, pause
         self.below, self.static = graph()
+        self.named = Named(self.kit, self.below)
 
     def prove(self, name):
-        """Proves a crate as it is, and keeps what that proved as where others begin."""
+        """Proves a crate as it is, if it is not proved yet."""
         if name not in self.below:
             stop(f"There is no crate {name}.")
+        kept = f"{HERE}/crates/{name}/out/incremental"
+        if os.path.isdir(kept) and all(os.path.isdir(f"{HERE}/crates/{it}/out/rlib/{it}.rlib") for it in all_below(name, self.below)):
+            status, lines = self.run(name, {}, {})
+            if status == 0:
+                return
+            print("\n".join(lines[-3:]), file=sys.stderr)
         print(f"Proving {name} as it stands ..", file=sys.stderr)
         ran = subprocess.run(["rt", "check"], cwd=f"{HERE}/crates/{name}", stdout=subprocess.PIPE, stderr=subprocess.STDOUT, text=True)
         if ran.returncode:
             stop(f"{name} is not proved as it stands:\n{ran.stdout[-1500:]}")
-        shutil.copytree(f"{HERE}/crates/{name}/out/incremental", f"{self.folder}/{name}.seed", copy_function=os.link)
 
     def words(self, name, rlibs):
         words = ["--crate-name", name, "src/lib.rt", "--links", f"{name}="]
@@ -122,29 +138,35 @@ class Prover:
             words += ["--crate-type", "staticlib"]
         return [*words, "--antt-project", f"{self.kit}/rattle/logic/antt-project.json", "--logic-built", f"{self.kit}/logic_built"]
 
-    def run(self, verb, name, texts, rlibs, *more):
+    def run(self, name, texts, rlibs, verb="check", more=()):
         """Runs rattle on a copy of a crate with these texts. Gives its status and its lines."""
-        copy, kept = f"{self.folder}/{name}", f"{self.folder}/{name}.kept"
-        for it in (copy, kept):
-            shutil.rmtree(it, ignore_errors=True)
+        while self.pause and os.path.exists(self.pause):
+            time.sleep(20)
+        copy = f"{self.folder}/{name}"
+        shutil.rmtree(copy, ignore_errors=True)
         for part in ("src", "specs", "proofs"):
             if os.path.isdir(f"{HERE}/crates/{name}/{part}"):
                 shutil.copytree(f"{HERE}/crates/{name}/{part}", f"{copy}/{part}")
         for path, text in texts.items():
             with open(f"{copy}/{path}", "w", encoding="utf-8") as file:
                 file.write(text)
-        shutil.copytree(f"{self.folder}/{name}.seed", kept, copy_function=os.link)
-        command = ["rattle", verb, *self.words(name, rlibs), "--jobs", "1", "--incremental", kept, *more]
+        shutil.copytree(f"{HERE}/crates/{name}/out/incremental", f"{copy}/kept", copy_function=os.link)
+        command = ["rattle", verb, *self.words(name, rlibs), "--jobs", "1", "--incremental", "kept", *more]
         ran = subprocess.run(command, cwd=copy, stdin=subprocess.DEVNULL, stdout=subprocess.PIPE, stderr=subprocess.STDOUT, text=True, errors="replace")
-        return ran.returncode, ran.stdout.splitlines()
+        with open(f"{HERE}/out/weaken/{name}.said", "w", encoding="utf-8") as file:
+            file.write(ran.stdout)
+        return ran.returncode, joined(ran.stdout.splitlines())
 
-    def build(self, name, texts):
-        """Builds the library of a crate with these texts. Gives its place, or None."""
-        rlib = f"{self.folder}/rlib/{name}.rlib"
-        shutil.rmtree(rlib, ignore_errors=True)
-        os.makedirs(os.path.dirname(rlib), exist_ok=True)
-        status, _ = self.run("build", name, texts, {}, "-o", rlib)
-        return rlib if status == 0 else None
+
+def joined(lines):
+    """The lines, where one that goes on below is one."""
+    found = []
+    for it in lines:
+        if re.match(r"  \S", it) and found:
+            found[-1] += f" {it.strip()}"
+        else:
+            found.append(it)
+    return found
 
 
 def place_in(text, line, column):
@@ -177,204 +199,570 @@ def term_at(text, start):
     return (start - 1, end + len(field[0])) if field and text[start - 1] == "(" else (start, end)
 
 
-def mended(text, places):
-    """A text with other terms at places, the last first, or None where it stays."""
-    was = text
-    for line, column, by in sorted(places, reverse=True):
-        start, end = term_at(text, place_in(text, line, column))
-        if text[start:end] not in ("", ITS_PROOF, CITED[1:-1], CITED, ENTRY):
-            text = text[:start] + by + text[end:]
-    if text == was:
-        return None
-    if CITED in text and not re.search(r"^use Rattle\.std\.proofs\.Common\.\{[^}]*\brules\b", text, re.M):
-        text = f"use Rattle.std.proofs.Common.{{rules}}\n{text}"
-    if re.search(rf"\b{ENTRY}\b", text) and not re.search(rf"^use Rattle\.std\.proofs\.Common\.\{{[^}}]*\b{ENTRY}\b", text, re.M):
-        text = f"use Rattle.std.proofs.Common.{{{ENTRY}}}\n{text}"
-    return text
+def piece_around(text, at):
+    """The piece of a pair or a record that a place is in, with the field's name; None if it is in none."""
+    start, depth = at, 0
+    while start > 0:
+        sign = text[start - 1]
+        if sign in conjuncts.CLOSES:
+            depth += 1
+        elif sign in conjuncts.OPENS:
+            if depth == 0 and sign in "({":
+                field = re.match(r"\s*([\w'-]+)\s*=\s", text[start:]) if sign == "{" else None
+                if field:
+                    return start + len(field[0]), field[1]
+                return (start, None) if is_pair(text, start) else piece_around(text, start - 1)
+            depth -= depth > 0
+        elif depth == 0 and sign in ",;":
+            field = re.match(r"\s*([\w'-]+)\s*=\s", text[start:]) if sign == ";" else None
+            return (start + len(field[0]), field[1]) if field else (start, None)
+        elif depth == 0 and re.match(r"\n(?=\S)", text[start - 1 :]):
+            return None
+        start -= 1
+    return None
 
 
-def is_own(path, own):
-    """Whether a path of a function, or of a file of its proof, is that of the function whose clause was weakened."""
-    return bool(own) and all(f"::{it}::" in f"::{path}::" for it in own if it)
+def is_pair(text, start):
+    """Whether a comma follows in the bracket that opens before a place."""
+    depth = 0
+    for sign in text[start:]:
+        if sign in conjuncts.OPENS:
+            depth += 1
+        elif sign in conjuncts.CLOSES:
+            if depth == 0:
+                return False
+            depth -= 1
+        elif depth == 0 and sign == ",":
+            return True
+    return False
 
 
-class Verdict(Exception):
-    """What came of one conjunct, and where that shows."""
+class Text:
+    """A file with edits, which stand in the places of the file as it was, and tells where a place of the new one was."""
+
+    def __init__(self, was):
+        self.was, self.edits = was, {}
+
+    def put(self, start, end, new):
+        """Puts a text there, unless another edit stands in the way."""
+        if any(start < b and a < end or (start, end) == (a, b) for a, b in self.edits):
+            return False
+        self.edits[(start, end)] = new
+        return True
+
+    def now(self):
+        text, at = [], 0
+        for (start, end), new in sorted(self.edits.items()):
+            text += [self.was[at:start], new]
+            at = end
+        return "".join([*text, self.was[at:]])
+
+    def before(self, place):
+        """Where a place of the new text was, or the edit that it is in."""
+        shift = 0
+        for (start, end), new in sorted(self.edits.items()):
+            if place < start + shift:
+                break
+            if place < start + shift + len(new):
+                return None, (start, end)
+            shift += len(new) - (end - start)
+        return place - shift, None
 
 
-def joined(lines):
-    """The lines, where one that goes on below is one."""
-    found = []
-    for it in lines:
-        if re.match(r"  \S", it) and found:
-            found[-1] += f" {it.strip()}"
+class Round:
+    """A check of a crate with some conjuncts weakened, again and again, with proofs that build them mended."""
+
+    def __init__(self, prover, name, found, rlibs=None, at=None):
+        self.prover, self.name, self.found, self.rlibs = prover, name, found, rlibs or {}
+        # (the crate that is checked: the conjuncts' own, or one above it)
+        self.at = at or name
+        self.mends, self.stuck, self.words = {}, set(), None
+
+    def texts(self, tags):
+        """The files with these conjuncts weakened, and proofs that build them mended."""
+        texts = {}
+        for tag in tags if self.at == self.name else ():
+            it = self.found[tag]
+            text = texts.setdefault(it.file, Text(read(f"{HERE}/crates/{self.name}/{it.file}")))
+            text.put(it.start, it.end, equation(tag) + "\n" * it.text.count("\n"))
+        for path in texts:
+            needs = [it for it in ("ℕ", "◌≡◌") if not re.search(rf"^(?:ghost )?use Rattle\.std\.specs\.Prelude\.\{{[^}}]*(?<![\w◌]){it}(?![\w◌])", texts[path].was, re.M)]
+            if needs:
+                line = f"use Rattle.std.specs.Prelude.{{{', '.join(needs)}}}"
+                ghost = re.search(r"^(ghost use|pub|use|mod|fn|impl|struct|enum|trait|#\[)\b", texts[path].was, re.M)
+                at = 0 if path.endswith(".antt") else ghost.start()
+                texts[path].put(at, at, f"{line}\n" if path.endswith(".antt") else f"ghost {line};\n")
+        for (path, start, end), tag in self.mends.items():
+            if tag in tags:
+                text = texts.setdefault(path, Text(read(f"{HERE}/crates/{self.at}/{path}")))
+                text.put(start, end, its_proof(tag))
+        return texts
+
+    def own(self, tag):
+        """The function whose own clause it is, as a path, or None."""
+        it = self.found[tag]
+        if self.at != self.name or not it.file.startswith("src/"):
+            return None
+        module = it.file[len("src/") : -len(".rt")].replace("/", "::")
+        return ("" if module == "lib" else module), it.owner.split()[0]
+
+    def is_own(self, tag, path):
+        own = self.own(tag)
+        return bool(own) and all(f"::{it}::" in f"::{path}::" for it in own if it)
+
+    def once(self, tags):
+        """Checks with these weakened. Gives what is settled, by conjunct, and what else is refused."""
+        texts = self.texts(tags)
+        status, lines = self.prover.run(self.at, {path: it.now() for path, it in texts.items()}, self.rlibs)
+        settled, refused, mended = {}, [], False
+        if status not in (0, 1):
+            return {}, [("limit", next((it for it in lines if "error" in it or "no verdict" in it), f"status {status}"), set())], False
+        for line in lines:
+            error, missing = ERROR.match(line), NO_PROOF.match(line)
+            seen = {int(it) for it in TAG.findall(line)} & set(tags)
+            if missing:
+                path = missing[1].split("::", 1)[-1]
+                if not any(self.is_own(it, path) for it in seen or tags if len(seen or tags) == 1):
+                    refused.append(("goal", line, {it for it in seen if not self.is_own(it, path)}))
+                continue
+            if not error or UNCHECKED.search(error[5]):
+                continue
+            path, what = error[1], error[5]
+            has, wants = HAS.search(what), WANTS.search(what)
+            has = {int(it) for it in TAG.findall(has[1])} & set(tags) if has else set()
+            wants = {int(it) for it in TAG.findall(wants[1])} & set(tags) if wants else set()
+            where = f"{path} {error[4] or ''}".strip()
+            function = path.removeprefix("proofs/").replace("/", "::")
+            text = texts.get(path) or Text(read(f"{HERE}/crates/{self.at}/{path}"))
+            place, edit = text.before(place_in(text.now(), int(error[2]), int(error[3])))
+            if edit:
+                tag = self.mends.pop((path, *edit), None)
+                if tag and not wants and has:
+                    # (what it builds is something else)
+                    settled[tag] = ("cited", where)
+                    mended = True
+                elif tag:
+                    self.stuck.add(tag)
+                continue
+            if has and not wants:
+                for tag in has:
+                    if self.is_own(tag, function):
+                        continue
+                    around = piece_around(text.was, place) if path.endswith(".antt") else None
+                    field = self.found[tag].owner.partition(".")[2]
+                    if around and (around[1] == field or (around[1] is None and not field)) and self.mend(path, text, around[0], tag):
+                        mended = True
+                    else:
+                        for it in self.beside(tag, tags, text.was, place):
+                            settled[it] = ("cited", where)
+            elif wants:
+                tag = min(wants)
+                if path.endswith(".antt") and self.mend(path, text, place, tag):
+                    mended = True
+                else:
+                    self.stuck.add(tag)
+                    refused.append(("line", line, wants))
+            elif GAVE_UP.search(what) or path.startswith("proofs/"):
+                seen = {it for it in seen if not self.is_own(it, function)}
+                if what.startswith("`rw`") and len(seen) == 1:
+                    settled[min(seen)] = ("cited", where)
+                refused.append(("goal" if GAVE_UP.search(what) else "line", line, seen))
+            else:
+                refused.append(("none", line, seen))
+        for i, (kind, line, seen) in enumerate(refused):
+            if kind == "goal":
+                named = self.named_in(line, tags)
+                refused[i] = (kind, line, seen or named)
+                if len(named) == 1:
+                    settled.setdefault(min(named), ("goal", self.where_of(line)))
+        return settled, refused, mended
+
+    def named_in(self, line, tags):
+        """Which of these conjuncts what a refusal is about can rest on: those that it, or a definition below it, names."""
+        error, missing = ERROR.match(line), NO_PROOF.match(line)
+        path = missing[1].split("::", 1)[-1] if missing else error[1]
+        if self.words is None:
+            self.words = Words(self.at, self.prover.below)
+        names = self.words.of(path)
+        return {it for it in tags if self.found[it].owner.split(".")[0].split()[0] in names and not self.is_own(it, path.removeprefix("proofs/").replace("/", "::"))}
+
+    def beside(self, tag, tags, text, place):
+        """This conjunct, and the other fields of its record that the same declaration cites of the same value."""
+        record, _, field = self.found[tag].owner.partition(".")
+        value = re.match(rf"\(?\s*([\w'.-]+)\.{re.escape(field)}\b", text[place:]) if field else None
+        if value is None:
+            return {tag}
+        starts = [it.start() for it in re.finditer(r"^(?=[^\s-])", text, re.M)]
+        start = max((it for it in starts if it <= place), default=0)
+        end = min((it for it in starts if it > place), default=len(text))
+        found = {tag}
+        for it in tags:
+            one, _, other = self.found[it].owner.partition(".")
+            cites = re.finditer(rf"(?<![\w'.-]){re.escape(value[1])}\.{re.escape(other)}(?![\w'-])", text[start:end]) if one == record and other else ()
+            for cite in cites:
+                around = piece_around(text, start + cite.start())
+                if not around or around[1] != other:
+                    found.add(it)
+        return found
+
+    def where_of(self, line):
+        """Where a refusal shows: the file, and the declaration or the function."""
+        error, missing = ERROR.match(line), NO_PROOF.match(line)
+        if error:
+            return f"{error[1]} {error[4] or ''}".strip()
+        if not missing:
+            return " ".join(line.split())[:80]
+        _, *module, name = missing[1].split("::")
+        while module and not os.path.isfile(f"{HERE}/crates/{self.at}/src/{'/'.join(module)}.rt"):
+            name = f"{module.pop()}::{name}"
+        return f"src/{'/'.join(module) or 'lib'}.rt {name}"
+
+    def mend(self, path, text, place, tag):
+        """Gives the equation's proof in place of the term there."""
+        while text.was[place].isspace():
+            place += 1
+        start, end = term_at(text.was, place)
+        if start >= end or (path, start, end) in self.mends:
+            return False
+        for key in [it for it in self.mends if it[0] == path and start < it[2] and it[1] < end]:
+            del self.mends[key]
+        self.mends[(path, start, end)] = tag
+        return True
+
+
+class Words:
+    """Which words functions and files of a crate name, and those that definitions of these words name."""
+
+    def __init__(self, crate, below):
+        self.crate, self.definitions, self.files = crate, {}, {}
+        for it in [*all_below(crate, below), crate]:
+            for path, _, files in os.walk(f"{HERE}/crates/{it}"):
+                part = path[len(f"{HERE}/crates/{it}/") :].split("/")[0]
+                for file in files if part in ("src", "specs", "proofs") else ():
+                    self.take(f"{path}/{file}", read(f"{path}/{file}"), it == crate)
+
+    def take(self, path, text, is_own):
+        text = conjuncts.blanked(text, "--" if path.endswith(".antt") else "//")
+        if is_own:
+            self.files[path[len(f"{HERE}/crates/{self.crate}/") :]] = text
+        heads = r"^[ ]*(?:abbrev |unfoldable )?(?:pub )?(?:record |data )?([\w'-]+) [:({]|^[ ]*pub record ([\w'-]+)" if path.endswith(".antt") else r"^ *(?:pub )?(?:const |unsafe |extern \"C\" )*fn (\w+)"
+        starts = [it for it in re.finditer(heads, text, re.M) if not path.endswith(".antt") or not it[0].startswith("  ")]
+        for i, it in enumerate(starts):
+            end = starts[i + 1].start() if i + 1 < len(starts) else len(text)
+            body = text[it.start() : end]
+            # (of a function its contract: what it calls is not its callers' concern)
+            body = body if path.endswith(".antt") else re.split(r"\n *\{\n", body)[0]
+            self.definitions.setdefault(next(one for one in it.groups() if one), set()).update(re.findall(r"[\w'-]+", body))
+
+    def of(self, path):
+        """The words of a file, or of a function: of its text, of its proof, and of the definitions that these name."""
+        if path in self.files:
+            texts = [self.files[path]]
         else:
-            found.append(it)
-    return found
+            *module, name = path.split("::")
+            folder = "proofs/" + path.replace("::", "/")
+            texts = [it for key, it in self.files.items() if key.startswith(f"{folder}/")]
+            for key, it in self.files.items():
+                if key.startswith("src/") and (key[4:-3].split("/")[0] == (module[0] if module else "lib")):
+                    texts += [it]
+        found, left = set(), [it for text in texts for it in re.findall(r"[\w'-]+", text)]
+        while left:
+            word = left.pop()
+            if word not in found:
+                found.add(word)
+                left += self.definitions.get(word, ())
+        return found
 
 
-def judged(status, lines, own):
-    """The errors that can be mended, by file; or the verdict."""
-    if status == 0:
-        raise Verdict("nothing", "")
-    lines = joined(lines)
-    if status != 1:
-        raise Verdict("limit", next((it for it in lines if "error" in it or "no verdict" in it), f"status {status}"))
-    errors, mends, goals = [], {}, []
-    for it in lines:
-        error = ERROR.match(it)
-        if error and not re.search(r"which was (not admitted|rejected)", error[5]):
-            errors.append(it)
-            by = next((term for said, term in MENDS if said.match(error[5])), None)
-            if by and error[1].startswith("proofs/"):
-                mends.setdefault(error[1], []).append((int(error[2]), int(error[3]), by))
-            elif error[1].startswith("proofs/") and GAVE_UP.search(error[5]):
-                goals.append(it)
-        missing = NO_PROOF.match(it)
-        if missing and not is_own(missing[1], own):
-            goals.append(it)
-    # (a goal may only lack a lemma that is to be mended)
-    if mends:
-        return mends
-    if goals:
-        raise Verdict("goal", goals[0])
-    if any(it.lstrip("./").startswith(("specs/", "src/")) for it in errors):
-        raise Verdict("none", errors[0])
-    others = [it for it in errors if not is_own(it.split(":")[0].removeprefix("./proofs/").replace("/", "::"), own)]
-    if others:
-        raise Verdict("line", others[0])
-    raise Verdict("nothing", "")
+class Above(Round):
+    """Checks of a crate above, over the conjuncts' own crate with some of them weakened."""
+
+    def once(self, tags):
+        own = Round(self.prover, self.name, self.found)
+        own.mends = self.own_mends
+        rlib = f"{self.prover.folder}/rlib/{self.name}.rlib"
+        shutil.rmtree(rlib, ignore_errors=True)
+        os.makedirs(os.path.dirname(rlib), exist_ok=True)
+        for _ in range(MOST_ROUNDS):
+            texts = {path: it.now() for path, it in own.texts(tags).items()}
+            status, _ = self.prover.run(self.name, texts, {}, "build", ("-o", rlib))
+            if status == 0:
+                self.rlibs = {self.name: rlib}
+                return super().once(tags)
+            if not own.once(tags)[2]:
+                break
+        return {}, [("limit", f"(the library {self.name} is not proved then)", set())], False
 
 
-def tried(prover, name, texts, rlibs, own):
-    """Checks a crate with these texts, and mends proofs meanwhile. Gives the texts that are proved, or raises the verdict."""
-    texts = dict(texts)
+def judged(look, tags, tell, ends):
+    """Settles these conjuncts, which are weakened together, halved where that is needed."""
+    tags = set(tags)
     for _ in range(MOST_ROUNDS):
-        status, lines = prover.run("check", name, texts, rlibs)
-        try:
-            mends = judged(status, lines, own)
-        except Verdict as verdict:
-            if verdict.args[0] == "nothing":
-                return texts
-            raise
-        changed = False
-        for path, places in mends.items():
-            text = mended(texts.get(path) or read(f"{HERE}/crates/{name}/{path}"), places)
-            if text:
-                texts[path], changed = text, True
-        if not changed:
-            raise Verdict("line", next(it for it in joined(lines) if ERROR.match(it)))
-    raise Verdict("line", "mended too often")
+        if not tags or time.monotonic() > ends:
+            return
+        settled, refused, mended = look.once(tags)
+        for tag, (kind, where) in settled.items():
+            tell(tag, kind, where)
+        tags -= set(settled)
+        stuck = look.stuck & tags
+        if settled or mended:
+            continue
+        if not refused:
+            # (what one lacks, another that is weaker too may not ask for: so each is tried alone)
+            if len(tags) == 1 or look.at != look.name:
+                for tag in tags:
+                    tell(tag, "own" if look.at == look.name else "nothing", "")
+                return
+            for tag in sorted(tags):
+                judged(look, {tag}, tell, ends)
+            return
+        if len(tags) == 1:
+            kinds = {it[0]: it[1] for it in reversed(refused)}
+            kind = next(it for it in ("goal", "none", "line", "limit") if it in kinds)
+            tell(min(tags), kind, look.where_of(kinds[kind]))
+            return
+        # What is to blame is one of those that the refusals see, if they see any.
+        tags = sorted(tags)
+        blamed = [sorted(seen & set(tags)) for _, _, seen in refused if 0 < len(seen & set(tags)) < len(tags)]
+        first = min(blamed, key=len) if blamed else sorted(stuck) if 0 < len(stuck) < len(tags) else tags[: len(tags) // 2]
+        rest = [it for it in tags if it not in first]
+        for part in (first, rest):
+            judged(look, part, tell, ends)
+        return
+    for tag in sorted(tags):
+        judged_alone(look, tag, tell, ends)
 
 
-def noticed(prover, name, conjunct, above):
-    """Who notices that a conjunct is weaker, and where."""
-    text = read(f"{HERE}/crates/{name}/{conjunct.file}")
-    is_whole = text[: conjunct.start].rstrip().endswith(("{", "=", ":")) and "→" not in conjunct.text
-    weak = TRIVIAL if is_whole else f"({TRIVIAL})"
-    texts = {conjunct.file: text[: conjunct.start] + weak + text[conjunct.end :]}
-    own = None
-    if conjunct.file.startswith("src/"):
-        module = conjunct.file[len("src/") : -len(".rt")].replace("/", "::")
-        own = ("" if module == "lib" else module, conjunct.owner.split()[0])
-    try:
-        texts = tried(prover, name, texts, {}, own)
-        if not above:
-            return "nothing", ""
-        rlib = prover.build(name, texts)
-        if not rlib:
-            return "nothing", f"(not in {name}, whose library is not proved then)"
-        for upper in above:
-            tried(prover, upper, {}, {name: rlib}, None)
-    except Verdict as verdict:
-        kind, where = verdict.args
-        return kind, " ".join(where.split())[:240]
-    return "nothing", ""
+def judged_alone(look, tag, tell, ends):
+    """The last word on one, where rounds did not end."""
+    if time.monotonic() < ends:
+        _, refused, _ = look.once({tag})
+        kinds = {it[0]: it[1] for it in reversed(refused)}
+        kind = next((it for it in ("goal", "none", "line", "limit") if it in kinds), None)
+        tell(tag, kind or "line", look.where_of(kinds[kind]) if kind else "mended too often")
 
 
-def own_name(conjunct, seen):
-    """A short name of a conjunct, which stays while its text does."""
-    text = f"{conjunct.file} {conjunct.owner} {' '.join(conjunct.text.split())}"
-    seen[text] = seen.get(text, 0) + 1
-    return hashlib.sha256(f"{text} {seen[text]}".encode()).hexdigest()[:10]
+def sum_of(text, size):
+    return hashlib.sha256(text.encode()).hexdigest()[:size]
 
 
-def sum_of(name, above):
-    """A checksum of the crate's files, and of which crates are checked above it."""
-    total = hashlib.sha256(" ".join(above).encode())
-    for part in ("src", "specs", "proofs"):
-        for path, _, files in sorted(os.walk(f"{HERE}/crates/{name}/{part}")):
-            for it in sorted(files):
-                total.update(f"{path}/{it}\n{read(f'{path}/{it}')}".replace(HERE, "").encode())
-    return total.hexdigest()[:16]
+def named(name, facts):
+    """The conjuncts of a crate by a number, and the sum of each, which stays while its text does."""
+    found, sums, seen = {}, {}, {}
+    for it in conjuncts.of_crate(f"{HERE}/crates/{name}", facts):
+        text = f"{it.file} {it.owner} {' '.join(it.text.split())}"
+        seen[text] = seen.get(text, 0) + 1
+        tag = FIRST + len(found)
+        found[tag], sums[tag] = it, sum_of(f"{text} {seen[text]}", 8)
+    return found, sums
 
 
-def results_of(name, total):
-    """What earlier runs found of the same files: of each conjunct its class and where that shows."""
-    path = f"{OUT}/{name}.txt"
-    lines = read(path).splitlines() if os.path.exists(path) else []
-    if not lines or lines[0] != total:
-        os.makedirs(OUT, exist_ok=True)
-        with open(path, "w", encoding="utf-8") as file:
-            file.write(f"{total}\n")
-        lines = []
-    return dict((one[0], (one[1], one[3])) for one in (it.split("\t") for it in lines[1:]))
+def file_of(crate, where):
+    """The file that a result names, and a sum of it."""
+    path = where.split(" ")[0]
+    for it in (f"{HERE}/crates/{crate}/{path}", f"{HERE}/crates/{path}"):
+        if os.path.isfile(it):
+            return sum_of(read(it), 6)
+    return "-"
+
+
+class Named:
+    """What the text of proofs names: fields that one record alone has, and clauses of functions whose name one alone has."""
+
+    def __init__(self, kit, below):
+        self.fields, self.functions, self.places = {}, {}, {}
+        for crate in sorted(os.listdir(f"{HERE}/crates")):
+            for part in ("src", "specs", "proofs"):
+                self.walk(f"{HERE}/crates/{crate}/{part}", crate)
+        of_kit = {it for names in below.values() for it in names if it not in below}
+        for library in sorted({*of_kit, "std", "core", "std_alloc", "std_collections", "std_heap", "std_io", "io", "libc", "os", "logic"}):
+            self.walk(f"{kit}/rattle/{library}", None)
+
+    def walk(self, folder, crate):
+        for path, _, files in os.walk(folder):
+            for file in sorted(files):
+                if file.endswith((".antt", ".rt")):
+                    with open(f"{path}/{file}", encoding="utf-8", errors="replace") as it:
+                        self.take(f"{path}/{file}", it.read(), crate)
+
+    def take(self, path, text, crate):
+        is_code = path.endswith(".rt")
+        text = conjuncts.blanked(text, "//" if is_code else "--")
+        if is_code:
+            for it in re.finditer(r"\bfn (\w+)", text):
+                self.functions[it[1]] = self.functions.get(it[1], 0) + 1
+            for it in re.finditer(r"^ +(?:pub(?:\(\w+\))? )?(?:ghost )?(\w+):", text, re.M):
+                self.fields.setdefault(it[1], set()).add(path)
+            return
+        heads = [*re.finditer(r"^ *(?:pub )?(?:record|data) ([\w'-]+)", text, re.M)]
+        for i, head in enumerate(heads):
+            end = heads[i + 1].start() if i + 1 < len(heads) else len(text)
+            for it in re.finditer(r"^ +(?:pub )?([\w'-]+(?: [\w'-]+)*) :(?!:)", text[head.end() : end], re.M):
+                for one in it[1].split():
+                    self.fields.setdefault(one, set()).add((path, head[1]))
+        if crate and "/proofs/" in path:
+            for it in re.finditer(r"\.([A-Za-z_][\w'-]*)", text):
+                self.places.setdefault(it[1], []).append((path, text, it.start()))
+
+    def of(self, it, text):
+        """Where a proof names a conjunct that is all of its field or its clause, or None."""
+        before, after = text[: it.start].rstrip(), text[it.end :].lstrip()
+        if not before.endswith(("{", ":")) or (before.endswith("{") and not after.startswith("}")):
+            return None
+        owner, _, field = it.owner.partition(".")
+        if it.file.startswith("specs/"):
+            for path, whole, at in self.places.get(field, ()) if len(self.fields.get(field, ())) == 1 else ():
+                around = piece_around(whole, at)
+                # (a part of a pair that is this alone may be the same conjunct)
+                is_alone = around and around[1] is None and re.match(rf"\s*[\w'.-]+\.{re.escape(field)}\s*[,)]", whole[around[0] :])
+                if not around or around[1] != field and not is_alone:
+                    return path
+            return None
+        name, _, clause = owner.partition(" ensures")
+        said = re.compile(rf"\.{name}(-[\w-]+)?\.ensures" + (rf"\.{clause.strip()}(?![\w'-])" if clause else r"(?!\.\d)(?!\w)"))
+        for label in [it for it in self.places if it == name or it.startswith(f"{name}-")] if self.functions.get(name) == 1 else ():
+            for path, whole, at in self.places[label]:
+                if said.match(whole, at):
+                    return path
+        return None
+
+
+class Results:
+    """What is known, by crate and sum."""
+
+    def __init__(self):
+        self.all = {}
+        for line in read(RESULTS).splitlines() if os.path.exists(RESULTS) else []:
+            if not line.startswith("#"):
+                crate, owner, one, kind, where, of_file = line.split("\t")
+                self.all[(crate, one)] = (owner, kind, where, of_file)
+
+    def of(self, crate, one):
+        """How it ended, if that still stands."""
+        it = self.all.get((crate, one))
+        return it[1:3] if it and (it[3] == "-" or it[3] == file_of(crate, it[2])) else None
+
+    def put(self, crate, owner, one, kind, where):
+        where = " ".join(where.split())[:80]
+        self.all[(crate, one)] = (owner, kind, where, file_of(crate, where))
+
+    def write(self):
+        """Writes all, over what other runs wrote meanwhile."""
+        for key, it in Results().all.items() if os.path.exists(RESULTS) else ():
+            self.all.setdefault(key, it)
+        lines = sorted("\t".join((crate, it[0], one, *it[1:])) for (crate, one), it in self.all.items())
+        with open(f"{RESULTS}.new", "w", encoding="utf-8") as file:
+            file.write(HEAD + "".join(f"{it}\n" for it in lines))
+        os.replace(f"{RESULTS}.new", RESULTS)
 
 
 def reasons():
     """What is known that nothing notices, as it is told, with the reason below it."""
-    known, told = {}, []
+    known, told_ = {}, []
     for line in read(KNOWN).splitlines():
         if line.startswith("    "):
-            for it in told:
+            for it in told_:
                 known[it] = f"{known.get(it, '')} {line.strip()}".strip()
         elif not line.strip() or line.startswith("#"):
-            told = []
+            told_ = []
         else:
-            told.append(line.strip())
+            told_.append(line.strip())
     return known
 
 
-def told(name, found, results):
+def told(name, found, sums, results):
     """Prints what nothing notices, and how many there are of each class. Gives how many are not known."""
     known, counts, unknown = reasons(), dict.fromkeys(CLASSES, 0), 0
-    for one, conjunct in found.items():
-        kind, where = results.get(one, (None, ""))
+    for tag, it in found.items():
+        kind, where = results.of(name, sums[tag]) or (None, "")
         if kind is None:
             continue
         counts[kind] += 1
-        line = f"{name}: {conjunct.name()}"
+        line = f"{name}: {it.name()}"
         if kind == "nothing" and line not in known:
             unknown += 1
             print(f"nothing notices  {line}")
-        elif kind != "goal" and line not in known:
+        elif kind in ("line", "limit") and line not in known:
             print(f"{kind:15}  {line}\n{'':17}{where}")
-    counts["known"] = counts["nothing"] - unknown
-    print(f"{name}: of {len(found)} conjuncts {sum(counts[it] for it in CLASSES)} were weakened: goals notice {counts['goal']}, "
-          f"proof lines alone {counts['line']}, nothing {counts['nothing']}, of which {counts['known']} are known; "
-          f"no fact {counts['none']}, no verdict {counts['limit']}")
+    print(f"{name}: {sum(counts.values())} of {len(found)} conjuncts are judged: proofs name {counts['named']} and cite {counts['cited']}, goals need {counts['goal']}, "
+          f"nothing {counts['nothing']}, of which {counts['nothing'] - unknown} are known; lines alone {counts['line']}, no fact {counts['none']}, no verdict {counts['limit']}")
     return unknown
 
 
-def weaken(prover, name, above, words, ends, facts):
-    """Weakens the conjuncts of a crate that are not done yet, up to a time. Gives how many are unnoticed and not known."""
-    seen = {}
-    found = {own_name(it, seen): it for it in conjuncts.of_crate(f"{HERE}/crates/{name}", facts)}
-    results = results_of(name, sum_of(name, above))
-    left = {k: it for k, it in found.items() if k not in results and all(w in it.name() for w in words)}
-    if left and prover:
-        for it in [name, *above]:
-            prover.prove(it)
-    for number, (one, conjunct) in enumerate(left.items() if prover else (), 1):
-        if time.monotonic() > ends:
-            print(f"{name}: the time is over, {len(left) - number + 1} are left", file=sys.stderr)
+def leaves(tags, found):
+    """Those that no other lies in."""
+    def within(one, other):
+        return one.file == other.file and other.start <= one.start and one.end <= other.end and (one.start, one.end) != (other.start, other.end)
+    return [it for it in tags if not any(within(found[other], found[it]) for other in tags if other != it)]
+
+
+def weaken(prover, name, words, ends, facts, results):
+    """Weakens the conjuncts of a crate that are not judged yet, up to a time. Gives how many are unnoticed and not known."""
+    found, sums = named(name, facts)
+    left = [it for it in found if not results.of(name, sums[it]) and all(w in found[it].name() for w in words)]
+
+    def tell(tag, kind, where):
+        results.put(name, found[tag].owner, sums[tag], kind, where)
+        results.write()
+        if tag in left:
+            left.remove(tag)
+        print(f"{len(left)} left: {kind} {where}: {found[tag].name()[:100]}", file=sys.stderr)
+        # What holds another that is noticed is weaker still without all of it.
+        if kind in NOTICED:
+            for other in list(left):
+                one = found[other]
+                if one.file == found[tag].file and one.start <= found[tag].start and found[tag].end <= one.end:
+                    tell(other, kind, where)
+
+    for it in list(left) if prover else ():
+        path = prover.named.of(found[it], read(f"{HERE}/crates/{name}/{found[it].file}")) if it in left else None
+        if path:
+            tell(it, "named", os.path.relpath(path, f"{HERE}/crates").removeprefix(f"{name}/"))
+    look = Round(prover, name, found)
+    if left and prover and time.monotonic() < ends:
+        prover.prove(name)
+    while left and prover and time.monotonic() < ends:
+        before = len(left)
+        judged(look, leaves(left, found), tell, ends)
+        if len(left) == before:
             break
-        kind, where = noticed(prover, name, conjunct, above)
-        results[one] = (kind, where)
-        with open(f"{OUT}/{name}.txt", "a", encoding="utf-8") as file:
-            file.write(f"{one}\t{kind}\t{conjunct.name()}\t{where}\n")
-        print(f"{number} of {len(left)}: {kind}: {conjunct.name()[:150]}", file=sys.stderr)
-    return told(name, found, results)
+    own = {it for it in found if (results.of(name, sums[it]) or ("",))[0] == "own" and all(w in found[it].name() for w in words)}
+    for upper in above(name, prover, [found[it] for it in own]) if prover else ():
+        if own and time.monotonic() < ends:
+            ask(prover, upper, look, own, tell, ends)
+    if prover and time.monotonic() < ends:
+        for it in own:
+            tell(it, "nothing", "")
+    return told(name, found, sums, results)
+
+
+def above(name, prover, unnoticed):
+    """The crates above that name what has these conjuncts, the nearest first."""
+    names = {it.owner.split(".")[0].split()[0] for it in unnoticed}
+    found = []
+    for upper in prover.below:
+        if name in all_below(upper, prover.below) and os.path.isdir(f"{HERE}/crates/{upper}/out/incremental"):
+            words = set()
+            for path, _, files in os.walk(f"{HERE}/crates/{upper}"):
+                part = path[len(f"{HERE}/crates/{upper}/") :].split("/")[0]
+                for file in files if part in ("src", "specs", "proofs") else ():
+                    words.update(re.findall(r"[\w'-]+", read(f"{path}/{file}")))
+            if names & words:
+                found.append(upper)
+    return sorted(found, key=lambda it: len(all_below(it, prover.below)))
+
+
+def ask(prover, upper, own_look, own, tell, ends):
+    """Asks a crate above for what its own crate does not notice, and takes away what that settles."""
+    look = Above(prover, own_look.name, own_look.found, at=upper)
+    look.own_mends = own_look.mends
+
+    def hear(tag, kind, where):
+        if kind in NOTICED:
+            own.discard(tag)
+            tell(tag, kind, f"{upper}/{where}")
+
+    judged(look, own, hear, ends)
 
 
 def main():
@@ -383,8 +771,9 @@ def main():
     parser.add_argument("crates", nargs="+", metavar="CRATE")
     parser.add_argument("--list", action="store_true")
     parser.add_argument("--tell", action="store_true")
+    parser.add_argument("--anew", action="store_true")
     parser.add_argument("--only", action="append", default=[], metavar="WORD")
-    parser.add_argument("--above", default="", metavar="CRATE,..")
+    parser.add_argument("--pause", default="", metavar="FILE")
     parser.add_argument("--minutes", type=float, default=float("inf"), metavar="N")
     words = parser.parse_args()
     facts = conjuncts.predicates(f"{HERE}/crates")
@@ -397,11 +786,16 @@ def main():
                 if all(word in it.name() for word in words.only):
                     print(f"{name}: {it.name()}")
         return 0
-    unknown, ends = 0, time.monotonic() + 60 * words.minutes
+    results, unknown, ends = Results(), 0, time.monotonic() + 60 * words.minutes
+    if words.anew:
+        results.all = {key: it for key, it in results.all.items() if key[0] not in words.crates}
+    os.makedirs(f"{HERE}/out/weaken", exist_ok=True)
+    prover = None if words.tell else Prover(words.pause)
     for name in words.crates:
         with tempfile.TemporaryDirectory(dir=f"{HERE}/out") as folder:
-            prover = None if words.tell else Prover(folder)
-            unknown += weaken(prover, name, [it for it in words.above.split(",") if it], words.only, ends, facts)
+            if prover:
+                prover.folder = folder
+            unknown += weaken(prover, name, words.only, ends, facts, results)
     return 1 if unknown else 0
 
 
