@@ -9,7 +9,7 @@ nor does the function whose own clause it is. What was noticed is put back, and 
 refusal tells one from another, and at last one by one.
 
 How each ends:
-  named    the text of a proof names it, for something else, and nothing else has that name: this needs no check
+  named    the text of a proof uses it for something else, as written types and names say: this needs no check
   cited    a proof uses it for something else
   goal     a goal is not proved any more
   nothing  all is proved, here and in the crates above that name it
@@ -36,6 +36,7 @@ import tempfile
 import time
 
 import conjuncts
+import uses
 
 HERE = os.path.dirname(os.path.dirname(os.path.dirname(os.path.abspath(__file__))))
 RESULTS = f"{HERE}/tests/weaken/noticed.tsv"
@@ -105,7 +106,8 @@ class Prover:
         self.kit = os.path.dirname(said.strip())
         self.folder, self.pause = None, pause
         self.below, self.static = graph()
-        self.named = Named(self.kit, self.below)
+        of_kit = {it for names in self.below.values() for it in names if it not in self.below}
+        self.named, self.reached = uses.Named(f"{HERE}/crates", f"{self.kit}/rattle", of_kit), uses.Texts(f"{HERE}/crates").all()
 
     def prove(self, name):
         """Proves a crate as it is, if it is not proved yet."""
@@ -197,44 +199,6 @@ def term_at(text, start):
     # (in brackets, with a field after them)
     field = re.match(r"\)(\.\w+)+", text[end:])
     return (start - 1, end + len(field[0])) if field and text[start - 1] == "(" else (start, end)
-
-
-def piece_around(text, at):
-    """The piece of a pair or a record that a place is in, with the field's name; None if it is in none."""
-    start, depth = at, 0
-    while start > 0:
-        sign = text[start - 1]
-        if sign in conjuncts.CLOSES:
-            depth += 1
-        elif sign in conjuncts.OPENS:
-            if depth == 0 and sign in "({":
-                field = re.match(r"\s*([\w'-]+)\s*=\s", text[start:]) if sign == "{" else None
-                if field:
-                    return start + len(field[0]), field[1]
-                return (start, None) if is_pair(text, start) else piece_around(text, start - 1)
-            depth -= depth > 0
-        elif depth == 0 and sign in ",;":
-            field = re.match(r"\s*([\w'-]+)\s*=\s", text[start:]) if sign == ";" else None
-            return (start + len(field[0]), field[1]) if field else (start, None)
-        elif depth == 0 and re.match(r"\n(?=\S)", text[start - 1 :]):
-            return None
-        start -= 1
-    return None
-
-
-def is_pair(text, start):
-    """Whether a comma follows in the bracket that opens before a place."""
-    depth = 0
-    for sign in text[start:]:
-        if sign in conjuncts.OPENS:
-            depth += 1
-        elif sign in conjuncts.CLOSES:
-            if depth == 0:
-                return False
-            depth -= 1
-        elif depth == 0 and sign == ",":
-            return True
-    return False
 
 
 class Text:
@@ -348,7 +312,7 @@ class Round:
                 for tag in has:
                     if self.is_own(tag, function):
                         continue
-                    around = piece_around(text.was, place) if path.endswith(".antt") else None
+                    around = uses.piece_around(text.was, place) if path.endswith(".antt") else None
                     field = self.found[tag].owner.partition(".")[2]
                     if around and (around[1] == field or (around[1] is None and not field)) and self.mend(path, text, around[0], tag):
                         mended = True
@@ -400,7 +364,7 @@ class Round:
             one, _, other = self.found[it].owner.partition(".")
             cites = re.finditer(rf"(?<![\w'.-]){re.escape(value[1])}\.{re.escape(other)}(?![\w'-])", text[start:end]) if one == record and other else ()
             for cite in cites:
-                around = piece_around(text, start + cite.start())
+                around = uses.piece_around(text, start + cite.start())
                 if not around or around[1] != other:
                     found.add(it)
         return found
@@ -566,67 +530,6 @@ def file_of(crate, where):
     return "-"
 
 
-class Named:
-    """What the text of proofs names: fields that one record alone has, and clauses of functions whose name one alone has."""
-
-    def __init__(self, kit, below):
-        self.fields, self.functions, self.places = {}, {}, {}
-        for crate in sorted(os.listdir(f"{HERE}/crates")):
-            for part in ("src", "specs", "proofs"):
-                self.walk(f"{HERE}/crates/{crate}/{part}", crate)
-        of_kit = {it for names in below.values() for it in names if it not in below}
-        for library in sorted({*of_kit, "std", "core", "std_alloc", "std_collections", "std_heap", "std_io", "io", "libc", "os", "logic"}):
-            self.walk(f"{kit}/rattle/{library}", None)
-
-    def walk(self, folder, crate):
-        for path, _, files in os.walk(folder):
-            for file in sorted(files):
-                if file.endswith((".antt", ".rt")):
-                    with open(f"{path}/{file}", encoding="utf-8", errors="replace") as it:
-                        self.take(f"{path}/{file}", it.read(), crate)
-
-    def take(self, path, text, crate):
-        is_code = path.endswith(".rt")
-        text = conjuncts.blanked(text, "//" if is_code else "--")
-        if is_code:
-            for it in re.finditer(r"\bfn (\w+)", text):
-                self.functions[it[1]] = self.functions.get(it[1], 0) + 1
-            for it in re.finditer(r"^ +(?:pub(?:\(\w+\))? )?(?:ghost )?(\w+):", text, re.M):
-                self.fields.setdefault(it[1], set()).add(path)
-            return
-        heads = [*re.finditer(r"^ *(?:pub )?(?:record|data) ([\w'-]+)", text, re.M)]
-        for i, head in enumerate(heads):
-            end = heads[i + 1].start() if i + 1 < len(heads) else len(text)
-            for it in re.finditer(r"^ +(?:pub )?([\w'-]+(?: [\w'-]+)*) :(?!:)", text[head.end() : end], re.M):
-                for one in it[1].split():
-                    self.fields.setdefault(one, set()).add((path, head[1]))
-        if crate and "/proofs/" in path:
-            for it in re.finditer(r"\.([A-Za-z_][\w'-]*)", text):
-                self.places.setdefault(it[1], []).append((path, text, it.start()))
-
-    def of(self, it, text):
-        """Where a proof names a conjunct that is all of its field or its clause, or None."""
-        before, after = text[: it.start].rstrip(), text[it.end :].lstrip()
-        if not before.endswith(("{", ":")) or (before.endswith("{") and not after.startswith("}")):
-            return None
-        owner, _, field = it.owner.partition(".")
-        if it.file.startswith("specs/"):
-            for path, whole, at in self.places.get(field, ()) if len(self.fields.get(field, ())) == 1 else ():
-                around = piece_around(whole, at)
-                # (a part of a pair that is this alone may be the same conjunct)
-                is_alone = around and around[1] is None and re.match(rf"\s*[\w'.-]+\.{re.escape(field)}\s*[,)]", whole[around[0] :])
-                if not around or around[1] != field and not is_alone:
-                    return path
-            return None
-        name, _, clause = owner.partition(" ensures")
-        said = re.compile(rf"\.{name}(-[\w-]+)?\.ensures" + (rf"\.{clause.strip()}(?![\w'-])" if clause else r"(?!\.\d)(?!\w)"))
-        for label in [it for it in self.places if it == name or it.startswith(f"{name}-")] if self.functions.get(name) == 1 else ():
-            for path, whole, at in self.places[label]:
-                if said.match(whole, at):
-                    return path
-        return None
-
-
 class Results:
     """What is known, by crate and sum."""
 
@@ -715,8 +618,9 @@ def weaken(prover, name, words, ends, facts, results):
                     tell(other, kind, where)
 
     for it in list(left) if prover else ():
-        path = prover.named.of(found[it], read(f"{HERE}/crates/{name}/{found[it].file}")) if it in left else None
-        if path:
+        one = found[it]
+        path = prover.reached.get((f"{HERE}/crates/{name}/{one.file}", one.start, one.end)) or prover.named.of(one, read(f"{HERE}/crates/{name}/{one.file}"))
+        if path and it in left:
             tell(it, "named", os.path.relpath(path, f"{HERE}/crates").removeprefix(f"{name}/"))
     look = Round(prover, name, found)
     if left and prover and time.monotonic() < ends:

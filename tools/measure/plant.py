@@ -6,18 +6,11 @@ import re
 import subprocess
 import sys
 
-OUT, PAGE, KNOWN = "out/plant", "out/plant/page.md", "tools/measure/plant_known.txt"
-HEAD = """# Wrong bodies
-
-What `tools/measure/plant.sh --page` printed: `rt plant` puts wrong bodies under the contracts of a crate's functions, and
-has the prover judge each. {when}
-
-A body that gives up answers an error, none, 0 or an argument; another calls the real function with an argument changed,
-changes its result, calls it twice, or resets a field. One whose only fault is that it lacks memory is not planted where
-an error says so, since no contract can tell when memory is refused: `tests/c/largest.c` asks for it.
-
-| Crate | Functions | Without a clause | Bodies refused | Not judged | Not run | Proved |
-|---|---|---|---|---|---|---|
+OUT, TABLE, KNOWN = "out/plant", "docs/generated/plant.tsv", "tools/measure/plant_known.txt"
+# The columns of the table, by the names that rt plant counts under.
+COUNTS = ("planted-in", "untested", "no-ensures", "refused", "same", "elsewhere", "not-judged", "not-run", "proves")
+HEAD = """# By tools/measure/plant.sh: wrong bodies that `rt plant` put under the contracts of a crate, and how the prover judged them;
+# "files" is a sum of the crate's files then. Of each body that is proved a line follows, with the reason for which it may be.
 """
 
 
@@ -36,20 +29,52 @@ def sum_of(crate):
     return total.hexdigest()[:16]
 
 
-def plant(crate, minutes):
-    """Plants in a crate, and keeps what that said."""
+def plant(crate, minutes, rows):
+    """Plants in a crate, and writes what that said, and the table."""
     if not os.path.isdir(f"crates/{crate}"):
         sys.exit(f"There is no crate {crate}.")
     total = sum_of(crate)
     print(f"Planting in {crate} ..", file=sys.stderr)
     ran = subprocess.run(["rt", "plant", "--minutes", str(minutes)], cwd=f"crates/{crate}", stdout=subprocess.PIPE, text=True)
-    if ran.returncode or not re.search(r"^plants crate=", ran.stdout, re.M):
+    said = re.search(r"^plants (.*)", ran.stdout, re.M)
+    if ran.returncode or not said:
         print(f"{crate}: nothing was planted:\n{ran.stdout[-1000:]}", file=sys.stderr)
         sys.exit(2)
-    commit = subprocess.run(["git", "describe", "--always", "--dirty"], stdout=subprocess.PIPE, text=True).stdout.strip()
     os.makedirs(OUT, exist_ok=True)
     with open(f"{OUT}/{crate}.txt", "w", encoding="utf-8") as file:
-        file.write(f"{total} {commit} {minutes}\n{ran.stdout}")
+        file.write(ran.stdout)
+    counts = dict(it.split("=") for it in said[1].split())
+    proved = [" ".join(it.split()) for it in re.findall(r"^proves +\S+\.rt:\d+ (.*)", ran.stdout, re.M)]
+    rows[crate] = [total, str(minutes), *[counts.get(it, "0") for it in COUNTS]], proved
+    write(rows)
+
+
+def table():
+    """Of each crate in the table its row, and the bodies that are proved."""
+    rows = {}
+    for line in read(TABLE).splitlines() if os.path.exists(TABLE) else []:
+        if line.startswith("proved\t"):
+            _, crate, body, _ = line.split("\t")
+            rows[crate][1].append(body)
+        elif line.startswith("crate\t") or line.startswith("#"):
+            continue
+        else:
+            crate, *row = line.split("\t")
+            rows[crate] = (row, [])
+    return rows
+
+
+def write(rows):
+    known = reasons()
+    text = HEAD + "\t".join(["crate", "files", "minutes", *COUNTS]) + "\n"
+    for crate, (row, proved) in sorted(rows.items()):
+        text += "\t".join([crate, *row]) + "\n"
+        for it in proved:
+            text += f"proved\t{crate}\t{it}\t{known.get(f'{crate}: {it}', 'no reason is known')}\n"
+    with open(f"{TABLE}.new", "w", encoding="utf-8") as file:
+        file.write(text)
+    os.replace(f"{TABLE}.new", TABLE)
+    return text
 
 
 def reasons():
@@ -66,52 +91,20 @@ def reasons():
     return known
 
 
-def kept():
-    """Of each crate that was planted as it is now: the commit, the minutes, the counts, and the bodies that are proved."""
-    for line in read("crates.txt").splitlines():
-        crate = re.match(r"(\w+)[^#]*:", line)
-        path = f"{OUT}/{crate[1]}.txt" if crate else ""
-        if not os.path.exists(path):
-            continue
-        head, _, said = read(path).partition("\n")
-        total, commit, minutes = head.split()
-        if total != sum_of(crate[1]):
-            continue
-        counts = dict(it.split("=") for it in re.search(r"^plants (.*)", said, re.M)[1].split())
-        proved = [f"{crate[1]}: {' '.join(it.split())}" for it in re.findall(r"^proves +\S+\.rt:\d+ (.*)", said, re.M)]
-        yield crate[1], commit, minutes, counts, proved
-
-
-def told():
-    """The page, and how many bodies are proved without a reason."""
-    known, rows, lines, commits, unknown = reasons(), [], [], set(), 0
-    for crate, commit, minutes, counts, proved in kept():
-        commits.add(f"{crate} at {commit} for {minutes} minutes")
-        rows.append(f"| `{crate}` | {counts['planted-in']} | {counts['no-ensures']} | {counts['refused']} "
-                    f"| {counts['not-judged']} | {counts['not-run']} | {counts['proves']} |")
-        for it in proved:
-            unknown += it not in known
-            lines.append(f"| `{it}` | {known.get(it, 'no reason is known')} |")
-    page = HEAD.format(when=f"Planted: {'; '.join(sorted(commits))}.") + "\n".join(rows)
-    if lines:
-        page += "\n\n| What is proved | Why it may be |\n|---|---|\n" + "\n".join(line.replace("||", "\\|\\|") for line in lines)
-    return page + "\n", unknown
-
-
 def main():
     parser = argparse.ArgumentParser()
     parser.add_argument("crates", nargs="*")
     parser.add_argument("--minutes", type=int, default=3)
-    parser.add_argument("--page", action="store_true")
+    parser.add_argument("--anew", action="store_true")
     words = parser.parse_args()
+    rows, known = table(), reasons()
     for crate in words.crates:
-        plant(crate, words.minutes)
-    page, unknown = told()
-    if words.page:
-        with open(PAGE, "w", encoding="utf-8") as file:
-            file.write(page)
-    print(page, end="")
-    return 1 if unknown else 0
+        if words.anew or crate not in rows or rows[crate][0][0] != sum_of(crate):
+            plant(crate, words.minutes, rows)
+    for crate in [it for it in rows if not os.path.isdir(f"crates/{it}")]:
+        del rows[crate]
+    print(write(rows), end="")
+    return any(f"{crate}: {it}" not in known for crate, (_, proved) in rows.items() for it in proved)
 
 
 if __name__ == "__main__":
