@@ -18,7 +18,14 @@ class Declaration:
         self.source, self.name, self.is_record, self.is_abbrev, self.start, self.end = source, name, is_record, is_abbrev, start, end
         self.fields, self.equations, self.type = {}, [], None
         text = source.text
+        self.parameters = []
         if is_record:
+            head = re.search(r"(?=[({:])", text[start:end])
+            at = start + head.start() if head else end
+            while at < end and text[at] in "({":
+                close = conjuncts.end_of(text, at, end)
+                self.parameters += re.match(r".\s*([^:]*)", text[at:close])[1].split() if text[at] == "(" else []
+                at, _ = conjuncts.trimmed(text, close, end)
             where = re.search(r"\bwhere\b", text[start:end])
             fields = [*re.finditer(r"^ +(?:pub )?([\w'-]+) :(?!:)", text[start + where.end() : end], re.M)] if where else []
             for i, it in enumerate(fields):
@@ -111,7 +118,7 @@ class Texts:
             mine = {}
             for it in re.finditer(r"^ *ensures (\w+ )?\{", source.text[head.start() : end], re.M):
                 at = head.start() + it.end()
-                mine[(it[1] or "").strip()] = (source, *conjuncts.trimmed(source.text, at, conjuncts.end_of(source.text, at - 1, end) - 1))
+                mine[(it[1] or "").strip()] = (source, *conjuncts.trimmed(source.text, at, conjuncts.end_of(source.text, at - 1, end) - 1), {})
             all_.append(mine)
 
     def resolved(self, source, name):
@@ -126,7 +133,7 @@ class Texts:
 
     def plain(self, type_):
         """A type without brackets around it, and lets before it."""
-        source, start, end = type_
+        source, start, end, stands = type_
         while True:
             start, end = conjuncts.trimmed(source.text, start, end)
             rest = re.match(r"let\s.*?\sin\s", source.text[start:end], re.S)
@@ -136,31 +143,52 @@ class Texts:
             elif within and not conjuncts.is_binder(source.text, start, end):
                 start, end = within
             else:
-                return source, start, end
+                return source, start, end, stands
 
     def head(self, type_):
-        source, start, end = self.plain(type_)
+        """What a type names first, and the texts of what that is given, as far as they are known."""
+        source, start, end, stands = self.plain(type_)
         if len(conjuncts.split_at(source.text, start, end, "→")) > 1 or len(conjuncts.split_at(source.text, start, end, "≡")) > 1:
-            return None
+            return None, []
         word = re.match(NAME, source.text[start:end])
-        return self.resolved(source, word[0]) if word else None
+        it = self.resolved(source, word[0]) if word else None
+        given = conjuncts.arguments(source.text, start + len(word[0]), end) if it else []
+        return it, [WORD.sub(lambda one: stands.get(one[0], one[0]), source.text[slice(*one)]) for one in given if source.text[one[0]] != "{"]
+
+    def opened(self, type_):
+        """The body of the definition that a type is by, of the equation that is meant; None if that can't be told."""
+        it, given = self.head(type_)
+        if it is None or it.is_record:
+            return None
+        for patterns, body in it.equations:
+            wanted = [it.source.text[slice(*one)] for one in conjuncts.arguments(it.source.text, *patterns) if it.source.text[one[0]] != "{"]
+            stands, fits = {}, len(given) >= len(wanted)
+            for one, other in zip(wanted, given[len(given) - len(wanted) :]) if fits else ():
+                answer = matched(one, other, stands)
+                fits = answer if fits is True or answer is False else fits
+                if fits is False:
+                    break
+            if fits is True or (fits is None and len(it.equations) == 1):
+                return (it.source, *body, stands)
+            if fits is None:
+                return None
+        return None
 
     def step(self, type_, label, depth=6):
         """The type of a field or a part of a value of this type, or None."""
-        source, start, end = self.plain(type_)
+        source, start, end, stands = self.plain(type_)
         pieces = conjuncts.split_at(source.text, start, end, "×")
         if len(pieces) > 1:
             if label.isdigit() and int(label) < len(pieces) and len(conjuncts.split_at(source.text, start, end, "→")) == 1:
-                return (source, *conjuncts.trimmed(source.text, *pieces[int(label)]))
+                return (source, *conjuncts.trimmed(source.text, *pieces[int(label)]), stands)
             return None
-        it = self.head(type_)
+        it, given = self.head(type_)
         if it is None or depth == 0:
             return None
         if it.is_record:
-            return (it.source, *it.fields[label]) if label in it.fields else None
-        if len(it.equations) == 1:
-            return self.step((it.source, *it.equations[0][1]), label, depth - 1)
-        return None
+            return (it.source, *it.fields[label], dict(zip(reversed(it.parameters), reversed(given)))) if label in it.fields else None
+        body = self.opened(type_)
+        return self.step(body, label, depth - 1) if body else None
 
     def reach(self, type_, where):
         for it in (type_, self.plain(type_)):
@@ -232,13 +260,14 @@ class Texts:
                 clash.add(name)
             scope[name] = type_
 
+        stands = {name: text[slice(*pattern)] for pattern, (name, _) in zip(given, types) if name}
         for pattern, (_, type_) in zip(given, types):
-            self.take_pattern(source, pattern, (source, *type_), bind)
+            self.take_pattern(source, pattern, (source, *type_, stands), bind)
         for it in re.finditer(r"\blet\s+([\w'-]+)\s*(:(?!:))?", text[body[0] : body[1]]):
             at = body[0] + it.end()
             if it[2]:
                 stop = conjuncts.split_at(text, at, body[1], "=")[0][1]
-                bind(it[1], (source, at, stop))
+                bind(it[1], (source, at, stop, {}))
             elif re.match(r"\s*=", text[at:]):
                 type_ = self.inferred(source, at + len(re.match(r"\s*=\s*", text[at:])[0]), body[1], scope)
                 if type_:
@@ -265,7 +294,10 @@ class Texts:
                 self.walk(type_, labels, source, where, not self.is_alone(text, at, body[0] + it.end(), labels[-1]))
         for it in WORD.finditer(text, body[0], body[1]):
             if it[0] in scope and it[0] not in clash and text[it.start() - 4 : it.start()] != "let ":
-                if not self.is_alone(text, it.start(), it.end(), "") and self.is_argument(text, it.start()):
+                if text[max(0, it.start() - 7) : it.start()] == "absurd ":
+                    body = self.opened(scope[it[0]])
+                    self.reach(body or scope[it[0]], where)
+                elif not self.is_alone(text, it.start(), it.end(), "") and self.is_argument(text, it.start()):
                     self.reach(scope[it[0]], where)
 
     def is_argument(self, text, at):
@@ -311,7 +343,47 @@ class Texts:
             depth += (sign in conjuncts.OPENS) - (sign in conjuncts.CLOSES)
             stop += 1
         given = [one for one in conjuncts.arguments(text, at + len(word[0]), stop) if text[one[0]] != "{"]
-        return (it.source, *gives) if len(given) == len(types) else None
+        stands_for = {name: text[slice(*one)] for one, (name, _) in zip(given, types) if name}
+        return (it.source, *gives, stands_for) if len(given) == len(types) else None
+
+
+def matched(pattern, given, stands):
+    """Whether what is given is of this pattern: None if it can't be told. Notes what its variables stand for."""
+    pattern, given = bare(pattern), bare(given)
+    if re.fullmatch(r"_|[a-z][\w'-]*", pattern) and pattern not in ("true", "false", "tt", "zero"):
+        stands[pattern] = given if re.fullmatch(r"[\w'.-]+|\[\]", given) else f"({given})"
+        return True
+    one, other = parts_of(pattern), parts_of(given)
+    if one is None or other is None:
+        return None
+    if one[0] != other[0]:
+        return False
+    answer = True
+    for a, b in zip(one[1], other[1]):
+        it = matched(a, b, stands)
+        if it is False:
+            return False
+        answer = None if it is None else answer
+    return answer if len(one[1]) == len(other[1]) else None
+
+
+def bare(text):
+    """A text without brackets around it."""
+    start, end = conjuncts.trimmed(text, 0, len(text))
+    within = conjuncts.inside(text, start, end)
+    return bare(text[slice(*within)]) if within and len(conjuncts.split_at(text, *within, ",")) == 1 else text[start:end]
+
+
+def parts_of(text):
+    """The constructor that a text begins with, and what it is given; None if it is none."""
+    pieces = conjuncts.split_at(text, 0, len(text), "∷")
+    if len(pieces) > 1:
+        return "∷", [text[slice(*pieces[0])], text[pieces[1][0] :]]
+    if text in ("[]", "true", "false", "tt", "zero"):
+        return text, []
+    words = conjuncts.arguments(text, 0, len(text))
+    head = text[slice(*words[0])].split(".")[-1] if words else ""
+    return (head, [text[slice(*it)] for it in words[1:]]) if re.match(r"[A-Z]", head) else None
 
 
 class Named:
