@@ -219,6 +219,16 @@ class Texts:
                 type_ = found[0][""]
             else:
                 continue
+            opens = re.search(r"\([\w'-]+$", source.text[max(0, it.start() - 40) : it.start()])
+            if opens and source.text[it.end()] == " ":
+                # (given what it asks for, and then a part of that)
+                at = it.start() - len(opens[0])
+                more = re.match(r"(?:\.[\w'-]+)+", source.text[conjuncts.end_of(source.text, at, len(source.text)) :])
+                if more and not labels:
+                    whole = self.plain(type_)
+                    pieces = conjuncts.split_at(whole[0].text, whole[1], whole[2], "→")
+                    self.reach(type_, source.path)
+                    type_, labels = (whole[0], *conjuncts.trimmed(whole[0].text, *pieces[-1]), {}), more[0].split(".")[1:]
             if is_answers or not self.is_alone(source.text, it.start(), it.end(), ""):
                 self.walk(type_, labels, source, f"{source.path}", True)
 
@@ -249,7 +259,7 @@ class Texts:
 
     def of_equation(self, declaration, patterns, body):
         source, text = declaration.source, declaration.source.text
-        types, _ = declaration.arguments()
+        types, gives = declaration.arguments()
         given = [it for it in conjuncts.arguments(text, *patterns) if text[it[0]] != "{"]
         scope, clash = {}, set()
         if len(given) > len(types):
@@ -277,6 +287,7 @@ class Texts:
         for it in re.finditer(r"λ ([^.]*)\.\s", text[body[0] : body[1]]):
             clash.update(re.findall(r"[\w'-]+", it[1].split(":")[0]))
         where = f"{source.path} {declaration.name}"
+        self.hand_on(source, body, (source, *gives, stands), scope, clash, where)
         for it in CHAIN.finditer(text, body[0], body[1]):
             if it[1] in scope and it[1] not in clash:
                 labels = it[2].split(".")[1:]
@@ -299,6 +310,31 @@ class Texts:
                     self.reach(body or scope[it[0]], where)
                 elif not self.is_alone(text, it.start(), it.end(), "") and self.is_argument(text, it.start()):
                     self.reach(scope[it[0]], where)
+
+    def hand_on(self, source, place, wanted, scope, clash, where, depth=12):
+        """Reaches what is handed on as it is, as the part or the field of another definition."""
+        text = source.text
+        start, end = self.plain((source, *place, {}))[1:3]
+        if text[start:end].startswith("record {") and conjuncts.end_of(text, start + 7, end) == end:
+            pieces = [(it, re.match(r"\s*([\w'-]+)\s*=\s", text[slice(*it)])) for it in conjuncts.split_at(text, start + 8, end - 1, ";")]
+            pieces = [((it[0] + field.end(), it[1]), field[1]) for it, field in pieces if field]
+        else:
+            within = conjuncts.inside(text, start, end) or (start, end)
+            pieces = [(it, str(i)) for i, it in enumerate(conjuncts.split_at(text, *within, ","))]
+            pieces = [it for it in pieces if text[slice(*it[0])].strip()]
+        if depth and (len(pieces) > 1 or text[start:end].startswith("record {")):
+            for piece, label in pieces:
+                part = self.step(wanted, label)
+                if part:
+                    self.hand_on(source, piece, part, scope, clash, where, depth - 1)
+            return
+        it = re.fullmatch(r"([\w'-]+)((?:\.[\w'-]+)*)", text[start:end])
+        if it and it[1] in scope and it[1] not in clash:
+            type_ = scope[it[1]]
+            for label in it[2].split(".")[1:]:
+                type_ = self.step(type_, label) if type_ else None
+            if type_ and self.plain(type_)[:3] != self.plain(wanted)[:3]:
+                self.reach(type_, where)
 
     def is_argument(self, text, at):
         """Whether a lemma or a tactic takes what is there."""
