@@ -243,6 +243,6 @@ def of_crate(folder, known):
                 found = of_specs(file, whole, known) if part == "specs" else of_source(file, whole)
                 seen = set()
                 for conjunct in found:
-                    if (conjunct.start, conjunct.end) not in seen and conjunct.text not in (TRIVIAL, "⊤"):
+                    if (conjunct.start, conjunct.end) not in seen and conjunct.text not in (TRIVIAL, "⊤", ""):
                         seen.add((conjunct.start, conjunct.end))
                         yield conjunct

@@ -8,6 +8,7 @@ import conjuncts
 NAME = r"[^\s(){}\[\]:;,.=λ→×]+"
 HEAD = re.compile(rf"^( *)((?:pub |abbrev |unfoldable |opaque )*)(record )?({NAME})(?= *(?::(?!:)|[({{]))", re.M)
 WORD = re.compile(r"(?<![\w'.-])[\w'-]+(?![\w'.-])")
+OTHER = re.compile(r"\.(ensures|requires|args|self|inside|now|new|old|entry|exit|declared|specs|proofs)$")
 CHAIN = re.compile(rf"(?<![\w'.-])({NAME})((?:\.[\w'-]+)+)")
 
 
@@ -100,8 +101,8 @@ class Texts:
         self.crates, self.sources, self.clauses = crates, {}, {}
         for crate in sorted(os.listdir(crates)):
             for part in ("src", "specs", "proofs"):
-                for path, _, files in os.walk(f"{crates}/{crate}/{part}"):
-                    for file in files:
+                for path, _, files in sorted(os.walk(f"{crates}/{crate}/{part}")):
+                    for file in sorted(files):
                         if file.endswith((".antt", ".rt")):
                             with open(f"{path}/{file}", encoding="utf-8") as it:
                                 self.sources[f"{path}/{file}"] = Source(f"{path}/{file}", it.read())
@@ -434,7 +435,7 @@ class Named:
             self.walk(f"{kit}/{library}", None)
 
     def walk(self, folder, crate):
-        for path, _, files in os.walk(folder):
+        for path, _, files in sorted(os.walk(folder)):
             for file in sorted(files):
                 if file.endswith((".antt", ".rt")):
                     with open(f"{path}/{file}", encoding="utf-8", errors="replace") as it:
@@ -459,14 +460,17 @@ class Named:
             for it in re.finditer(r"\.([A-Za-z_][\w'-]*)", text):
                 self.places.setdefault(it[1], []).append((path, text, it.start()))
 
-    def of(self, it, text):
-        """Where a proof names a conjunct that is all of its field or its clause, or None."""
+    def of(self, it, text, reaches):
+        """Where a proof names a conjunct that is all of its field or its clause, or None, in files that reach its crate."""
         before, after = text[: it.start].rstrip(), text[it.end :].lstrip()
         if not before.endswith(("{", ":")) or (before.endswith("{") and not after.startswith("}")):
             return None
         owner, _, field = it.owner.partition(".")
         if it.file.startswith("specs/"):
             for path, whole, at in self.places.get(field, ()) if len(self.fields.get(field, ())) == 1 else ():
+                # (not a clause, nor an argument, nor of a crate that does not see the record)
+                if not reaches(path) or OTHER.search(whole[max(0, at - 40) : at]):
+                    continue
                 around = piece_around(whole, at)
                 # (a part of a pair that is this alone may be the same conjunct)
                 is_alone = around and around[1] is None and re.match(rf"\s*[\w'.-]+\.{re.escape(field)}\s*[,)]", whole[around[0] :])
@@ -477,7 +481,7 @@ class Named:
         said = re.compile(rf"\.{name}(-[\w-]+)?\.ensures" + (rf"\.{clause.strip()}(?![\w'-])" if clause else r"(?!\.\d)(?!\w)"))
         for label in [it for it in self.places if it == name or it.startswith(f"{name}-")] if self.functions.get(name) == 1 else ():
             for path, whole, at in self.places[label]:
-                if said.match(whole, at):
+                if said.match(whole, at) and reaches(path):
                     return path
         return None
 

@@ -617,9 +617,13 @@ def weaken(prover, name, words, ends, facts, results):
                 if one.file == found[tag].file and one.start <= found[tag].start and found[tag].end <= one.end:
                     tell(other, kind, where)
 
+    def reaches(path):
+        crate = os.path.relpath(path, f"{HERE}/crates").split("/")[0]
+        return crate == name or name in all_below(crate, prover.below)
+
     for it in list(left) if prover else ():
         one = found[it]
-        path = prover.reached.get((f"{HERE}/crates/{name}/{one.file}", one.start, one.end)) or prover.named.of(one, read(f"{HERE}/crates/{name}/{one.file}"))
+        path = prover.reached.get((f"{HERE}/crates/{name}/{one.file}", one.start, one.end)) or prover.named.of(one, read(f"{HERE}/crates/{name}/{one.file}"), reaches)
         if path and it in left:
             tell(it, "named", os.path.relpath(path, f"{HERE}/crates").removeprefix(f"{name}/"))
     look = Round(prover, name, found)
