@@ -56,6 +56,8 @@ UNCHECKED = re.compile(r"which was (not admitted|rejected)|were not checked|was 
 GAVE_UP = re.compile(r"^`(search|grind|omega|simp|rw|cc)\b[^`]*`|no proof of .* was found|is not proved|does not hold|rewrites nothing|did not prove")
 HAS = re.compile(r"(?:but this has type|projects from a record, but this has type|but has type|whose type is|its type) `([^`]*)`")
 WANTS = re.compile(r"expected type `([^`]*)`")
+# The same once definitions are opened.
+HAS_OPENED, WANTS_OPENED = re.compile(r"and `([^`]*)`\s*\(found\)"), re.compile(r"the two types are `([^`]*)`\s*\(expected\)")
 
 
 def stop(why):
@@ -292,9 +294,8 @@ class Round:
             if not error or UNCHECKED.search(error[5]):
                 continue
             path, what = error[1], error[5]
-            has, wants = HAS.search(what), WANTS.search(what)
-            has = {int(it) for it in TAG.findall(has[1])} & set(tags) if has else set()
-            wants = {int(it) for it in TAG.findall(wants[1])} & set(tags) if wants else set()
+            has = {int(it) for said in (HAS, HAS_OPENED) for one in said.findall(what) for it in TAG.findall(one)} & set(tags)
+            wants = {int(it) for said in (WANTS, WANTS_OPENED) for one in said.findall(what) for it in TAG.findall(one)} & set(tags)
             where = f"{path} {error[4] or ''}".strip()
             function = path.removeprefix("proofs/").replace("/", "::")
             text = texts.get(path) or Text(read(f"{HERE}/crates/{self.at}/{path}"))
