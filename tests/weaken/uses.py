@@ -292,7 +292,7 @@ class Texts:
         for it in CHAIN.finditer(text, body[0], body[1]):
             if it[1] in scope and it[1] not in clash:
                 labels = it[2].split(".")[1:]
-                self.walk(scope[it[1]], labels, source, where, not self.is_alone(text, it.start(), it.end(), labels[-1]))
+                self.walk(scope[it[1]], labels, source, where, not self.is_alone(text, it.start(), it.end(), labels[-1]) and not builds(text, it.start(), labels[-1]))
         for it in re.finditer(r"\)((?:\.[\w'-]+)+)", text[body[0] : body[1]]):
             at, depth = body[0] + it.start(), 0
             while at > body[0]:
@@ -303,7 +303,7 @@ class Texts:
             type_ = self.inferred(source, at + 1, body[1], scope)
             if type_:
                 labels = it[1].split(".")[1:]
-                self.walk(type_, labels, source, where, not self.is_alone(text, at, body[0] + it.end(), labels[-1]))
+                self.walk(type_, labels, source, where, not self.is_alone(text, at, body[0] + it.end(), labels[-1]) and not builds(text, at, labels[-1]))
         for it in WORD.finditer(text, body[0], body[1]):
             if it[0] in scope and it[0] not in clash and text[it.start() - 4 : it.start()] != "let ":
                 if text[max(0, it.start() - 7) : it.start()] == "absurd ":
@@ -474,7 +474,7 @@ class Named:
                 around = piece_around(whole, at)
                 # (a part of a pair that is this alone may be the same conjunct)
                 is_alone = around and around[1] is None and re.match(rf"\s*[\w'.-]+\.{re.escape(field)}\s*[,)]", whole[around[0] :])
-                if not around or around[1] != field and not is_alone:
+                if not is_alone and not builds(whole, at, field):
                     return path
             return None
         name, _, clause = owner.partition(" ensures")
@@ -484,6 +484,25 @@ class Named:
                 if said.match(whole, at) and reaches(path):
                     return path
         return None
+
+
+def builds(text, at, label):
+    """Whether a place is within the field of this name, or the part of this number, and so may build what it uses."""
+    for _ in range(12):
+        around = piece_around(text, at)
+        if around is None:
+            return False
+        if around[1] == label:
+            return True
+        opens, depth, commas = around[0], 0, 0
+        while opens > 0 and depth <= 0:
+            opens -= 1
+            depth += (text[opens] in conjuncts.OPENS) - (text[opens] in conjuncts.CLOSES)
+            commas += depth == 0 and text[opens] == ","
+        if around[1] is None and label == str(commas):
+            return True
+        at = opens
+    return False
 
 
 def piece_around(text, at):

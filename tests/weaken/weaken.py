@@ -8,7 +8,7 @@ prover refuses names those that it misses. A proof that only builds one gives th
 nor does the function whose own clause it is. What was noticed is put back, and the rest is checked again, halved where no
 refusal tells one from another, and at last one by one.
 
-How each ends:
+How each ends (a use within the field or the part of the same name or number does not count):
   named    the text of a proof uses it for something else, as written types and names say: this needs no check
   cited    a proof uses it for something else
   goal     a goal is not proved any more

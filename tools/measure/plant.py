@@ -99,7 +99,10 @@ def main():
     words = parser.parse_args()
     rows, known = table(), reasons()
     for crate in words.crates:
-        if words.anew or crate not in rows or rows[crate][0][0] != sum_of(crate):
+        row = dict(zip(("files", "minutes", *COUNTS), rows[crate][0])) if crate in rows else {}
+        # (more minutes for what was not run in fewer)
+        is_short = row.get("not-run") != "0" and words.minutes > int(row.get("minutes", 0))
+        if words.anew or is_short or row.get("files") != sum_of(crate):
             plant(crate, words.minutes, rows)
     for crate in [it for it in rows if not os.path.isdir(f"crates/{it}")]:
         del rows[crate]
