@@ -20,7 +20,7 @@ use Rattle.fs_trait.specs.declared.xattr.ListxattrReply.TheVariants as listxattr
 pub data Answer : Type 0 where
   -- that it was done, or nothing where a call has nothing to answer
   Done : Answer
-  -- a fault
+  -- a fault: an error number, or none, for which EIO is replied
   Failed : (fault : Option ℕ) → Answer
   -- the bits of the options that are wanted
   Options : (want : ℕ) → Answer
@@ -111,7 +111,7 @@ FitsText bytes = length bytes < 2 ^ 32 - 16
 
 -- An answer of this kind, with its numbers in their widths in the reply: a fault is one of every kind but
 -- `Quiet`, and the only one of `Iterators` and `Faults`; a time is in whole seconds and the nanoseconds
--- beyond. What begins with `Fit` says that numbers are within their widths, and nothing of a room.
+-- beyond. `Fit` and the `Fits..` above say nothing of a room, as `fits` of Room and `Fits` of Listing do.
 abbrev pub IsAnswer : Kind → Answer → Type 0
 IsAnswer Quiet Done = Unit {0}
 IsAnswer Quiet _ = ⊥

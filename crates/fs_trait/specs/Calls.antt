@@ -17,8 +17,8 @@ pub use Rattle.fs_trait.specs.Answers.{IsFault, FitsEntry, FitsOpening, FitsText
 
 -- every call with its arguments as values: nodes, handles and groups by number, names as bytes,
 -- options and other sets of flags as bits; READ has that much space for its bytes, which is the room
--- less the header of a reply. A READDIRPLUS is `Readdir`, and a `Lookup` of each
--- item but `.` and `..`
+-- less the header of a reply; the node of `Mknod` is the parent. A READDIRPLUS is `Readdir`, and a
+-- `Lookup` of each item but `.` and `..`
 pub data Call : Type 0 where
   Lookup : (ctx : Context) (parent : ℕ) (name : List ℕ) → Call
   Forget : (ctx : Context) (inode count : ℕ) → Call

@@ -1,6 +1,6 @@
 -- The books of lookups and forgets. A file system counts how often it answered an entry of a node,
 -- and a client gives these counts back by forgets. Four sums are kept of a node: two of the events
--- that happened, and two of the bytes that came and went.
+-- that happened, and two of the bytes that came and went. Begin with `KeepsBooks`, the last definition.
 use Rattle.std.specs.Prelude.{ℕ, ◌==◌, if◌then◌else◌, List, [], ◌∷◌, take, drop, sum_by, count_by, Option, Some, Result, Ok, Err, ◌≡◌, ◌≢◌, ◌≤◌, ◌+◌, ◌++◌}
 use Rattle.fuse_flags.specs.Numbers.{opcode_of}
 use Rattle.fuse_flags.specs.declared.opcode.Opcode.{Opcode}

@@ -1,4 +1,5 @@
--- The extensions of a request that makes a node: blocks, one after the other, and what they say.
+-- The extensions of a SYMLINK, MKNOD, MKDIR or CREATE: blocks, one after the other, and what they say. Begin
+-- with `extensions_in`, the last definition.
 use Rattle.std.specs.Prelude.{◌-◌, ◌==◌, ◌||◌, ◌&&◌, not, ℕ, zero, suc, bit_and, Bool, true, false, List, [], ◌∷◌, length, take, drop, is_some, nat_lt, if◌then◌else◌, Option, Some, None, Result, Ok, Err, ok_or}
 use Rattle.fuse_flags.specs.Numbers.{ext_type_of}
 use Rattle.fuse_flags.specs.Flags.{security_ctx, create_supp_group}
@@ -18,7 +19,8 @@ error_or (Ok part) next = next part
 
 -- ---- one body
 
--- a name, which runs through the first 0, and the `size` bytes after it; more is ignored
+-- a name, which runs through the first 0, and the `size` bytes after it; more is ignored. No byte at all is
+-- another error than a part of this
 abbrev pub name_and_value : (size : ℕ) → (bytes : List ℕ) → Result (List ℕ × List ℕ) Error
 name_and_value size [] = Err MissingParameter
 name_and_value size (b ∷ bytes) = error_or (ok_or (first_name (b ∷ bytes)) DecodeMessage) (λ cut.

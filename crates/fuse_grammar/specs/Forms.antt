@@ -1,4 +1,5 @@
--- The forms of requests: what comes after the header, and in which order it is refused.
+-- The forms of requests: what comes after the header, and in which order it is refused. Begin with `Ask`,
+-- `Form`, and `ask_form`, the last definition.
 use Rattle.std.specs.Prelude.{ℕ, zero, suc, ◌+◌, ◌*◌, ◌-◌, ◌==◌, bit_and, [], ◌∷◌, Bool, false, List, length, take, drop, nat_lt, if◌then◌else◌, Some, Result, Ok, Err, ok_or, option_map, unwrap_or}
 use Rattle.fuse_flags.specs.Numbers.{enomem, enosys, eproto}
 use Rattle.fuse_flags.specs.Flags.{init_ext}
@@ -41,8 +42,8 @@ refused_or (Ok part) next = next part
 abbrev pub within : (above : Bool) → InHeader → (next : Ask) → Ask
 within above h next = if above then faulted enomem h else next
 
--- the tail of a request, of what follows the header and a record of `size` bytes: `len` counts all
--- three, and the tail is what it leaves. `behind` is what comes after the record
+-- the tail of a request: of the bytes `behind` a record of `size` bytes, as many as the header's `len` has
+-- beyond the header and the record. More bytes are ignored
 abbrev pub tail_of : InHeader → (size : ℕ) → (behind : List ℕ) → Result (List ℕ) Error
 tail_of h size behind =
     if nat_lt h.len (size_of in_header + size) then Err InvalidHeaderLength
@@ -113,7 +114,7 @@ ask_version h r flags2 =
     else Asks (record (echo_of h) { max_readahead = r.max_readahead })
     (call.Init (options_offered r.flags flags2))
 
--- the record after a header: none, with this value in its place, or one of this table
+-- the record after a header: none, with this value in its place, or one that this `Table` spells
 pub data Layout (R : Type 0) : Type 0 where
   Without : R → Layout R
   Record : Table R → Layout R

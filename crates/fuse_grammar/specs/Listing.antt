@@ -1,5 +1,6 @@
 -- The reading of a directory as a whole: the items that were taken and what each got, what stopped
--- it, and what is answered. Nothing here knows a file system's state or its iterators.
+-- it, and what is answered. Begin with `IsListing` and `IsDirectory`, near the end. Nothing here knows a
+-- file system's state or its iterators.
 use Rattle.std.specs.Prelude.{◌≡◌, ◌≢◌, ⊤, ◌+◌, ◌-◌, ◌*◌, ◌%◌, ◌^◌, ◌⊎◌, ◌&&◌, ◌||◌, nat_lt, if◌then◌else◌, ℕ, Bool, true, false, List, [], ◌∷◌, ◌++◌, codes, Option, Some, None, Result, Ok, Err, sum_by, length, replicate}
 use Rattle.std.specs.List.{flat_map}
 use Rattle.std.specs.Str.{bytes_eq}
@@ -28,7 +29,8 @@ pub record Listing : Type 0 where
   pub offset : ℕ
   pub space : ℕ
 
--- ---- the record of an item: `.._len` is the length of `.._bytes`, without and with the entry
+-- ---- the record of an item. What is named `.._len`, or `len_of`, is proved to be the length of `.._bytes`, or of
+-- `bytes_got`, and can be read so (`length-dirent_bytes`, `length-record_bytes`, `length-lines` in proofs)
 
 -- how long the record of an item with a name of this length is, without an entry: a `Dirent`
 -- and the name, rounded up to a multiple of 8

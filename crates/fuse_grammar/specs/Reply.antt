@@ -1,4 +1,5 @@
--- What comes back to the client, and the bytes of replies.
+-- What comes back to the client, and the bytes of replies. Begin with `Reply`, and `reply_of`, the last
+-- definition.
 use Rattle.std.specs.Prelude.{ℕ, pos, ◌+◌, ◌-ℤ◌, ◌/◌, ◌%◌, ◌^◌, List, [], ◌++◌, length, Option, unwrap_or, replicate}
 use Rattle.fuse_flags.specs.Numbers.{eio}
 use Rattle.fuse_flags.specs.declared.constants.TheConstants.{KERNEL_VERSION, KERNEL_MINOR_VERSION}
@@ -101,8 +102,8 @@ answer_reply body unique (Failed fault) = fault_reply fault unique
 answer_reply body unique _ = body_reply body unique
 
 -- What comes back of a call of this kind with this answer, where these are the options after it:
--- nothing of one that answers nothing, and where one was done of which only a fault is told; of READ
--- and of a directory the reply, a fault too, after which the room is open; and else the reply.
+-- nothing of a `Quiet` one, and of an `Untold` one that was done; of READ and of a directory the reply,
+-- a fault too, after which the room is open; and else the reply.
 abbrev pub reply_of : Limits → Echo → (options : ℕ) → Kind → Answer → Reply
 reply_of limits echo options Agreements answer = Bytes (answer_reply
     (bytes_of init_out (init_out_of limits echo.max_readahead options)) echo.unique answer)

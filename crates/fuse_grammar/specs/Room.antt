@@ -1,4 +1,4 @@
--- How a reply is put into a room.
+-- How a reply is put into a room. Begin with `IsReplied`.
 use Rattle.std.specs.Prelude.{◌≡◌, ℕ, List, ◌++◌, length, take, drop, nat_le, if◌then◌else◌, Bool, true, Option, None, Some, Result, Ok, Err}
 use Rattle.fuse_grammar.specs.Reply.{Reply, Refusal, NoReply, Bytes, OpenBehind}
 use Rattle.fuse_grammar.specs.declared.error.Error.{Error}

@@ -21,7 +21,8 @@ node_answered Creations (Created entry _ _) = if entry.inode == 0 then None else
 node_answered _ _ = None
 
 -- a request with what is seen of it from outside: its bytes; those of its room, before; what was seen of
--- the file system; the length of the reply, 0 where there is none, or an error; and the room afterwards
+-- the file system; the length of the reply, 0 where there is none, or why there is no whole one; and the
+-- room afterwards
 pub record Turn : Type 0 where
   pub request : List ℕ
   pub room : List ℕ

@@ -1,4 +1,4 @@
--- Requests in order, over one run of the file system.
+-- Requests in order, over one run of the file system. Begin with `IsSession`, the last definition.
 --
 -- A reader and a writer are made of segments by `Reader::new` and `Writer::new`, and `Writer::into_segments` gives
 -- the segments of a room back (`fuse_segments/src/reader.rt`, `writer.rt`).

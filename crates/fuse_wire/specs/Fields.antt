@@ -1,4 +1,5 @@
--- A record as bytes: a list of numbers, each in its width, the lowest byte first.
+-- A record as bytes: a list of numbers, each in its width, the lowest byte first. Begin with `Table`, `bytes_of`
+-- and `value_of`. (The table of the protocol is another: `form_of` of Ask.)
 use Rattle.std.specs.Prelude.{ℕ, zero, suc, ◌+◌, ◌*◌, ◌^◌, ◌<◌, ◌%◌, ◌/◌, List, [], ◌∷◌, ◌++◌, drop, slice_index, ⊤}
 use Rattle.fuse_wire.specs.declared.bytes.Field.{Field}
 use Rattle.fuse_wire.specs.declared.bytes.Field.TheVariants.{One, Two, Four, Eight}
