@@ -330,7 +330,7 @@ def protocol():
     expect(len(lines) == len(numbers), "form_of has not a row for each number")
     return f"""# The table of the protocol
 
-Number, record in `fuse.h` with the bytes of its fields, once; row of `form_of` (`crates/{ASK}`); by `kind_of` (`crates/{CALLS}`) and `reply_of` (`crates/{REPLY}`) what follows the header in a reply: nothing if `Told`; no reply if `Quiet` or `Untold`. Made by `tools/dev/begin.py`; [rules](../PROTOCOL.md).
+Number, record in `fuse.h` with its fields' bytes, once; row of `form_of` (`crates/{ASK}`); by `kind_of` (`crates/{CALLS}`) and `reply_of` (`crates/{REPLY}`) what follows the header in a reply: nothing if `Told` or a fault; no reply if `Quiet`, or `Untold` unless a fault. Made by `tools/dev/begin.py`; [rules](../PROTOCOL.md).
 
 | `fuse.h` | `form_of` | Answer |
 |---|---|---|
