@@ -1,4 +1,4 @@
--- What comes of the answer to a READDIR or READDIRPLUS.
+-- What comes of the answer to a READDIR or READDIRPLUS, beside Listing of the grammar.
 use Rattle.std.specs.Prelude.{◌≡◌, ◌==◌, ◌-◌, ℕ, pos, bit_and, length, not, List, Option, Result}
 use Rattle.std.proofs.Common.{inl, inr}
 use Rattle.fuse_segments.specs.Written.{Written}

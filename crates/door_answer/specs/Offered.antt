@@ -1,4 +1,4 @@
--- The items of a directory that are offered to a reply, and those that are taken.
+-- The items of a directory that are offered to a reply, and those that are taken. Begin with `AreOffered`.
 use Rattle.std.specs.Prelude.{◌≡◌, ◌≢◌, ◌⊎◌, ⊤, ℕ, pos, length, List, [], ◌∷◌, ◌++◌, Bool, true, false, Option, None, Some, Result, Ok, Err, sum_by}
 use Rattle.std.specs.List.{flat_map}
 use Rattle.fuse_segments.specs.Written.{Written}

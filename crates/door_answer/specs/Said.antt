@@ -1,4 +1,4 @@
--- What an answer as data says: the answer of the call, by its kind.
+-- What an answer as data says: the answer of the call, by its kind. Begin with `IsSaid`.
 use Rattle.std.specs.Prelude.{◌≡◌, ◌≢◌, ◌⊎◌, ◌<◌, ◌≤◌, ◌+◌, ◌-◌, ◌^◌, ⊤, ℕ, pos, length, min, take, drop, bit_and, List, Option, Some, None, Result, Ok, Err}
 use Rattle.fuse_flags.specs.Numbers.{eio, erange}
 use Rattle.fuse_flags.specs.Flags.{known_fs_options, known_open_options}

@@ -1,4 +1,5 @@
--- Which data tell which call of a request: a row for each call, as `form_of` has one for each opcode.
+-- Which data tell which call of a request: a row for each call, as `form_of` has one for each opcode. `q` are the
+-- bytes of the request, and `told` the data. ENTRY is the number of `Entries`, and so on: `kind_told` of door_answer.
 use Rattle.std.specs.Prelude.{◌≡◌, ◌+◌, ◌*◌, ◌==◌, ◌||◌, not, nat_lt, if◌then◌else◌, drop, ℕ, List, Bool, true, false, length, is_some, Option, Some, None, unwrap_or}
 use Rattle.fs_trait.specs.Calls.{Call}
 use Rattle.fs_trait.specs.Calls as call
@@ -47,8 +48,8 @@ TellsContext q told None = (told.context_name.len ≡ 0) × (told.context.len �
 TellsContext q told (Some context) =
     IsNameIn q told.context_name context.0 × Stand q told.context context.1
 
--- These data, which have this of their request, tell this call: all their numbers are those of its row, and its names
--- and values are in the request where they say so.
+-- These data tell this call, where `c` is what `of_request` has of them: all their numbers are those of its row, and
+-- its names and values are in the request where they say so.
 module _ (q : List ℕ) (told c : CallData) where
   -- data of this call, which has this kind of answer; and of one by this caller, of this node
   abbrev pub asks : (number kind : ℕ) → CallData

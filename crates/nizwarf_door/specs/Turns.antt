@@ -1,4 +1,6 @@
--- What C is promised of a request that is asked for its call, and of the call that is answered.
+-- What C is promised of a request that is asked for its call, and of the call that is answered. Begin with
+-- `IsAskedOrNot` and `IsAnsweredOrNot`. `call` is a call as data, and `told` what C is told besides; `room` is how
+-- long the room is where a request is asked, and bytes where its call is answered.
 use Rattle.std.specs.Prelude.{◌≡◌, ◌⊎◌, ◌==◌, ◌++◌, if◌then◌else◌, ℕ, ℤ, List, [], ◌∷◌, length, take, Option, Some, None, Result}
 use Rattle.fs_trait.specs.Calls.{Answer, kind_of}
 use Rattle.fs_trait.specs.Runs.{Event, Called}
