@@ -1,5 +1,5 @@
 -- Calls, which kind of answer each has, and what it answers where a file system doesn't serve it.
--- Nothing here knows a file system's state or its iterators.
+-- Nothing here knows a file system's state or its iterators. Answers and their kinds are those of Answers.
 use Rattle.std.specs.Prelude.{ℕ, List, Bool, Option, Some, None, map}
 use Rattle.fuse_flags.specs.Flags.{fs_options_bits, setattr_valid_bits, setxattr_flags_bits}
 use Rattle.fuse_flags.specs.Numbers.{enomem, enosys}

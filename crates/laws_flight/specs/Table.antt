@@ -173,7 +173,7 @@ TellsAsked q told (WithMemory rest) = TellsAsked q told rest
 abbrev pub AreOf : Limits → (q : List ℕ) → (told : CallData) → Type 0
 AreOf limits q told = TellsAsked q told (ask limits told.options told.room q)
 
--- the request that a request interrupts, and 0 where it is no whole INTERRUPT
+-- the request that a request interrupts, and 0 where it is no whole INTERRUPT, or one above a limit
 abbrev pub interrupted : Limits → (q : List ℕ) → ℕ
 interrupted limits q =
     if nat_lt (length q) (size_of in_header + size_of interrupt_in) || nat_lt (max_len limits) (value_of in_header q).len
