@@ -5,5 +5,4 @@ pub mod Listed
 pub mod Telling
 pub mod Using
 pub mod One
-pub mod Names
 pub mod Adding

@@ -1,5 +1,4 @@
 pub mod Kinds
-pub mod Names
 pub mod Said
 pub mod Offered
 pub mod Listing

@@ -6,7 +6,6 @@
 mod answered;
 mod call;
 mod listing;
-mod name;
 mod reply;
 mod uses;
 mod value;

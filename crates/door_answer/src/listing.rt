@@ -5,7 +5,6 @@ ghost use Rattle.fs_trait.specs.Values.{item, name_of, name_text};
 ghost use Rattle.fuse_grammar.specs.Listing.{answer_at, Fails};
 ghost use Rattle.door_answer.specs.Offered.{item_told, taken_by, AddsItem, ReadsOffered};
 
-use crate::name::name_in;
 use door_calls::{ItemData, fault_of};
 use fs_trait::{CStr, DirEntry};
 use fuse_flags::Fault;
@@ -136,7 +135,7 @@ pub(crate) fn put_items(items: &[ItemData<'_>], plus: bool, size: usize, w: &mut
     let mut written = 0;
     let mut taken = 0;
     'items: for offered in items {
-        match name_in(offered.name) {
+        match CStr::from_bytes_with_nul(offered.name) {
             None => return Listed::of(written, taken),
             Some(name) => match add_item(offered, name, plus, size - written, w) {
                 Ok(0) => return Listed::of(written, taken),
