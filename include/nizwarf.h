@@ -52,7 +52,7 @@
  * signal handler, or from the child of a fork of a process with threads.
  *
  * The heap is malloc, realloc and free of the C library that is linked. A slot keeps as many bytes as the
- * longest room that a call was asked or answered with, of a READ 16, and 80 at most for requests without a call.
+ * longest room that a call was asked or answered with, of a READ 16, and 80 for requests without a call.
  *
  * How structs grow. A function of the library takes its structs in one layout, for good. If one must grow, the
  * library gets a function with a new name for the new layout, which the inline functions call from then on, and
@@ -209,7 +209,10 @@ enum {
 
 /* Reads a request. NIZWARF_ASKED: it asks for `call`, and `told` says nothing; the slot has memory for any answer to
  * it, and keeps that up to its end. NIZWARF_OK: it is finished, and told->len bytes of the rooms are its reply. Others:
- * it is refused, and has none. */
+ * it is refused, and has none.
+ *
+ * A slot that told a call, but of READ, lacks no memory for a request in up to four segments with no more room, unless it
+ * is a BATCH_FORGET, makes a node under SECURITY_CTX, or has names, or a value, in two segments. */
 static inline int32_t nizwarf_ask(nizwarf_slot *slot, const nizwarf_session *session,
 				  const nizwarf_segment *request, size_t segments, const nizwarf_room *room,
 				  size_t rooms, nizwarf_call *call, nizwarf_told *told);

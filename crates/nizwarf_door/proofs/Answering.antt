@@ -19,7 +19,8 @@ use Rattle.door_answer.specs.Told.{AnswersEachCall, AnswersEachListing}
 use Rattle.door_answer.specs.declared.answered.Answered.{Answered}
 use Rattle.c_rooms.specs.Codes.{outcome_code, length_of}
 use Rattle.nizwarf_door.specs.Answering.{AnswersOrNot}
-use Rattle.nizwarf_door.specs.Kept.{HasRoomFor, put_of}
+use Rattle.nizwarf_door.specs.Kept.{put_of}
+use Rattle.nizwarf_door.specs.Rooms.{HasRoomFor}
 use Rattle.nizwarf_door.specs.Shown.{shown_of}
 use Rattle.nizwarf_door.specs.declared.data.ToldData.{ToldData}
 use Rattle.nizwarf_door.specs.declared.memory.Part.{Part}

@@ -1,5 +1,5 @@
 -- What C is told of a request that was asked.
-use Rattle.std.proofs.Common.{◌≡◌, ◌≢◌, ◌≤◌, ◌⊎◌, ◌+◌, ◌-◌, ◌++◌, ◌∙◌, ℕ, ℤ, List, [], length, replicate, Option, Result, Ok, Err, IfOk, refl, ap, sym, subst, inl, inr, arith, length-append, append_assoc}
+use Rattle.std.proofs.Common.{◌≡◌, ◌≢◌, ◌≤◌, ◌⊎◌, ◌+◌, ◌-◌, ◌++◌, ◌∙◌, ◌==◌, ℕ, ℤ, Bool, true, false, List, [], length, replicate, Option, None, Some, Result, Ok, Err, IfOk, IsSome, refl, ap, sym, subst, inl, inr, arith, length-append, append_assoc}
 use Rattle.std.proofs.lemmas.List.{length-replicate, take-append-le}
 use Rattle.std.specs.Prelude.{⊤}
 use Rattle.fuse_segments.specs.Lengths.{lengths_from}
@@ -15,6 +15,7 @@ use Rattle.fuse_grammar.specs.declared.error.Error.TheVariants as error
 use Rattle.fuse_grammar.specs.declared.limits.Limits.{Limits}
 use Rattle.door_calls.specs.Shapes.{shape_of}
 use Rattle.door_calls.specs.declared.call.CallData.{CallData}
+use Rattle.door_calls.specs.declared.call.kind.TheConstants as kind
 use Rattle.fuse_messages.specs.Rooms.{with_after}
 use Rattle.fuse_messages.proofs.Rooms.{whole_after}
 use Rattle.door_ask.specs.Memory.{MayWant}
@@ -23,7 +24,8 @@ use Rattle.door_ask.specs.declared.asked.Asked.{Asked}
 use Rattle.door_ask.specs.declared.asked.Asked.TheVariants as asked
 use Rattle.c_rooms.specs.Codes.{is_asked, length_of, no_memory, outcome_code}
 use Rattle.nizwarf_door.specs.Asking.{AsksOrNot, unread_in}
-use Rattle.nizwarf_door.specs.Kept.{HasFor, HasRoomFor, HoldsAnswer, HoldsFor, TellsOrNot, put_of}
+use Rattle.nizwarf_door.specs.Kept.{HasFor, Holds, HoldsAnswer, HoldsFor, TellsOrNot, put_of}
+use Rattle.nizwarf_door.specs.Rooms.{HasRoomFor}
 use Rattle.nizwarf_door.specs.declared.data.ToldData.{ToldData}
 use Rattle.nizwarf_door.specs.declared.memory.Memory.{Memory}
 use Rattle.nizwarf_door.specs.declared.memory.Part.{Part}
@@ -45,6 +47,49 @@ answer_has q o n room (Lists echo l) before after told p t has =
 answer_has q o n room (WithMemory rest) before after told p (inl t) has =
     answer_has q o n room rest before after told p t has
 answer_has q o n room (WithMemory rest) before after told p (inr t) has = absurd t.1
+
+-- memory for that many bytes is memory for fewer
+fewer : (n less : ℕ) (p : Part) → less ≤ n → HasRoomFor n p → HasRoomFor less p
+fewer n less p within has = (has.0, omega (arith, within, has.1))
+
+pub put_within : (call : CallData) (len : ℕ) (is : Bool) → (call.answer == kind.DATA) ≡ is → put_of call len ≤ len
+put_within call len true is = rw is (omega arith)
+put_within call len false is = rw is (omega arith)
+
+-- it is memory for any answer, whatever is asked
+has_any : (less : ℕ) (asks : Ask) (p : Part) → HasRoomFor less p → HasFor less asks p
+has_any less (Ends reply) p has = tt
+has_any less (Asks echo call) p has =
+    fewer less (put_of (shape_of call) less) p (put_within (shape_of call) less ((shape_of call).answer == kind.DATA) refl) has
+has_any less (Lists echo l) p has = has
+has_any less (WithMemory rest) p has = has_any less rest p has
+
+pub ready_for : (n less : ℕ) (asks : Ask) (slot : Option Memory) → less ≤ n → Holds n slot → HoldsFor less asks slot
+ready_for n less asks slot within holds =
+    record {
+      memory = holds.memory;
+      is = holds.is;
+      answer = has_any less asks holds.memory.answers (fewer n less holds.memory.answers within holds.has);
+    }
+
+some_is : (slot : Option Memory) → IsSome slot → (m : Memory) × (slot ≡ Some m)
+some_is (Some m) some = (m, refl)
+some_is None some = absurd (let e = some in cc)
+
+-- what a slot has for requests stays, where its memory and the room for answers do
+pub stays_for : (less : ℕ) (asks : Ask) (old new : Option Memory) → (IsSome old → IsSome new)
+    → ((n : ℕ) → Holds n old → Holds n new) → HoldsFor less asks old → HoldsFor less asks new
+stays_for less (Ends reply) old new some keeps h =
+    let s = some_is new (some (rw h.is refl)) in record { memory = s.0; is = s.1; answer = tt }
+stays_for less (Asks echo call) old new some keeps h =
+    let k = keeps (put_of (shape_of call) less) (record { memory = h.memory; is = h.is; has = h.answer }) in
+    record { memory = k.memory; is = k.is; answer = k.has }
+stays_for less (Lists echo l) old new some keeps h =
+    let k = keeps less (record { memory = h.memory; is = h.is; has = h.answer }) in
+    record { memory = k.memory; is = k.is; answer = k.has }
+stays_for less (WithMemory rest) old new some keeps h =
+    let k = stays_for less rest old new some keeps (record { memory = h.memory; is = h.is; answer = h.answer }) in
+    record { memory = k.memory; is = k.is; answer = k.answer }
 
 -- a writer through which a request was finished keeps what it had passed
 finished_keeps : (request : List ℕ) (options interrupts room : ℕ) (asks : Ask) (before after : Written)
@@ -142,6 +187,14 @@ module _ (limits : Limits) (options : ℕ) (request : List ℕ) (room : ℕ) (ca
       (ask limits options (length (before.left ++ zeros)) request) (with_after before zeros) (with_after after zeros)
       call_after p (asked_as asked.Call call_is)
       (subst (λ (n : ℕ). HasFor n (ask limits options n request) p) (sym space) has)
+
+  -- a writer through which a request was finished keeps its room
+  pub finished_room : (outcome : Result ℕ Error) (interrupts : ℕ) → result ≡ asked.Finished outcome interrupts
+      → Keeps before after
+  finished_room outcome interrupts finished =
+      shorter before after zeros (finished_keeps request options (interrupted_by limits request) (length (before.left ++ zeros))
+      (ask limits options (length (before.left ++ zeros)) request) (with_after before zeros) (with_after after zeros) outcome interrupts call_after
+      (asked_as (asked.Finished outcome interrupts) finished))
 
   -- a request is finished
   pub told_finished : (code : ℤ) (start len : ℕ) (outcome : Result ℕ Error) (interrupts : ℕ)

@@ -1,12 +1,14 @@
 -- What a writer leaves of its room, and what of that is there to be copied out.
-use Rattle.std.proofs.Common.{◌≡◌, ◌≤◌, ◌+◌, ◌++◌, ◌∙◌, ℕ, List, [], ◌∷◌, length, take, drop, if◌then◌else◌, Option, Some, Result, refl, ap, sym, subst, arith, length-append, append_assoc}
+use Rattle.std.proofs.Common.{◌≡◌, ◌≤◌, ◌+◌, ◌++◌, ◌∙◌, ℕ, ℤ, inl, inr, List, [], ◌∷◌, length, take, drop, if◌then◌else◌, Option, None, Some, Result, refl, ap, sym, subst, arith, length-append, append_assoc}
 use Rattle.std.proofs.lemmas.List.{drop_at, length-take-le, take_at}
 use Rattle.std.proofs.Math.Seq.{take-append-add}
 use Rattle.fuse_segments.specs.Written.{Written, whole, Leaves}
 use Rattle.fuse_messages.specs.Rooms.{Replies, with_after}
 use Rattle.fuse_grammar.specs.Reply.{Reply, Refusal, NoReply, Bytes, OpenBehind}
 use Rattle.fuse_grammar.specs.declared.error.Error.{Error}
-use Rattle.nizwarf_door.specs.Kept.{HasRoomFor, Holds}
+use Rattle.door_calls.specs.declared.call.CallData.{CallData}
+use Rattle.nizwarf_door.specs.Kept.{Holds, HoldsAnswer, TellsOrNot, put_of}
+use Rattle.nizwarf_door.specs.Rooms.{HasRoomFor}
 use Rattle.nizwarf_door.specs.Shown.{AreFirst, bytes_in, bytes_shown, shown_of}
 use Rattle.nizwarf_door.specs.declared.memory.Memory.{Memory}
 use Rattle.nizwarf_door.specs.declared.memory.Part.{Part}
@@ -107,3 +109,19 @@ held_on n old new taken now same put keeps h =
       is = put;
       has = keeps (subst (λ (m : Memory). HasRoomFor n m.answers) (sym (same h.memory h.is)) h.has);
     }
+
+abbrev memory_in : Memory → Option Memory → Memory
+memory_in other (Some m) = m
+memory_in other None = other
+
+-- a slot has one memory
+pub one_memory : (slot : Option Memory) (taken : Memory) → slot ≡ Some taken → (m : Memory) → slot ≡ Some m → taken ≡ m
+one_memory slot taken is m was = ap (memory_in taken) (sym is ∙ was)
+
+-- what was told of the memory that was put back was told of the slot
+pub told_on : (code other : ℤ) (call call_after : CallData) (now : Memory) (slot : Option Memory) → other ≡ code
+    → slot ≡ Some now → TellsOrNot code call call_after (HasRoomFor (put_of call call.room) now.answers)
+    → TellsOrNot other call call_after (HoldsAnswer call slot)
+told_on code other call call_after now slot same put (inl t) =
+    inl (same ∙ t.0, t.1, record { memory = now; is = put; has = t.2 })
+told_on code other call call_after now slot same put (inr n) = inr (same ∙ n.0, n.1)

@@ -9,3 +9,4 @@ mod OfferedAsks
 mod Pieces
 mod Ending
 mod Turns
+mod Concluding

@@ -1,5 +1,6 @@
 -- What is told of a request by both tables, from what the further one says of it.
 use Rattle.std.proofs.Common.{◌≡◌, ◌≢◌, ◌≤◌, ◌^◌, ◌∙◌, ℕ, ℤ, Bool, true, false, List, [], ◌∷◌, length, drop, nat_lt, if◌then◌else◌, Option, Ok, Err, refl, ap, sym, subst, inl, inr, arith}
+use Rattle.std.specs.Ordering.{int_eq}
 use Rattle.std.proofs.lemmas.Bool.Decides.{nat_tests}
 use Rattle.fuse_wire.specs.Fields.{value_of}
 use Rattle.fuse_wire.specs.Records.{in_header}
@@ -14,6 +15,7 @@ use Rattle.door_calls.specs.declared.call.number.TheConstants.{CREATE}
 use Rattle.door_ask.specs.Memory.{MayWant}
 use Rattle.door_ask.specs.WithOpcode.{unread_with_opcode}
 use Rattle.door_ask.proofs.WithOpcode.{same_length}
+use Rattle.door_further.specs.OneTurn.{named_tmpfile}
 use Rattle.door_further.specs.Turns.{as_create}
 use Rattle.door_further.specs.Further.{What, Ordinary, Short, Row, Unnamed, Tells, told_under, what_after, what_of}
 use Rattle.door_further.specs.declared.row.Further.{Further}
@@ -22,9 +24,11 @@ use Rattle.c_rooms.specs.Codes.{is_asked, no_memory, outcome_code}
 use Rattle.nizwarf_door.specs.Asking.{AsksOrNot, finished}
 use Rattle.nizwarf_door.specs.Checking.{Checks, IsWhole}
 use Rattle.nizwarf_door.specs.Further.{AsksOffered, ChecksOffered, HoldsOffered, MayWantOffered, named}
-use Rattle.nizwarf_door.specs.Kept.{HoldsAnswer, HoldsFor, TellsOrNot}
+use Rattle.nizwarf_door.specs.Kept.{HoldsAnswer, HoldsFor, TellsOrNot, put_of}
+use Rattle.nizwarf_door.specs.Rooms.{HasRoomFor}
 use Rattle.nizwarf_door.specs.declared.data.ToldData.{ToldData}
 use Rattle.nizwarf_door.specs.declared.memory.Memory.{Memory}
+use Rattle.nizwarf_door.specs.declared.memory.Part.{Part}
 
 module _ (limits : Limits) (options : ℕ) (q : List ℕ) (room : ℕ) (old mid : CallData) (result : Further) where
   -- what was told of a request by the further table
@@ -197,3 +201,16 @@ pub too_long_as : (q : List ℕ) → 2 ^ 64 ≤ length q → 2 ^ 64 ≤ length (
 too_long_as q long =
     let same : length (as_create q) ≡ length q = same_length CREATE (omega arith) q (omega (arith, long)) in
     omega (arith, same, long)
+
+named_takes : (is : Bool) (call : CallData)
+    → put_of (if is then named_tmpfile call else call) (if is then named_tmpfile call else call).room
+    ≡ put_of call call.room
+named_takes true call = refl
+named_takes false call = refl
+
+-- an answer to a CREATE that is named TMPFILE takes as much room
+pub named_room : (code : ℤ) (created call : CallData) (p : Part) → call ≡ named code created
+    → HasRoomFor (put_of created created.room) p → HasRoomFor (put_of call call.room) p
+named_room code created call p is has =
+    subst (λ (it : CallData). HasRoomFor (put_of it it.room) p) (sym is)
+    (subst (λ (n : ℕ). HasRoomFor n p) (sym (named_takes (int_eq code is_asked) created)) has)

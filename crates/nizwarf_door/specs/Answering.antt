@@ -58,12 +58,12 @@ pub record AnswersIn (limits : Limits) (call : CallData) (a : AnswerData) (text 
   pub within : IfSome result (λ came. came.taken ≤ length items)
   pub passed_on : IsPassedOn result call before after code told told_after shown
 
--- The call was not answered, for want of memory: an entry is to be given back, and nothing is there to
--- be copied out.
+-- The call was not answered, for want of memory: an entry is to be given back, no item is in a reply, and nothing is
+-- there to be copied out. The rest of what was told stays.
 pub record IsNotAnswered (call : CallData) (a : AnswerData) (code : ℤ) (told told_after : ToldData)
     (shown : List ℕ) : Type 0 where
   pub why : code ≡ no_memory
-  pub entry_back : told_after ≡ record told { give_back = entry_of call a }
+  pub entry_back : told_after ≡ record told { give_back = entry_of call a; taken = 0 }
   pub nothing : shown ≡ []
 
 -- a call was answered, or not

@@ -1,12 +1,12 @@
--- Which memory a slot has. Of the promise `put_of` is to be read, and of the clause `kept` `HasRoomFor`, `Holds`
+-- Which memory a slot has. Of the promise `put_of` is to be read, and of the clause `kept` `Holds`
 -- and `HoldsAnswer`.
-use Rattle.std.specs.Prelude.{◌≡◌, ◌≤◌, ◌==◌, ◌⊎◌, if◌then◌else◌, ⊤, ℕ, ℤ, length, min, Option, Some}
-use Rattle.fuse_segments.specs.Written.{whole}
+use Rattle.std.specs.Prelude.{◌≡◌, ◌==◌, ◌⊎◌, if◌then◌else◌, ⊤, ℕ, ℤ, min, Option, Some}
 use Rattle.fuse_grammar.specs.Forms.{Ask, Ends, Asks, Lists, WithMemory}
 use Rattle.door_calls.specs.Shapes.{nothing, shape_of}
 use Rattle.door_calls.specs.declared.call.CallData.{CallData}
 use Rattle.door_calls.specs.declared.call.kind.TheConstants as kind
 use Rattle.c_rooms.specs.Codes.{is_asked, no_memory}
+use Rattle.nizwarf_door.specs.Rooms.{HasRoomFor}
 use Rattle.nizwarf_door.specs.declared.memory.Part.{Part}
 use Rattle.nizwarf_door.specs.declared.memory.Memory.{Memory}
 
@@ -19,10 +19,6 @@ put_of call len = if call.answer == kind.DATA then min len 16 else len
 abbrev pub TellsOrNot : (code : ℤ) → (call call_after : CallData) → (kept : Type 0) → Type 0
 TellsOrNot code call call_after kept =
     ((code ≡ is_asked) × (call_after ≡ call) × kept) ⊎ ((code ≡ no_memory) × (call_after ≡ nothing))
-
--- this memory has one segment, of at least that many bytes: such a room takes none
-abbrev pub HasRoomFor : (room : ℕ) → Part → Type 0
-HasRoomFor room p = (length p.writer.lengths ≡ 1) × (room ≤ length (whole p.writer))
 
 -- this memory has room for any answer to the call that a request asks for, if it asks for one, with that much room
 abbrev pub HasFor : (room : ℕ) → Ask → Part → Type 0
@@ -41,10 +37,9 @@ pub record Holds (count : ℕ) (slot : Option Memory) : Type 0 where
 abbrev pub HoldsAnswer : CallData → Option Memory → Type 0
 HoldsAnswer call slot = Holds (put_of call call.room) slot
 
--- A slot has memory for what comes of a request that asks this, with that much room: for the reply, if it asks for no
--- call, and else for any answer to its call.
+-- A slot has memory for what comes of a request that asks this, with that much room: for any answer to its call, if it
+-- asks for one. For the reply to one that asks for none, any slot that has memory has it.
 pub record HoldsFor (room : ℕ) (asks : Ask) (slot : Option Memory) : Type 0 where
   pub memory : Memory
   pub is : slot ≡ Some memory
-  pub reply : HasRoomFor (min room 80) memory.asked
   pub answer : HasFor room asks memory.answers

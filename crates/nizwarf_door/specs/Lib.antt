@@ -1,6 +1,7 @@
 pub mod Handle
 pub mod Session
 pub mod Shown
+pub mod Rooms
 pub mod Kept
 pub mod Asking
 pub mod Answering

@@ -73,7 +73,8 @@ module _ (a : AnswerData) (text : List ℕ) (items : List ItemData) where
 module _ (limits : Limits) (call : CallData) (a : AnswerData) (text : List ℕ) (items : List ItemData) (code : ℤ)
     (told told_after : ToldData) (shown : List ℕ) where
   -- The call was answered: of each request of which the data are, with whatever after the bytes of the room that are
-  -- put here, this is a turn of the grammar, under the options that it was asked with.
+  -- put here, this is a turn of the grammar, under the options that it was asked with. Which bytes `room` had isn't said:
+  -- those that are shown are of the reply alone.
   pub record AnswersCall : Type 0 where
     pub room : List ℕ
     pub outcome : Result ℕ Error
@@ -95,9 +96,10 @@ module _ (limits : Limits) (call : CallData) (a : AnswerData) (text : List ℕ) 
     pub same_interrupts : told_after.interrupts ≡ told.interrupts
     pub shown_is : shown ≡ take (put_of call (length_of outcome)) room_after
 
-  -- It was not, since there is no memory, and the entry is to be given back; or since the data are of no request.
+  -- It was not, since there is no memory: then the entry is to be given back, and each item; or since the data are of no
+  -- request.
   pub record IsUnanswered : Type 0 where
-    pub why : ((code ≡ no_memory) × (told_after ≡ record told { give_back = entry_of call a }))
+    pub why : ((code ≡ no_memory) × (told_after ≡ record told { give_back = entry_of call a; taken = 0 }))
         ⊎ ((code ≡ not_asked) × (told_after ≡ told) × ((request : List ℕ) → AreOf limits request call → ⊥))
     pub none_shown : shown ≡ []
 

@@ -2,7 +2,9 @@
 use Rattle.std.specs.Prelude.{◌≡◌, ◌+◌, ℕ, ℤ, List, [], ◌∷◌, length, Some}
 use Rattle.fuse_segments.specs.Written.{Written}
 use Rattle.fuse_messages.specs.Rooms.{with_after}
+use Rattle.fuse_grammar.specs.Ask.{ask}
 use Rattle.fuse_grammar.specs.Samples.{lookup_of_a}
+use Rattle.fuse_grammar.specs.Turn.{Turn, IsTurn}
 use Rattle.door_calls.specs.declared.call.CallData.{CallData}
 use Rattle.door_calls.specs.declared.call.number.TheConstants.{LOOKUP}
 use Rattle.door_calls.specs.declared.call.kind.TheConstants.{ENTRY}
@@ -12,7 +14,9 @@ use Rattle.fuse_grammar.specs.declared.limits.Limits.{Limits}
 use Rattle.door_ask.specs.Asked.{IsNameIn}
 use Rattle.door_answer.specs.declared.answered.Answered.{Answered}
 use Rattle.laws_flight.specs.OneTurn.{IsAnsweredTurn}
+use Rattle.c_rooms.specs.Codes.{outcome_code, length_of}
 use Rattle.nizwarf_door.specs.Answering.{IsPassedOn}
+use Rattle.nizwarf_door.specs.Turns.{Happened}
 use Rattle.nizwarf_door.specs.declared.data.ToldData.{ToldData}
 
 abbrev pub usual_limits : Limits
@@ -34,6 +38,18 @@ pub record IsLookupOfA (call : CallData) : Type 0 where
 abbrev pub no_such_name : List ℕ
 no_such_name =
     0x10 ∷ 0 ∷ 0 ∷ 0 ∷ 0xfe ∷ 0xff ∷ 0xff ∷ 0xff ∷ 9 ∷ 0 ∷ 0 ∷ 0 ∷ 0 ∷ 0 ∷ 0 ∷ 0 ∷ []
+
+-- A request with that much room was a turn of the grammar in which the file system gave this answer, or its directory was
+-- read from these items; and the outcome and the options were told so.
+pub record IsTurnInC (limits : Limits) (options : ℕ) (request : List ℕ) (room : ℕ) (a : AnswerData)
+    (text : List ℕ) (items : List ItemData) (code : ℤ) (told : ToldData) : Type 0 where
+  pub turn : Turn
+  pub of_request : turn.request ≡ request
+  pub in_room : length turn.room ≡ room
+  pub happened : Happened a text items (ask limits options room request) turn.room told turn.events
+  pub is_turn : IsTurn limits options turn told.options
+  pub code_is : code ≡ outcome_code turn.outcome
+  pub len : told.len ≡ length_of turn.outcome
 
 -- A request with that much room was one turn of the grammar, with this answer to the call that was told, whatever stood
 -- in the room after the first bytes that were put; and what came of it was told so.

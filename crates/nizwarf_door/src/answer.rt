@@ -4,7 +4,8 @@ ghost use Rattle.std.specs.Prelude.{◌≡◌, ◌≢◌, ℕ};
 ghost use Rattle.fuse_grammar.specs.Limits.{AreLimits};
 ghost use Rattle.c_rooms.specs.Codes.{no_memory};
 ghost use Rattle.nizwarf_door.specs.Answering.{AnswersOrNot, entry_of};
-ghost use Rattle.nizwarf_door.specs.Kept.{HasRoomFor, put_of};
+ghost use Rattle.nizwarf_door.specs.Kept.{put_of};
+ghost use Rattle.nizwarf_door.specs.Rooms.{HasRoomFor};
 ghost use Rattle.nizwarf_door.specs.Shown.{bytes_shown};
 
 use crate::ask::number_and_length;
@@ -61,6 +62,7 @@ pub fn answer_call(
     let room = put_of(call, call.room as usize);
     if !memory.begin_answer(alloc, room) {
         told.give_back = entry_of(call, answer);
+        told.taken = 0;
         return OUT_OF_MEMORY;
     }
     match put_answer(

@@ -13,7 +13,8 @@ ghost use Rattle.door_ask.specs.Memory.{MayWant};
 ghost use Rattle.door_ask.specs.declared.asked.Asked.TheVariants.{Call as IsCall};
 ghost use Rattle.c_rooms.specs.Codes.{is_asked, length_of, no_memory, outcome_code};
 ghost use Rattle.nizwarf_door.specs.Asking.{AsksOrNot, unread_in};
-ghost use Rattle.nizwarf_door.specs.Kept.{HasFor, HasRoomFor, TellsOrNot, put_of};
+ghost use Rattle.nizwarf_door.specs.Kept.{HasFor, TellsOrNot, put_of};
+ghost use Rattle.nizwarf_door.specs.Rooms.{HasRoomFor};
 ghost use Rattle.nizwarf_door.specs.Session.{limits_of, options_of};
 ghost use Rattle.nizwarf_door.specs.Shown.{bytes_shown};
 

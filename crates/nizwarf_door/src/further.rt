@@ -17,7 +17,8 @@ ghost use Rattle.c_rooms.specs.Codes.{is_asked, no_memory, outcome_code, wrong_s
 ghost use Rattle.nizwarf_door.specs.Answering.{AnswersOrNot};
 ghost use Rattle.nizwarf_door.specs.Asking.{AsksOrNot, finished, unread_in};
 ghost use Rattle.nizwarf_door.specs.Further.{AsksOffered, ChecksOffered, HoldsOffered, MayWantOffered, named};
-ghost use Rattle.nizwarf_door.specs.Kept.{HasFor, HasRoomFor, Holds, HoldsAnswer, put_of};
+ghost use Rattle.nizwarf_door.specs.Kept.{HasFor, Holds, HoldsAnswer, put_of};
+ghost use Rattle.nizwarf_door.specs.Rooms.{HasRoomFor};
 ghost use Rattle.nizwarf_door.specs.Session.{limits_of, options_of};
 ghost use Rattle.nizwarf_door.specs.Shown.{bytes_shown, shown_in};
 

@@ -28,16 +28,17 @@ mod uses_notices;
 mod uses_rest;
 mod uses_text;
 
-ghost use Rattle.std.specs.Prelude.{◌≡◌, ◌≢◌, ◌≤◌, ◌++◌, ℕ, [], length, take, drop, min, MatchOption};
+ghost use Rattle.std.specs.Prelude.{◌≡◌, ◌≢◌, ◌≤◌, ◌++◌, ℕ, [], length, take, drop, min, IsSome, MatchOption};
 ghost use Rattle.std.specs.declared.option.Option.TheVariants.{None, Some};
 ghost use Rattle.fuse_segments.specs.Segments.{segments_of, flat_bytes};
 ghost use Rattle.fuse_grammar.specs.Ask.{ask as ask_of};
+ghost use Rattle.fuse_grammar.specs.Forms.{Ask};
 ghost use Rattle.fuse_grammar.specs.Limits.{AreLimits};
 ghost use Rattle.door_ask.specs.Memory.{MayWant};
 ghost use Rattle.c_rooms.specs.Codes.{is_asked, no_memory, no_server, ok, wrong_size};
 ghost use Rattle.nizwarf_door.specs.Answering.{AnswersOrNot};
 ghost use Rattle.nizwarf_door.specs.Asking.{AsksOrNot, unread_in};
-ghost use Rattle.nizwarf_door.specs.Kept.{Holds, HoldsAnswer, HoldsFor, TellsOrNot};
+ghost use Rattle.nizwarf_door.specs.Kept.{Holds, HoldsAnswer, HoldsFor, TellsOrNot, put_of};
 ghost use Rattle.nizwarf_door.specs.Session.{limits_of, options_of};
 ghost use Rattle.nizwarf_door.specs.Shown.{shown_in};
 ghost use Rattle.nizwarf_door.specs.Turns.{IsAnsweredOrNot, IsAskedOrNot};
@@ -56,7 +57,7 @@ use std::alloc::Global;
 #[cold]
 #[inline(never)]
 fn new_memory(alloc: Global) -> Option<Box<Memory>> {
-    Box::new(alloc, Memory::new(alloc)).ok()
+    Box::new(alloc, Memory::new(alloc)?).ok()
 }
 
 // The memory after a handle, or new. `None` where there is no memory.
@@ -93,6 +94,7 @@ pub(crate) fn tell_in_slot(alloc: Global, handle: &mut Handle, call: &mut CallDa
     ensures has { HoldsAnswer call.old handle.old.value → result ≡ is_asked }
     ensures keeps { (n : ℕ) → Holds n handle.old.value → Holds n handle.new.value }
     ensures nothing { shown_in handle.new.value ≡ [] }
+    ensures some { IsSome handle.old.value → IsSome handle.new.value }
 {
     let Some(mut memory) = memory_of(alloc, handle) else {
         return not_asked(OUT_OF_MEMORY, call);
@@ -146,9 +148,14 @@ pub extern "C" fn nizwarf_ask_at(
         ¬ (MayWant (limits_of session.now) (options_of session.now) room
         (unread_in (segments_of request.now))) → result ≢ no_memory }
 
-    // Where a call is told the slot has memory for any answer to it, and so it stays up to the end of the slot.
+    // Where a call is told the slot has memory for any answer to it, and so for what comes of any request with no more
+    // room; and so it stays up to the end of the slot.
     ensures kept { result ≡ is_asked → HoldsAnswer call.new handle.new.value }
     ensures keeps { (n : ℕ) → Holds n handle.old.value → Holds n handle.new.value }
+    ensures ready { result ≡ is_asked → (less : ℕ) → less ≤ put_of call.new call.new.room →
+        (asks : Ask) → HoldsFor less asks handle.new.value }
+    ensures stays { (less : ℕ) (asks : Ask) →
+        HoldsFor less asks handle.old.value → HoldsFor less asks handle.new.value }
 {
     if is_asked_most(request) {
         ask_at_once(alloc, handle, session, request, room, call, told)
@@ -182,6 +189,7 @@ fn ask_at_once(
         (unread_in (segments_of request.now))) → result ≢ no_memory }
     ensures kept { result ≡ is_asked → HoldsAnswer call.new handle.new.value }
     ensures keeps { (n : ℕ) → Holds n handle.old.value → Holds n handle.new.value }
+    ensures some { IsSome handle.old.value → IsSome handle.new.value }
 {
     if ask_in_two(session, request, room, call) {
         return tell_in_slot(alloc, handle, call);
@@ -214,6 +222,7 @@ fn ask_by_reader(
         (unread_in (segments_of request.now))) → result ≢ no_memory }
     ensures kept { result ≡ is_asked → HoldsAnswer call.new handle.new.value }
     ensures keeps { (n : ℕ) → Holds n handle.old.value → Holds n handle.new.value }
+    ensures some { IsSome handle.old.value → IsSome handle.new.value }
 {
     let Some(limits) = session.limits() else {
         return WRONG_SIZE;
@@ -245,7 +254,7 @@ fn ask_by_reader(
 /// doesn't get to see, of which a lookup is to be given back; and how many items are in the reply.
 /// 16 is answered where the call is none that was asked, and 12 where there is no server for the
 /// sizes of the session: then nothing is told. 10 where this is another slot than the call was asked
-/// with, and there is no memory: then an entry is to be given back.
+/// with, and there is no memory: then an entry is to be given back, and no item is in a reply.
 #[unsafe(no_mangle)]
 pub extern "C" fn nizwarf_answer_at(
     alloc: Global,
@@ -268,9 +277,11 @@ pub extern "C" fn nizwarf_answer_at(
         AnswersOrNot (limits_of session.now) call.now answer.now text.now items.now
         result told.old told.new (shown_in handle.new.value) }
 
-    // A slot with which the call was asked has memory for its answer, and has it for others still.
+    // A slot with which the call was asked has memory for its answer, and has it for others still, and for requests.
     ensures memory { HoldsAnswer call.now handle.old.value → result ≢ no_memory }
     ensures keeps { (n : ℕ) → Holds n handle.old.value → Holds n handle.new.value }
+    ensures stays { (less : ℕ) (asks : Ask) →
+        HoldsFor less asks handle.old.value → HoldsFor less asks handle.new.value }
 {
     answer_in_slot(alloc, handle, session, call, answer, text, items, told)
 }
@@ -294,12 +305,14 @@ fn answer_in_slot(
         result told.old told.new (shown_in handle.new.value) }
     ensures memory { HoldsAnswer call.now handle.old.value → result ≢ no_memory }
     ensures keeps { (n : ℕ) → Holds n handle.old.value → Holds n handle.new.value }
+    ensures some { IsSome handle.old.value → IsSome handle.new.value }
 {
     let Some(limits) = session.limits() else {
         return WRONG_SIZE;
     };
     let Some(mut memory) = memory_of(alloc, handle) else {
         told.give_back = entry_of(call, answer);
+        told.taken = 0;
         return OUT_OF_MEMORY;
     };
     let code = answer_call(alloc, &mut memory, limits, call, answer, text, items, told);

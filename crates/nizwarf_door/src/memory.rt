@@ -1,10 +1,10 @@
 //! The memory of one call at a time: the room in which a reply is put together.
 
-ghost use Rattle.std.specs.Prelude.{◌≡◌, ◌≤◌, ◌+◌, ◌++◌, ℕ, false, true, length, take, drop, min};
-ghost use Rattle.nizwarf_door.specs.Kept.{HasRoomFor};
-ghost use Rattle.nizwarf_door.specs.Shown.{bytes_in, bytes_shown};
+ghost use Rattle.std.specs.Prelude.{◌≡◌, ◌≤◌, ◌+◌, ◌++◌, ℕ, false, true, length, take, drop, min, IfSome};
+ghost use Rattle.nizwarf_door.specs.Rooms.{HasRoomFor};
 
 use c_rooms::{copy_part, lend};
+use door_ask::LONGEST_REPLY;
 use fuse_segments::Writer;
 use std::alloc::Global;
 
@@ -18,6 +18,8 @@ pub struct Part {
 }
 
 impl Part {
+    ghost use Rattle.nizwarf_door.specs.Shown.{bytes_in};
+
     /// None yet.
     fn new(alloc: Global) -> Part {
         Part {
@@ -102,7 +104,7 @@ impl Part {
 /// for answers stays as it is where a request is asked.
 #[derive(Drop)]
 pub struct Memory {
-    /// Where a reply to a request that asks for no call is put together.
+    /// Where a reply to a request that asks for no call is put together: it has room for any.
     pub asked: Part,
     /// Where the answer to a call is.
     pub answers: Part,
@@ -110,19 +112,26 @@ pub struct Memory {
     pub was_asked: bool,
     /// How many bytes at the front of the last room are there to be copied out.
     pub shown: usize,
+    pub ghost replies: { HasRoomFor 80 asked },
 }
 
 impl Memory {
-    /// None yet.
-    pub fn new(alloc: Global) -> Memory
-        ensures { result.shown ≡ 0 }
+    ghost use Rattle.nizwarf_door.specs.Shown.{bytes_shown};
+
+    /// With none for answers yet. `None` where there is no memory.
+    pub fn new(alloc: Global) -> Option<Memory>
+        ensures { IfSome result (λ memory. memory.shown ≡ 0) }
     {
-        Memory {
-            asked: Part::new(alloc),
+        let mut asked = Part::new(alloc);
+        if !asked.keep(alloc, LONGEST_REPLY) {
+            return None;
+        }
+        Some(Memory {
+            asked,
             answers: Part::new(alloc),
             was_asked: false,
             shown: 0,
-        }
+        })
     }
 
     /// Begins to ask, with `total` bytes of room, and nothing there to be copied out. False where there is no memory.

@@ -8,7 +8,8 @@ ghost use Rattle.fuse_grammar.specs.Limits.{AreLimits};
 ghost use Rattle.door_ask.specs.Memory.{MayWantBehindHeader};
 ghost use Rattle.c_rooms.specs.Codes.{is_asked, no_memory};
 ghost use Rattle.nizwarf_door.specs.Asking.{AsksOrNot};
-ghost use Rattle.nizwarf_door.specs.Kept.{HasFor, HasRoomFor, put_of};
+ghost use Rattle.nizwarf_door.specs.Kept.{HasFor, put_of};
+ghost use Rattle.nizwarf_door.specs.Rooms.{HasRoomFor};
 ghost use Rattle.nizwarf_door.specs.Shown.{bytes_shown};
 
 use crate::ask::{not_asked, number_and_length, tell_call};

@@ -7,10 +7,12 @@ ghost use Rattle.fuse_segments.specs.Segments.{segments_of, flat_bytes};
 ghost use Rattle.c_rooms.specs.Codes.{ok, no_memory, not_asked, is_asked};
 ghost use Rattle.fuse_grammar.specs.Limits.{AreLimits};
 ghost use Rattle.fuse_grammar.specs.Ask.{ask};
-ghost use Rattle.nizwarf_door.specs.Kept.{HoldsAnswer, HoldsFor};
+ghost use Rattle.door_ask.specs.Memory.{MayWant};
+ghost use Rattle.nizwarf_door.specs.Asking.{unread_in};
+ghost use Rattle.nizwarf_door.specs.Kept.{HoldsAnswer, HoldsFor, put_of};
 ghost use Rattle.nizwarf_door.specs.Session.{limits_of, options_of};
 ghost use Rattle.nizwarf_door.specs.Shown.{shown_in};
-ghost use Rattle.nizwarf_door.specs.Uses.{IsLookupOfA, IsOneTurn, no_such_name, usual_limits};
+ghost use Rattle.nizwarf_door.specs.Uses.{IsLookupOfA, IsOneTurn, IsTurnInC, no_such_name, usual_limits};
 
 use crate::data::{SessionData, ToldData};
 use crate::handle::Handle;
@@ -140,7 +142,7 @@ fn read_some(
 }
 
 /// Asks any request for its call, and answers that with the same slot by these data, whatever they are. The answer lacks
-/// no memory; so where it is to that call, both were one turn of the grammar.
+/// no memory; so where it is to that call, both were one turn of the grammar: by what each promises, and over writers.
 fn ask_and_answer(
     alloc: Global,
     handle: &mut Handle,
@@ -155,6 +157,9 @@ fn ask_and_answer(
 ) -> i32
     requires { AreLimits (limits_of session.now) }
     ensures memory { result ≢ no_memory }
+    ensures promise { (code : ℤ) → result ≡ code → result ≢ not_asked →
+        IsTurnInC (limits_of session.now) (options_of session.now)
+        (flat_bytes (segments_of request.now)) room answer.now text.now items.now code told.new }
     ensures turn { (code : ℤ) → result ≡ code → result ≢ not_asked →
         IsOneTurn (limits_of session.now) (options_of session.now)
         (flat_bytes (segments_of request.now)) room call.new answer.now text.now items.now
@@ -168,7 +173,9 @@ fn ask_and_answer(
     nizwarf_answer_at(alloc, handle, session, call, answer, text, items, told)
 }
 
-/// Asks two requests for their calls with one slot, and answers them in the other order: no answer lacks memory.
+/// Asks two requests for their calls with one slot, and answers them in the other order; then it asks the second once more.
+/// From a call on that was told, no answer lacks memory, and no ask with no more room, unless a tail is cut, or there may be
+/// a context, or pairs.
 fn answer_in_other_order(
     alloc: Global,
     handle: &mut Handle,
@@ -176,25 +183,33 @@ fn answer_in_other_order(
     first: &[&[u8]],
     second: &[&[u8]],
     room: usize,
+    one: &mut CallData,
     answer: &AnswerData,
     told: &mut ToldData,
-) -> (i32, i32)
+) -> (i32, i32, i32, i32)
     requires { AreLimits (limits_of session.now) }
     ensures first { result.0 ≢ no_memory }
     ensures second { result.1 ≢ no_memory }
+    ensures asked { room ≤ put_of one.new one.new.room → length second.now ≤ 4 →
+        ¬ (MayWant (limits_of session.now) (options_of session.now) room
+        (unread_in (segments_of second.now))) → result.2 ≢ no_memory }
+    ensures again { room ≤ put_of one.new one.new.room → length second.now ≤ 4 →
+        ¬ (MayWant (limits_of session.now) (options_of session.now) room
+        (unread_in (segments_of second.now))) → result.3 ≢ no_memory }
 {
-    let (mut one, mut other) = (CallData::NONE, CallData::NONE);
-    let asked = nizwarf_ask_at(alloc, handle, session, first, room, &mut one, told);
+    let mut other = CallData::NONE;
+    let asked = nizwarf_ask_at(alloc, handle, session, first, room, one, told);
     if asked != ASKED {
-        return (NOT_ASKED, NOT_ASKED);
+        return (NOT_ASKED, NOT_ASKED, NOT_ASKED, NOT_ASKED);
     }
     let asked = nizwarf_ask_at(alloc, handle, session, second, room, &mut other, told);
     if asked != ASKED {
-        return (NOT_ASKED, NOT_ASKED);
+        return (NOT_ASKED, NOT_ASKED, asked, NOT_ASKED);
     }
-    let second = nizwarf_answer_at(alloc, handle, session, &other, answer, &[], &[], told);
-    let first = nizwarf_answer_at(alloc, handle, session, &one, answer, &[], &[], told);
-    (first, second)
+    let answered = nizwarf_answer_at(alloc, handle, session, &other, answer, &[], &[], told);
+    let earlier = nizwarf_answer_at(alloc, handle, session, one, answer, &[], &[], told);
+    let again = nizwarf_ask_at(alloc, handle, session, second, room, &mut other, told);
+    (earlier, answered, asked, again)
 }
 
 /// Asks a LOOKUP of the name `a`, which lies in one segment, with a slot that has memory: its call

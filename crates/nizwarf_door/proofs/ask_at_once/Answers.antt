@@ -24,3 +24,6 @@ returns-then-ask_in_two-clause-memory c holds few none code =
     (c.ask_in_two.ensures.told c.if-ask_in_two.true) holds) in
     let want : c.tell_in_slot.result ≡ no_memory = search (rules, code) in
     cc (told, want)
+
+pub returns-clause-kept : goal.returns-clause-kept
+returns-clause-kept c code = c.ask_by_reader.ensures.kept (search (rules, code))

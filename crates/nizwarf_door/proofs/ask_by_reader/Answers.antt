@@ -1,5 +1,14 @@
+use Rattle.std.proofs.Common.{rules}
 use Rattle.nizwarf_door.proofs.Leaving.{held_on}
 use Rattle.nizwarf_door.proofs.ask_by_reader.Goals as goal
+
+pub returns-clause-kept : goal.returns-clause-kept
+returns-clause-kept c code =
+    record {
+      memory = c.ask_segments-code.new.memory;
+      is = c.put.ensures;
+      has = c.ask_segments-code.ensures.kept (search (rules, code));
+    }
 
 pub returns-clause-keeps : goal.returns-clause-keeps
 returns-clause-keeps c n holds =

@@ -1,4 +1,5 @@
 use Rattle.std.proofs.Common.{rules}
+use Rattle.nizwarf_door.proofs.Asking.{stays_for}
 use Rattle.nizwarf_door.proofs.Turns.{answered_or_not}
 use Rattle.nizwarf_door.proofs.nizwarf_answer_at.Goals as goal
 
@@ -11,3 +12,8 @@ pub returns-clause-promise : goal.returns-clause-promise
 returns-clause-promise c are =
     let h = answered_or_not _ are _ _ _ _ _ _ _ _ (c.answer_in_slot.ensures.answered are) in
     search (rules, h)
+
+pub returns-clause-stays : goal.returns-clause-stays
+returns-clause-stays c less asks holds =
+    stays_for less asks c.args.handle.now.value c.answer_in_slot.new.handle.value c.answer_in_slot.ensures.some
+    c.answer_in_slot.ensures.keeps holds

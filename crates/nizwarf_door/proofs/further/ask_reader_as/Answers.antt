@@ -2,8 +2,8 @@ use Rattle.std.proofs.Common.{◌≡◌, ◌≤◌, true, length, rules}
 use Rattle.fuse_flags.specs.Flags.{fs_options_bits}
 use Rattle.c_rooms.specs.Codes.{is_asked, no_memory, outcome_code}
 use Rattle.door_further.specs.Turns.{as_create}
-use Rattle.nizwarf_door.proofs.Asking.{kept_for, no_call, other_number, told_call, told_finished, told_has, told_or_not}
-use Rattle.nizwarf_door.proofs.Leaving.{nothing_shown}
+use Rattle.nizwarf_door.proofs.Asking.{finished_room, kept_for, no_call, other_number, told_call, told_finished, told_has, told_or_not}
+use Rattle.nizwarf_door.proofs.Leaving.{keeps_room, nothing_shown}
 use Rattle.nizwarf_door.proofs.further.ask_reader_as.Goals as goal
 
 pub returns-in-Call-clause-asked : goal.returns-in-Call-clause-asked
@@ -55,3 +55,16 @@ returns-in-Finished-clause-kept c code =
     let number = c.number_and_length-code.ensures.number in
     let is : outcome_code c.in-Finished.outcome ≡ is_asked = search (rules, code, number) in
     absurd (no_call c.in-Finished.outcome is)
+
+pub invariant_of-memory-in-Finished : goal.invariant_of-memory-in-Finished
+invariant_of-memory-in-Finished c =
+    let begun : c.begin_ask.result ≡ true = search rules in
+    let enough : length c.begin_ask.new.self.asked.writer.left ≤ c.args.room = search rules in
+    let keeps = finished_room c.args.limits (fs_options_bits c.args.options) (as_create c.args.reader.left) c.args.room c.ask_as-asked.new.call c.args.told.now
+    c.begin_ask.new.self.asked.writer c.ask_as-asked.new.w c.ask_as-asked.result
+    c.ask_as-asked.ensures.asked c.ask_as-asked.ensures.within enough c.in-Finished.outcome c.in-Finished.interrupts (search rules) in
+    record {
+      replies =
+          keeps_room 80 c.begin_ask.new.self.asked (record c.begin_ask.new.self.asked { writer = c.ask_as-asked.new.w }) keeps
+          c.begin_ask.new.self.replies;
+    }

@@ -98,3 +98,9 @@ returns-in-Unnamed-clause-memory c = λ holds few none.
     what c.in-Unnamed.is told holds) few
     (unnamed_wants limits options q c.args.room c.args.call.now c.what.new.call c.what.result
     (unread_in (segments_of c.args.request.now)) what c.in-Unnamed.is told none))
+
+pub returns-in-Ordinary-clause-kept : goal.returns-in-Ordinary-clause-kept
+returns-in-Ordinary-clause-kept c code = c.nizwarf_ask_at.ensures.kept (search (rules, code))
+
+pub returns-in-Unnamed-clause-kept : goal.returns-in-Unnamed-clause-kept
+returns-in-Unnamed-clause-kept c code = c.ask_unnamed.ensures.kept (search (rules, code))

@@ -5,8 +5,8 @@ use Rattle.door_ask.specs.Asked.{IsAsked}
 use Rattle.door_ask.specs.Memory.{MayWantBehindHeader}
 use Rattle.fuse_flags.specs.Flags.{fs_options_bits}
 use Rattle.c_rooms.specs.Codes.{is_asked, no_memory, outcome_code}
-use Rattle.nizwarf_door.proofs.Asking.{kept_for, no_call, other_number, told_call, told_finished, told_has, told_or_not}
-use Rattle.nizwarf_door.proofs.Leaving.{nothing_shown}
+use Rattle.nizwarf_door.proofs.Asking.{finished_room, kept_for, no_call, other_number, told_call, told_finished, told_has, told_or_not}
+use Rattle.nizwarf_door.proofs.Leaving.{keeps_room, nothing_shown}
 use Rattle.nizwarf_door.proofs.rest.ask_pieces.Goals as goal
 
 pub returns-in-Call-clause-asked : goal.returns-in-Call-clause-asked
@@ -76,3 +76,20 @@ returns-in-Finished-clause-kept c code =
     let number = c.number_and_length-code.ensures.number in
     let is : outcome_code c.in-Finished.outcome ≡ is_asked = search (rules, code, number) in
     absurd (no_call c.in-Finished.outcome is)
+
+pub invariant_of-memory-in-Finished : goal.invariant_of-memory-in-Finished
+invariant_of-memory-in-Finished c =
+    let begun : c.begin_ask.result ≡ true = search rules in
+    let enough : length c.begin_ask.new.self.asked.writer.left ≤ c.args.room = search rules in
+    let left : c.reader_of-reader.result.left ≡ c.args.rest.now = c.reader_of-reader.ensures.left ∙ append-nil c.args.rest.now in
+    let asked = subst (λ (b : List ℕ). (behind : List ℕ) → length c.begin_ask.new.self.asked.writer.left + length behind ≡ c.args.room →
+    IsAsked c.args.limits (fs_options_bits c.args.options) (c.args.head.now ++ b) (with_after c.begin_ask.new.self.asked.writer behind)
+    c.ask_rest-asked.result (with_after c.ask_rest-asked.new.w behind) c.ask_rest-asked.new.call) left c.ask_rest-asked.ensures.asked in
+    let keeps = finished_room c.args.limits (fs_options_bits c.args.options) (c.args.head.now ++ c.args.rest.now) c.args.room c.ask_rest-asked.new.call c.args.told.now
+    c.begin_ask.new.self.asked.writer c.ask_rest-asked.new.w c.ask_rest-asked.result
+    asked c.ask_rest-asked.ensures.within enough c.in-Finished.outcome c.in-Finished.interrupts (search rules) in
+    record {
+      replies =
+          keeps_room 80 c.begin_ask.new.self.asked (record c.begin_ask.new.self.asked { writer = c.ask_rest-asked.new.w }) keeps
+          c.begin_ask.new.self.replies;
+    }

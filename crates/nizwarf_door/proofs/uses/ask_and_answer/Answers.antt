@@ -6,6 +6,7 @@ use Rattle.nizwarf_door.specs.Session.{limits_of, options_of}
 use Rattle.nizwarf_door.specs.Shown.{shown_in}
 use Rattle.nizwarf_door.specs.Uses.{IsOneTurn}
 use Rattle.nizwarf_door.specs.declared.data.ToldData.{ToldData}
+use Rattle.nizwarf_door.proofs.Concluding.{concluded}
 use Rattle.nizwarf_door.proofs.OneTurn.{one_turn, told_as_before}
 use Rattle.nizwarf_door.proofs.uses.ask_and_answer.Goals as goal
 
@@ -33,3 +34,13 @@ returns-clause-turn c code is came =
     (shown_in c.nizwarf_answer_at.new.handle.value)) same
     (one_turn c.asked_and_answered_is_one_turn.ensures _ _ _ _ _ _ _ _ _ _ _ _ _ _ _ _
     asks asked (c.nizwarf_answer_at.ensures.answered c.requires) has other))
+
+pub returns-clause-promise : goal.returns-clause-promise
+returns-clause-promise c code is came =
+    let asked : c.nizwarf_ask_at-asked.result ≡ is_asked = search rules in
+    let same : c.nizwarf_answer_at.result ≡ code = search (rules, is) in
+    let has : c.nizwarf_answer_at.result ≢ no_memory =
+    c.nizwarf_answer_at.ensures.memory (c.nizwarf_ask_at-asked.ensures.kept asked) in
+    let other : c.nizwarf_answer_at.result ≢ not_asked = λ e. came (search (rules, e)) in
+    concluded _ _ _ _ _ _ code _ _ _ _ _ _ _ _ _ asked same has other
+    (c.nizwarf_ask_at-asked.ensures.promise c.requires) (c.nizwarf_answer_at.ensures.promise c.requires)

@@ -11,3 +11,6 @@ pub returns-clause-call : goal.returns-clause-call
 returns-clause-call c =
     let l = looked_up _ _ _ _ _ _ c.requires (c.nizwarf_ask_at.ensures.asked are_limits) in
     search rules
+
+pub returns-clause-kept : goal.returns-clause-kept
+returns-clause-kept c code = c.nizwarf_ask_at.ensures.kept (search (rules, code))

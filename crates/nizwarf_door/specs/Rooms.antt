@@ -1,0 +1,8 @@
+-- Which room memory has.
+use Rattle.std.specs.Prelude.{◌≡◌, ◌≤◌, ℕ, length}
+use Rattle.fuse_segments.specs.Written.{whole}
+use Rattle.nizwarf_door.specs.declared.memory.Part.{Part}
+
+-- this memory has one segment, of at least that many bytes: such a room takes none
+abbrev pub HasRoomFor : (room : ℕ) → Part → Type 0
+HasRoomFor room p = (length p.writer.lengths ≡ 1) × (room ≤ length (whole p.writer))
