@@ -26,7 +26,7 @@ ROWS = {"COPY_64": r"copy_?64|copy_?file_?range_?64"}
 PAGE = "CONTRIBUTING.md"
 # Written by tools or recorded, and what tells of the past or of this list.
 APART = ["docs/generated/*", "crates/test_sessions/std*", "crates/text_decode/std*", "crates/text_demo/std*",
-         "tests/oracle/recorded/*", "tests/c/version-0.2/*", "CHANGELOG.md", PAGE, "tools/dev/opcode.py", "tools/dev/numbers.py"]
+         "tests/oracle/recorded/*", "tests/c/version-0.2/*", "tests/weaken/noticed.tsv", "CHANGELOG.md", PAGE, "tools/dev/opcode.py", "tools/dev/numbers.py"]
 # Where the word is a call of the system or of a client, or begins that of another opcode (COPY_FILE_RANGE_64).
 ELSEWHERE = ["crates/door_further/*", "crates/fuse_print/src/further.rt", "programs/share/passthrough_list.c", "tests/beside/get.sh",
              "tests/suites/get.sh",
