@@ -85,7 +85,7 @@ module _ (call : CallData) (a : AnswerData) (items : List ItemData) (old held mi
         events = Called (Readdir l.ctx l.parent l.handle l.size l.offset) (Failed fault) ∷ [];
         records = [];
         answer = answer;
-        read = inl (record { fault = fault; events_are = refl; records_are = refl; answer_is = e });
+        read = inl (fault, refl, refl, e);
         offered = (failed, none);
         fits = kind [] call.size counted;
         replied = replied old [] call.size (none_after old held mid holds enough same) counted;
@@ -108,7 +108,7 @@ module _ (call : CallData) (a : AnswerData) (items : List ItemData) (old held mi
         events = OpenedDirectory (Readdir l.ctx l.parent l.handle l.size l.offset) ∷ events;
         records = records;
         answer = answer;
-        read = inr (record { takings = events; events_are = refl; listing = listing });
+        read = inr (events, refl, listing);
         offered = (none, r.offered, r.taken_is);
         fits = kind records call.size counted;
         replied = replied old records call.size (records_after old held mid records _ holds enough r.puts) counted;

@@ -55,7 +55,7 @@ by_read : (i : ItemData) (name : List ℕ) → name_of i.name.now ≡ Some name 
     → a.error ≡ pos 0 → IsOfferedBy a (i ∷ []) l events records answer read taken → (taken ≡ 1) × (answer ≡ Ok 32) × (length records ≡ 32)
 by_read i name named one a l plain large room events records answer (inl u) taken none o = absurd (o.0.0 none)
 by_read i name named one a l plain large room events records answer (inr r) taken none o =
-    let h = r.listing in
+    let h = r.2 in
     let lines = by_lines i name named one l.size l.space large room h.lines h.stop answer
     (rw plain at h.written) (rw plain at h.stops) (rw plain at h.answer_is) (rw plain at o.1) in
     let long : 32 ≡ length records = length-listing h 32 lines.1 in

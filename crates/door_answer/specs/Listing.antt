@@ -22,12 +22,11 @@ use Rattle.door_answer.specs.declared.answered.Answered.{Answered}
 abbrev pub IsOfferedBy : AnswerData → (items : List ItemData) → (l : Listing) → (events : List Event)
     → (records : List ℕ) → (answer : Result ℕ (Option ℕ)) → IsDirectory l events records answer
     → (taken : ℕ) → Type 0
-IsOfferedBy a items l events records answer (inl unopened) taken =
-    IsFailed a unopened.fault × (taken ≡ 0)
-IsOfferedBy a items l events records answer (inr opened) taken =
+IsOfferedBy a items l events records answer (inl (fault, _, _, _)) taken = IsFailed a fault × (taken ≡ 0)
+IsOfferedBy a items l events records answer (inr (_, _, listing)) taken =
     (a.error ≡ pos 0)
-    × AreOffered l.plus items opened.listing.lines opened.listing.stop
-    × (taken ≡ taken_by answer (length opened.listing.lines))
+    × AreOffered l.plus items listing.lines listing.stop
+    × (taken ≡ taken_by answer (length listing.lines))
 
 -- ---- no more is of the promise: the rest is for proofs, and for contracts of parts
 

@@ -14,6 +14,7 @@ use Rattle.fs_trait.specs.Places.{cut_at}
 use Rattle.fuse_grammar.specs.Extensions.{error_or, name_and_value, context_in, security_context_in, group_in, Block, block_in, cut_on, cut_of_most, cut_of, has_option, no_extensions, Received, receive_kind, receive_all, received_at_end, extensions_in}
 use Rattle.fuse_grammar.specs.Words.{block_size, reads_extensions, nothing_received, with_context, with_group, receive, extensions_of}
 use Rattle.fuse_grammar.specs.FormParts.{value_after}
+use Rattle.fuse_grammar.proofs.Blocks.{extensions_in-cut}
 use Rattle.fuse_grammar.specs.Records.{record_of}
 use Rattle.fuse_grammar.specs.declared.error.Error.{Error}
 use Rattle.fuse_grammar.specs.declared.error.Error.TheVariants.{DecodeMessage, InvalidHeaderLength}
@@ -104,8 +105,9 @@ at_start options false blocks ext c e s =
 
 pub all_left : (options : ℕ) (blocks : List ℕ) (ext : ExtensionValues) (c : List ℕ × List ℕ)
     → extensions_in options blocks ≡ Ok ext → ext.context ≡ Some c → Left options blocks ext
-unfolding extensions_in cut_of
-all_left options blocks ext c e s = at_start options (reads_extensions options) blocks ext c e s
+unfolding cut_of
+all_left options blocks ext c e s =
+    at_start options (reads_extensions options) blocks ext c (sym (extensions_in-cut options blocks) ∙ e) s
 
 -- at the end no context can be there
 ended : (lacks : Bool) (received : Received) (ext : ExtensionValues) (e : Error)
@@ -328,5 +330,6 @@ none_either options true blocks ext lacks e =
 none_either options false blocks ext lacks e = sym (ap (λ (x : ExtensionValues). x.context) (same_ok no_extensions ext e))
 
 pub no_contexts : (options : ℕ) (blocks : List ℕ) (ext : ExtensionValues) → has_option options security_ctx ≡ false → extensions_in options blocks ≡ Ok ext → ext.context ≡ None
-unfolding extensions_in cut_of
-no_contexts options blocks ext lacks e = none_either options (reads_extensions options) blocks ext lacks e
+unfolding cut_of
+no_contexts options blocks ext lacks e =
+    none_either options (reads_extensions options) blocks ext lacks (sym (extensions_in-cut options blocks) ∙ e)

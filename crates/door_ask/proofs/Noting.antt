@@ -99,11 +99,11 @@ listed : (l : Listing) (records : List ℕ) (answer : Result ℕ (Option ℕ)) (
     → old.call.now ≡ nothing → IsRun Notes GivesNone None old events new → IsRead l events records answer
     → Has old new (shape_of (Readdir l.ctx l.parent l.handle l.size l.offset))
 listed l records answer old new events start r (inl u) =
-    one_call (Readdir l.ctx l.parent l.handle l.size l.offset) u.fault old new start
-    (subst (λ (es : List Event). IsRun Notes GivesNone None old es new) u.events_are r)
+    one_call (Readdir l.ctx l.parent l.handle l.size l.offset) u.0 old new start
+    (subst (λ (es : List Event). IsRun Notes GivesNone None old es new) u.1 r)
 listed l records answer old new events start r (inr o) =
-    absurd (none_opened (Readdir l.ctx l.parent l.handle l.size l.offset) o.takings old new
-    (subst (λ (es : List Event). IsRun Notes GivesNone None old es new) o.events_are r))
+    absurd (none_opened (Readdir l.ctx l.parent l.handle l.size l.offset) o.0 old new
+    (subst (λ (es : List Event). IsRun Notes GivesNone None old es new) o.1 r))
 
 -- the room that a reply leaves
 same_room : (old new : Written) → new ≡ old → KeepsRoom old new

@@ -4,8 +4,8 @@ use Rattle.std.specs.Prelude.{nat_lt}
 use Rattle.fuse_wire.specs.Fields.{value_of}
 use Rattle.fuse_wire.specs.Records.{ext_header}
 use Rattle.fs_trait.specs.Values.{ExtensionValues}
-use Rattle.fuse_grammar.specs.Extensions.{Block, Cut, Received, block_in, cut_on, cut_of_most, cut_of, error_or, received_at_end}
-use Rattle.fuse_grammar.specs.Words.{block_size, receive, extensions_of}
+use Rattle.fuse_grammar.specs.Extensions.{Block, Cut, Received, block_in, cut_on, cut_of_most, cut_of, error_or, received_at_end, values_in, extensions_in, no_extensions}
+use Rattle.fuse_grammar.specs.Words.{block_size, receive, extensions_of, reads_extensions, nothing_received}
 use Rattle.fuse_grammar.specs.declared.error.Error.{Error}
 use Rattle.fuse_grammar.specs.declared.error.Error.TheVariants.{DecodeMessage, InvalidHeaderLength}
 
@@ -89,6 +89,46 @@ error_or-error_or : {A B C : Type 0} (x : Result A Error) (f : A → Result B Er
     → error_or (error_or x f) g ≡ error_or x (λ a. error_or (f a) g)
 error_or-error_or (Err e) f g = refl
 error_or-error_or (Ok a) f g = refl
+
+-- a step after a part by equal steps
+error_or-same : {A B : Type 0} (x : Result A Error) (f g : A → Result B Error) → ((a : A) → f a ≡ g a)
+    → error_or x f ≡ error_or x g
+error_or-same (Err e) f g same = refl
+error_or-same (Ok a) f g same = same a
+
+-- ---- what bytes say block by block is what their cut says
+
+-- by the first block
+values_in-step : (options most : ℕ) (r : Received) (rest : List ℕ) (first : Result Block Error)
+    → ((block : Block) → first ≡ Ok block → (more : Received)
+    → values_in options most more rest ≡ extensions_of options more (cut_of_most most rest))
+    → error_or first (λ block. error_or (receive options r block) (λ more. values_in options most more rest))
+    ≡ extensions_of options r (cut_on first (cut_of_most most rest))
+values_in-step options most r rest (Err e) after = refl
+values_in-step options most r rest (Ok block) after =
+    error_or-same (receive options r block) _ _ (after block refl)
+    ∙ sym (error_or-error_or (receive options r block) _ _)
+
+values_in-cut : (options most : ℕ) (r : Received) (bytes : List ℕ) → length bytes ≤ most
+    → values_in options most r bytes ≡ extensions_of options r (cut_of_most most bytes)
+values_in-cut options zero r [] h = refl
+values_in-cut options (suc most) r [] h = refl
+values_in-cut options zero r (b ∷ bytes) h = absurd (omega arith)
+values_in-cut options (suc most) r (b ∷ bytes) h =
+    values_in-step options most r (drop (block_size (b ∷ bytes)) (b ∷ bytes)) (block_in (b ∷ bytes)) (λ block is more.
+    let has : HasBlock (b ∷ bytes) = block_in-has (b ∷ bytes) block is in
+    let left = length-drop (block_size (b ∷ bytes)) (b ∷ bytes) in
+    values_in-cut options most more (drop (block_size (b ∷ bytes)) (b ∷ bytes)) (omega arith))
+
+pub extensions_in-cut : (options : ℕ) (bytes : List ℕ)
+    → extensions_in options bytes
+    ≡ (if reads_extensions options then extensions_of options nothing_received (cut_of bytes) else Ok no_extensions)
+unfolding extensions_in cut_of
+extensions_in-cut options bytes =
+    ap (λ (said : Result ExtensionValues Error). if reads_extensions options then said else Ok no_extensions)
+    (values_in-cut options (length bytes) nothing_received bytes (omega arith))
+
+-- ---- the cut by its first block
 
 -- with one more block
 pub extensions_of-block : (options : ℕ) (r : Received) (bytes : List ℕ) (b : Block) → block_in bytes ≡ Ok b

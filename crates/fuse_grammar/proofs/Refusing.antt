@@ -10,6 +10,7 @@ use Rattle.fuse_wire.specs.Records.{ext_header, secctx, supp_groups}
 use Rattle.fs_trait.specs.Values.{ExtensionValues, first_name}
 use Rattle.fuse_grammar.specs.Extensions.{error_or, name_and_value, context_in, security_context_in, group_in, Block, block_in, Cut, cut_on, cut_of_most, cut_of, has_option, Received, receive_kind, receive_all, received_at_end, extensions_in}
 use Rattle.fuse_grammar.specs.Words.{block_size, reads_extensions, nothing_received, with_context, with_group, receive}
+use Rattle.fuse_grammar.proofs.Blocks.{extensions_in-cut}
 use Rattle.fuse_grammar.specs.FormParts.{value_after, after_name, extended_or_refusal, link_or_refusal}
 use Rattle.fuse_grammar.specs.Forms.{extended_in, link_in_tail}
 use Rattle.fuse_grammar.specs.Records.{size_of, record_of}
@@ -120,13 +121,13 @@ of_end options (Some e) received f = f
 of_end options None received f = tested (has_option options security_ctx && not received.has_contexts) _ _ tt tt
 
 pub of_extensions : (options : ℕ) (bytes : List ℕ) → IsRefused (extensions_in options bytes)
-unfolding extensions_in cut_of
+unfolding cut_of
 of_extensions options bytes =
     let cut = cut_of_most (length bytes) bytes in
-    tested (reads_extensions options) _ _
+    rw (extensions_in-cut options bytes) (tested (reads_extensions options) _ _
     (onward (receive_all options nothing_received cut.blocks) _ (of_all options nothing_received cut.blocks)
     (λ received. of_end options cut.error received (of_cut (length bytes) bytes)))
-    tt
+    tt)
 
 -- ---- names and extensions
 

@@ -1,7 +1,7 @@
 -- What a request asks, by its bytes alone: the table of the protocol. Begin with `ask`, the last
 -- definition, and `form_of`; then `Form` and `ask_form` of Forms. `call` is Calls, and the opcodes have
 -- their names in `fuse.h`.
-use Rattle.std.specs.Prelude.{ℕ, [], ◌∷◌, slice_index, ◌*◌, ◌==◌, ◌||◌, true, false, bit_and, bit_or, Bool, List, drop, nat_lt, not, if◌then◌else◌, Option, Some, None}
+use Rattle.std.specs.Prelude.{ℕ, [], ◌∷◌, slice_index, ◌+◌, ◌*◌, ◌==◌, ◌||◌, true, false, bit_and, bit_or, Bool, List, drop, nat_lt, not, if◌then◌else◌, Option, Some, None}
 use Rattle.fuse_flags.specs.Numbers.{enosys, opcode_of}
 use Rattle.fuse_flags.specs.Flags.{known_setattr_valid, known_setxattr_flags, setxattr_ext}
 use Rattle.fuse_flags.specs.declared.constants.TheConstants.{FATTR_FH, GETATTR_FH, FSYNC_FDATASYNC, OPEN_KILL_SUIDGID, READ_LOCKOWNER, RELEASE_FLUSH, RELEASE_FLOCK_UNLOCK, WRITE_CACHE, WRITE_KILL_PRIV, WRITE_LOCKOWNER, RENAME_FLAGS}
@@ -15,11 +15,11 @@ use Rattle.fuse_wire.specs.declared.headers.InHeader.{InHeader}
 use Rattle.fuse_wire_more.specs.declared.xattrs.SetxattrIn.{SetxattrIn}
 use Rattle.fs_trait.specs.Values.{context_of}
 use Rattle.fs_trait.specs.declared.entry.Context.{Context}
-use Rattle.fuse_grammar.specs.Limits.{max_len}
 use Rattle.fuse_grammar.specs.Records.{size_of, record_of}
 use Rattle.fuse_grammar.specs.Listing.{Listing}
 use Rattle.fuse_grammar.specs.Forms.{Ask, refused_or, faulted, within, Layout, no_record, Record, never, Form, NoTail, NameTail, TwoNames, NameAndValue, NameAndExtensions, LinkAndExtensions, Pairs, WithRest, IntoRoom, Directories, Versions, Silent, NotServed, ask_form}
 use Rattle.fuse_grammar.specs.declared.limits.Limits.{Limits}
+use Rattle.fs_trait.specs.Calls.{Call}
 use Rattle.fs_trait.specs.Calls as call
 
 -- whether a word of flags has one of these flags
@@ -56,6 +56,13 @@ listing_of plus h r space_for_records = record {
   space = space_for_records;
 }
 
+-- a row without a record: nothing comes after the header, or a name alone
+abbrev pub bare : Call → Form
+bare asked = NoTail no_record never (λ r. asked)
+
+abbrev pub named : (List ℕ → Call) → Form
+named asked = NameTail no_record never (λ r name. asked name)
+
 module _ (limits : Limits) (options room_len : ℕ) (h : InHeader) where
   -- the caller that the header names
   abbrev pub caller : Context
@@ -66,22 +73,22 @@ module _ (limits : Limits) (options room_len : ℕ) (h : InHeader) where
   -- names the caller alone; INIT, DESTROY and the eight without arguments name neither; LINK's node
   -- is its record's, and its new parent the header's.
   abbrev pub form_of : Opcode → Form
-  form_of Lookup = NameTail no_record never (λ r name. call.Lookup caller h.nodeid name)
+  form_of Lookup = named (call.Lookup caller h.nodeid)
   form_of Forget = NoTail (Record forget_in) never (λ r. call.Forget caller h.nodeid r.nlookup)
   form_of Getattr = NoTail (Record getattr_in) never (λ r.
       call.Getattr caller h.nodeid (if_set r.flags GETATTR_FH r.fh))
   form_of Setattr = NoTail (Record setattr_in) never (λ r.
       call.Setattr caller h.nodeid r (if_set r.valid FATTR_FH r.fh)
       (bit_and r.valid known_setattr_valid))
-  form_of Readlink = NoTail no_record never (λ r. call.Readlink caller h.nodeid)
+  form_of Readlink = bare (call.Readlink caller h.nodeid)
   form_of Symlink = LinkAndExtensions no_record options (λ r name text ext.
       call.Symlink caller text h.nodeid name ext)
   form_of Mknod = NameAndExtensions (Record mknod_in) options (λ r name ext.
       call.Mknod caller h.nodeid name r.mode r.rdev r.umask ext)
   form_of Mkdir = NameAndExtensions (Record mkdir_in) options (λ r name ext.
       call.Mkdir caller h.nodeid name r.mode r.umask ext)
-  form_of Unlink = NameTail no_record never (λ r name. call.Unlink caller h.nodeid name)
-  form_of Rmdir = NameTail no_record never (λ r name. call.Rmdir caller h.nodeid name)
+  form_of Unlink = named (call.Unlink caller h.nodeid)
+  form_of Rmdir = named (call.Rmdir caller h.nodeid)
   form_of Rename = TwoNames (Record rename_in) (λ r old new.
       call.Rename caller h.nodeid old r.newdir new 0)
   form_of Link = NameTail (Record link_in) never (λ r name.
@@ -95,7 +102,7 @@ module _ (limits : Limits) (options room_len : ℕ) (h : InHeader) where
       call.Write caller h.nodeid r.fh rest r.size r.offset
       (if_set r.write_flags WRITE_LOCKOWNER r.lock_owner) (has_flag r.write_flags WRITE_CACHE)
       (has_flag r.write_flags WRITE_KILL_PRIV) r.flags)
-  form_of Statfs = NoTail no_record never (λ r. call.Statfs caller h.nodeid)
+  form_of Statfs = bare (call.Statfs caller h.nodeid)
   form_of Release = NoTail (Record release_in) never (λ r.
       call.Release caller h.nodeid r.flags r.fh (has_flag r.release_flags RELEASE_FLUSH)
       (has_flag r.release_flags RELEASE_FLOCK_UNLOCK)
@@ -109,7 +116,7 @@ module _ (limits : Limits) (options room_len : ℕ) (h : InHeader) where
       call.Getxattr caller h.nodeid name r.size)
   form_of Listxattr = NoTail (Record getxattr_in) (λ r. nat_lt limits.max_buffer r.size) (λ r.
       call.Listxattr caller h.nodeid r.size)
-  form_of Removexattr = NameTail no_record never (λ r name. call.Removexattr caller h.nodeid name)
+  form_of Removexattr = named (call.Removexattr caller h.nodeid)
   form_of Flush = NoTail (Record flush_in) never (λ r. call.Flush caller h.nodeid r.fh r.lock_owner)
   form_of Init = Versions
   form_of Opendir = NoTail (Record open_in) never (λ r. call.Opendir caller h.nodeid r.flags)
@@ -119,19 +126,19 @@ module _ (limits : Limits) (options room_len : ℕ) (h : InHeader) where
       call.Releasedir caller h.nodeid r.flags r.fh)
   form_of Fsyncdir = NoTail (Record fsync_in) never (λ r.
       call.Fsyncdir caller h.nodeid (has_flag r.fsync_flags FSYNC_FDATASYNC) r.fh)
-  form_of Getlk = NoTail no_record never (λ r. call.Getlk)
-  form_of Setlk = NoTail no_record never (λ r. call.Setlk)
-  form_of Setlkw = NoTail no_record never (λ r. call.Setlkw)
+  form_of Getlk = bare call.Getlk
+  form_of Setlk = bare call.Setlk
+  form_of Setlkw = bare call.Setlkw
   form_of Access = NoTail (Record access_in) never (λ r. call.Access caller h.nodeid r.mask)
   form_of Create = NameAndExtensions (Record create_in) options (λ r name ext.
       call.Create caller h.nodeid name r.mode (has_flag r.open_flags OPEN_KILL_SUIDGID) r.flags
       r.umask ext)
   form_of Interrupt = Silent
-  form_of Bmap = NoTail no_record never (λ r. call.Bmap)
-  form_of Destroy = NoTail no_record never (λ r. call.Destroy)
-  form_of Ioctl = NoTail no_record never (λ r. call.Ioctl)
-  form_of Poll = NoTail no_record never (λ r. call.Poll)
-  form_of NotifyReply = NoTail no_record never (λ r. call.NotifyReply)
+  form_of Bmap = bare call.Bmap
+  form_of Destroy = bare call.Destroy
+  form_of Ioctl = bare call.Ioctl
+  form_of Poll = bare call.Poll
+  form_of NotifyReply = bare call.NotifyReply
   form_of BatchForget = Pairs (Record batch_forget_in)
       (λ r. nat_lt limits.max_buffer (r.count * size_of forget_one)) (λ r. r.count) (λ r pairs.
       call.BatchForget caller pairs)
@@ -148,8 +155,8 @@ module _ (limits : Limits) (options room_len : ℕ) (h : InHeader) where
       r.flags)
   form_of SetupMapping = NotServed
   form_of RemoveMapping = NotServed
-  form_of Syncfs = NoTail no_record never (λ r. call.Syncfs caller h.nodeid)
-  form_of TmpFile = NoTail no_record never (λ r. call.Tmpfile)
+  form_of Syncfs = bare (call.Syncfs caller h.nodeid)
+  form_of TmpFile = bare call.Tmpfile
 
 module _ (limits : Limits) (options room_len : ℕ) where
   -- what the bytes after a header ask, by its opcode; a number that is none is ENOSYS
@@ -157,9 +164,9 @@ module _ (limits : Limits) (options room_len : ℕ) where
   ask_number None h rest = faulted enosys h
   ask_number (Some opcode) h rest = ask_form h rest (form_of limits options room_len h opcode)
 
-  -- What these bytes ask, under these limits and agreed options, with a room of this length: a `len`
-  -- above `max_len` is ENOMEM, whatever the opcode.
+  -- What these bytes ask, under these limits and agreed options, with a room of this length: a `len` above
+  -- the largest payload and the 4096 bytes that may come before it is ENOMEM, whatever the opcode.
   abbrev pub ask : (bytes : List ℕ) → Ask
   ask bytes = refused_or (record_of in_header bytes) (λ h.
-      within (nat_lt (max_len limits) h.len) h
+      within (nat_lt (limits.max_buffer + 4096) h.len) h
       (ask_number (opcode_of h.opcode) h (drop (size_of in_header) bytes)))

@@ -1,6 +1,6 @@
 -- The books of lookups and forgets. A file system counts how often it answered an entry of a node,
 -- and a client gives these counts back by forgets. Four sums are kept of a node: two of the events
--- that happened, and two of the bytes that came and went. Begin with `KeepsBooks`, the last definition.
+-- that happened, and two of the bytes that came and went. Begin with `KeepsBooks`.
 use Rattle.std.specs.Prelude.{ℕ, ◌==◌, if◌then◌else◌, List, [], ◌∷◌, take, drop, sum_by, count_by, Option, Some, Result, Ok, Err, ◌≡◌, ◌≢◌, ◌≤◌, ◌+◌, ◌++◌}
 use Rattle.fuse_flags.specs.Numbers.{opcode_of}
 use Rattle.fuse_flags.specs.declared.opcode.Opcode.{Opcode}
@@ -56,14 +56,6 @@ answered_by n _ = 0
 abbrev pub sent_by : (n : ℕ) → Event → ℕ
 sent_by n (Called call answer) = forgotten n (forgets_of call)
 sent_by n _ = 0
-
--- the entries of a node that were answered
-abbrev pub answered : (n : ℕ) → List Event → ℕ
-answered n events = sum_by (answered_by n) events
-
--- the forgets of a node that were sent to the file system
-abbrev pub sent : (n : ℕ) → List Event → ℕ
-sent n events = sum_by (sent_by n) events
 
 -- ---- bytes
 
@@ -133,9 +125,20 @@ accepted n t = accepted_by n t.request t.outcome
 pub record KeepsBooks (turns : List Turn) : Type 0 where
   pub balanced :
       (n : ℕ) → n ≢ 0
-      → answered n (events_in turns) + sum_by (accepted n) turns
-      ≡ sum_by (delivered n) turns + sent n (events_in turns)
+      → sum_by (answered_by n) (events_in turns) + sum_by (accepted n) turns
+      ≡ sum_by (delivered n) turns + sum_by (sent_by n) (events_in turns)
   pub never_below :
       (before some after : List Turn) → turns ≡ before ++ (some ++ after) → (n : ℕ) → n ≢ 0
       → ((k : ℕ) → sum_by (accepted n) (take k some) ≤ sum_by (delivered n) (take k some))
-      → (k : ℕ) → sent n (take k (events_in some)) ≤ answered n (take k (events_in some))
+      → (k : ℕ)
+      → sum_by (sent_by n) (take k (events_in some)) ≤ sum_by (answered_by n) (take k (events_in some))
+
+-- ---- no more is of the promise: the rest is for proofs, and for contracts of parts
+
+-- the entries of a node that were answered
+abbrev pub answered : (n : ℕ) → List Event → ℕ
+answered n events = sum_by (answered_by n) events
+
+-- the forgets of a node that were sent to the file system
+abbrev pub sent : (n : ℕ) → List Event → ℕ
+sent n events = sum_by (sent_by n) events

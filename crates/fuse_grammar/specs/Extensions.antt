@@ -1,5 +1,5 @@
 -- The extensions of a SYMLINK, MKNOD, MKDIR or CREATE: blocks, one after the other, and what they say. Begin
--- with `extensions_in`, the last definition.
+-- with `extensions_in`.
 use Rattle.std.specs.Prelude.{◌-◌, ◌==◌, ◌||◌, ◌&&◌, not, ℕ, zero, suc, bit_and, Bool, true, false, List, [], ◌∷◌, length, take, drop, is_some, nat_lt, if◌then◌else◌, Option, Some, None, Result, Ok, Err, ok_or}
 use Rattle.fuse_flags.specs.Numbers.{ext_type_of}
 use Rattle.fuse_flags.specs.Flags.{security_ctx, create_supp_group}
@@ -64,30 +64,6 @@ block_in bytes = error_or (record_of ext_header bytes) (λ r.
       body = take (r.size - size_of ext_header) (drop (size_of ext_header) bytes);
     }))
 
--- what bytes are: blocks, one after the other, and the error of what is left then, which begins
--- with no block, if something is left
-pub record Cut : Type 0 where
-  pub blocks : List Block
-  pub error : Option Error
-
--- a block in front of the others, or none
-abbrev pub cut_on : Result Block Error → (others : Cut) → Cut
-cut_on (Err error) others = record { blocks = []; error = Some error }
-cut_on (Ok block) others = record { blocks = block ∷ others.blocks; error = others.error }
-
--- what bytes are, cut into at most that many blocks: the number of bytes is always enough. A
--- header's size counts the header too.
-abbrev pub cut_of_most : (most : ℕ) → (bytes : List ℕ) → Cut
-cut_of_most zero bytes = record { blocks = []; error = None }
-cut_of_most (suc most) [] = record { blocks = []; error = None }
-cut_of_most (suc most) (b ∷ bytes) =
-    cut_on (block_in (b ∷ bytes))
-    (cut_of_most most (drop (value_of ext_header (b ∷ bytes)).size (b ∷ bytes)))
-
--- what bytes are
-unfoldable pub cut_of : (bytes : List ℕ) → Cut
-cut_of bytes = cut_of_most (length bytes) bytes
-
 -- ---- what blocks say
 
 -- these options have this one
@@ -118,6 +94,52 @@ receive_kind options received (Some SupGroups) body =
     else error_or (group_in body) (λ group.
     Ok (record received { values = record received.values { group = Some group } }))
 
+-- What bytes say after what was received before, block by block, at most that many: the error of the first
+-- that is bad, or of what begins with none. At the end the values, if a block of contexts came, of none
+-- too, where contexts were agreed on. More blocks than bytes there are not.
+abbrev pub values_in : (options most : ℕ) → Received → (bytes : List ℕ) → Result ExtensionValues Error
+values_in options most received [] =
+    if has_option options security_ctx && not received.has_contexts then Err MissingExtension
+    else Ok received.values
+values_in options zero received (b ∷ bytes) = Err DecodeMessage
+values_in options (suc most) received (b ∷ bytes) =
+    error_or (block_in (b ∷ bytes)) (λ block.
+    error_or (receive_kind options received (ext_type_of block.ext_type) block.body) (λ more.
+    values_in options most more (drop (value_of ext_header (b ∷ bytes)).size (b ∷ bytes))))
+
+-- The extensions that bytes are. Where neither kind is agreed on nothing is read.
+unfoldable pub extensions_in : (options : ℕ) → (bytes : List ℕ) → Result ExtensionValues Error
+extensions_in options bytes =
+    if has_option options security_ctx || has_option options create_supp_group
+    then values_in options (length bytes) (record { has_contexts = false; values = no_extensions }) bytes
+    else Ok no_extensions
+
+-- ---- no more is of the promise: the rest is for proofs, and for contracts of parts
+
+-- what bytes are: blocks, one after the other, and the error of what is left then, which begins
+-- with no block, if something is left
+pub record Cut : Type 0 where
+  pub blocks : List Block
+  pub error : Option Error
+
+-- a block in front of the others, or none
+abbrev pub cut_on : Result Block Error → (others : Cut) → Cut
+cut_on (Err error) others = record { blocks = []; error = Some error }
+cut_on (Ok block) others = record { blocks = block ∷ others.blocks; error = others.error }
+
+-- what bytes are, cut into at most that many blocks: the number of bytes is always enough. A
+-- header's size counts the header too.
+abbrev pub cut_of_most : (most : ℕ) → (bytes : List ℕ) → Cut
+cut_of_most zero bytes = record { blocks = []; error = None }
+cut_of_most (suc most) [] = record { blocks = []; error = None }
+cut_of_most (suc most) (b ∷ bytes) =
+    cut_on (block_in (b ∷ bytes))
+    (cut_of_most most (drop (value_of ext_header (b ∷ bytes)).size (b ∷ bytes)))
+
+-- what bytes are
+unfoldable pub cut_of : (bytes : List ℕ) → Cut
+cut_of bytes = cut_of_most (length bytes) bytes
+
 -- what is received with these blocks, or the error of the first bad one
 abbrev pub receive_all : (options : ℕ) → Received → List Block → Result Received Error
 receive_all options received [] = Ok received
@@ -132,15 +154,3 @@ received_at_end options (Some error) received = Err error
 received_at_end options None received =
     if has_option options security_ctx && not received.has_contexts then Err MissingExtension
     else Ok received.values
-
--- The extensions that bytes are: the error of the first bad block, or else of what is left after
--- the blocks; or that no block of contexts came, though they were agreed on; or their values. Where
--- neither kind is agreed on nothing is read.
-unfoldable pub extensions_in : (options : ℕ) → (bytes : List ℕ) → Result ExtensionValues Error
-extensions_in options bytes =
-    if has_option options security_ctx || has_option options create_supp_group
-    then error_or
-    (receive_all options (record { has_contexts = false; values = no_extensions })
-    (cut_of bytes).blocks)
-    (received_at_end options (cut_of bytes).error)
-    else Ok no_extensions

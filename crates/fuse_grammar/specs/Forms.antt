@@ -1,8 +1,8 @@
 -- The forms of requests: what comes after the header, and in which order it is refused. Begin with `Ask`,
--- `Form`, and `ask_form`, the last definition.
-use Rattle.std.specs.Prelude.{ℕ, zero, suc, ◌+◌, ◌*◌, ◌-◌, ◌==◌, bit_and, [], ◌∷◌, Bool, false, List, length, take, drop, nat_lt, if◌then◌else◌, Some, Result, Ok, Err, ok_or, option_map, unwrap_or}
+-- `Form`, and `ask_form`.
+use Rattle.std.specs.Prelude.{ℕ, zero, suc, ◌+◌, ◌*◌, ◌-◌, ◌^◌, ◌==◌, bit_and, [], ◌∷◌, Bool, false, List, length, take, drop, nat_lt, if◌then◌else◌, Some, Result, Ok, Err, ok_or, option_map, unwrap_or}
 use Rattle.fuse_flags.specs.Numbers.{enomem, enosys, eproto}
-use Rattle.fuse_flags.specs.Flags.{init_ext}
+use Rattle.fuse_flags.specs.Flags.{init_ext, known_fs_options}
 use Rattle.fuse_flags.specs.declared.constants.TheConstants.{KERNEL_VERSION, MIN_KERNEL_MINOR_VERSION}
 use Rattle.fuse_wire.specs.Fields.{Table, bytes_of, value_of}
 use Rattle.fuse_wire.specs.Records.{in_header, out_header, init_in_compat, init_in_ext, init_out, forget_one}
@@ -12,7 +12,6 @@ use Rattle.fs_trait.specs.Calls.{Call}
 use Rattle.fs_trait.specs.Values.{ExtensionValues, name_of, first_name}
 use Rattle.fuse_grammar.specs.Extensions.{error_or, extensions_in}
 use Rattle.fuse_grammar.specs.Listing.{Listing}
-use Rattle.fuse_grammar.specs.Options.{options_offered}
 use Rattle.fuse_grammar.specs.Records.{size_of, record_of}
 use Rattle.fuse_grammar.specs.Reply.{Reply, Refusal, Bytes, NoReply, Echo, echo_of, fault_reply, body_reply, version_out}
 use Rattle.fuse_grammar.specs.declared.error.Error.{Error}
@@ -97,22 +96,20 @@ space_after_header room_len =
     if nat_lt room_len (size_of out_header) then Err EncodeMessage
     else Ok (room_len - size_of out_header)
 
--- the second word of INIT's flags: in a record of its own, where INIT_EXT in the first says that
--- there is one, and else 0
-abbrev pub second_flags : (flags : ℕ) → (behind : List ℕ) → Result ℕ Error
-second_flags flags behind =
-    if bit_and flags init_ext == 0 then Ok 0
-    else error_or (record_of init_in_ext behind) (λ r. Ok r.flags2)
-
--- INIT of this version: an older one is answered EPROTO, and a newer major one is told ours
-abbrev pub ask_version : InHeader → InitInCompat → (flags2 : ℕ) → Ask
-ask_version h r flags2 =
+-- What INIT of this version asks: an older one is answered EPROTO, and a newer major one is told ours.
+-- The second word of flags is in a record of its own, where INIT_EXT in the first says that there is one, and
+-- else 0. The options offered are those bits of both words that are known.
+abbrev pub ask_init : InHeader → InitInCompat → (behind : List ℕ) → Ask
+ask_init h r behind =
+    refused_or
+    (if bit_and r.flags init_ext == 0 then Ok 0
+    else error_or (record_of init_in_ext behind) (λ more. Ok more.flags2)) (λ flags2.
     if nat_lt r.major KERNEL_VERSION then faulted eproto h
     else if nat_lt KERNEL_VERSION r.major
     then Ends (Bytes (body_reply (bytes_of init_out version_out) h.unique))
     else if nat_lt r.minor MIN_KERNEL_MINOR_VERSION then faulted eproto h
     else Asks (record (echo_of h) { max_readahead = r.max_readahead })
-    (call.Init (options_offered r.flags flags2))
+    (call.Init (bit_and (flags2 * 2 ^ 32 + r.flags) known_fs_options)))
 
 -- the record after a header: none, with this value in its place, or one that this `Table` spells
 pub data Layout (R : Type 0) : Type 0 where
@@ -203,6 +200,24 @@ module _ (h : InHeader) (rest : List ℕ) where
       (refused_or (space_after_header room_len) (λ for_records.
       Lists (echo_of h) (listing r for_records))))
   ask_form Versions = refused_or (record_of init_in_compat rest) (λ r.
-      refused_or (second_flags r.flags (drop (size_of init_in_compat) rest)) (ask_version h r))
+      ask_init h r (drop (size_of init_in_compat) rest))
   ask_form Silent = Ends NoReply
   ask_form NotServed = faulted enosys h
+
+-- ---- no more is of the promise: the rest is for proofs, and for contracts of parts
+
+-- the second word of INIT's flags
+abbrev pub second_flags : (flags : ℕ) → (behind : List ℕ) → Result ℕ Error
+second_flags flags behind =
+    if bit_and flags init_ext == 0 then Ok 0
+    else error_or (record_of init_in_ext behind) (λ r. Ok r.flags2)
+
+-- what INIT of this version asks, by both words
+abbrev pub ask_version : InHeader → InitInCompat → (flags2 : ℕ) → Ask
+ask_version h r flags2 =
+    if nat_lt r.major KERNEL_VERSION then faulted eproto h
+    else if nat_lt KERNEL_VERSION r.major
+    then Ends (Bytes (body_reply (bytes_of init_out version_out) h.unique))
+    else if nat_lt r.minor MIN_KERNEL_MINOR_VERSION then faulted eproto h
+    else Asks (record (echo_of h) { max_readahead = r.max_readahead })
+    (call.Init (bit_and (flags2 * 2 ^ 32 + r.flags) known_fs_options))

@@ -1,4 +1,4 @@
--- The sizes that a server goes by, and what follows of them.
+-- The sizes that a server goes by, and what follows of them, for contracts of parts and for proofs.
 use Rattle.std.specs.Prelude.{◌≤◌, ◌+◌, ◌-◌, ◌/◌, ℕ}
 use Rattle.fuse_flags.specs.declared.constants.TheConstants.{LEAST_MAX_BUFFER, GREATEST_MAX_BUFFER, DEFAULT_MAX_BUFFER}
 use Rattle.fuse_grammar.specs.declared.limits.Limits.{Limits}
@@ -10,8 +10,6 @@ max_len limits = limits.max_buffer + 4096
 -- how many pages the largest payload takes
 abbrev pub max_pages : Limits → ℕ
 max_pages limits = (limits.max_buffer - 1) / limits.page_size + 1
-
--- ---- no more is of the promise: the rest is for proofs, and for contracts of parts
 
 -- what a server may be made for: pages of at least 4 KiB, and payloads of 4 KiB to 128 MiB
 pub record AreLimits (limits : Limits) : Type 0 where

@@ -1,11 +1,11 @@
 -- The reading of a directory as a whole: the items that were taken and what each got, what stopped
--- it, and what is answered. Begin with `IsListing` and `IsDirectory`, near the end. Nothing here knows a
+-- it, and what is answered. Begin with `IsListing` and `IsDirectory`. Nothing here knows a
 -- file system's state or its iterators.
 use Rattle.std.specs.Prelude.{◌≡◌, ◌≢◌, ⊤, ◌+◌, ◌-◌, ◌*◌, ◌%◌, ◌^◌, ◌⊎◌, ◌&&◌, ◌||◌, nat_lt, if◌then◌else◌, ℕ, Bool, true, false, List, [], ◌∷◌, ◌++◌, codes, Option, Some, None, Result, Ok, Err, sum_by, length, replicate}
 use Rattle.std.specs.List.{flat_map}
 use Rattle.std.specs.Str.{bytes_eq}
 use Rattle.fuse_wire.specs.declared.entries.EntryOut.{EntryOut}
-use Rattle.fs_trait.specs.Calls.{Call, Readdir, Lookup, Forget, Failed, Found, Done}
+use Rattle.fs_trait.specs.Calls.{Readdir, Lookup, Forget, Failed, Found, Done}
 use Rattle.fs_trait.specs.Values.{entry_out_of, Item}
 use Rattle.fs_trait.specs.Runs.{Event, Called, OpenedDirectory, Taken}
 use Rattle.fs_trait.specs.declared.entry.Context.{Context}
@@ -29,7 +29,7 @@ pub record Listing : Type 0 where
   pub offset : ℕ
   pub space : ℕ
 
--- ---- the record of an item. What is named `.._len`, or `len_of`, is proved to be the length of `.._bytes`, or of
+-- ---- the record of an item. What is named `.._len` is proved to be the length of `.._bytes`, and `len_of` that of
 -- `bytes_got`, and can be read so (`length-dirent_bytes`, `length-record_bytes`, `length-lines` in proofs)
 
 -- how long the record of an item with a name of this length is, without an entry: a `Dirent`
@@ -41,10 +41,6 @@ dirent_len n = next_multiple_of (size_of dirent + n) 8
 abbrev pub entry_len : Option Entry → ℕ
 entry_len None = 0
 entry_len (Some entry) = size_of entry_out
-
--- how long a record is
-abbrev pub record_len : Option Entry → Item → ℕ
-record_len entry i = entry_len entry + dirent_len (length i.name)
 
 -- the bytes of a record without an entry: the `Dirent`, the name, and zeros to a multiple of 8
 unfoldable pub dirent_bytes : Item → List ℕ
@@ -107,10 +103,6 @@ Gets true true i _ = ⊥
 Gets true false i (Ok None) = ⊥
 Gets true false i _ = Unit {0}
 
--- a line has what its item gets
-abbrev pub IsGot : (plus : Bool) → Line → Type 0
-IsGot plus l = Gets plus (is_dot l.item.name) l.item l.got
-
 -- each number of the entry that was got, if one was, is within its width in the record
 abbrev pub FitsGot : Got → Type 0
 FitsGot (Ok (Some entry)) = FitsEntry entry
@@ -144,7 +136,7 @@ module _ (ctx : Context) (parent : ℕ) where
 
 -- how long the record of an item is that got this
 abbrev pub len_of : Got → Item → ℕ
-len_of (Ok entry) i = record_len entry i
+len_of (Ok entry) i = entry_len entry + dirent_len (length i.name)
 len_of (Err fault) i = 0
 
 -- how long the record of a line is
@@ -156,10 +148,6 @@ abbrev pub bytes_got : Got → Item → List ℕ
 bytes_got (Ok entry) i = entry_bytes entry ++ dirent_bytes i
 bytes_got (Err fault) i = []
 
--- the bytes of the record of a line
-abbrev pub line_bytes : Line → List ℕ
-line_bytes l = bytes_got l.got l.item
-
 -- What becomes of an item that got this, where `max` bytes are still asked for and `space` bytes of
 -- room are left, by the first of these that applies: one whose lookup failed fails with that fault;
 -- a name of 2 ^ 32 bytes or more is EOVERFLOW; a record longer than `max` is too long; one longer
@@ -168,8 +156,8 @@ abbrev pub verdict : (max space : ℕ) → Got → Item → Verdict
 verdict max space (Err fault) i = Fails fault
 verdict max space (Ok entry) i =
     if nat_lt (2 ^ 32 - 1) (length i.name) then Fails (Some eoverflow)
-    else if nat_lt max (record_len entry i) then Full
-    else if nat_lt space (record_len entry i) then Fails None
+    else if nat_lt max (len_of (Ok entry) i) then Full
+    else if nat_lt space (len_of (Ok entry) i) then Fails None
     else Fits
 
 -- ---- the whole
@@ -179,14 +167,16 @@ verdict max space (Ok entry) i =
 abbrev pub AreWritten : (plus : Bool) (size space written : ℕ) → List Line → Type 0
 AreWritten plus size space written [] = ⊤
 AreWritten plus size space written (l ∷ ls) =
-    (verdict (size - written) (space - written) l.got l.item ≡ Fits) × IsGot plus l × FitsGot l.got
+    (verdict (size - written) (space - written) l.got l.item ≡ Fits)
+    × Gets plus (is_dot l.item.name) l.item l.got × FitsGot l.got
     × AreWritten plus size space (written + line_len l) ls
 
 -- the stop applies after that many bytes of records
 abbrev pub Stops : (plus : Bool) (size space written : ℕ) → Stop → Type 0
 Stops plus size space written End = ⊤
 Stops plus size space written (At l) =
-    IsGot plus l × (verdict (size - written) (space - written) l.got l.item ≢ Fits)
+    Gets plus (is_dot l.item.name) l.item l.got
+    × (verdict (size - written) (space - written) l.got l.item ≢ Fits)
 
 -- What is answered after that many bytes of records, by what became of the last item: how many they
 -- are. But where it failed, READDIR answers the fault, and READDIRPLUS too where nothing was
@@ -213,28 +203,31 @@ pub record IsListing (plus : Bool) (ctx : Context) (parent size space : ℕ) (ev
   pub stops : Stops plus size space (sum_by line_len lines) stop
   pub events_are :
       events ≡ flat_map (line_events ctx parent plus) lines ++ stop_events ctx parent plus stop
-  pub records_are : records ≡ flat_map line_bytes lines
+  pub records_are : records ≡ flat_map (λ l. bytes_got l.got l.item) lines
   pub answer_is : result ≡ answer_of plus size space (sum_by line_len lines) stop
 
--- `readdir` failed: its fault is the answer, and nothing is taken
-pub record IsUnopened (call : Call) (events : List Event) (records : List ℕ)
-    (result : Result ℕ (Option ℕ)) : Type 0 where
-  pub fault : Option ℕ
-  pub events_are : events ≡ Called call (Failed fault) ∷ []
-  pub records_are : records ≡ []
-  pub answer_is : result ≡ Err fault
-
--- `readdir` handed back an iterator, and the directory is read from it (`Opened` is the answer of another call)
-pub record IsOpened (plus : Bool) (call : Call) (ctx : Context) (parent size space : ℕ)
-    (events : List Event) (records : List ℕ) (result : Result ℕ (Option ℕ)) : Type 0 where
-  pub takings : List Event
-  pub events_are : events ≡ OpenedDirectory call ∷ takings
-  pub listing : IsListing plus ctx parent size space takings records result
-
--- a whole READDIR or, where `plus`, READDIRPLUS: its events, the records, and how many bytes these
--- have, or a fault in their place
+-- A whole READDIR or, where `plus`, READDIRPLUS: its events, the records, and how many bytes these have, or
+-- a fault in their place. Either `readdir` failed, which is the answer, and nothing is taken; or it handed
+-- back an iterator, and the directory is read from that.
 abbrev pub IsDirectory : Listing → List Event → (records : List ℕ) → Result ℕ (Option ℕ) → Type 0
 IsDirectory l events records result =
-    IsUnopened (Readdir l.ctx l.parent l.handle l.size l.offset) events records result
-    ⊎ IsOpened l.plus (Readdir l.ctx l.parent l.handle l.size l.offset) l.ctx l.parent l.size l.space
-    events records result
+    let call = Readdir l.ctx l.parent l.handle l.size l.offset in
+    ((fault : Option ℕ)
+    × (events ≡ Called call (Failed fault) ∷ []) × (records ≡ []) × (result ≡ Err fault))
+    ⊎ ((takings : List Event)
+    × (events ≡ OpenedDirectory call ∷ takings)
+    × IsListing l.plus l.ctx l.parent l.size l.space takings records result)
+
+-- ---- no more is of the promise: the rest is for proofs, and for contracts of parts
+
+-- how long a record is
+abbrev pub record_len : Option Entry → Item → ℕ
+record_len entry i = entry_len entry + dirent_len (length i.name)
+
+-- a line has what its item gets
+abbrev pub IsGot : (plus : Bool) → Line → Type 0
+IsGot plus l = Gets plus (is_dot l.item.name) l.item l.got
+
+-- the bytes of the record of a line
+abbrev pub line_bytes : Line → List ℕ
+line_bytes l = bytes_got l.got l.item

@@ -5,18 +5,15 @@ use Rattle.fuse_wire.specs.Records.{direntplus, entry_out}
 use Rattle.fuse_grammar.specs.Listing.{dirent_len}
 use Rattle.fuse_grammar.specs.Records.{size_of}
 
--- how long the record with an entry is that the bytes begin with: an `EntryOut`, and a `Dirent` with
--- its name, whose length is in the `Dirent`
-abbrev pub len_at_front : List ℕ → ℕ
-len_at_front bytes = size_of entry_out + dirent_len (value_of direntplus bytes).dirent.namelen
-
--- the nodes of the records that the bytes begin with, one after another, at most that many. They end
--- where no whole record follows
+-- The nodes of the records that the bytes begin with, one after another, at most that many. They end
+-- where no whole record follows: an `EntryOut`, and a `Dirent` with its name, whose length is in the
+-- `Dirent`.
 abbrev pub nodes_of : (most : ℕ) → List ℕ → List ℕ
 nodes_of zero bytes = []
 nodes_of (suc most) bytes =
-    if nat_le (len_at_front bytes) (length bytes)
-    then (value_of entry_out bytes).nodeid ∷ nodes_of most (drop (len_at_front bytes) bytes)
+    let long = size_of entry_out + dirent_len (value_of direntplus bytes).dirent.namelen in
+    if nat_le long (length bytes)
+    then (value_of entry_out bytes).nodeid ∷ nodes_of most (drop long bytes)
     else []
 
 -- the nodes of all records that the bytes begin with

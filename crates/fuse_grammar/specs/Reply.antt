@@ -1,6 +1,6 @@
 -- What comes back to the client, and the bytes of replies. Begin with `Reply`, and `reply_of`, the last
 -- definition.
-use Rattle.std.specs.Prelude.{ℕ, pos, ◌+◌, ◌-ℤ◌, ◌/◌, ◌%◌, ◌^◌, List, [], ◌++◌, length, Option, unwrap_or, replicate}
+use Rattle.std.specs.Prelude.{ℕ, pos, ◌+◌, ◌-◌, ◌-ℤ◌, ◌/◌, ◌%◌, ◌^◌, List, [], ◌++◌, length, Option, unwrap_or, replicate}
 use Rattle.fuse_flags.specs.Numbers.{eio}
 use Rattle.fuse_flags.specs.declared.constants.TheConstants.{KERNEL_VERSION, KERNEL_MINOR_VERSION}
 use Rattle.fuse_wire.specs.Fields.{bytes_of}
@@ -12,7 +12,6 @@ use Rattle.fuse_wire_more.specs.declared.files.OpenOut.{OpenOut}
 use Rattle.fs_trait.specs.Answers.{Kind, Quiet, Untold, Data, Agreements, Answer, Done, Failed, Found, Put, Attributes, Opened, Created, Statistics, Text, Count, Offset, Wrote}
 use Rattle.fs_trait.specs.Values.{context_of, entry_out_of, whole_seconds, nanoseconds_beyond}
 use Rattle.fs_trait.specs.declared.entry.Context.{Context}
-use Rattle.fuse_grammar.specs.Limits.{max_pages}
 use Rattle.fuse_grammar.specs.Records.{size_of}
 use Rattle.fuse_grammar.specs.declared.limits.Limits.{Limits}
 use Rattle.fuse_grammar.specs.declared.error.Error.{Error}
@@ -61,7 +60,8 @@ version_out =
 
 -- What INIT replies, of the version, the limits, the client's read-ahead and the agreed options.
 -- Requests in the background are bounded by what the field holds, and the threshold is three
--- quarters of that, each quarter rounded down; times are kept by the nanosecond.
+-- quarters of that, each quarter rounded down; times are kept by the nanosecond; the last pages are those
+-- that the largest payload takes.
 abbrev pub init_out_of : Limits → (max_readahead options : ℕ) → InitOut
 init_out_of limits max_readahead options = record version_out {
   max_readahead = max_readahead;
@@ -70,14 +70,13 @@ init_out_of limits max_readahead options = record version_out {
   congestion_threshold = 49149;
   max_write = limits.max_buffer;
   time_gran = 1;
-  max_pages = max_pages limits;
+  max_pages = (limits.max_buffer - 1) / limits.page_size + 1;
   flags2 = options / 2 ^ 32;
 }
 
--- The body of the reply to an answer, by what it is: nothing where it says that something was done.
--- A fault has none, and INIT's is not of its answer alone: `reply_of` has it.
+-- The body of the reply to an answer, by what it is: none of a fault, and where it says that something
+-- was done. INIT's is not of its answer alone: `reply_of` has it.
 abbrev pub body_of : Answer → List ℕ
-body_of Done = []
 body_of (Put bytes) = bytes
 body_of (Found entry) = bytes_of entry_out (entry_out_of entry)
 body_of (Attributes attr timeout) = bytes_of attr_out (record {

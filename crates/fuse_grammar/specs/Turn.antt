@@ -40,12 +40,13 @@ abbrev pub Follows : Turn → Limits → (options : ℕ) → Ask → (after : �
 Follows t limits options (Ends reply) after =
     (t.events ≡ []) × IsReplied reply t.room t.outcome t.room_after × (after ≡ options)
 Follows t limits options (Asks echo call) after =
+    let kind = kind_of call in
+    let reply_to = reply_of limits echo after kind in
     (answer : Answer)
-    × (t.events ≡ Called call answer ∷ given_back echo.ctx
-    (unseen (length t.room) (reply_of limits echo after (kind_of call) answer)
-    (node_answered (kind_of call) answer)))
-    × IsAnswer (kind_of call) answer
-    × IsReplied (reply_of limits echo after (kind_of call) answer) t.room t.outcome t.room_after
+    × (t.events ≡ Called call answer
+    ∷ given_back echo.ctx (unseen (length t.room) (reply_to answer) (node_answered kind answer)))
+    × IsAnswer kind answer
+    × IsReplied (reply_to answer) t.room t.outcome t.room_after
     × (after ≡ options_after call answer options)
 Follows t limits options (Lists echo l) after =
     (records : List ℕ) × (answer : Result ℕ (Option ℕ)) × IsDirectory l t.events records answer

@@ -15,8 +15,8 @@ use Rattle.fuse_wire_more.specs.declared.files.WriteOut.{WriteOut}
 use Rattle.fuse_wire_more.specs.declared.xattrs.GetxattrOut.{GetxattrOut}
 use Rattle.fs_trait.specs.Answers.{Answer, Done, FitsEntry}
 use Rattle.fs_trait.specs.Answers.{Kind, Quiet, Untold, Data}
-use Rattle.fs_trait.specs.Calls.{Readdir, Lookup, Found, Failed}
-use Rattle.fs_trait.specs.Runs.{Event, Called}
+use Rattle.fs_trait.specs.Calls.{Call, Readdir, Lookup, Found, Failed}
+use Rattle.fs_trait.specs.Runs.{Event, Called, OpenedDirectory}
 use Rattle.fs_trait.specs.Values.{ExtensionValues, Item, entry_out_of, name_of, whole_seconds, nanoseconds_beyond}
 use Rattle.fs_trait.specs.declared.entry.Context.{Context}
 use Rattle.fs_trait.specs.declared.entry.Entry.{Entry}
@@ -25,7 +25,7 @@ use Rattle.fuse_grammar.specs.Books.{answered, sent, accepted, delivered}
 use Rattle.fuse_grammar.specs.Extensions.{error_or, Block, Cut, Received, has_option, no_extensions, receive_kind, receive_all, received_at_end, extensions_in}
 use Rattle.fuse_grammar.specs.Forms.{Ask, Ends, Layout, layout_size, ask_form, pairs_of, within}
 use Rattle.fuse_grammar.specs.Limits.{max_len}
-use Rattle.fuse_grammar.specs.Listing.{Listing, Line, Got, IsUnopened, IsOpened, IsDirectory, dot_out, entry_bytes, dirent_bytes, lookup_got}
+use Rattle.fuse_grammar.specs.Listing.{Listing, Line, Got, IsListing, IsDirectory, dot_out, entry_bytes, dirent_bytes, lookup_got}
 use Rattle.fuse_grammar.specs.Reply.{Reply, Refusal, NoReply, Bytes, OpenBehind, answer_reply, body_of}
 use Rattle.fuse_grammar.specs.Turn.{Turn, events_in}
 use Rattle.fuse_grammar.specs.declared.limits.Limits.{Limits}
@@ -245,6 +245,22 @@ module _ (ctx : Context) (parent : ℕ) where
 -- their place
 abbrev pub IsRead : Listing → List Event → (records : List ℕ) → Result ℕ (Option ℕ) → Type 0
 IsRead l events records answer = IsDirectory l events records answer
+
+-- `readdir` failed
+abbrev pub IsUnopened :
+    Call → List Event → (records : List ℕ) → Result ℕ (Option ℕ) → Type 0
+IsUnopened call events records result =
+    (fault : Option ℕ)
+    × (events ≡ Called call (Failed fault) ∷ []) × (records ≡ []) × (result ≡ Err fault)
+
+-- `readdir` handed back an iterator
+abbrev pub IsOpened :
+    (plus : Bool) → Call → Context → (parent size space : ℕ)
+    → List Event → (records : List ℕ) → Result ℕ (Option ℕ) → Type 0
+IsOpened plus call ctx parent size space events records result =
+    (takings : List Event)
+    × (events ≡ OpenedDirectory call ∷ takings)
+    × IsListing plus ctx parent size space takings records result
 
 -- the same, by the parts of a listing
 abbrev pub IsDirectoryOf :

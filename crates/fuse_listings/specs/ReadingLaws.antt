@@ -30,12 +30,7 @@ module _ {S I : Type 0} (allows : S → Call → Handed I → S → Type 0)
     body = reads.body;
     beyond = cut_short size _ (sum_by line_len reads.listing.lines) reads.listing.stop;
     is_run = (middle, it, opens, reads.is_run);
-    directory = inr (record {
-      takings = reads.events;
-      events_are = refl;
-      listing =
-          reads.listing;
-    });
+    directory = inr (reads.events, refl, reads.listing);
     puts = reads.puts;
   }
   run_by (Err fault) middle opens fails = record {
@@ -43,13 +38,7 @@ module _ {S I : Type 0} (allows : S → Call → Handed I → S → Type 0)
     body = [];
     beyond = [];
     is_run = (middle, opens, fails.1);
-    directory = inl (record {
-      fault = fault;
-      events_are = refl;
-      records_are = refl;
-      answer_is =
-          fails.0;
-    });
+    directory = inl (fault, refl, refl, fails.0);
     puts = puts_nothing writer writer_after fails.2;
   }
 

@@ -5,11 +5,11 @@ use Rattle.std.proofs.lemmas.Bool.{le-ltb}
 use Rattle.std.proofs.lemmas.List.{take_all}
 use Rattle.fs_trait.specs.Values.{ExtensionValues, extension_values_of}
 use Rattle.fs_trait.specs.declared.extensions.Extensions.{Extensions}
-use Rattle.fuse_grammar.specs.Extensions.{Block, Received, block_in, cut_of, received_at_end, extensions_in, no_extensions}
+use Rattle.fuse_grammar.specs.Extensions.{Block, Received, block_in, cut_of, received_at_end, no_extensions}
 use Rattle.fuse_grammar.specs.Words.{receive, extensions_of, extensions_after, reads_extensions, nothing_received}
 use Rattle.fuse_grammar.specs.declared.error.Error.{Error}
 use Rattle.fuse_grammar.specs.declared.error.Error.TheVariants.{OutOfMemory}
-use Rattle.fuse_grammar.proofs.Blocks.{extensions_of-end, extensions_of-fault, extensions_of-block}
+use Rattle.fuse_grammar.proofs.Blocks.{extensions_in-cut, extensions_of-end, extensions_of-fault, extensions_of-block}
 use Rattle.fuse_messages.specs.Parts.{GivesValue, MayHoldContext}
 
 -- ---- where a step of going over blocks ends, of what all of them say
@@ -59,15 +59,15 @@ read false false x y z h k = absurd cc
 -- nothing is read where neither option is agreed on
 pub extensions_after-unread : (options skip : ℕ) (bytes : List ℕ) → reads_extensions options ≡ false
     → extensions_after options skip bytes ≡ Ok no_extensions
-unfolding extensions_in
-extensions_after-unread options skip bytes h = unread (nat_lt (length bytes) skip) (reads_extensions options) _ _ _ h
+extensions_after-unread options skip bytes h =
+    rw (extensions_in-cut options (drop skip bytes)) (unread (nat_lt (length bytes) skip) (reads_extensions options) _ _ _ h)
 
 -- what is gone over otherwise
 extensions_after-read : (options skip : ℕ) (bytes : List ℕ) → reads_extensions options ≡ true → skip ≤ length bytes
     → extensions_after options skip bytes ≡ extensions_of options nothing_received (cut_of (drop skip bytes))
-unfolding extensions_in
 extensions_after-read options skip bytes h long =
-    read (nat_lt (length bytes) skip) (reads_extensions options) _ _ _ (le-ltb (length bytes) skip long) h
+    rw (extensions_in-cut options (drop skip bytes))
+    (read (nat_lt (length bytes) skip) (reads_extensions options) _ _ _ (le-ltb (length bytes) skip long) h)
 
 -- what is found in it is what is found after what is skipped
 pub gives-after : (options skip : ℕ) (bytes : List ℕ) (x : Result Extensions Error) → reads_extensions options ≡ true

@@ -37,8 +37,8 @@ records_after old held new records beyond e enough puts = record {
 -- the records that are answered are counted
 pub directory_counts : (listing : Listing) (events : List Event) (body : List ℕ) (answer : Result ℕ (Option ℕ))
     → IsRead listing events body answer → listing.size < 2 ^ 32 - 16 → Counts answer body listing.size
-directory_counts l events body answer (inl u) small = rw u.answer_is tt
-directory_counts l events body answer (inr o) small = counts_of_listing l.plus l.ctx l.parent l.size l.space o.takings body answer o.listing small
+directory_counts l events body answer (inl u) small = rw u.3 tt
+directory_counts l events body answer (inr o) small = counts_of_listing l.plus l.ctx l.parent l.size l.space o.0 body answer o.2 small
 
 -- what asks for no more than the limit and than there is room for
 pub within_limit : (limits : Limits) (room : ℕ) (r : ReadIn) → lists_too_much limits room r ≡ false → r.size ≤ limits.max_buffer

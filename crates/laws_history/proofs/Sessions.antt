@@ -41,8 +41,8 @@ fresh_back ctx None = tt
 fresh_back ctx (Some node) = tt
 
 fresh_read : (l : Listing) (es : List Event) (records : List ℕ) (answer : Result ℕ (Option ℕ)) → IsRead l es records answer → IsFresh es
-fresh_read l es records answer (inl u) = subst IsFresh (sym u.events_are) tt
-fresh_read l es records answer (inr o) = subst IsFresh (sym o.events_are) tt
+fresh_read l es records answer (inl u) = subst IsFresh (sym u.1) tt
+fresh_read l es records answer (inr o) = subst IsFresh (sym o.1) tt
 
 -- the events of a turn are so
 fresh_turn : (limits : Limits) (options after : ℕ) (t : Turn) (a : Ask) → Follows t limits options a after → IsFresh t.events

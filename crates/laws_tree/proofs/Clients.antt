@@ -5,8 +5,8 @@ use Rattle.fs_trait.specs.Calls.{Call, Readdir, Answer, kind_of}
 use Rattle.fs_trait.specs.Runs.{Event, Called}
 use Rattle.fs_trait.specs.declared.entry.Context.{Context}
 use Rattle.fuse_grammar.specs.Forms.{Ask, Ends, Asks, Lists, WithMemory}
-use Rattle.fuse_grammar.specs.Listing.{Line, Stop, End, At, Got, IsUnopened, IsOpened, given_back, node_got, line_events, stop_events, is_dot}
-use Rattle.fuse_grammar.specs.Words.{lookup_of, lookups, IsDirectoryOf}
+use Rattle.fuse_grammar.specs.Listing.{Line, Stop, End, At, Got, given_back, node_got, line_events, stop_events, is_dot}
+use Rattle.fuse_grammar.specs.Words.{lookup_of, lookups, IsUnopened, IsOpened, IsDirectoryOf}
 use Rattle.fuse_grammar.specs.Ask.{ask}
 use Rattle.fuse_grammar.specs.Reply.{Reply, reply_of}
 use Rattle.fuse_grammar.specs.Room.{unseen}
@@ -128,15 +128,15 @@ directory_goes_on : (plus : Bool) (ctx : Context) (parent handle size offset spa
 directory_goes_on plus ctx parent handle size offset space events body result read =
     ⊎_elim
     (λ (u : IsUnopened (Readdir ctx parent handle size offset) events body result).
-    ap (list_any takes_all) u.events_are)
+    ap (list_any takes_all) u.1)
     (λ (o : IsOpened plus (Readdir ctx parent handle size offset) ctx parent size space events body
     result).
-    let lines = flat_map (line_events ctx parent plus) o.listing.lines in
-    let stop = stop_events ctx parent plus o.listing.stop in
-    ap (list_any takes_all) o.events_are
-    ∙ ap (list_any takes_all) o.listing.events_are
-    ∙ both_go_on lines stop (lines_go_on ctx parent plus o.listing.lines)
-    (stop_goes_on ctx parent plus o.listing.stop))
+    let lines = flat_map (line_events ctx parent plus) o.2.lines in
+    let stop = stop_events ctx parent plus o.2.stop in
+    ap (list_any takes_all) o.1
+    ∙ ap (list_any takes_all) o.2.events_are
+    ∙ both_go_on lines stop (lines_go_on ctx parent plus o.2.lines)
+    (stop_goes_on ctx parent plus o.2.stop))
     read
 
 -- ---- turns

@@ -32,17 +32,17 @@ module _ (limits : Limits) (options after : ℕ) (t : Turn) (echo : Echo) (l : L
       }
 
   few_by : (records : List ℕ) (answer : Result ℕ (Option ℕ)) → IsRead l t.events records answer → TakesFew l t
-  few_by records answer (inl u) = rw u.events_are (omega arith)
-  few_by records answer (inr o) = rw o.events_are (takings_bounded l.plus l.ctx l.parent l.size l.space o.takings records answer o.listing)
+  few_by records answer (inl u) = rw u.1 (omega arith)
+  few_by records answer (inr o) = rw o.1 (takings_bounded l.plus l.ctx l.parent l.size l.space o.0 records answer o.2)
 
   pub few : TakesFew l t
   few = let s = stops in few_by s.records s.answer s.stops
 
   whole_by : (s : StopsForACause l echo.unique t) → IsRead l t.events s.records s.answer → ComesWhole l echo.unique t
-  whole_by s (inl u) taken opened room goes = absurd (let a = sym u.events_are ∙ opened in cc)
+  whole_by s (inl u) taken opened room goes = absurd (let a = sym u.1 ∙ opened in cc)
   whole_by s (inr o) taken opened room goes =
-      let same : o.takings ≡ taken = (let a = sym o.events_are ∙ opened in cc) in
-      let is : IsListing l.plus l.ctx l.parent l.size l.space taken s.records s.answer = subst (λ es. IsListing l.plus l.ctx l.parent l.size l.space es s.records s.answer) same o.listing in
+      let same : o.0 ≡ taken = (let a = sym o.1 ∙ opened in cc) in
+      let is : IsListing l.plus l.ctx l.parent l.size l.space taken s.records s.answer = subst (λ es. IsListing l.plus l.ctx l.parent l.size l.space es s.records s.answer) same o.2 in
       let whole = listing_whole l.plus l.ctx l.parent l.size l.space taken s.records s.answer is room goes in
       record {
         records = s.records;

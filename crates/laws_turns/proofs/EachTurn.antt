@@ -305,10 +305,10 @@ AreAgreed-agreed offered want = record {
 listed_alone : (l : Listing) (events : List Event) (records : List ℕ) (result : Result ℕ (Option ℕ)) (call : Call) (answer : Answer) (options : ℕ)
     → IsRead l events records result → events ≡ Called call answer ∷ [] → options_after call answer options ≡ options
 listed_alone l events records result call answer options (inl u) e =
-    let a = sym u.events_are ∙ e in
+    let a = sym u.1 ∙ e in
     let same : Readdir l.ctx l.parent l.handle l.size l.offset ≡ call = cc in
     ap (λ (c : Call). options_after c answer options) (sym same)
-listed_alone l events records result call answer options (inr o) e = absurd (let a = sym o.events_are ∙ e in cc)
+listed_alone l events records result call answer options (inr o) e = absurd (let a = sym o.1 ∙ e in cc)
 
 -- the options after the one call of a turn
 pub after_call : (limits : Limits) (options : ℕ) (a : Ask) (t : Turn) (after : ℕ) (call : Call) (answer : Answer) → Follows t limits options a after → t.events ≡ Called call answer ∷ [] → after ≡ options_after call answer options
@@ -362,12 +362,12 @@ kept limits options after t f no_init no_destroy = keeps limits options (ask lim
 listed_kind : (l : Listing) (events : List Event) (records : List ℕ) (result : Result ℕ (Option ℕ)) (call : Call) (answer : Answer) (rest : List Event)
     → IsRead l events records result → events ≡ Called call answer ∷ rest → IsAnswer (Data l.size) (read_answer result records) → IsAnswer (kind_of call) answer
 listed_kind l events records result call answer rest (inl u) e a =
-    let x = sym u.events_are ∙ e in
+    let x = sym u.1 ∙ e in
     let same : Readdir l.ctx l.parent l.handle l.size l.offset ≡ call = cc in
-    let answered : Failed u.fault ≡ answer = cc in
-    let fault : IsFault u.fault = subst (λ r. IsAnswer (Data l.size) (read_answer r records)) u.answer_is a in
+    let answered : Failed u.0 ≡ answer = cc in
+    let fault : IsFault u.0 = subst (λ r. IsAnswer (Data l.size) (read_answer r records)) u.3 a in
     subst (λ c. IsAnswer (kind_of c) answer) same (subst (λ x. IsAnswer Iterators x) answered fault)
-listed_kind l events records result call answer rest (inr o) e a = absurd (let x = sym o.events_are ∙ e in cc)
+listed_kind l events records result call answer rest (inr o) e a = absurd (let x = sym o.1 ∙ e in cc)
 
 -- the call that a turn begins with was answered by an answer of its kind
 called_kind : (limits : Limits) (options : ℕ) (a : Ask) (t : Turn) (after : ℕ) (call : Call) (answer : Answer) (rest : List Event) → Follows t limits options a after

@@ -274,10 +274,10 @@ pub refused_is : (plus : Bool) (ctx : Context) (parent handle size offset room :
     (Called (Readdir ctx parent handle size offset) (Failed (Some 13)) ∷ []) body result
     → (body ≡ []) × (result ≡ Err (Some 13))
 refused_is plus ctx parent handle size offset room body result (inl u) =
-    let are = u.events_are in
-    let same : u.fault ≡ Some 13 = cc in
-    (u.records_are, u.answer_is ∙ ap Err same)
-refused_is plus ctx parent handle size offset room body result (inr o) = let are = o.events_are in absurd cc
+    let are = u.1 in
+    let same : u.0 ≡ Some 13 = cc in
+    (u.2, u.3 ∙ ap Err same)
+refused_is plus ctx parent handle size offset room body result (inr o) = let are = o.1 in absurd cc
 
 module _ (ctx : Context) (parent size room : ℕ) where
   -- what failed was not written

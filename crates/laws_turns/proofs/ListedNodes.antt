@@ -11,8 +11,8 @@ use Rattle.fs_trait.specs.Values.{Item}
 use Rattle.fs_trait.specs.Calls.{Call, Readdir, Data, read_answer}
 use Rattle.fs_trait.specs.Runs.{Event, OpenedDirectory, Taken}
 use Rattle.laws_turns.specs.Listings.{node_of_line}
-use Rattle.fuse_grammar.specs.Listing.{Got, Line, Stop, End, At, Gets, IsGot, is_dot, line_events, stop_events, given_back, line_len, line_bytes, AreWritten, Stops, answer_at, answer_of, IsListing, IsUnopened, IsOpened, node_got, verdict, Fails, Verdict, Fits, Full}
-use Rattle.fuse_grammar.specs.Words.{lookups, reply_to, IsDirectoryOf}
+use Rattle.fuse_grammar.specs.Listing.{Got, Line, Stop, End, At, Gets, IsGot, is_dot, line_events, stop_events, given_back, line_len, line_bytes, AreWritten, Stops, answer_at, answer_of, IsListing, node_got, verdict, Fails, Verdict, Fits, Full}
+use Rattle.fuse_grammar.specs.Words.{lookups, reply_to, IsUnopened, IsOpened, IsDirectoryOf}
 use Rattle.laws_turns.proofs.Takings.{lines_least}
 use Rattle.laws_turns.proofs.Nodes.{nodes_in-listing}
 use Rattle.fuse_grammar.specs.Nodes.{nodes_in}
@@ -214,28 +214,28 @@ module _ (n : ℕ) (some : n ≢ 0) (t : Turn) (plus : Bool) (ctx : Context) (pa
   -- of the events of a READDIR or READDIRPLUS only the last gives back anything
   pub directory_last : (body : List ℕ) (result : Result ℕ (Option ℕ))
       → IsDirectoryOf plus ctx parent handle size offset room t.events body result → LastOnly n t.events
-  directory_last body result (inl u) = record { front = []; last = t.events; are = refl; none = refl; short = omega (arith, ap length u.events_are) }
+  directory_last body result (inl u) = record { front = []; last = t.events; are = refl; none = refl; short = omega (arith, ap length u.1) }
   directory_last body result (inr o) =
-      let l = listing_last ctx parent n some plus size room o.takings body result (Readdir ctx parent handle size offset) o.listing in
-      record { front = l.front; last = l.last; are = o.events_are ∙ l.are; none = l.none; short = l.short }
+      let l = listing_last ctx parent n some plus size room o.0 body result (Readdir ctx parent handle size offset) o.2 in
+      record { front = l.front; last = l.last; are = o.1 ∙ l.are; none = l.none; short = l.short }
 
   -- what was answered is what the reply delivers, and what was sent
   opened_books : (unique : ℕ) (body : List ℕ) (result : Result ℕ (Option ℕ)) → ListsFor plus (opcode_in t.request)
       → IsOpened plus (Readdir ctx parent handle size offset) ctx parent size room t.events body result
       → FaultFits (said_as (body_of (read_answer result body)) (read_answer result body)) → IsReplied (reply_to unique (Data size) (read_answer result body)) t.room t.outcome t.room_after → Balances n t
   opened_books unique body (Ok count) lists o small p =
-      let a : answered n t.events ≡ answered n o.takings = ap (answered n) o.events_are in
-      let s : sent n t.events ≡ sent n o.takings = ap (sent n) o.events_are in
-      let b = listing_balances ctx parent n some size room o.takings body (Ok count) plus o.listing in
+      let a : answered n t.events ≡ answered n o.0 = ap (answered n) o.1 in
+      let s : sent n t.events ≡ sent n o.0 = ap (sent n) o.1 in
+      let b = listing_balances ctx parent n some size room o.0 body (Ok count) plus o.2 in
       let reply = body_reply body unique in
       let d : delivered_nodes (opcode_in t.request) reply ≡ body_nodes plus body =
       delivered_nodes-body (opcode_in t.request) body unique ∙ lists.nodes reply ∙ ap (body_nodes plus) (behind-body body unique) in
       whole_books n t reply p.says p.begins (omega (arith, length-body_reply body unique)) (omega (arith, a, s, b, ap (times n) d))
   opened_books unique body (Err fault) lists o small p =
-      let a : answered n t.events ≡ answered n o.takings = ap (answered n) o.events_are in
-      let s : sent n t.events ≡ sent n o.takings = ap (sent n) o.events_are in
-      let b = listing_balances ctx parent n some size room o.takings body (Err fault) plus o.listing in
-      let c = fault_delivers plus ctx parent size room n o.takings body fault o.listing in
+      let a : answered n t.events ≡ answered n o.0 = ap (answered n) o.1 in
+      let s : sent n t.events ≡ sent n o.0 = ap (sent n) o.1 in
+      let b = listing_balances ctx parent n some size room o.0 body (Err fault) plus o.2 in
+      let c = fault_delivers plus ctx parent size room n o.0 body fault o.2 in
       let reply = fault_reply fault unique in
       let d = delivered_nodes-fault (opcode_in t.request) fault unique small.0 small.1 in
       whole_books n t reply p.says p.begins (omega (arith, length-fault_reply fault unique)) (omega (arith, a, s, b, c, ap (times n) d))
@@ -243,10 +243,10 @@ module _ (n : ℕ) (some : n ≢ 0) (t : Turn) (plus : Bool) (ctx : Context) (pa
   unopened_books : (unique : ℕ) (body : List ℕ) (result : Result ℕ (Option ℕ))
       → IsUnopened (Readdir ctx parent handle size offset) t.events body result
       → FaultFits (said_as (body_of (read_answer result body)) (read_answer result body)) → IsReplied (reply_to unique (Data size) (read_answer result body)) t.room t.outcome t.room_after → Balances n t
-  unopened_books unique body (Ok count) u small p = absurd (let e = u.answer_is in cc)
+  unopened_books unique body (Ok count) u small p = absurd (let e = u.3 in cc)
   unopened_books unique body (Err fault) u small p =
-      let a : answered n t.events ≡ 0 = ap (answered n) u.events_are in
-      let s : sent n t.events ≡ 0 = ap (sent n) u.events_are in
+      let a : answered n t.events ≡ 0 = ap (answered n) u.1 in
+      let s : sent n t.events ≡ 0 = ap (sent n) u.1 in
       let d = delivered_nodes-fault (opcode_in t.request) fault unique small.0 small.1 in
       whole_books n t (fault_reply fault unique) p.says p.begins (omega (arith, length-fault_reply fault unique)) (omega (arith, a, s, ap (times n) d))
 

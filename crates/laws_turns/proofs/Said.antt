@@ -66,14 +66,14 @@ listed_says : (limits : Limits) (after : ℕ) (echo : Echo) (l : Listing) (t : T
     → IsReplied (reply_of limits echo after (Data l.size) (read_answer result records)) t.room t.outcome t.room_after
     → Says limits after answer t
 listed_says limits after echo l t records result call answer (inl u) e a p =
-    let x = sym u.events_are ∙ e in
-    let answered : Failed u.fault ≡ answer = cc in
-    let fault : IsAnswer (Data l.size) (Failed u.fault) = subst (λ r. IsAnswer (Data l.size) (read_answer r records)) u.answer_is a in
-    let replied : IsReplied (reply_of limits echo after (Data l.size) (Failed u.fault)) t.room t.outcome t.room_after =
-    subst (λ r. IsReplied (reply_of limits echo after (Data l.size) (read_answer r records)) t.room t.outcome t.room_after) u.answer_is p in
-    let says : Says limits after (Failed u.fault) t = record { kind = Data l.size; echo = echo; of_kind = fault; replied = replied } in
+    let x = sym u.1 ∙ e in
+    let answered : Failed u.0 ≡ answer = cc in
+    let fault : IsAnswer (Data l.size) (Failed u.0) = subst (λ r. IsAnswer (Data l.size) (read_answer r records)) u.3 a in
+    let replied : IsReplied (reply_of limits echo after (Data l.size) (Failed u.0)) t.room t.outcome t.room_after =
+    subst (λ r. IsReplied (reply_of limits echo after (Data l.size) (read_answer r records)) t.room t.outcome t.room_after) u.3 p in
+    let says : Says limits after (Failed u.0) t = record { kind = Data l.size; echo = echo; of_kind = fault; replied = replied } in
     subst (λ (y : Answer). Says limits after y t) answered says
-listed_says limits after echo l t records result call answer (inr o) e a p = absurd (let x = sym o.events_are ∙ e in cc)
+listed_says limits after echo l t records result call answer (inr o) e a p = absurd (let x = sym o.1 ∙ e in cc)
 
 says : (limits : Limits) (options : ℕ) (a : Ask) (t : Turn) (after : ℕ) (call : Call) (answer : Answer)
     → Follows t limits options a after → t.events ≡ Called call answer ∷ [] → Says limits after answer t

@@ -22,7 +22,7 @@ use Rattle.fuse_grammar.specs.FormParts.{value_after}
 use Rattle.laws_turns.specs.Extensions.{context_bytes, context_block, group_bytes, group_block, blocks_of, FitsContext, MayFitContext, MayFitGroup, FitExtensions, IsBlock}
 use Rattle.fuse_grammar.specs.declared.error.Error.{Error}
 use Rattle.fuse_grammar.specs.declared.error.Error.TheVariants.{DecodeMessage}
-use Rattle.fuse_grammar.proofs.Blocks.{says-more, extensions_of-end}
+use Rattle.fuse_grammar.proofs.Blocks.{extensions_in-cut, says-more, extensions_of-end}
 use Rattle.laws_turns.proofs.BlockLaws.{block_in-is, after_block, block_bytes-is}
 
 -- a test that fails
@@ -215,8 +215,8 @@ short_or false b x y h = refl
 -- where extensions are read
 extensions_in-read : (options : ℕ) (bytes : List ℕ) → reads_extensions options ≡ true
     → extensions_in options bytes ≡ extensions_of options nothing_received (cut_of bytes)
-unfolding extensions_in
-extensions_in-read options bytes h = reads (reads_extensions options) _ _ h
+extensions_in-read options bytes h =
+    extensions_in-cut options bytes ∙ reads (reads_extensions options) _ _ h
 
 -- what was received is found at the end
 extensions_of-received : (options : ℕ) (r : Received) → (has_option options security_ctx && not r.has_contexts) ≡ false

@@ -43,11 +43,11 @@ failed_reply : (events : List Event) (records : List ℕ) (answer : Result ℕ (
     → (outcome ≡ Ok 16) × (take 16 room_after ≡ no_directory_reply)
 unfolding little number
 failed_reply events records answer room outcome room_after e (inl u) p =
-    let fault : u.fault ≡ Some 20 = cc (e, u.events_are) in
-    let is : answer ≡ Err (Some 20) = cc (fault, u.answer_is) in
+    let fault : u.0 ≡ Some 20 = cc (e, u.1) in
+    let is : answer ≡ Err (Some 20) = cc (fault, u.3) in
     let q = subst (λ (a : Result ℕ (Option ℕ)). IsPutOpen (listing_reply a records 9) room outcome room_after) is p in
     (q.says, q.begins)
-failed_reply events records answer room outcome room_after e (inr o) p = absurd (cc (e, o.events_are))
+failed_reply events records answer room outcome room_after e (inr o) p = absurd (cc (e, o.1))
 
 -- the item that events begin with, where they begin with a taking
 first_item : List Event → Option (Option Item)
