@@ -299,8 +299,8 @@ def answers():
         kind, maker = (re.sub(r"[()]", "", it).split()[0] for it in re.findall(r"\([^)]*\)|\S+", given))
         if kind in ("_", "Agreements") or maker in ("_", "Failed"):
             continue
-        tables = re.findall(r"bytes_of (\w+)", bodies[maker])
-        what = ", ".join(f"`{struct_of(it)}`" for it in tables) or ("bytes" if bodies[maker] == "bytes" else "")
+        body = bodies.get(maker, bodies["_"])
+        what = ", ".join(f"`{struct_of(it)}`" for it in re.findall(r"bytes_of (\w+)", body)) or ("bytes" if body == "bytes" else "")
         kinds.setdefault(kind, []).append(what)
     return kinds
 

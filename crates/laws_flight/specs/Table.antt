@@ -12,7 +12,6 @@ use Rattle.fuse_wire.specs.Records.{in_header, forget_one}
 use Rattle.fuse_wire_more.specs.Locks.{interrupt_in}
 use Rattle.fuse_grammar.specs.Ask.{ask}
 use Rattle.fuse_grammar.specs.Forms.{Ask, Ends, Asks, Lists, WithMemory}
-use Rattle.fuse_grammar.specs.Limits.{max_len}
 use Rattle.fuse_grammar.specs.Records.{size_of}
 use Rattle.fuse_grammar.specs.Reply.{Echo}
 use Rattle.fuse_grammar.specs.declared.limits.Limits.{Limits}
@@ -176,7 +175,7 @@ AreOf limits q told = TellsAsked q told (ask limits told.options told.room q)
 -- the request that a request interrupts, and 0 where it is no whole INTERRUPT, or one above a limit
 abbrev pub interrupted : Limits → (q : List ℕ) → ℕ
 interrupted limits q =
-    if nat_lt (length q) (size_of in_header + size_of interrupt_in) || nat_lt (max_len limits) (value_of in_header q).len
+    if nat_lt (length q) (size_of in_header + size_of interrupt_in) || nat_lt (limits.max_buffer + 4096) (value_of in_header q).len
     || not ((value_of in_header q).opcode == number_of Interrupt)
     then 0
     else (value_of interrupt_in (drop (size_of in_header) q)).unique
