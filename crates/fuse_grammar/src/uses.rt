@@ -1,14 +1,15 @@
 //! Small callers of the definitions, as examples: what the books count of one call and of one
-//! request, and which options are agreed on. Each follows from the definitions, and from nothing
-//! else.
+//! request, which options are agreed on, and what extensions say. Each follows from the
+//! definitions, and from nothing else.
 
 ghost use Rattle.std.specs.Prelude.{◌≡◌, ◌∷◌, [], ℕ, false, Some, None, Ok, Err};
 ghost use Rattle.std.specs.Int.{bit_at};
+ghost use Rattle.fuse_flags.specs.Flags.{security_ctx};
 ghost use Rattle.fuse_flags.specs.declared.opcode.Opcode.{Opcode};
 ghost use Rattle.fs_trait.specs.Calls.{Create, Mkdir, Found, Created};
 ghost use Rattle.fs_trait.specs.Runs.{Called};
 ghost use Rattle.fuse_grammar.specs.Books.{answered, accepted, delivered_nodes};
-ghost use Rattle.fuse_grammar.specs.Extensions.{no_extensions};
+ghost use Rattle.fuse_grammar.specs.Extensions.{extensions_in, no_extensions};
 ghost use Rattle.fuse_grammar.specs.Options.{AreAgreed};
 ghost use Rattle.fuse_grammar.specs.Samples.{nobody, node_5, node_5_reply, batch_of_two};
 ghost use Rattle.fuse_grammar.specs.Turn.{Turn};
@@ -39,4 +40,9 @@ fn a_supported_option_is_agreed()
         bit_at offered 40 ≡ 1 → bit_at options 40 ≡ 1 }
     ensures unoffered { (offered options k : ℕ) → AreAgreed offered options →
         bit_at offered k ≡ 0 → bit_at options k ≡ 0 }
+{}
+
+/// A block of no contexts is one: none is missed at the end.
+fn a_block_of_none_is_received()
+    ensures { extensions_in security_ctx (8 ∷ 0 ∷ 0 ∷ 0 ∷ 0 ∷ 0 ∷ 0 ∷ 0 ∷ []) ≡ Ok no_extensions }
 {}

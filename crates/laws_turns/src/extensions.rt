@@ -1,11 +1,11 @@
 //! What holds of extensions, as laws: each function does nothing, and its clause says what was
 //! proved.
 
-ghost use Rattle.std.specs.Prelude.{◌≡◌, ◌<◌, ◌^◌, ◌++◌, ℕ, List, length, IsTrue, IsFalse, is_some, Ok, Some, None};
+ghost use Rattle.std.specs.Prelude.{◌≡◌, ◌<◌, ◌^◌, ◌++◌, ℕ, List, length, IsTrue, IsFalse, is_some, if◌then◌else◌, Ok, Some, None};
 ghost use Rattle.fuse_flags.specs.Flags.{security_ctx, create_supp_group};
 ghost use Rattle.fs_trait.specs.Values.{ExtensionValues};
-ghost use Rattle.fuse_grammar.specs.Extensions.{Block, cut_of, has_option};
-ghost use Rattle.fuse_grammar.specs.Words.{extensions_after};
+ghost use Rattle.fuse_grammar.specs.Extensions.{Block, cut_of, has_option, extensions_in, no_extensions};
+ghost use Rattle.fuse_grammar.specs.Words.{extensions_after, extensions_of, reads_extensions, nothing_received};
 ghost use Rattle.laws_turns.specs.Extensions.{blocks_of, group_block, FitExtensions, IsCut, error_left};
 
 /// What is found in extensions as they are written is what was written, whatever names are in
@@ -26,11 +26,16 @@ pub fn written_groups_are_found()
         ≡ Ok (record { context = None; group = Some group }) }
 {}
 
-/// Bytes are blocks, one after the other, and a rest that begins with none, in one way.
+/// Bytes are blocks, one after the other, and a rest that begins with none, in one way; and where
+/// extensions are read, they are what all of these say, one after the other, and then the rest.
 pub fn extensions_are_cut_in_one_way()
     ensures cut { (bytes : List ℕ) → (rest : List ℕ) × IsCut bytes (cut_of bytes).blocks rest
         × ((cut_of bytes).error ≡ error_left rest) }
     ensures only { (bytes rest other_rest : List ℕ) (blocks others : List Block) →
         IsCut bytes blocks rest → IsCut bytes others other_rest →
         (blocks ≡ others) × (rest ≡ other_rest) }
+    ensures said { (options : ℕ) (bytes : List ℕ) →
+        extensions_in options bytes
+        ≡ (if reads_extensions options then extensions_of options nothing_received (cut_of bytes)
+        else Ok no_extensions) }
 {}

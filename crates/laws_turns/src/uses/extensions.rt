@@ -1,11 +1,12 @@
 //! Small callers of the laws of extensions.
 
-ghost use Rattle.std.specs.Prelude.{◌≡◌, ◌++◌, [], ◌∷◌, Ok};
-ghost use Rattle.fuse_grammar.specs.Words.{extensions_after};
+ghost use Rattle.std.specs.Prelude.{◌≡◌, ◌++◌, ℕ, List, [], ◌∷◌, Ok, IsTrue};
+ghost use Rattle.fuse_grammar.specs.Extensions.{cut_of, extensions_in};
+ghost use Rattle.fuse_grammar.specs.Words.{extensions_after, extensions_of, reads_extensions, nothing_received};
 ghost use Rattle.fuse_grammar.specs.Samples.{context_and_group, context_and_group_blocks};
 ghost use Rattle.laws_turns.specs.Extensions.{blocks_of};
 
-use crate::extensions::written_extensions_are_found;
+use crate::extensions::{extensions_are_cut_in_one_way, written_extensions_are_found};
 
 /// A context named `s`, whose value is `v`, and the group 1000, as they are written, and that they
 /// are found so after the name `d`.
@@ -15,4 +16,12 @@ fn extensions_as_written()
         ≡ Ok context_and_group }
 {
     written_extensions_are_found();
+}
+
+/// Where extensions are read, what bytes say is what their cut does.
+fn what_is_read_is_cut()
+    ensures { (options : ℕ) (bytes : List ℕ) → IsTrue (reads_extensions options) →
+        extensions_in options bytes ≡ extensions_of options nothing_received (cut_of bytes) }
+{
+    extensions_are_cut_in_one_way();
 }
