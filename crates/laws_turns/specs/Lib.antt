@@ -1,3 +1,4 @@
 pub mod Listings
 pub mod Turns
 pub mod Extensions
+pub mod Limits

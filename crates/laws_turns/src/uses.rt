@@ -4,5 +4,7 @@
 mod books;
 mod directories;
 mod extensions;
+mod limits;
 mod listings;
+mod refusals;
 mod turns;

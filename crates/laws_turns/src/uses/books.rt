@@ -14,7 +14,9 @@ ghost use Rattle.fs_trait.specs.declared.entry.Entry.{Entry};
 ghost use Rattle.fuse_flags.specs.declared.opcode.Opcode.{Opcode};
 ghost use Rattle.fuse_grammar.specs.declared.limits.Limits.{Limits};
 
-use crate::books::{each_turn_balances, turns_keep_books};
+use crate::books::{
+    counts_never_fall_below_zero, each_turn_balances, turns_balance, turns_keep_books,
+};
 use crate::turns::destroy_leaves_no_options;
 
 /// A LOOKUP whose entry of node 5 is answered in 144 bytes delivers node 5 once.
@@ -101,6 +103,26 @@ fn no_part_of_a_session_begins_with_a_forget()
         GivesBackWithin 5 part → events_in part ≢ Called (Forget ctx 5 1) Done ∷ events }
 {
     turns_keep_books();
+}
+
+/// What a client holds of a node after turns in order, the file system holds too: of what it answered that much was not
+/// sent back.
+fn what_a_client_holds_is_held()
+    ensures { (limits : Limits) (options after n held : ℕ) (turns : List Turn) → n ≢ 0 →
+        AreTurns limits options turns after →
+        sum_by (delivered n) turns ≡ sum_by (accepted n) turns + held →
+        answered n (events_in turns) ≡ sent n (events_in turns) + held }
+{
+    turns_balance();
+}
+
+/// Over all turns of a client that gives back no more than it had, no more is sent back than was answered.
+fn no_more_is_sent_back()
+    ensures { (limits : Limits) (options after n : ℕ) (turns : List Turn) → n ≢ 0 →
+        AreTurns limits options turns after → GivesBackWithin n turns →
+        sent n (events_in turns) ≤ answered n (events_in turns) }
+{
+    counts_never_fall_below_zero();
 }
 
 /// The sizes and places by which bytes are read without their tables are those of the tables.

@@ -1,9 +1,10 @@
 //! Small callers of the laws of directories.
 
-ghost use Rattle.std.specs.Prelude.{◌≡◌, ◌≤◌, ◌<◌, ◌++◌, ℕ, length, Bool, true, false, List, [], ◌∷◌, Option, Some, Ok, Err, codes, Result as Outcome, None as Nothing};
+ghost use Rattle.std.specs.Prelude.{◌≡◌, ◌≤◌, ◌<◌, ◌++◌, ◌%◌, ℕ, length, Bool, true, false, List, [], ◌∷◌, Option, Some, Ok, Err, codes, Result as Outcome, None as Nothing};
 ghost use Rattle.fs_trait.specs.Answers.{FitsEntry};
 ghost use Rattle.fs_trait.specs.Calls.{Readdir, Lookup, Forget, Failed, Found, Done};
 ghost use Rattle.fs_trait.specs.Runs.{Event, Called, Taken};
+ghost use Rattle.fs_trait.specs.Values.{Item};
 ghost use Rattle.fs_trait.specs.declared.entry.Context.{Context};
 ghost use Rattle.fs_trait.specs.declared.entry.Entry.{Entry};
 ghost use Rattle.fuse_grammar.specs.Directories.{takings};
@@ -12,7 +13,10 @@ ghost use Rattle.fuse_grammar.specs.Words.{record_bytes, IsDirectoryOf};
 ghost use Rattle.fuse_grammar.specs.Nodes.{nodes_in};
 ghost use Rattle.fuse_grammar.specs.Samples.{record_of_dot, record_of_a, entry_of_dot, root_dot, file_a};
 
-use crate::listings::{directories_are_whole, nodes_are_found, takings_are_bounded};
+use crate::listings::{
+    directories_are_whole, nodes_are_found, records_are_aligned, records_are_counted,
+    takings_are_bounded,
+};
 
 /// A READDIR of 240 bytes takes at most eleven items, also from a directory that never ends.
 fn endless_directory_is_left()
@@ -89,4 +93,21 @@ fn nodes_of_two_records()
         ≡ first.inode ∷ second.inode ∷ [] }
 {
     nodes_are_found();
+}
+
+/// The bytes of a record are a multiple of 8, whatever the name: at least 24, and 152 with an entry.
+fn bytes_of_a_record()
+    ensures multiple { (entry : Option Entry) (i : Item) → length (record_bytes entry i) % 8 ≡ 0 }
+    ensures least { (i : Item) → 24 ≤ length (record_bytes Nothing i) }
+    ensures with_entry { (entry : Entry) (i : Item) → 152 ≤ length (record_bytes (Some entry) i) }
+{
+    records_are_aligned();
+}
+
+/// A READDIR of 96 bytes that answers a number answers how many bytes its records have: at most 96.
+fn a_reading_of_96_bytes()
+    ensures { (ctx : Context) (parent space n : ℕ) (events : List Event) (body : List ℕ) →
+        IsListing false ctx parent 96 space events body (Ok n) → (length body ≡ n) × (length body ≤ 96) }
+{
+    records_are_counted();
 }
