@@ -166,35 +166,35 @@ module _ (q : List ℕ) (h : InHeader) (head : size_of in_header ≤ length q) (
   mknod_held : (r : MknodIn) (name : List ℕ) (context : Option (List ℕ × List ℕ)) (group : Option ℕ) (tail : List ℕ) (n : ℕ) → tail ≡ take n (drop 56 q)
       → NameStands q 56 name → length name < length tail → extensions_in options (drop (length name + 1) tail) ≡ Ok (record { context = context; group = group })
       → CallHas opcode.Mknod tail (echo_of h) (mknod_of r name (record { context = context; group = group }))
-  mknod_held r name None group tail n is s within says place stands = record { numbers = refl; places = (s, tt {0}) }
+  mknod_held r name None group tail n is s within says place stands = record { numbers = refl; places = (s, tt {0}); others = refl }
   mknod_held r name (Some c) group tail n is s within says place stands =
       let at = name_end 56 name tail n is within in
       let there : ContextAt (drop (length name + 1) tail) place c =
       (rw (skip 56 name tail n is within) at stands) options (record { context = Some c; group = group }) c says refl in
       let placed = context_placed 56 name tail n is within place c there in
-      rw (some_length (length c.1) there.some) (record { numbers = refl; places = (s, placed) })
+      rw (some_length (length c.1) there.some) (record { numbers = refl; places = (s, placed); others = refl })
 
   mkdir_held : (r : MkdirIn) (name : List ℕ) (context : Option (List ℕ × List ℕ)) (group : Option ℕ) (tail : List ℕ) (n : ℕ) → tail ≡ take n (drop 48 q)
       → NameStands q 48 name → length name < length tail → extensions_in options (drop (length name + 1) tail) ≡ Ok (record { context = context; group = group })
       → CallHas opcode.Mkdir tail (echo_of h) (mkdir_of r name (record { context = context; group = group }))
-  mkdir_held r name None group tail n is s within says place stands = record { numbers = refl; places = (s, tt {0}) }
+  mkdir_held r name None group tail n is s within says place stands = record { numbers = refl; places = (s, tt {0}); others = refl }
   mkdir_held r name (Some c) group tail n is s within says place stands =
       let at = name_end 48 name tail n is within in
       let there : ContextAt (drop (length name + 1) tail) place c =
       (rw (skip 48 name tail n is within) at stands) options (record { context = Some c; group = group }) c says refl in
       let placed = context_placed 48 name tail n is within place c there in
-      rw (some_length (length c.1) there.some) (record { numbers = refl; places = (s, placed) })
+      rw (some_length (length c.1) there.some) (record { numbers = refl; places = (s, placed); others = refl })
 
   create_held : (r : CreateIn) (name : List ℕ) (context : Option (List ℕ × List ℕ)) (group : Option ℕ) (tail : List ℕ) (n : ℕ) → tail ≡ take n (drop 56 q)
       → NameStands q 56 name → length name < length tail → extensions_in options (drop (length name + 1) tail) ≡ Ok (record { context = context; group = group })
       → CallHas opcode.Create tail (echo_of h) (create_of r name (record { context = context; group = group }))
-  create_held r name None group tail n is s within says place stands = record { numbers = refl; places = (s, tt {0}) }
+  create_held r name None group tail n is s within says place stands = record { numbers = refl; places = (s, tt {0}); others = refl }
   create_held r name (Some c) group tail n is s within says place stands =
       let at = name_end 56 name tail n is within in
       let there : ContextAt (drop (length name + 1) tail) place c =
       (rw (skip 56 name tail n is within) at stands) options (record { context = Some c; group = group }) c says refl in
       let placed = context_placed 56 name tail n is within place c there in
-      rw (some_length (length c.1) there.some) (record { numbers = refl; places = (s, placed) })
+      rw (some_length (length c.1) there.some) (record { numbers = refl; places = (s, placed); others = refl })
 
   abbrev symlink_of : (name text : List ℕ) → ExtensionValues → Call
   symlink_of name text ext = call.Symlink (context_of h) text h.nodeid name ext
@@ -205,7 +205,7 @@ module _ (q : List ℕ) (h : InHeader) (head : size_of in_header ≤ length q) (
       → CallHas opcode.Symlink tail (echo_of h) (symlink_of name text (record { context = context; group = group }))
   symlink_held name text None group tail n is s within says place stands =
       let end = name_end 40 name tail n is (omega (arith, within, length-drop (length name + 1) tail)) in
-      record { numbers = refl; places = (s.front, rw end s.back, tt {0}) }
+      record { numbers = refl; places = (s.front, rw end s.back, tt {0}); others = refl }
   symlink_held name text (Some c) group tail n is s within says place stands =
       let d = length name + 1 in
       let end = name_end 40 name tail n is (omega (arith, within, length-drop d tail)) in
@@ -217,7 +217,7 @@ module _ (q : List ℕ) (h : InHeader) (head : size_of in_header ≤ length q) (
       let there : ContextAt (drop (length text + 1) (drop d tail)) place c =
       (rw (end, blocks) at stands) options (record { context = Some c; group = group }) c says refl in
       let placed = context_placed (40 + d) text (drop d tail) k.0 behind within place c there in
-      rw (some_length (length c.1) there.some, end) (record { numbers = refl; places = (s.front, s.back, placed) })
+      rw (some_length (length c.1) there.some, end) (record { numbers = refl; places = (s.front, s.back, placed); others = refl })
 
   abbrev rest : List ℕ
   rest = drop (size_of in_header) q

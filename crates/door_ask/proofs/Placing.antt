@@ -31,7 +31,7 @@ use Rattle.fuse_grammar.specs.declared.error.Error.{Error}
 use Rattle.fuse_grammar.specs.declared.error.Error.TheVariants.{DecodeMessage, EncodeMessage}
 use Rattle.door_calls.specs.Shapes.{context_name_of, context_value_of, shape_of, unplaced}
 use Rattle.door_calls.specs.declared.call.CallData.{CallData}
-use Rattle.door_ask.specs.Asked.{IsContextPlaced, IsNameIn, IsTold, Stand, long_range, told_of, told_of_listing, without_places}
+use Rattle.door_ask.specs.Asked.{IsContextPlaced, IsNameIn, IsTold, Stand, long_range, of_context, told_of, told_of_listing, without_places}
 use Rattle.door_ask.specs.Contexts.{may_have_context}
 use Rattle.door_ask.specs.Parts.{parts_of, with_parts, place_after}
 use Rattle.door_ask.proofs.Blocks.{no_contexts}
@@ -317,6 +317,7 @@ module _ (q : List ℕ) (h : InHeader) (head : size_of in_header ≤ length q) (
   write_told r end = record {
     numbers = sized (told_of options space (echo_of h) (write_of r)) (len - 80) (length (drop 80 q)) (sym (rest_is 80));
     places = record { within = omega (arith, end, long); bytes_are = all_rest 80 };
+    others = refl;
   }
 
   pairs_told : (count : ℕ) (pairs : List (ℕ × ℕ)) → SpelledAt q 48 count pairs
@@ -332,6 +333,7 @@ module _ (q : List ℕ) (h : InHeader) (head : size_of in_header ≤ length q) (
               ∙ ap (λ (n : ℕ). pairs_of n (take (count * 16) (drop 48 q))) s.many
               ∙ pairs_of-take count (drop 48 q) (omega (arith, s.within, length-drop 48 q)) ∙ sym s.spelled;
         };
+        others = refl;
       }
 
   -- a context's ranges without their places
@@ -369,46 +371,60 @@ module _ (q : List ℕ) (h : InHeader) (head : size_of in_header ≤ length q) (
       → without_places (told_of options space (echo_of h) call) ≡ told_of options space (echo_of h) call
   extended_numbers call ext e f = e ∙ contexts (told_of options space (echo_of h) call) ext.context ∙ sym f
 
+  -- a context's ranges are kept where there is one
+  extended_ranges : (c : CallData) (context : Option (List ℕ × List ℕ))
+      → record c { context_name = context_name_of context; context = context_value_of context }
+      ≡ record c {
+        context_name = of_context context (context_name_of context);
+        context = of_context context (context_value_of context);
+      }
+  extended_ranges c None = refl
+  extended_ranges c (Some context) = refl
+
   -- none was agreed on
   none_placed : (context : Option (List ℕ × List ℕ)) (c : CallData) → context ≡ None → IsContextPlaced q context c
   none_placed None c e = tt {0}
   none_placed (Some context) c e = absurd (let a = e in cc)
 
   table : (o : Opcode) → o ≢ opcode.Init → o ≢ opcode.Readdir → o ≢ opcode.Readdirplus → may_have_context options o ≡ false → Shown q h head (CallIs o) (ListingIs o) (form_of limits options space h o)
-  table opcode.Lookup not_init not_readdir not_plus lacks = λ r name s. record { numbers = refl; places = s }
+  table opcode.Lookup not_init not_readdir not_plus lacks = λ r name s. record { numbers = refl; places = s; others = refl }
   table opcode.Symlink not_init not_readdir not_plus lacks = λ r name text ext tail whole s within says. record {
     numbers = extended_numbers (symlink_of name text ext) ext refl refl;
     places = (s.front, second_name 40 name text s, none_placed ext.context _ (no_contexts options _ ext lacks says));
+    others = extended_ranges (told q h options space len opcode.Symlink (shape_of (symlink_of name text ext))) ext.context;
   }
   table opcode.Mknod not_init not_readdir not_plus lacks = λ r name ext tail whole s within says. record {
     numbers = extended_numbers (mknod_of r name ext) ext refl refl;
     places = (s, none_placed ext.context _ (no_contexts options _ ext lacks says));
+    others = extended_ranges (told q h options space len opcode.Mknod (shape_of (mknod_of r name ext))) ext.context;
   }
   table opcode.Mkdir not_init not_readdir not_plus lacks = λ r name ext tail whole s within says. record {
     numbers = extended_numbers (mkdir_of r name ext) ext refl refl;
     places = (s, none_placed ext.context _ (no_contexts options _ ext lacks says));
+    others = extended_ranges (told q h options space len opcode.Mkdir (shape_of (mkdir_of r name ext))) ext.context;
   }
-  table opcode.Unlink not_init not_readdir not_plus lacks = λ r name s. record { numbers = refl; places = s }
-  table opcode.Rmdir not_init not_readdir not_plus lacks = λ r name s. record { numbers = refl; places = s }
-  table opcode.Rename not_init not_readdir not_plus lacks = λ r old new s. record { numbers = refl; places = (s.front, second_name _ old new s) }
-  table opcode.Link not_init not_readdir not_plus lacks = λ r name s. record { numbers = refl; places = s }
+  table opcode.Unlink not_init not_readdir not_plus lacks = λ r name s. record { numbers = refl; places = s; others = refl }
+  table opcode.Rmdir not_init not_readdir not_plus lacks = λ r name s. record { numbers = refl; places = s; others = refl }
+  table opcode.Rename not_init not_readdir not_plus lacks = λ r old new s. record { numbers = refl; places = (s.front, second_name _ old new s); others = refl }
+  table opcode.Link not_init not_readdir not_plus lacks = λ r name s. record { numbers = refl; places = s; others = refl }
   table opcode.Write not_init not_readdir not_plus lacks = λ r end. write_told r end
-  table opcode.Setxattr not_init not_readdir not_plus lacks = λ r name value s. record { numbers = refl; places = (s.front, second _ name value s) }
-  table opcode.Getxattr not_init not_readdir not_plus lacks = λ r name s. record { numbers = refl; places = s }
-  table opcode.Removexattr not_init not_readdir not_plus lacks = λ r name s. record { numbers = refl; places = s }
+  table opcode.Setxattr not_init not_readdir not_plus lacks = λ r name value s. record { numbers = refl; places = (s.front, second _ name value s); others = refl }
+  table opcode.Getxattr not_init not_readdir not_plus lacks = λ r name s. record { numbers = refl; places = s; others = refl }
+  table opcode.Removexattr not_init not_readdir not_plus lacks = λ r name s. record { numbers = refl; places = s; others = refl }
   table opcode.Init not_init not_readdir not_plus lacks = absurd (not_init refl)
   table opcode.Readdir not_init not_readdir not_plus lacks = absurd (not_readdir refl)
   table opcode.Create not_init not_readdir not_plus lacks = λ r name ext tail whole s within says. record {
     numbers = extended_numbers (create_of r name ext) ext refl refl;
     places = (s, none_placed ext.context _ (no_contexts options _ ext lacks says));
+    others = extended_ranges (told q h options space len opcode.Create (shape_of (create_of r name ext))) ext.context;
   }
   table opcode.Interrupt not_init not_readdir not_plus lacks = tt {0}
   table opcode.BatchForget not_init not_readdir not_plus lacks = λ r pairs s. pairs_told r.count pairs s
   table opcode.Readdirplus not_init not_readdir not_plus lacks = absurd (not_plus refl)
-  table opcode.Rename2 not_init not_readdir not_plus lacks = λ r old new s. record { numbers = refl; places = (s.front, second_name _ old new s) }
+  table opcode.Rename2 not_init not_readdir not_plus lacks = λ r old new s. record { numbers = refl; places = (s.front, second_name _ old new s); others = refl }
   table opcode.SetupMapping not_init not_readdir not_plus lacks = tt {0}
   table opcode.RemoveMapping not_init not_readdir not_plus lacks = tt {0}
-  table _ not_init not_readdir not_plus lacks = λ r. record { numbers = refl; places = tt {0} }
+  table _ not_init not_readdir not_plus lacks = λ r. record { numbers = refl; places = tt {0}; others = refl }
 
   -- the call or the listing that the bytes after a header ask for is told
   pub told_by_opcode : (o : Opcode) → o ≢ opcode.Init → o ≢ opcode.Readdir → o ≢ opcode.Readdirplus → may_have_context options o ≡ false

@@ -21,7 +21,7 @@ use Rattle.fuse_grammar.specs.Reply.{Reply, Refusal, Echo, echo_of}
 use Rattle.fuse_grammar.specs.declared.limits.Limits.{Limits}
 use Rattle.fuse_grammar.specs.declared.error.Error.{Error}
 use Rattle.fuse_grammar.specs.declared.error.Error.TheVariants.{OutOfMemory}
-use Rattle.door_calls.specs.Shapes.{bit, nothing, shape_of, unplaced}
+use Rattle.door_calls.specs.Shapes.{bit, no_range, nothing, shape_of, unplaced}
 use Rattle.door_calls.specs.declared.call.CallData.{CallData}
 use Rattle.door_calls.specs.declared.call.has.TheConstants as has
 use Rattle.door_calls.specs.declared.call.Range.{Range}
@@ -140,6 +140,59 @@ ArePlaced q (Create ctx parent name mode kill_priv flags umask ext) told =
 ArePlaced q (BatchForget ctx pairs) told = Spell q told.data pairs
 ArePlaced q call told = ⊤
 
+-- a range of a context, where there is one
+abbrev pub of_context : Option (List ℕ × List ℕ) → Range → Range
+of_context None range = no_range
+of_context (Some context) range = range
+
+-- a call as data that has no name and no value
+abbrev pub without_ranges : CallData → CallData
+without_ranges told = record told {
+  name = no_range;
+  other_name = no_range;
+  «data» = no_range;
+  context_name = no_range;
+  context = no_range;
+}
+
+-- a call as data with the ranges alone of the names and values that it has: what is not there is { 0, 0 }
+abbrev pub with_its_ranges : Call → CallData → CallData
+with_its_ranges (Lookup ctx parent name) told = record (without_ranges told) { name = told.name }
+with_its_ranges (Symlink ctx text parent name ext) told = record (without_ranges told) {
+  name = told.name;
+  other_name = told.other_name;
+  context_name = of_context ext.context told.context_name;
+  context = of_context ext.context told.context;
+}
+with_its_ranges (Mknod ctx inode name mode rdev umask ext) told = record (without_ranges told) {
+  name = told.name;
+  context_name = of_context ext.context told.context_name;
+  context = of_context ext.context told.context;
+}
+with_its_ranges (Mkdir ctx parent name mode umask ext) told = record (without_ranges told) {
+  name = told.name;
+  context_name = of_context ext.context told.context_name;
+  context = of_context ext.context told.context;
+}
+with_its_ranges (Unlink ctx parent name) told = record (without_ranges told) { name = told.name }
+with_its_ranges (Rmdir ctx parent name) told = record (without_ranges told) { name = told.name }
+with_its_ranges (Rename ctx olddir oldname newdir newname flags) told =
+    record (without_ranges told) { name = told.name; other_name = told.other_name }
+with_its_ranges (Link ctx inode newparent newname) told = record (without_ranges told) { name = told.name }
+with_its_ranges (Write ctx inode handle bytes size offset lock_owner delayed kill_priv flags) told =
+    record (without_ranges told) { «data» = told.data }
+with_its_ranges (Setxattr ctx inode name value flags extra) told =
+    record (without_ranges told) { name = told.name; «data» = told.data }
+with_its_ranges (Getxattr ctx inode name size) told = record (without_ranges told) { name = told.name }
+with_its_ranges (Removexattr ctx inode name) told = record (without_ranges told) { name = told.name }
+with_its_ranges (Create ctx parent name mode kill_priv flags umask ext) told = record (without_ranges told) {
+  name = told.name;
+  context_name = of_context ext.context told.context_name;
+  context = of_context ext.context told.context;
+}
+with_its_ranges (BatchForget ctx pairs) told = record (without_ranges told) { «data» = told.data }
+with_its_ranges call told = without_ranges told
+
 -- ---- what is told
 
 -- how many bytes a reply to a request that asks for no call has at most: our version, as a newer client is
@@ -152,6 +205,7 @@ pub record IsTold (request : List ℕ) (options room : ℕ) (echo : Echo) (call 
     : Type 0 where
   pub numbers : without_places told ≡ told_of options room echo call
   pub places : ArePlaced request call told
+  pub others : told ≡ with_its_ranges call told
 
 -- a request is finished: this comes back of it, and it interrupts this one
 abbrev pub IsFinished : Reply → (interrupts : ℕ) → (writer : Written) → Asked → (writer_after : Written)

@@ -21,12 +21,12 @@ use Rattle.fuse_grammar.specs.Records.{size_of}
 use Rattle.fuse_grammar.specs.Reply.{Echo}
 use Rattle.fuse_grammar.specs.declared.error.Error.TheVariants.{DecodeMessage}
 use Rattle.fuse_grammar.specs.declared.limits.Limits.{Limits}
-use Rattle.door_calls.specs.Shapes.{bit, bit_of, context_bit, context_name_of, context_value_of, shape_of, unplaced}
+use Rattle.door_calls.specs.Shapes.{bit, bit_of, context_bit, context_name_of, context_value_of, no_range, shape_of, unplaced}
 use Rattle.door_calls.specs.declared.call.CallData.{CallData}
 use Rattle.door_calls.specs.declared.call.Range.{Range}
 use Rattle.door_calls.specs.declared.call.has.TheConstants.{HANDLE, OWNER, CONTEXT, GROUP, KILL_PRIV, DELAYED, FLUSHES, FLOCK_RELEASE}
 use Rattle.door_answer.specs.Told.{TellsEcho, TellsOffer, TellsCall}
-use Rattle.door_ask.specs.Asked.{IsAsked, IsTold, IsNameIn, IsContextPlaced, Stand, bytes_in, long_range, without_places, told_of, told_of_listing, interrupted_by, interrupted_or_none, unique_or_none}
+use Rattle.door_ask.specs.Asked.{IsAsked, IsTold, IsNameIn, IsContextPlaced, Stand, bytes_in, long_range, of_context, with_its_ranges, without_places, told_of, told_of_listing, interrupted_by, interrupted_or_none, unique_or_none}
 use Rattle.door_ask.specs.Asked.{Tells as TellsWith}
 use Rattle.door_ask.specs.declared.asked.Asked.TheVariants as asked
 use Rattle.laws_flight.specs.Table.{TellsByTable, TellsAsked, TellsContext, AreOf, of_request, interrupted}
@@ -81,101 +81,106 @@ bits ext =
 
 -- a context is where the data say, or they say none
 context_told : (q : List ℕ) (told : CallData) (context : Option (List ℕ × List ℕ))
-    → told.context_name.len ≡ (context_name_of context).len → told.context.len ≡ (context_value_of context).len
+    → told.context_name ≡ of_context context told.context_name → told.context ≡ of_context context told.context
     → IsContextPlaced q context told → TellsContext q told context
 context_told q told None name value h = (name, value)
 context_told q told (Some context) name value h = h
 
 module _ (q : List ℕ) (options room : ℕ) (echo : Echo) (told : CallData) where
+  -- the data have the ranges of the call alone
+  exact : (c : Call) → IsTold q options room echo c told
+      → told ≡ with_its_ranges c (with_places told (told_of options room echo c))
+  exact c is = is.others ∙ ap (with_its_ranges c) (placed told _ is.numbers)
+
   pub row : (c : Call) → IsTold q options room echo c told → TellsByTable q told (of_request echo told) c
   row (call.Lookup ctx parent name) is =
-      (own_name told _ (placed told _ is.numbers), is.places)
+      (own_name told _ (exact (call.Lookup ctx parent name) is), is.places)
   row (call.Forget ctx inode count) is =
-      placed told _ is.numbers
+      exact (call.Forget ctx inode count) is
   row (call.Getattr ctx inode handle) is =
-      own_has told _ _ (placed told _ is.numbers) (bit_same handle HANDLE)
+      own_has told _ _ (exact (call.Getattr ctx inode handle) is) (bit_same handle HANDLE)
   row (call.Setattr ctx inode attr handle valid) is =
-      own_has told _ _ (placed told _ is.numbers) (bit_same handle HANDLE)
+      own_has told _ _ (exact (call.Setattr ctx inode attr handle valid) is) (bit_same handle HANDLE)
   row (call.Readlink ctx inode) is =
-      placed told _ is.numbers
+      exact (call.Readlink ctx inode) is
   row (call.Symlink ctx text parent name ext) is =
-      (own_has told _ _ (own_context told _ (own_other told _ (own_name told _ (placed told _ is.numbers)))) (ap (λ n. bit false KILL_PRIV + n) (bits ext)), is.places.0, is.places.1, context_told q told ext.context (ap (λ (c : CallData). c.context_name.len) is.numbers) (ap (λ (c : CallData). c.context.len) is.numbers) is.places.2)
+      (own_has told _ _ (own_context told _ (own_other told _ (own_name told _ (exact (call.Symlink ctx text parent name ext) is)))) (ap (λ n. bit false KILL_PRIV + n) (bits ext)), is.places.0, is.places.1, context_told q told ext.context (ap (λ (c : CallData). c.context_name) is.others) (ap (λ (c : CallData). c.context) is.others) is.places.2)
   row (call.Mknod ctx inode name mode rdev umask ext) is =
-      (own_has told _ _ (own_context told _ (own_name told _ (placed told _ is.numbers))) (ap (λ n. bit false KILL_PRIV + n) (bits ext)), is.places.0, context_told q told ext.context (ap (λ (c : CallData). c.context_name.len) is.numbers) (ap (λ (c : CallData). c.context.len) is.numbers) is.places.1)
+      (own_has told _ _ (own_context told _ (own_name told _ (exact (call.Mknod ctx inode name mode rdev umask ext) is))) (ap (λ n. bit false KILL_PRIV + n) (bits ext)), is.places.0, context_told q told ext.context (ap (λ (c : CallData). c.context_name) is.others) (ap (λ (c : CallData). c.context) is.others) is.places.1)
   row (call.Mkdir ctx parent name mode umask ext) is =
-      (own_has told _ _ (own_context told _ (own_name told _ (placed told _ is.numbers))) (ap (λ n. bit false KILL_PRIV + n) (bits ext)), is.places.0, context_told q told ext.context (ap (λ (c : CallData). c.context_name.len) is.numbers) (ap (λ (c : CallData). c.context.len) is.numbers) is.places.1)
+      (own_has told _ _ (own_context told _ (own_name told _ (exact (call.Mkdir ctx parent name mode umask ext) is))) (ap (λ n. bit false KILL_PRIV + n) (bits ext)), is.places.0, context_told q told ext.context (ap (λ (c : CallData). c.context_name) is.others) (ap (λ (c : CallData). c.context) is.others) is.places.1)
   row (call.Unlink ctx parent name) is =
-      (own_name told _ (placed told _ is.numbers), is.places)
+      (own_name told _ (exact (call.Unlink ctx parent name) is), is.places)
   row (call.Rmdir ctx parent name) is =
-      (own_name told _ (placed told _ is.numbers), is.places)
+      (own_name told _ (exact (call.Rmdir ctx parent name) is), is.places)
   row (call.Rename ctx olddir oldname newdir newname flags) is =
-      (own_other told _ (own_name told _ (placed told _ is.numbers)), is.places.0, is.places.1)
+      (own_other told _ (own_name told _ (exact (call.Rename ctx olddir oldname newdir newname flags) is)), is.places.0, is.places.1)
   row (call.Link ctx inode newparent newname) is =
-      (own_name told _ (placed told _ is.numbers), is.places)
+      (own_name told _ (exact (call.Link ctx inode newparent newname) is), is.places)
   row (call.Open ctx inode kill_priv flags) is =
-      placed told _ is.numbers
+      exact (call.Open ctx inode kill_priv flags) is
   row (call.Read ctx inode handle space size offset owner flags) is =
-      own_has told _ _ (placed told _ is.numbers) (bit_same owner OWNER)
+      own_has told _ _ (exact (call.Read ctx inode handle space size offset owner flags) is) (bit_same owner OWNER)
   row (call.Write ctx inode handle bytes size offset owner delayed kill_priv flags) is =
-      (own_has told _ _ (own_data told _ (placed told _ is.numbers)) (ap (λ n. n + (bit delayed DELAYED + bit kill_priv KILL_PRIV)) (bit_same owner OWNER)), is.places)
+      (own_has told _ _ (own_data told _ (exact (call.Write ctx inode handle bytes size offset owner delayed kill_priv flags) is)) (ap (λ n. n + (bit delayed DELAYED + bit kill_priv KILL_PRIV)) (bit_same owner OWNER)), is.places)
   row (call.Statfs ctx inode) is =
-      placed told _ is.numbers
+      exact (call.Statfs ctx inode) is
   row (call.Release ctx inode flags handle flush flock_release owner) is =
-      own_has told _ _ (placed told _ is.numbers) (ap (λ n. n + (bit flush FLUSHES + bit flock_release FLOCK_RELEASE)) (bit_same owner OWNER))
+      own_has told _ _ (exact (call.Release ctx inode flags handle flush flock_release owner) is) (ap (λ n. n + (bit flush FLUSHES + bit flock_release FLOCK_RELEASE)) (bit_same owner OWNER))
   row (call.Fsync ctx inode datasync handle) is =
-      placed told _ is.numbers
+      exact (call.Fsync ctx inode datasync handle) is
   row (call.Setxattr ctx inode name value flags extra) is =
-      (own_data told _ (own_name told _ (placed told _ is.numbers)), is.places.0, is.places.1)
+      (own_data told _ (own_name told _ (exact (call.Setxattr ctx inode name value flags extra) is)), is.places.0, is.places.1)
   row (call.Getxattr ctx inode name size) is =
-      (own_name told _ (placed told _ is.numbers), is.places)
+      (own_name told _ (exact (call.Getxattr ctx inode name size) is), is.places)
   row (call.Listxattr ctx inode size) is =
-      placed told _ is.numbers
+      exact (call.Listxattr ctx inode size) is
   row (call.Removexattr ctx inode name) is =
-      (own_name told _ (placed told _ is.numbers), is.places)
+      (own_name told _ (exact (call.Removexattr ctx inode name) is), is.places)
   row (call.Flush ctx inode handle lock_owner) is =
-      placed told _ is.numbers
+      exact (call.Flush ctx inode handle lock_owner) is
   row (call.Init capable) is =
-      placed told _ is.numbers
+      exact (call.Init capable) is
   row (call.Opendir ctx inode flags) is =
-      placed told _ is.numbers
+      exact (call.Opendir ctx inode flags) is
   row (call.Readdir ctx inode handle size offset) is =
-      placed told _ is.numbers
+      exact (call.Readdir ctx inode handle size offset) is
   row (call.Releasedir ctx inode flags handle) is =
-      placed told _ is.numbers
+      exact (call.Releasedir ctx inode flags handle) is
   row (call.Fsyncdir ctx inode datasync handle) is =
-      placed told _ is.numbers
+      exact (call.Fsyncdir ctx inode datasync handle) is
   row call.Getlk is =
-      placed told _ is.numbers
+      exact call.Getlk is
   row call.Setlk is =
-      placed told _ is.numbers
+      exact call.Setlk is
   row call.Setlkw is =
-      placed told _ is.numbers
+      exact call.Setlkw is
   row (call.Access ctx inode mask) is =
-      placed told _ is.numbers
+      exact (call.Access ctx inode mask) is
   row (call.Create ctx parent name mode kill_priv flags umask ext) is =
-      (own_has told _ _ (own_context told _ (own_name told _ (placed told _ is.numbers))) (ap (λ n. bit kill_priv KILL_PRIV + n) (bits ext)), is.places.0, context_told q told ext.context (ap (λ (c : CallData). c.context_name.len) is.numbers) (ap (λ (c : CallData). c.context.len) is.numbers) is.places.1)
+      (own_has told _ _ (own_context told _ (own_name told _ (exact (call.Create ctx parent name mode kill_priv flags umask ext) is))) (ap (λ n. bit kill_priv KILL_PRIV + n) (bits ext)), is.places.0, context_told q told ext.context (ap (λ (c : CallData). c.context_name) is.others) (ap (λ (c : CallData). c.context) is.others) is.places.1)
   row call.Bmap is =
-      placed told _ is.numbers
+      exact call.Bmap is
   row call.Destroy is =
-      placed told _ is.numbers
+      exact call.Destroy is
   row call.Ioctl is =
-      placed told _ is.numbers
+      exact call.Ioctl is
   row call.Poll is =
-      placed told _ is.numbers
+      exact call.Poll is
   row call.NotifyReply is =
-      placed told _ is.numbers
+      exact call.NotifyReply is
   row (call.BatchForget ctx pairs) is =
-      (own_data told _ (placed told _ is.numbers), ap (λ (c : CallData). c.data.len) is.numbers, is.places)
+      (own_data told _ (exact (call.BatchForget ctx pairs) is), ap (λ (c : CallData). c.data.len) is.numbers, is.places)
   row (call.Fallocate ctx inode handle mode offset len) is =
-      placed told _ is.numbers
+      exact (call.Fallocate ctx inode handle mode offset len) is
   row (call.Lseek ctx inode handle offset whence) is =
-      placed told _ is.numbers
+      exact (call.Lseek ctx inode handle offset whence) is
   row (call.Copyfilerange ctx inode_in handle_in offset_in inode_out handle_out offset_out len flags) is =
-      placed told _ is.numbers
+      exact (call.Copyfilerange ctx inode_in handle_in offset_in inode_out handle_out offset_out len flags) is
   row (call.Syncfs ctx inode) is =
-      placed told _ is.numbers
+      exact (call.Syncfs ctx inode) is
   row call.Tmpfile is =
-      placed told _ is.numbers
+      exact call.Tmpfile is
 
 -- a row of this call says what an answer to it wants
 from_row : (c : Call) (echo : Echo) (told x : CallData) → told ≡ x
@@ -253,7 +258,7 @@ told_asked q options interrupts room (Asks echo c) before after told t = (
   ap (λ (c : CallData). c.room) t.1.numbers,
 )
 told_asked q options interrupts room (Lists echo l) before after told t = (
-  ap (with_places told) t.1,
+  ap (λ (c : CallData). let d : CallData = record c { options = told.options; room = told.room } in d) t.1,
   ap (λ (c : CallData). c.options) t.1,
   ap (λ (c : CallData). c.room) t.1,
 )
@@ -290,10 +295,7 @@ value_range q range bytes is =
 
 context_ranges : (q : List ℕ) (told : CallData) (context : Option (List ℕ × List ℕ)) → TellsContext q told context
     → (long_range told.context_name ≡ context_name_of context) × (long_range told.context ≡ context_value_of context)
-context_ranges q told None h = (
-  ap (λ (n : ℕ). let r : Range = record { at = 0; len = n } in r) h.0,
-  ap (λ (n : ℕ). let r : Range = record { at = 0; len = n } in r) h.1,
-)
+context_ranges q told None h = (ap long_range h.0, ap long_range h.1)
 context_ranges q told (Some context) h =
     (name_range q told.context_name context.0 h.0, value_range q told.context context.1 h.1)
 
@@ -301,6 +303,34 @@ context_placed : (q : List ℕ) (told : CallData) (context : Option (List ℕ ×
     → IsContextPlaced q context told
 context_placed q told None h = tt
 context_placed q told (Some context) h = h
+
+-- the ranges of a context are told where there is one
+context_others : (q : List ℕ) (told : CallData) (context : Option (List ℕ × List ℕ)) → TellsContext q told context
+    → (told.context_name ≡ of_context context told.context_name) × (told.context ≡ of_context context told.context)
+context_others q told None h = h
+context_others q told (Some context) h = (refl, refl)
+
+-- data with these ranges
+abbrev with_ranges : CallData → (name other_name bytes context_name context : Range) → CallData
+with_ranges told name other_name bytes context_name context = record told {
+  name = name;
+  other_name = other_name;
+  «data» = bytes;
+  context_name = context_name;
+  context = context;
+}
+
+-- the data of a call that may have a context have its ranges alone
+others_of : (told : CallData) (o : Range) (context : Option (List ℕ × List ℕ)) → told.other_name ≡ o
+    → told.data ≡ no_range
+    → (told.context_name ≡ of_context context told.context_name) × (told.context ≡ of_context context told.context)
+    → told
+    ≡ with_ranges told told.name o no_range (of_context context told.context_name) (of_context context told.context)
+others_of told o context other bytes e =
+    ap (λ (r : Range). with_ranges told told.name r told.data told.context_name told.context) other
+    ∙ ap (λ (r : Range). with_ranges told told.name o r told.context_name told.context) bytes
+    ∙ ap (λ (r : Range). with_ranges told told.name o no_range r told.context) e.0
+    ∙ ap (λ (r : Range). with_ranges told told.name o no_range (of_context context told.context_name) r) e.1
 
 fit_name : (told x : CallData) → without_places told ≡ record x { name = long_range told.name }
     → long_range told.name ≡ x.name → without_places told ≡ x
@@ -330,178 +360,222 @@ module _ (q : List ℕ) (echo : Echo) (told : CallData) where
   is_told (call.Lookup ctx parent name) h = record {
     numbers = fit_name told _ (ap without_places h.0) (name_range q told.name name h.1);
     places = h.1;
+    others = h.0 ∙ sym (ap (with_its_ranges (call.Lookup ctx parent name)) h.0);
   }
   is_told (call.Forget ctx inode count) h = record {
     numbers = ap without_places h;
     places = tt;
+    others = h ∙ sym (ap (with_its_ranges (call.Forget ctx inode count)) h);
   }
   is_told (call.Getattr ctx inode handle) h = record {
     numbers = fit_has told _ _ (ap without_places h) (sym (bit_same handle HANDLE));
     places = tt;
+    others = h ∙ sym (ap (with_its_ranges (call.Getattr ctx inode handle)) h);
   }
   is_told (call.Setattr ctx inode attr handle valid) h = record {
     numbers = fit_has told _ _ (ap without_places h) (sym (bit_same handle HANDLE));
     places = tt;
+    others = h ∙ sym (ap (with_its_ranges (call.Setattr ctx inode attr handle valid)) h);
   }
   is_told (call.Readlink ctx inode) h = record {
     numbers = ap without_places h;
     places = tt;
+    others = h ∙ sym (ap (with_its_ranges (call.Readlink ctx inode)) h);
   }
   is_told (call.Symlink ctx text parent name ext) h = record {
     numbers = fit_name told _ (fit_other told _ (fit_context_name told _ (fit_context told _ (fit_has told _ _ (ap without_places h.0) (sym (ap (λ n. bit false KILL_PRIV + n) (bits ext)))) (context_ranges q told ext.context h.3).1) (context_ranges q told ext.context h.3).0) (name_range q told.other_name text h.2)) (name_range q told.name name h.1);
     places = (h.1, h.2, context_placed q told ext.context h.3);
+    others = others_of told told.other_name ext.context refl (ap (λ (c : CallData). c.data) h.0) (context_others q told ext.context h.3);
   }
   is_told (call.Mknod ctx inode name mode rdev umask ext) h = record {
     numbers = fit_name told _ (fit_context_name told _ (fit_context told _ (fit_has told _ _ (ap without_places h.0) (sym (ap (λ n. bit false KILL_PRIV + n) (bits ext)))) (context_ranges q told ext.context h.2).1) (context_ranges q told ext.context h.2).0) (name_range q told.name name h.1);
     places = (h.1, context_placed q told ext.context h.2);
+    others = others_of told no_range ext.context (ap (λ (c : CallData). c.other_name) h.0) (ap (λ (c : CallData). c.data) h.0) (context_others q told ext.context h.2);
   }
   is_told (call.Mkdir ctx parent name mode umask ext) h = record {
     numbers = fit_name told _ (fit_context_name told _ (fit_context told _ (fit_has told _ _ (ap without_places h.0) (sym (ap (λ n. bit false KILL_PRIV + n) (bits ext)))) (context_ranges q told ext.context h.2).1) (context_ranges q told ext.context h.2).0) (name_range q told.name name h.1);
     places = (h.1, context_placed q told ext.context h.2);
+    others = others_of told no_range ext.context (ap (λ (c : CallData). c.other_name) h.0) (ap (λ (c : CallData). c.data) h.0) (context_others q told ext.context h.2);
   }
   is_told (call.Unlink ctx parent name) h = record {
     numbers = fit_name told _ (ap without_places h.0) (name_range q told.name name h.1);
     places = h.1;
+    others = h.0 ∙ sym (ap (with_its_ranges (call.Unlink ctx parent name)) h.0);
   }
   is_told (call.Rmdir ctx parent name) h = record {
     numbers = fit_name told _ (ap without_places h.0) (name_range q told.name name h.1);
     places = h.1;
+    others = h.0 ∙ sym (ap (with_its_ranges (call.Rmdir ctx parent name)) h.0);
   }
   is_told (call.Rename ctx olddir oldname newdir newname flags) h = record {
     numbers = fit_name told _ (fit_other told _ (ap without_places h.0) (name_range q told.other_name newname h.2)) (name_range q told.name oldname h.1);
     places = (h.1, h.2);
+    others = h.0 ∙ sym (ap (with_its_ranges (call.Rename ctx olddir oldname newdir newname flags)) h.0);
   }
   is_told (call.Link ctx inode newparent newname) h = record {
     numbers = fit_name told _ (ap without_places h.0) (name_range q told.name newname h.1);
     places = h.1;
+    others = h.0 ∙ sym (ap (with_its_ranges (call.Link ctx inode newparent newname)) h.0);
   }
   is_told (call.Open ctx inode kill_priv flags) h = record {
     numbers = ap without_places h;
     places = tt;
+    others = h ∙ sym (ap (with_its_ranges (call.Open ctx inode kill_priv flags)) h);
   }
   is_told (call.Read ctx inode handle space size offset owner flags) h = record {
     numbers = fit_has told _ _ (ap without_places h) (sym (bit_same owner OWNER));
     places = tt;
+    others = h ∙ sym (ap (with_its_ranges (call.Read ctx inode handle space size offset owner flags)) h);
   }
   is_told (call.Write ctx inode handle bytes size offset owner delayed kill_priv flags) h = record {
     numbers = fit_data told _ (fit_has told _ _ (ap without_places h.0) (sym (ap (λ n. n + (bit delayed DELAYED + bit kill_priv KILL_PRIV)) (bit_same owner OWNER)))) (value_range q told.data bytes h.1);
     places = h.1;
+    others = h.0 ∙ sym (ap (with_its_ranges (call.Write ctx inode handle bytes size offset owner delayed kill_priv flags)) h.0);
   }
   is_told (call.Statfs ctx inode) h = record {
     numbers = ap without_places h;
     places = tt;
+    others = h ∙ sym (ap (with_its_ranges (call.Statfs ctx inode)) h);
   }
   is_told (call.Release ctx inode flags handle flush flock_release owner) h = record {
     numbers = fit_has told _ _ (ap without_places h) (sym (ap (λ n. n + (bit flush FLUSHES + bit flock_release FLOCK_RELEASE)) (bit_same owner OWNER)));
     places = tt;
+    others = h ∙ sym (ap (with_its_ranges (call.Release ctx inode flags handle flush flock_release owner)) h);
   }
   is_told (call.Fsync ctx inode datasync handle) h = record {
     numbers = ap without_places h;
     places = tt;
+    others = h ∙ sym (ap (with_its_ranges (call.Fsync ctx inode datasync handle)) h);
   }
   is_told (call.Setxattr ctx inode name value flags extra) h = record {
     numbers = fit_name told _ (fit_data told _ (ap without_places h.0) (value_range q told.data value h.2)) (name_range q told.name name h.1);
     places = (h.1, h.2);
+    others = h.0 ∙ sym (ap (with_its_ranges (call.Setxattr ctx inode name value flags extra)) h.0);
   }
   is_told (call.Getxattr ctx inode name size) h = record {
     numbers = fit_name told _ (ap without_places h.0) (name_range q told.name name h.1);
     places = h.1;
+    others = h.0 ∙ sym (ap (with_its_ranges (call.Getxattr ctx inode name size)) h.0);
   }
   is_told (call.Listxattr ctx inode size) h = record {
     numbers = ap without_places h;
     places = tt;
+    others = h ∙ sym (ap (with_its_ranges (call.Listxattr ctx inode size)) h);
   }
   is_told (call.Removexattr ctx inode name) h = record {
     numbers = fit_name told _ (ap without_places h.0) (name_range q told.name name h.1);
     places = h.1;
+    others = h.0 ∙ sym (ap (with_its_ranges (call.Removexattr ctx inode name)) h.0);
   }
   is_told (call.Flush ctx inode handle lock_owner) h = record {
     numbers = ap without_places h;
     places = tt;
+    others = h ∙ sym (ap (with_its_ranges (call.Flush ctx inode handle lock_owner)) h);
   }
   is_told (call.Init capable) h = record {
     numbers = ap without_places h;
     places = tt;
+    others = h ∙ sym (ap (with_its_ranges (call.Init capable)) h);
   }
   is_told (call.Opendir ctx inode flags) h = record {
     numbers = ap without_places h;
     places = tt;
+    others = h ∙ sym (ap (with_its_ranges (call.Opendir ctx inode flags)) h);
   }
   is_told (call.Readdir ctx inode handle size offset) h = record {
     numbers = ap without_places h;
     places = tt;
+    others = h ∙ sym (ap (with_its_ranges (call.Readdir ctx inode handle size offset)) h);
   }
   is_told (call.Releasedir ctx inode flags handle) h = record {
     numbers = ap without_places h;
     places = tt;
+    others = h ∙ sym (ap (with_its_ranges (call.Releasedir ctx inode flags handle)) h);
   }
   is_told (call.Fsyncdir ctx inode datasync handle) h = record {
     numbers = ap without_places h;
     places = tt;
+    others = h ∙ sym (ap (with_its_ranges (call.Fsyncdir ctx inode datasync handle)) h);
   }
   is_told call.Getlk h = record {
     numbers = ap without_places h;
     places = tt;
+    others = h ∙ sym (ap (with_its_ranges call.Getlk) h);
   }
   is_told call.Setlk h = record {
     numbers = ap without_places h;
     places = tt;
+    others = h ∙ sym (ap (with_its_ranges call.Setlk) h);
   }
   is_told call.Setlkw h = record {
     numbers = ap without_places h;
     places = tt;
+    others = h ∙ sym (ap (with_its_ranges call.Setlkw) h);
   }
   is_told (call.Access ctx inode mask) h = record {
     numbers = ap without_places h;
     places = tt;
+    others = h ∙ sym (ap (with_its_ranges (call.Access ctx inode mask)) h);
   }
   is_told (call.Create ctx parent name mode kill_priv flags umask ext) h = record {
     numbers = fit_name told _ (fit_context_name told _ (fit_context told _ (fit_has told _ _ (ap without_places h.0) (sym (ap (λ n. bit kill_priv KILL_PRIV + n) (bits ext)))) (context_ranges q told ext.context h.2).1) (context_ranges q told ext.context h.2).0) (name_range q told.name name h.1);
     places = (h.1, context_placed q told ext.context h.2);
+    others = others_of told no_range ext.context (ap (λ (c : CallData). c.other_name) h.0) (ap (λ (c : CallData). c.data) h.0) (context_others q told ext.context h.2);
   }
   is_told call.Bmap h = record {
     numbers = ap without_places h;
     places = tt;
+    others = h ∙ sym (ap (with_its_ranges call.Bmap) h);
   }
   is_told call.Destroy h = record {
     numbers = ap without_places h;
     places = tt;
+    others = h ∙ sym (ap (with_its_ranges call.Destroy) h);
   }
   is_told call.Ioctl h = record {
     numbers = ap without_places h;
     places = tt;
+    others = h ∙ sym (ap (with_its_ranges call.Ioctl) h);
   }
   is_told call.Poll h = record {
     numbers = ap without_places h;
     places = tt;
+    others = h ∙ sym (ap (with_its_ranges call.Poll) h);
   }
   is_told call.NotifyReply h = record {
     numbers = ap without_places h;
     places = tt;
+    others = h ∙ sym (ap (with_its_ranges call.NotifyReply) h);
   }
   is_told (call.BatchForget ctx pairs) h = record {
     numbers = fit_data told _ (ap without_places h.0) (ap (λ (n : ℕ). let r : Range = record { at = 0; len = n } in r) h.1);
     places = h.2;
+    others = h.0 ∙ sym (ap (with_its_ranges (call.BatchForget ctx pairs)) h.0);
   }
   is_told (call.Fallocate ctx inode handle mode offset len) h = record {
     numbers = ap without_places h;
     places = tt;
+    others = h ∙ sym (ap (with_its_ranges (call.Fallocate ctx inode handle mode offset len)) h);
   }
   is_told (call.Lseek ctx inode handle offset whence) h = record {
     numbers = ap without_places h;
     places = tt;
+    others = h ∙ sym (ap (with_its_ranges (call.Lseek ctx inode handle offset whence)) h);
   }
   is_told (call.Copyfilerange ctx inode_in handle_in offset_in inode_out handle_out offset_out len flags) h = record {
     numbers = ap without_places h;
     places = tt;
+    others = h ∙ sym (ap (with_its_ranges (call.Copyfilerange ctx inode_in handle_in offset_in inode_out handle_out offset_out len flags)) h);
   }
   is_told (call.Syncfs ctx inode) h = record {
     numbers = ap without_places h;
     places = tt;
+    others = h ∙ sym (ap (with_its_ranges (call.Syncfs ctx inode)) h);
   }
   is_told call.Tmpfile h = record {
     numbers = ap without_places h;
     places = tt;
+    others = h ∙ sym (ap (with_its_ranges call.Tmpfile) h);
   }
 
 -- ---- the request that an INTERRUPT means

@@ -15,17 +15,12 @@ use Rattle.fuse_grammar.specs.Forms.{Ask, Ends, Asks, Lists, WithMemory}
 use Rattle.fuse_grammar.specs.Records.{size_of}
 use Rattle.fuse_grammar.specs.Reply.{Echo}
 use Rattle.fuse_grammar.specs.declared.limits.Limits.{Limits}
-use Rattle.door_calls.specs.Shapes.{bit, nothing, setattr_of}
-use Rattle.door_calls.specs.declared.call.Range.{Range}
+use Rattle.door_calls.specs.Shapes.{bit, no_range, nothing, setattr_of}
 use Rattle.door_calls.specs.declared.call.CallData.{CallData}
 use Rattle.door_calls.specs.declared.call.number.TheConstants.{LOOKUP, FORGET, GETATTR, SETATTR, READLINK, SYMLINK, MKNOD, MKDIR, UNLINK, RMDIR, RENAME, LINK, OPEN, READ, WRITE, STATFS, RELEASE, FSYNC, SETXATTR, GETXATTR, LISTXATTR, REMOVEXATTR, FLUSH, INIT, OPENDIR, READDIR, RELEASEDIR, FSYNCDIR, GETLK, SETLK, SETLKW, ACCESS, CREATE, BMAP, DESTROY, IOCTL, POLL, NOTIFY_REPLY, BATCH_FORGET, FALLOCATE, LSEEK, COPY, SYNCFS, TMPFILE}
 use Rattle.door_calls.specs.declared.call.kind.TheConstants.{QUIET, DONE, FAULT_OR_SILENCE, DATA, WANT, ENTRY, ATTR, OPENED, CREATED, STATISTICS, TEXT, TEXT_OR_COUNT, OFFSET, WRITTEN, DIRECTORY, FAULT}
 use Rattle.door_calls.specs.declared.call.has.TheConstants.{HANDLE, OWNER, CONTEXT, GROUP, KILL_PRIV, DELAYED, DATASYNC, FLUSHES, FLOCK_RELEASE, PLUS}
 use Rattle.door_ask.specs.Asked.{IsNameIn, Stand, Spell}
-
--- the place of a range, and no bytes there
-abbrev pub empty_at : Range → Range
-empty_at range = record { at = range.at; len = 0 }
 
 -- what the data of any call have of its request
 abbrev pub of_request : Echo → (told : CallData) → CallData
@@ -34,21 +29,17 @@ of_request echo told = record nothing {
   readahead = echo.max_readahead;
   options = told.options;
   room = told.room;
-  name = empty_at told.name;
-  other_name = empty_at told.other_name;
-  «data» = empty_at told.data;
-  context_name = empty_at told.context_name;
-  context = empty_at told.context;
 }
 
--- The name and the value of a security context, where there is one, are in the request where the data say so.
+-- The name and the value of a security context, where there is one, are in the request where the data say so; and else
+-- both are { 0, 0 }.
 abbrev pub TellsContext : (q : List ℕ) → (told : CallData) → Option (List ℕ × List ℕ) → Type 0
-TellsContext q told None = (told.context_name.len ≡ 0) × (told.context.len ≡ 0)
+TellsContext q told None = (told.context_name ≡ no_range) × (told.context ≡ no_range)
 TellsContext q told (Some context) =
     IsNameIn q told.context_name context.0 × Stand q told.context context.1
 
 -- These data tell this call, where `c` is what `of_request` has of them: all their numbers are those of its row, and
--- its names and values are in the request where they say so.
+-- its names and values are in the request where they say so. What it has not is { 0, 0 }.
 module _ (q : List ℕ) (told c : CallData) where
   -- data of this call, which has this kind of answer; and of one by this caller, of this node
   abbrev pub asks : (number kind : ℕ) → CallData

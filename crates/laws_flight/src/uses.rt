@@ -4,8 +4,8 @@ ghost use Rattle.std.specs.declared.option.Option.TheVariants.{None};
 ghost use Rattle.std.specs.Prelude.{◌≡◌, ◌≢◌, ◌≤◌, ◌+◌, ℕ, Bool, List, Option, [], ◌∷◌, length, true, IfSome};
 ghost use Rattle.fuse_flags.specs.Flags.{fs_options_bits};
 ghost use Rattle.fuse_messages.specs.Rooms.{with_after};
-ghost use Rattle.fs_trait.specs.Calls.{Call, Read};
-ghost use Rattle.fs_trait.specs.Values.{Item};
+ghost use Rattle.fs_trait.specs.Calls.{Call, Getattr, Lookup, Mkdir, Read};
+ghost use Rattle.fs_trait.specs.Values.{ExtensionValues, Item};
 ghost use Rattle.fs_trait.specs.declared.entry.Context.{Context};
 ghost use Rattle.fuse_grammar.specs.Limits.{AreLimits};
 ghost use Rattle.fs_trait.specs.Runs.{Event, IsRun, OpenedDirectory, Taken};
@@ -13,17 +13,19 @@ ghost use Rattle.fuse_grammar.specs.Books.{KeepsBooks, answered, delivered, sent
 ghost use Rattle.fuse_grammar.specs.Turn.{AreTurns, Turn};
 ghost use Rattle.fuse_grammar.specs.declared.limits.Limits.{Limits};
 ghost use Rattle.fuse_grammar.specs.Reply.{Echo};
+ghost use Rattle.door_calls.specs.Shapes.{no_range};
 ghost use Rattle.door_calls.specs.declared.call.CallData.{CallData};
 ghost use Rattle.door_ask.specs.Asked.{IsEnough, IsTold};
 ghost use Rattle.laws_flight.specs.Flight.{Waiting, IsTurnOf};
 ghost use Rattle.laws_flight.specs.Made.{Answered as IsAnswered, Asked as IsAsked, Point, Seen as IsSeen, events_seen, ForgetsWhatItWasTold, given_back_by};
 ghost use Rattle.laws_flight.specs.OneTurn.{IsAnsweredTurn, IsFinishedTurn};
 ghost use Rattle.laws_flight.specs.Running.{AreMade, EachCallKeeps};
+ghost use Rattle.laws_flight.specs.Table.{TellsByTable, of_request};
 
 use crate::laws::{
     a_finished_request_is_one_turn, asked_and_answered_is_one_turn, calls_in_flight_are_a_run,
-    no_count_falls_below_zero_in_flight, turns_in_flight_are_in_order, turns_in_flight_keep_books,
-    what_is_told_is_the_call,
+    no_count_falls_below_zero_in_flight, the_table_says_what_is_told, turns_in_flight_are_in_order,
+    turns_in_flight_keep_books, what_is_told_is_the_call,
 };
 use door_answer::{Answered, answer};
 use door_ask::{Asked, ask};
@@ -149,4 +151,42 @@ fn calls_told_alike()
         call ≡ Read ctx inode handle space size offset owner flags }
 {
     what_is_told_is_the_call();
+}
+
+/// What a call has not is told as { 0, 0 }, by the row of the call: a GETATTR has no name and no value, a LOOKUP a name
+/// alone, and a MKDIR without a security context too.
+fn what_is_not_there_is_told_so()
+    ensures getattr { (request : List ℕ) (told : CallData) (echo : Echo) (ctx : Context) (inode : ℕ)
+        (handle : Option ℕ) → IsTold request told.options told.room echo (Getattr ctx inode handle) told →
+        (told.name ≡ no_range) × (told.other_name ≡ no_range) × (told.data ≡ no_range)
+        × (told.context_name ≡ no_range) × (told.context ≡ no_range) }
+    ensures lookup { (request : List ℕ) (told : CallData) (echo : Echo) (ctx : Context) (parent : ℕ)
+        (name : List ℕ) → IsTold request told.options told.room echo (Lookup ctx parent name) told →
+        (told.other_name ≡ no_range) × (told.data ≡ no_range)
+        × (told.context_name ≡ no_range) × (told.context ≡ no_range) }
+    ensures mkdir { (request : List ℕ) (told : CallData) (echo : Echo) (ctx : Context) (parent : ℕ)
+        (name : List ℕ) (mode umask : ℕ) (ext : ExtensionValues) → ext.context ≡ None →
+        IsTold request told.options told.room echo (Mkdir ctx parent name mode umask ext) told →
+        (told.other_name ≡ no_range) × (told.data ≡ no_range)
+        × (told.context_name ≡ no_range) × (told.context ≡ no_range) }
+{
+    the_table_says_what_is_told();
+}
+
+/// Data that the row of a READ says of a request are told of that READ, and of no other call.
+fn a_read_by_its_row()
+    ensures told { (request : List ℕ) (told : CallData) (echo : Echo) (ctx : Context)
+        (inode handle space size offset flags : ℕ) (owner : Option ℕ) →
+        TellsByTable request told (of_request echo told)
+        (Read ctx inode handle space size offset owner flags) →
+        IsTold request told.options told.room echo
+        (Read ctx inode handle space size offset owner flags) told }
+    ensures alone { (request : List ℕ) (told : CallData) (one other : Echo) (ctx : Context)
+        (inode handle space size offset flags : ℕ) (owner : Option ℕ) (call : Call) →
+        TellsByTable request told (of_request one told)
+        (Read ctx inode handle space size offset owner flags) →
+        TellsByTable request told (of_request other told) call →
+        call ≡ Read ctx inode handle space size offset owner flags }
+{
+    the_table_says_what_is_told();
 }
