@@ -9,15 +9,15 @@ ghost use Rattle.fs_trait.specs.Values.{ExtensionValues};
 ghost use Rattle.fs_trait.specs.declared.entry.Context.{Context};
 ghost use Rattle.fs_trait.specs.declared.entry.Entry.{Entry};
 ghost use Rattle.fuse_grammar.specs.Books.{KeepsBooks, answered};
-ghost use Rattle.fuse_grammar.specs.Turn.{events_in};
+ghost use Rattle.fuse_grammar.specs.Turn.{IsTurn, Turn, events_in};
 ghost use Rattle.fuse_grammar.specs.declared.limits.Limits.{Limits};
-ghost use Rattle.door_further.specs.Further.{Unnamed, what_of};
+ghost use Rattle.door_further.specs.Further.{Ordinary as IsOrdinary, Unnamed, what_of};
 ghost use Rattle.door_further.specs.declared.row.Further.TheVariants.{Ordinary, Row, Short, Unnamed as IsUnnamed};
-ghost use Rattle.door_further.specs.Turns.{IsOfferedTurn, OfferedTurn, created_turn, seen};
+ghost use Rattle.door_further.specs.Turns.{IsOfferedTurn, OfferedTurn, created_turn, plain, seen};
 ghost use Rattle.door_further.specs.Uses.{SaysAgain, bmap, bmap_asked, copy_64, copy_64_asked, getlk, getlk_asked, ioctl, ioctl_asked, ioctl_with, notify_reply, notify_reply_asked, poll, poll_asked, statx, statx_asked, tmpfile};
 
 use crate::answer::{answer_offered, is_unfit};
-use crate::laws::offered_turns_keep_books;
+use crate::laws::{offered_turns_keep_books, what_offers_nothing_is_virtiofsds};
 use crate::offers;
 use crate::row::{Further, what};
 use door_answer::Answered;
@@ -179,4 +179,15 @@ fn a_tmpfiles_entry_counts()
         answered entry.inode (events_in (seen limits t)) ≡ 1 }
 {
     offered_turns_keep_books();
+}
+
+/// Where nothing is offered, a GETLK asks what the table of virtiofsd says; and its turns are those of that table.
+fn a_getlk_without_offers()
+    ensures asks { (limits : Limits) → what_of 0 limits getlk ≡ IsOrdinary }
+    ensures its { (limits : Limits) (options after : ℕ) (turn : Turn) → turn.request ≡ getlk →
+        IsTurn limits options turn after → IsOfferedTurn limits options (plain turn) after }
+    ensures no_others { (limits : Limits) (options after : ℕ) (t : OfferedTurn) → t.turn.request ≡ getlk →
+        t.offers ≡ 0 → IsOfferedTurn limits options t after → IsTurn limits options t.turn after }
+{
+    what_offers_nothing_is_virtiofsds();
 }

@@ -15,6 +15,7 @@ mod messages;
 mod mock;
 mod segments;
 mod server;
+mod small_laws;
 mod transfers;
 mod views;
 mod wire;

@@ -1,8 +1,9 @@
 //! A device that reads chains by hand: these are its pieces, and what it refuses.
 
-ghost use Rattle.std.specs.Prelude.{◌≡◌, ◌≤◌, ◌<◌, ◌+◌, ℕ, List, [], ◌∷◌, pos, true, false, length, Some, None};
+ghost use Rattle.std.specs.Prelude.{◌≡◌, ◌≤◌, ◌<◌, ◌+◌, ℕ, List, [], ◌∷◌, pos, true, false, length, drop, Some, None};
+ghost use Rattle.fuse_wire.specs.Fields.{AreBytes, number};
 ghost use Rattle.vhost_chains.specs.Chains.{GoesThrough, entry};
-ghost use Rattle.vhost_chains.specs.Descriptors.{is_table, is_writable};
+ghost use Rattle.vhost_chains.specs.Descriptors.{descriptor_from, is_table, is_writable, of_words};
 ghost use Rattle.vhost_chains.specs.Walks.{begun, step_at};
 ghost use Rattle.vhost_chains.specs.declared.descriptor.Descriptor.{Descriptor};
 ghost use Rattle.vhost_chains.specs.declared.regions.Place.{Place};
@@ -11,7 +12,7 @@ ghost use Rattle.vhost_chains.specs.declared.walk.Piece.{Piece};
 ghost use Rattle.vhost_chains.specs.declared.walk.Walk.{Walk};
 ghost use Rattle.vhost_chains.specs.declared.walk.Step.TheVariants.{Last, More, Table};
 
-use crate::laws::{steps_are_within, walks_are_chains};
+use crate::laws::{steps_are_within, walks_are_chains, words_are_bytes};
 use crate::regions::Region;
 use crate::rings::{slot, waiting};
 use crate::walk::{Piece, Walk, begin, take_step};
@@ -115,4 +116,12 @@ fn two_descriptors()
         × (a.len + b.len ≤ 4294967296) × (length pieces ≡ 2) }
 {
     walks_are_chains();
+}
+
+/// The second descriptor of a table of two, from its two words.
+fn a_second_descriptor()
+    ensures { (table : List ℕ) → AreBytes table → length table ≡ 32 →
+        of_words (number 8 (drop 16 table)) (number 8 (drop 24 table)) ≡ descriptor_from 16 table }
+{
+    words_are_bytes();
 }
