@@ -10,3 +10,4 @@ mod Pieces
 mod Ending
 mod Turns
 mod Concluding
+mod Promised

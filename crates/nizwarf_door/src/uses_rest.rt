@@ -1,27 +1,39 @@
 //! A program whose requests are finished at their ask or are not asked, and one that answers INIT, DESTROY and
 //! directories.
 
-ghost use Rattle.std.specs.Prelude.{◌≡◌, ◌≢◌, ◌≤◌, ◌^◌, ◌⊎◌, [], length, bit_and, pos};
+ghost use Rattle.std.specs.Prelude.{◌≡◌, ◌≢◌, ◌≤◌, ◌^◌, ◌⊎◌, ◌==◌, if◌then◌else◌, ℕ, ℤ, List, [], ◌∷◌, length, take, bit_and, pos, Option, None, Some, Result};
 ghost use Rattle.fuse_flags.specs.Flags.{known_fs_options};
 ghost use Rattle.fuse_segments.specs.Segments.{segments_of, flat_bytes};
 ghost use Rattle.fuse_grammar.specs.Ask.{ask as ask_of};
+ghost use Rattle.fs_trait.specs.Calls.{Failed, Getattr};
+ghost use Rattle.fs_trait.specs.Runs.{Called};
+ghost use Rattle.fs_trait.specs.declared.entry.Context.{Context};
+ghost use Rattle.fuse_grammar.specs.Forms.{Asks, Lists};
+ghost use Rattle.fuse_grammar.specs.Listing.{Listing, given_back};
 ghost use Rattle.fuse_grammar.specs.Memory.{header_of};
+ghost use Rattle.fuse_grammar.specs.Reply.{Echo};
+ghost use Rattle.door_answer.specs.Said.{IsFailed};
 ghost use Rattle.fuse_grammar.specs.Options.{agreed};
 ghost use Rattle.fuse_grammar.specs.Samples.{not_served_reply};
+ghost use Rattle.fuse_grammar.specs.Turn.{IsTurn, Turn};
+ghost use Rattle.fuse_grammar.specs.declared.error.Error.{Error};
 ghost use Rattle.door_calls.specs.Shapes.{nothing};
 ghost use Rattle.door_calls.specs.declared.call.number.TheConstants as number;
 ghost use Rattle.door_calls.specs.declared.call.kind.TheConstants as kind;
-ghost use Rattle.c_rooms.specs.Codes.{ok, no_memory, too_long, wrong_size};
-ghost use Rattle.nizwarf_door.specs.Kept.{HoldsFor};
+ghost use Rattle.laws_flight.specs.Table.{AreOf, interrupted};
+ghost use Rattle.c_rooms.specs.Codes.{ok, no_memory, not_asked, is_asked, too_long, wrong_size, outcome_code, length_of};
+ghost use Rattle.nizwarf_door.specs.Kept.{HoldsFor, put_of};
 ghost use Rattle.nizwarf_door.specs.Shown.{shown_in};
 ghost use Rattle.nizwarf_door.specs.Uses.{usual_limits};
 ghost use Rattle.nizwarf_door.specs.UsesRest.{IsCallOf, interrupt_of_7, request_of_99};
 
 use crate::check::nizwarf_check_at;
 use crate::data::{SessionData, ToldData};
+use crate::further::{nizwarf_answer_offered_at, nizwarf_ask_offered_at, nizwarf_check_offered_at};
 use crate::handle::Handle;
 use crate::{nizwarf_answer_at, nizwarf_ask_at};
 use door_calls::{AnswerData, CallData, ItemData};
+use door_further::offers;
 use std::alloc::Global;
 
 /// A session before its INIT, as virtiofsd has it.
@@ -41,7 +53,9 @@ const SMALL_PAGES: SessionData = SessionData {
 /// Asks any request. One of an opcode that nobody knows is finished, and the reply that is there to be copied out says
 /// ENOSYS in sixteen bytes; unless there is no memory. Where there was none, no call is told; a GETATTR in at most four
 /// pieces, wherever it is cut, lacks none of a slot that has it. Where the lengths of the pieces sum past the largest
-/// count, which alone is told so, nothing is told besides, and nothing is there to be copied out.
+/// count, which alone is told so, nothing is told besides, and nothing is there to be copied out. Where there is a call,
+/// that is told so, and nothing besides; and any other request that is asked is a turn without a call, and its reply is
+/// there to be copied out.
 fn ask_anything(
     alloc: Global,
     handle: &mut Handle,
@@ -60,11 +74,22 @@ fn ask_anything(
     ensures no_call { result ≡ too_long → call.new ≡ nothing }
     ensures untold { result ≡ too_long → told.new ≡ told.old }
     ensures nothing { result ≡ too_long → shown_in handle.new.value ≡ [] }
+    ensures call { call.new ≢ nothing →
+        (result ≡ is_asked) × (told.new ≡ told.old) × (shown_in handle.new.value ≡ []) }
+    ensures ended { (code : ℤ) → result ≡ code → code ≢ is_asked → code ≢ no_memory → code ≢ too_long →
+        (turn : Turn) × IsTurn usual_limits 0 turn 0
+        × (turn.request ≡ flat_bytes (segments_of request.now)) × (length turn.room ≡ 4096)
+        × (turn.events ≡ []) × (code ≡ outcome_code turn.outcome)
+        × (told.new.len ≡ length_of turn.outcome) × (told.new.put ≡ length_of turn.outcome)
+        × (told.new.interrupts ≡ interrupted usual_limits (flat_bytes (segments_of request.now)))
+        × (told.new.options ≡ told.old.options)
+        × (shown_in handle.new.value ≡ take (length_of turn.outcome) turn.room_after) }
 {
     nizwarf_ask_at(alloc, handle, &SESSION, request, 4096, call, told)
 }
 
-/// Asks, answers and checks under sizes of which there is no server: each time that is told, and all is as it was.
+/// Asks, answers and checks, without rows and with them, under sizes of which there is no server: each time that is
+/// told, and all is as it was.
 fn nobody_is_there(
     alloc: Global,
     handle: &mut Handle,
@@ -73,8 +98,9 @@ fn nobody_is_there(
     answer: &AnswerData,
     told: &mut ToldData,
     interrupts: &mut u64,
-) -> (i32, i32, i32)
-    ensures codes { result ≡ (wrong_size, wrong_size, wrong_size) }
+) -> (i32, i32, i32, i32, i32, i32)
+    ensures codes { result
+        ≡ (wrong_size, wrong_size, wrong_size, wrong_size, wrong_size, wrong_size) }
     ensures slot { handle.new.value ≡ handle.old.value }
     ensures call { call.new ≡ call.old }
     ensures told { told.new ≡ told.old }
@@ -84,7 +110,36 @@ fn nobody_is_there(
     let asked = nizwarf_ask_at(alloc, handle, &SMALL_PAGES, &pieces, 4096, call, told);
     let answered = nizwarf_answer_at(alloc, handle, &SMALL_PAGES, call, answer, &[], &[], told);
     let checked = nizwarf_check_at(alloc, &SMALL_PAGES, request, 4096, call, interrupts);
-    (asked, answered, checked)
+    let row = nizwarf_ask_offered_at(
+        alloc,
+        handle,
+        &SMALL_PAGES,
+        offers::LOCKS,
+        &pieces,
+        4096,
+        call,
+        told,
+    );
+    let reply = nizwarf_answer_offered_at(
+        alloc,
+        handle,
+        &SMALL_PAGES,
+        call,
+        answer,
+        &[],
+        &[],
+        told,
+    );
+    let alone = nizwarf_check_offered_at(
+        alloc,
+        &SMALL_PAGES,
+        offers::LOCKS,
+        request,
+        4096,
+        call,
+        interrupts,
+    );
+    (asked, answered, checked, row, reply, alone)
 }
 
 /// Checks an INTERRUPT of request 7: it is finished, and this is the request that it means.
@@ -98,7 +153,10 @@ fn check_interrupt(alloc: Global, request: &[u8], call: &mut CallData, interrupt
 }
 
 /// Answers any call. From an INIT on that was answered these options are agreed on, of those that it offered, and from a
-/// DESTROY on none. No more items are in the reply than there are.
+/// DESTROY on none. No more items are in the reply than there are. What is told of an answer is of one outcome, and the
+/// reply's bytes that are put are there to be copied out; of data that are of no request nothing is told. A GETATTR that is
+/// answered by an error is a turn in which the file system answered that error; and of a directory that is, no item is
+/// in the reply.
 fn answer_anything(
     alloc: Global,
     handle: &mut Handle,
@@ -111,6 +169,28 @@ fn answer_anything(
         told.new.options ≡ agreed call.now.length (bit_and answer.now.count known_fs_options) }
     ensures none { IsCallOf number.DESTROY kind.QUIET call.now → result ≡ ok → told.new.options ≡ 0 }
     ensures few { result ≡ ok → told.new.taken ≤ length items.now }
+    ensures told { (code : ℤ) → result ≡ code → code ≢ no_memory → code ≢ not_asked →
+        (outcome : Result ℕ Error) × (room_after : List ℕ) × (code ≡ outcome_code outcome)
+        × (told.new.len ≡ length_of outcome) × (told.new.put ≡ put_of call.now (length_of outcome))
+        × (told.new.interrupts ≡ told.old.interrupts)
+        × (shown_in handle.new.value ≡ take (put_of call.now (length_of outcome)) room_after) }
+    ensures untold { result ≡ not_asked → told.new ≡ told.old }
+    ensures nothing { result ≡ not_asked → shown_in handle.new.value ≡ [] }
+    ensures of_none { result ≡ not_asked → (request : List ℕ) → AreOf usual_limits request call.now → ⊥ }
+    ensures failed { (code : ℤ) → result ≡ code → code ≢ no_memory → code ≢ not_asked →
+        (request : List ℕ) (echo : Echo) (ctx : Context) (inode : ℕ) (handle : Option ℕ) →
+        AreOf usual_limits request call.now →
+        ask_of usual_limits call.now.options call.now.room request ≡ Asks echo (Getattr ctx inode handle) →
+        answer.now.error ≢ pos 0 →
+        (turn : Turn) × (fault : Option ℕ) × IsTurn usual_limits call.now.options turn told.new.options
+        × (turn.request ≡ request) × IsFailed answer.now fault
+        × (turn.events ≡ Called (Getattr ctx inode handle) (Failed fault)
+        ∷ given_back echo.ctx (if told.new.give_back == 0 then None else Some told.new.give_back))
+        × (told.new.taken ≡ 0) }
+    ensures unread { (code : ℤ) → result ≡ code → code ≢ no_memory → code ≢ not_asked →
+        (request : List ℕ) (echo : Echo) (l : Listing) → AreOf usual_limits request call.now →
+        ask_of usual_limits call.now.options call.now.room request ≡ Lists echo l →
+        answer.now.error ≢ pos 0 → (told.new.taken ≡ 0) × (told.new.give_back ≡ 0) }
 {
     nizwarf_answer_at(alloc, handle, &SESSION, call, answer, &[], items, told)
 }

@@ -1,4 +1,4 @@
-use Rattle.std.proofs.Common.{◌≡◌, rules}
+use Rattle.std.proofs.Common.{◌≡◌, ◌∙◌, rules, sym}
 use Rattle.fuse_flags.specs.Numbers.{opcode_of}
 use Rattle.fuse_segments.specs.Segments.{segments_of}
 use Rattle.door_ask.specs.Memory.{MayWant}
@@ -6,6 +6,7 @@ use Rattle.c_rooms.specs.Codes.{no_memory, too_long}
 use Rattle.nizwarf_door.specs.Asking.{unread_in}
 use Rattle.nizwarf_door.proofs.Ending.{no_call_without, not_served, too_long_together}
 use Rattle.nizwarf_door.proofs.Lookup.{are_limits, limits}
+use Rattle.nizwarf_door.proofs.Promised.{ended, only_told}
 use Rattle.nizwarf_door.proofs.uses_rest.ask_anything.Goals as goal
 
 pub returns-clause-unknown : goal.returns-clause-unknown
@@ -45,3 +46,14 @@ pub returns-clause-nothing : goal.returns-clause-nothing
 returns-clause-nothing c = λ is.
     let long : c.nizwarf_ask_at.result ≡ too_long = search (rules, is) in
     (too_long_together _ _ _ _ _ _ _ _ _ (c.nizwarf_ask_at.ensures.asked are_limits) long).3
+
+pub returns-clause-call : goal.returns-clause-call
+returns-clause-call c some =
+    let l = only_told _ _ _ _ _ _ _ _ _ (c.nizwarf_ask_at.ensures.promise are_limits) some in
+    search rules
+
+pub returns-clause-ended : goal.returns-clause-ended
+returns-clause-ended c code is called lacks long =
+    let same : c.nizwarf_ask_at.result ≡ code = search (rules, is) in
+    rw (sym same) (ended _ _ _ _ _ _ _ _ _ (c.nizwarf_ask_at.ensures.promise are_limits)
+    (λ e. called (sym same ∙ e)) (λ e. lacks (sym same ∙ e)) (λ e. long (sym same ∙ e)))

@@ -6,27 +6,37 @@ returns-clause-codes c =
     let a = (c.nizwarf_ask_at-asked.ensures.wrong (λ l. omega (arith, l.page))).0 in
     let b = (c.nizwarf_answer_at-answered.ensures.wrong (λ l. omega (arith, l.page))).0 in
     let d = (c.nizwarf_check_at-checked.ensures.wrong (λ l. omega (arith, l.page))).0 in
+    let e = (c.nizwarf_ask_offered_at-row.ensures.wrong (λ l. omega (arith, l.page))).0 in
+    let f = (c.nizwarf_answer_offered_at-reply.ensures.wrong (λ l. omega (arith, l.page))).0 in
+    let g = (c.nizwarf_check_offered_at-alone.ensures.wrong (λ l. omega (arith, l.page))).0 in
     search rules
 
 pub returns-clause-slot : goal.returns-clause-slot
 returns-clause-slot c =
     let a = (c.nizwarf_ask_at-asked.ensures.wrong (λ l. omega (arith, l.page))).1 in
     let b = (c.nizwarf_answer_at-answered.ensures.wrong (λ l. omega (arith, l.page))).1 in
+    let e = (c.nizwarf_ask_offered_at-row.ensures.wrong (λ l. omega (arith, l.page))).1 in
+    let f = (c.nizwarf_answer_offered_at-reply.ensures.wrong (λ l. omega (arith, l.page))).1 in
     search rules
 
 pub returns-clause-call : goal.returns-clause-call
 returns-clause-call c =
     let a = (c.nizwarf_ask_at-asked.ensures.wrong (λ l. omega (arith, l.page))).2 in
     let d = (c.nizwarf_check_at-checked.ensures.wrong (λ l. omega (arith, l.page))).1 in
+    let e = (c.nizwarf_ask_offered_at-row.ensures.wrong (λ l. omega (arith, l.page))).2 in
+    let g = (c.nizwarf_check_offered_at-alone.ensures.wrong (λ l. omega (arith, l.page))).1 in
     search rules
 
 pub returns-clause-told : goal.returns-clause-told
 returns-clause-told c =
     let a = (c.nizwarf_ask_at-asked.ensures.wrong (λ l. omega (arith, l.page))).3 in
     let b = (c.nizwarf_answer_at-answered.ensures.wrong (λ l. omega (arith, l.page))).2 in
+    let e = (c.nizwarf_ask_offered_at-row.ensures.wrong (λ l. omega (arith, l.page))).3 in
+    let f = (c.nizwarf_answer_offered_at-reply.ensures.wrong (λ l. omega (arith, l.page))).2 in
     search rules
 
 pub returns-clause-interrupts : goal.returns-clause-interrupts
 returns-clause-interrupts c =
     let d = (c.nizwarf_check_at-checked.ensures.wrong (λ l. omega (arith, l.page))).2 in
+    let g = (c.nizwarf_check_offered_at-alone.ensures.wrong (λ l. omega (arith, l.page))).2 in
     search rules
