@@ -205,7 +205,8 @@ def of_specs(file, whole, known):
         body = text[head.start() : end]
         if "pub record" in head[1]:
             where = re.search(r"Type 0\s+where", body)
-            if where and re.match(r"\s*pub record [\w']+\s*[({]", body):
+            # (one without parameters of its own says something in a module that has some)
+            if where and re.match(r"\s*pub record [\w']+\s*[({]| +pub record", body):
                 yield from of_record(file, head[2], text, head.start() + where.end(), end, known)
         elif head[2] in known:
             type_ = re.search(rf"pub {re.escape(head[2])} :.*?(?=^ *{re.escape(head[2])}\b)", body, re.M | re.S)

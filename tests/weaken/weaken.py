@@ -128,10 +128,8 @@ class Prover:
 
     def words(self, name, rlibs):
         words = ["--crate-name", name, "src/lib.rt", "--links", f"{name}="]
-        of_kit = [it for it in self.below[name] if it not in self.below]
-        if "core" not in of_kit:
-            of_kit.append("std")
-        for it in of_kit:
+        # (std is always there, also beside core)
+        for it in ["std", *[it for it in self.below[name] if it not in self.below]]:
             words += ["--extern", f"{it}={self.kit}/rlibs/{it}.rlib"]
         words += ["-L", f"dependency={self.kit}/rlibs"]
         for it in all_below(name, self.below):
