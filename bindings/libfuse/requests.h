@@ -712,13 +712,31 @@ static __attribute__((noinline)) int32_t ask_further(struct door_thread *t, cons
 	return nizwarf_ask_at(&t->slot, session, segments, count, room, call, told);
 }
 
+/* How much room the door is told of. A slot keeps as much memory for each answer, but of a READ a header's: so it's no
+ * more than a reply without a text takes, or than a directory is asked for. */
+static inline size_t room_for(const nizwarf_session *session, const struct door_message *m)
+{
+	const size_t most = session->max_buffer + FUSE_BUFFER_HEADER_SIZE;
+	const struct fuse_in_header *in = (const void *)m->in;
+	uint32_t size;
+
+	if (m->len < sizeof(*in) + sizeof(struct fuse_read_in))
+		return SMALL_ROOM;
+	if (in->opcode == FUSE_READ)
+		return most;
+	if (in->opcode != FUSE_READDIR && in->opcode != FUSE_READDIRPLUS)
+		return SMALL_ROOM;
+	memcpy(&size, m->in + sizeof(*in) + offsetof(struct fuse_read_in, size), sizeof(size));
+	return size < most - SMALL_ROOM ? SMALL_ROOM + size : most;
+}
+
 /* Asks the door for the call of a message. */
 static inline int32_t ask(struct door_thread *t, struct fuse_session *se, const struct door_message *m,
 			  nizwarf_call *call, nizwarf_told *told)
 {
 	const nizwarf_session session = session_of(se);
 	const nizwarf_segment segment = { m->in, m->len };
-	const size_t room = session.max_buffer + FUSE_BUFFER_HEADER_SIZE;
+	const size_t room = room_for(&session, m);
 
 	begin_told(told, session.options);
 	if (unlikely(m->len != m->buf->size || is_row(m)))

@@ -1067,6 +1067,40 @@ static void try_many_interrupts(void)
 	send_request(&good[1]);
 }
 
+static size_t memory_taken(void)
+{
+	const struct mallinfo2 info = mallinfo2();
+
+	return info.uordblks + info.hblkhd;
+}
+
+/* Serves requests, and tells what is kept then: 0, one was answered wrongly. */
+static void *keep_on_thread(void *at)
+{
+	const size_t before = memory_taken();
+	size_t i, *kept = at;
+	int whole = 1;
+
+	for (i = 0; i < sizeof(good) / sizeof(*good); i++) {
+		send_request(&good[i]);
+		whole &= is_whole(&good[i]);
+	}
+	*kept = whole ? memory_taken() - before : 0;
+	return NULL;
+}
+
+/* A thread keeps no more than small requests take, whatever a client may ask of it. */
+static void try_thread(void)
+{
+	enum { MOST_KEPT = 32 << 10 };
+	pthread_t thread;
+	size_t kept;
+
+	if (pthread_create(&thread, NULL, keep_on_thread, &kept) || pthread_join(thread, NULL))
+		exit(2);
+	judge("what a thread keeps", kept && kept < MOST_KEPT);
+}
+
 static void try_memory(void)
 {
 	static const struct request endless = {
@@ -1083,6 +1117,7 @@ static void try_memory(void)
 	send_request(&endless);
 	judge(endless.what, is_answered(&endless));
 	try_again();
+	try_thread();
 	try_many_interrupts();
 }
 
