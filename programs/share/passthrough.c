@@ -168,8 +168,11 @@ int32_t passthrough_serve(void *user, unsigned worker, const nizwarf_segment *re
 			     .worker = w,
 			     .asked = &asked,
 			     .request = request->at,
-			     .node.own = -1,
-			     .other.own = -1,
+			     .data = NULL,
+			     .pieces = 0,
+			     .node = { NULL, -1, -1 },
+			     .other = { NULL, -1, -1 },
+			     .file = NULL,
 			     .answer = &answer };
 	ssize_t pieces = 0;
 	int32_t code;

@@ -21,26 +21,27 @@ uint64_t inode_of(const struct call *call, uint64_t device, uint64_t inode, bool
 	return announces(call) && !is_apart ? inode : numbers_tell(call->all->numbers, device, inode);
 }
 
-static nizwarf_attr attr_of(const struct call *call, const struct statx *seen)
+/* Puts each field. */
+static void put_attr(const struct call *call, const struct statx *seen, bool is_apart, nizwarf_attr *attr)
 {
 	const struct passthrough_options *options = &call->all->options;
 
-	return (nizwarf_attr){
-		.size = seen->stx_size,
-		.blocks = seen->stx_blocks,
-		.atime = (uint64_t)seen->stx_atime.tv_sec,
-		.mtime = (uint64_t)seen->stx_mtime.tv_sec,
-		.ctime = (uint64_t)seen->stx_ctime.tv_sec,
-		.atimensec = seen->stx_atime.tv_nsec,
-		.mtimensec = seen->stx_mtime.tv_nsec,
-		.ctimensec = seen->stx_ctime.tv_nsec,
-		.mode = seen->stx_mode,
-		.nlink = seen->stx_nlink,
-		.uid = ids_to_client(&options->users, seen->stx_uid),
-		.gid = ids_to_client(&options->groups, seen->stx_gid),
-		.rdev = (uint32_t)makedev(seen->stx_rdev_major, seen->stx_rdev_minor),
-		.blksize = seen->stx_blksize,
-	};
+	attr->ino = inode_of(call, device_of(seen), seen->stx_ino, is_apart);
+	attr->size = seen->stx_size;
+	attr->blocks = seen->stx_blocks;
+	attr->atime = (uint64_t)seen->stx_atime.tv_sec;
+	attr->mtime = (uint64_t)seen->stx_mtime.tv_sec;
+	attr->ctime = (uint64_t)seen->stx_ctime.tv_sec;
+	attr->atimensec = seen->stx_atime.tv_nsec;
+	attr->mtimensec = seen->stx_mtime.tv_nsec;
+	attr->ctimensec = seen->stx_ctime.tv_nsec;
+	attr->mode = seen->stx_mode;
+	attr->nlink = seen->stx_nlink;
+	attr->uid = ids_to_client(&options->users, seen->stx_uid);
+	attr->gid = ids_to_client(&options->groups, seen->stx_gid);
+	attr->rdev = (uint32_t)makedev(seen->stx_rdev_major, seen->stx_rdev_minor);
+	attr->blksize = seen->stx_blksize;
+	attr->flags = 0;
 }
 
 /* Whether a client is told if the attributes change that it gets by this answer: the file is watched, and one that it
@@ -73,8 +74,7 @@ void tell_attr(const struct call *call, const struct statx *seen, bool is_apart,
 	if (time > SHORT_TIME && all->nodes.watch && !is_told_of(call))
 		time = SHORT_TIME;
 
-	entry->attr = attr_of(call, seen);
-	entry->attr.ino = inode_of(call, device_of(seen), seen->stx_ino, is_apart);
+	put_attr(call, seen, is_apart, &entry->attr);
 	entry->attr_seconds = time / 1000;
 	entry->attr_nanoseconds = (uint32_t)(time % 1000) * 1000000;
 }
@@ -91,11 +91,11 @@ void tell_entry(const struct call *call, uint64_t number, const struct statx *se
 	/* (nobody says that it is mounted no longer) */
 	if (across && all->nodes.watch && time > SHORT_TIME)
 		time = SHORT_TIME;
-	*entry = (nizwarf_entry){
-		.node = number,
-		.entry_seconds = time / 1000,
-		.entry_nanoseconds = (uint32_t)(time % 1000) * 1000000,
-	};
+	/* (what is not said here says tell_attr(): each field) */
+	entry->node = number;
+	entry->generation = 0;
+	entry->entry_seconds = time / 1000;
+	entry->entry_nanoseconds = (uint32_t)(time % 1000) * 1000000;
 	tell_attr(call, seen, node->is_apart || (across && !is_directory), entry);
 	if (across && is_directory && announces(call))
 		entry->attr.flags = FUSE_ATTR_SUBMOUNT;

@@ -97,9 +97,12 @@ static void put(struct uring *r, const struct io_uring_sqe *sqe, const void *own
 	const uint32_t tail = atomic_load_explicit(r->tail, memory_order_relaxed);
 	unsigned char *at = (unsigned char *)r->commands + (size_t)(tail & r->mask) * COMMAND;
 
-	memset(at, 0, COMMAND);
 	memcpy(at, sqe, OWN_PART);
-	memcpy(at + OWN_PART, own, len);
+	/* (what is after it has been 0 from the beginning) */
+	if (len)
+		memcpy(at + OWN_PART, own, len);
+	else
+		memset(at + OWN_PART, 0, COMMAND - OWN_PART);
 	atomic_store_explicit(r->tail, tail + 1, memory_order_release);
 	r->waiting++;
 }
