@@ -1,8 +1,21 @@
 /* Queues of a virtio-fs device, and their workers: vhost_queue.h.
  *
- * The guest may write all of its memory at any time. So a descriptor is copied before it is checked,
- * and a request before it is handed on: both once. The room is not read. What a descriptor is, and where in the
- * memory that the front end shared, the library says: chain.h. */
+ * The guest may write all of its memory at any time. So a descriptor is copied before it is checked, and a
+ * request before it is handed on: both once. The room is not read. What a descriptor is, and where in the
+ * memory that the front end shared, the library says: chain.h. So a wrong index, a chain in a circle, or an
+ * address of nothing stops the guest's own queue, or comes back to it as a reply of no bytes, and leads
+ * nowhere but into its own memory.
+ *
+ * Threads. Each worker waits for kicks, takes a chain of the queue that was kicked, has it answered, gives
+ * it back, and takes the next one. Several may serve one queue at once; then chains come back in another
+ * order, as virtio lets a device do. The calling thread, that of vhost_user.c, takes no chain: it changes
+ * queues and memory between them.
+ *
+ * Locks, in the order in which they are taken. A worker has `in_flight` of its guest for reading as long as
+ * it touches that memory or looks at the queues, and the calling thread has it for writing while it changes
+ * them. The `lock` of a queue is for its counters, its rings and its late answers; nothing is written to a
+ * descriptor of the front end's while it is held. The lock of later.c may be taken with `in_flight`, but
+ * never with that of a queue. `guests` is taken alone. */
 #define _GNU_SOURCE
 #include <errno.h>
 #include <fcntl.h>
@@ -19,10 +32,13 @@
 #include <unistd.h>
 #include "vhost_queue.h"
 
-/* What is after the longest request is not looked at, and no longer room is lent: a header and its
- * record take less than a page, and a guest that keeps to what INIT agreed on has no larger payload.
- * Of a WRITE the header and the record have WRITE_HEAD bytes. */
+/* What is after the longest request is not looked at, and no longer room is lent: a header and its record
+ * take less than a page, and a guest that keeps to what INIT agreed on has no larger payload. PIECES bounds
+ * the pieces of a request, those of its room, and the entries of an indirect table; a chain of more is
+ * none. */
 enum { PIECES = 1024, LONGEST = TRANSPORT_PAYLOAD + 4096 };
+/* The opcode is the second word of a fuse_in_header, and so ends with byte 8. A WRITE begins with
+ * WRITE_HEAD bytes: 40 of that header, and 40 of a fuse_write_in. */
 enum { OPCODE_WRITE = 16, OPCODE_END = 8, WRITE_HEAD = 80 };
 
 /* A guest hands memory on from one worker to another, by numbers that it reads and writes. The
@@ -38,7 +54,8 @@ static char from_guest;
 #define TO_GUEST() ((void)0)
 #endif
 
-/* How many bytes of memory a bit of the log is of. */
+/* How many bytes of memory a bit of the log is of: VHOST_LOG_PAGE, as vhost-user has it, whatever a page of
+ * this machine. */
 enum { LOG_PAGE = 4096 };
 
 struct guest *vhost_guest;
@@ -55,12 +72,16 @@ static int over, lost;
  * interrupts them; and when it waits no longer. */
 enum { HOLD = 200, REST = 5, INTERRUPTS = 250, MOST = 1000 };
 
+/* A worker, and the chain that it has. It has more than 1 MiB, so it is allocated: by start_worker(), and
+ * freed by join_workers(). */
 struct worker {
 	unsigned number;
 	pthread_t thread;
 	/* Whom it serves now. */
 	_Atomic(struct guest *) serves;
-	/* A chain: the request is copied, but for the data of a WRITE if they are to stay. */
+	/* A chain: the request is copied, but for the data of a WRITE if they are to stay. It has `len`
+	 * bytes, of which the first `copied` are in `request`. The first segment is of these, the others
+	 * are the guest's memory, and so are the rooms, which have `room_len` bytes together. */
 	size_t len, copied, segments, rooms, room_len;
 	nizwarf_segment segment[PIECES + 1];
 	nizwarf_room room[PIECES];
@@ -72,17 +93,22 @@ struct worker {
 enum { OUTCOMES = 32 };
 static atomic_ulong outcomes[OUTCOMES], broken;
 
+/* The transport, and its workers, which the calling thread alone starts and joins. Each of these knows
+ * itself by `this_worker`, which is NULL in other threads. */
 static const transport *by;
 static struct worker *workers[TRANSPORT_MOST_WORKERS];
 static unsigned started;
 static _Thread_local const struct worker *this_worker;
 
+/* Says on standard error what failed, and why by errno, and answers -1. */
 static int failed(const char *what)
 {
 	fprintf(stderr, "%s: %s: %s\n", by->program, what, strerror(errno));
 	return -1;
 }
 
+/* Wakes who waits for an event of ours. None is ever full: it would take 2^64 - 2 calls. A signal's handler
+ * calls it too. */
 static void tell(int event)
 {
 	const uint64_t one = 1;
@@ -93,7 +119,10 @@ static void tell(int event)
 
 /* ---- what is written, by workers: it is marked after the writing, since who reads the marks takes them away first */
 
-/* Marks bytes of the guest by their address there. What is past the end of the log is none of its memory. */
+/* Marks bytes of the guest by their address there. What is past the end of the log is none of its memory,
+ * or the front end has made the log too short, which is its own loss. Other workers mark, and the front end
+ * takes marks away, at the same time: so a bit is set at once, and not by reading and writing its byte. The
+ * size of the log is in bytes. */
 static void mark(const struct log *log, uint64_t address, uint64_t len)
 {
 	uint64_t page = address / LOG_PAGE, left;
@@ -105,7 +134,8 @@ static void mark(const struct log *log, uint64_t address, uint64_t len)
 		__atomic_fetch_or(&log->at[page / 8], (unsigned char)(1u << page % 8), __ATOMIC_SEQ_CST);
 }
 
-/* Marks bytes where they are mapped. */
+/* Marks bytes where they are mapped, all of which lie in the region that has the first one. They were
+ * written before. */
 static void mark_at(const struct guest *g, const void *at, size_t len)
 {
 	const uintptr_t from = (uintptr_t)at;
@@ -122,6 +152,7 @@ static void mark_at(const struct guest *g, const void *at, size_t len)
 	}
 }
 
+/* Marks rooms wholly: what failed, or answered fewer bytes, may have written to any of them. */
 static void mark_rooms(const struct guest *g, const nizwarf_room *room, size_t rooms)
 {
 	if (g->logs)
@@ -129,7 +160,8 @@ static void mark_rooms(const struct guest *g, const nizwarf_room *room, size_t r
 			mark_at(g, room[i].at, room[i].len);
 }
 
-/* Marks bytes of a used ring. */
+/* Marks bytes of a used ring: by the address that SET_VRING_ADDR gave with VHOST_VRING_F_LOG, which may be
+ * that of no memory that is shared, or else where they are. */
 static void mark_used(const struct guest *g, const struct queue *q, const void *at, size_t len)
 {
 	const uint64_t offset = (uint64_t)((const char *)at - (const char *)q->used);
@@ -140,7 +172,8 @@ static void mark_used(const struct guest *g, const struct queue *q, const void *
 		mark(&g->log, q->log_address + offset, len);
 }
 
-/* Marks what gave the last chain back. */
+/* Marks what gave the last chain back: its entry of the used ring, and the index. The lock of the queue is
+ * held. */
 static void mark_given(const struct guest *g, const struct queue *q)
 {
 	const uint32_t slot = nizwarf_ring_slot_at((uint16_t)(q->done - 1), q->size);
@@ -161,7 +194,8 @@ static void tell_log(const struct guest *g)
 
 /* ---- chains, by workers */
 
-/* Copies the next bytes of a request, until that many are copied. */
+/* Copies the next bytes of a request, until that many are copied, and moves `at` and `len` past them.
+ * `most` is at most LONGEST, so they fit. */
 static void copy_up_to(struct worker *w, size_t most, const unsigned char **at, size_t *len)
 {
 	size_t n = w->copied < most ? most - w->copied : 0;
@@ -173,8 +207,9 @@ static void copy_up_to(struct worker *w, size_t most, const unsigned char **at, 
 	*len -= n;
 }
 
-/* Adds bytes of a request: all are copied, but of a WRITE whose data stay the header and the record
- * alone. The opcode is that of the copy. */
+/* Adds bytes of a request: all are copied, but of a WRITE whose data stay the header and the record alone.
+ * The opcode is that of the copy: so a guest that changes it afterwards changes nothing. -1: it is in too
+ * many pieces. */
 static int add_request(struct worker *w, const unsigned char *at, size_t len)
 {
 	uint32_t opcode = 0;
@@ -196,7 +231,8 @@ static int add_request(struct worker *w, const unsigned char *at, size_t len)
 	return 0;
 }
 
-/* Adds bytes of the guest to the chain. */
+/* Adds bytes of the guest to the chain, as far as they are not after the longest request or room. -1: there
+ * are too many pieces. */
 static int add_piece(struct worker *w, unsigned char *at, const nizwarf_piece *piece)
 {
 	const size_t left = LONGEST - (piece->writable ? w->room_len : w->len);
@@ -211,7 +247,9 @@ static int add_piece(struct worker *w, unsigned char *at, const nizwarf_piece *p
 	return 0;
 }
 
-/* Reads the chain that begins at this descriptor. -1: it is none. */
+/* Reads the chain that begins at this descriptor: the pieces of the request come first, then those of the
+ * room. -1: it is none. A descriptor has two words of 8 bytes. The walk bounds how many there are, so a
+ * chain in a circle ends too. */
 static int take_chain(struct worker *w, const struct guest *g, const struct queue *q, uint16_t head)
 {
 	const unsigned char *table = q->descriptors;
@@ -233,6 +271,7 @@ static int take_chain(struct worker *w, const struct guest *g, const struct queu
 		step = nizwarf_chain_step_at(&walk, word[0], word[1], g->shared, g->regions, &piece);
 		if (step > NIZWARF_CHAIN_TABLE)
 			return -1;
+		/* (a piece, or an indirect table, lies wholly in that region) */
 		at = g->region[piece.region].at + piece.offset;
 		if (step == NIZWARF_CHAIN_TABLE)
 			table = at;
@@ -242,7 +281,9 @@ static int take_chain(struct worker *w, const struct guest *g, const struct queu
 	return 0;
 }
 
-/* What is kept of a chain whose request is answered later. */
+/* What is kept of a chain whose request is answered later: to which queue it goes back, and by which
+ * number. A chain whose room is in more than KEPT_ROOMS pieces is not kept, so what is kept has one size.
+ * The pieces are where the memory was mapped as it was taken. */
 enum { KEPT_ROOMS = 8 };
 struct kept {
 	struct queue *q;
@@ -251,7 +292,8 @@ struct kept {
 	nizwarf_room room[KEPT_ROOMS];
 };
 
-/* The answer to it. */
+/* The answer to it, in a list of its queue. It is allocated by send_kept(), and freed by who gives the
+ * chain back or forgets it. */
 struct late {
 	struct late *next;
 	struct kept kept;
@@ -260,8 +302,9 @@ struct late {
 	unsigned char reply[];
 };
 
-/* Leaves the answer to a worker, which writes it into the guest's memory. Without memory for it the request is
- * completed as one that was refused. */
+/* Leaves the answer to a worker, which writes it into the guest's memory. Without memory for it the request
+ * is completed as one that was refused: the guest would wait for ever otherwise. Any thread may call it, by
+ * transport_complete(): so it does not have `in_flight`, and touches no memory of the guest. */
 static void send_kept(void *about, int32_t code, const void *reply, size_t len)
 {
 	const struct kept *kept = about;
@@ -285,7 +328,9 @@ static void send_kept(void *about, int32_t code, const void *reply, size_t len)
 	queue_look(kept->q);
 }
 
-/* Hands a chain to `serve`, which may keep it, if it can be called back. Answers whether it does. */
+/* Hands a chain to `serve`, which may keep it, if it can be called back. Answers whether it does: then it
+ * may be completed already, and the worker may take the next chain. transport_keep() copies `kept`, which
+ * so may stand here. */
 static int ask(struct worker *w, struct guest *g, struct queue *q, uint16_t head, int32_t *code, size_t *len)
 {
 	struct kept kept;
@@ -304,9 +349,9 @@ static int ask(struct worker *w, struct guest *g, struct queue *q, uint16_t head
 	return later_keeps(&source, *code);
 }
 
-/* Answers the chain, and gives the length that completes it: 0 for a refused request, and for one
- * without a reply, as FORGET, INTERRUPT and DESTROY. These are completed too, or the guest waits for
- * ever. -1: it is answered later. */
+/* Answers the chain, and gives the length that completes it: 0 for a refused request, and for one without a
+ * reply, as FORGET, INTERRUPT and DESTROY. These are completed too, or the guest waits for ever, and so is
+ * what is no chain. -1: it is answered later. */
 static int64_t answer(struct worker *w, struct guest *g, struct queue *q, uint16_t head)
 {
 	size_t len = 0;
@@ -323,22 +368,25 @@ static int64_t answer(struct worker *w, struct guest *g, struct queue *q, uint16
 	return (int64_t)len;
 }
 
-/* (if none is woken for it yet) */
+/* Wakes a worker for this queue, if none is woken for it yet. Any thread may call it. */
 void queue_look(struct queue *q)
 {
 	if (!atomic_exchange(&q->look, 1))
 		tell(look);
 }
 
-/* How many chains wait; -1: more than can. */
+/* How many chains wait, by the `idx` of the available ring, which the guest may have set to anything; -1:
+ * more than can. */
 static int32_t count_waiting(const struct queue *q)
 {
 	return nizwarf_ring_waiting_at(__atomic_load_n(&q->available->idx, __ATOMIC_SEQ_CST), q->next,
 				       q->size);
 }
 
-/* The same, after a guest that goes by indices was told to kick for the next chain to come. (It writes its index, and
- * then looks at this one: one of both sees what the other did.) */
+/* The same, after a guest that goes by indices was told to kick for the next chain to come: by
+ * `avail_event`, which is after the last entry of the used ring. (It writes its index, and then looks at
+ * this one: one of both sees what the other did.) 0 if indices were not agreed on: then it kicks for each
+ * chain, since no flag of the used ring is ever set here. */
 static int32_t await_kick(const struct guest *g, struct queue *q)
 {
 	if (!q->has_events)
@@ -349,7 +397,9 @@ static int32_t await_kick(const struct guest *g, struct queue *q)
 	return count_waiting(q);
 }
 
-/* Takes the number of the next chain; -1: none waits. A queue that says what can't be is left. */
+/* Takes the number of the next chain; -1: none waits, or the queue is not enabled or has no kick, and so is
+ * stopped. A queue that says what can't be is left, until a message places its rings anew. The lock of the
+ * queue is held. */
 static int take_head(const struct guest *g, struct queue *q)
 {
 	int32_t waiting;
@@ -376,7 +426,9 @@ static int take_head(const struct guest *g, struct queue *q)
 	return head;
 }
 
-/* Whether the guest wants to be told of the chain that was given back last. */
+/* Whether the guest wants to be told of the chain that was given back last: by the flag
+ * VRING_AVAIL_F_NO_INTERRUPT, or by `used_event`, which is after the last entry of the available ring. If
+ * it lies there, it alone waits longer. The lock of the queue is held. */
 static int wants_call(struct queue *q)
 {
 	if (!q->calls)
@@ -393,7 +445,9 @@ static int wants_call(struct queue *q)
 		(uint16_t)(q->done - 1));
 }
 
-/* Gives a chain back to the guest. Answers whether it wants to be told. */
+/* Gives a chain back to the guest, as `len` bytes of its room: first the entry, and then the index, which
+ * makes that valid. Answers whether it wants to be told. The lock of the queue is held. A queue that was
+ * left gets nothing back. */
 static int complete(const struct guest *g, struct queue *q, uint16_t head, uint32_t len)
 {
 	if (!q->available)
@@ -408,8 +462,10 @@ static int complete(const struct guest *g, struct queue *q, uint16_t head, uint3
 	return wants_call(q);
 }
 
-/* Tells the guest that a chain is done. A front end can have this wait, as long as its event is full: then
- * it is interrupted once the front end has gone. */
+/* Tells the guest that a chain is done. A front end can have this wait, as long as its event is full, since
+ * it can take O_NONBLOCK away from what it shares: then it is interrupted once the front end has gone. So
+ * the lock of the queue is not held, but `in_flight` is, and nobody closes the descriptor meanwhile. Where
+ * writing fails otherwise it is told no more. */
 static void call_guest(struct queue *q)
 {
 	const uint64_t one = 1;
@@ -428,7 +484,7 @@ static int has_late(struct queue *q)
 	return __atomic_load_n(&q->late, __ATOMIC_RELAXED) != NULL;
 }
 
-/* Takes the next answer that came late; NULL: there is none. */
+/* Takes the next answer that came late, which is the caller's to free; NULL: there is none. */
 static struct late *take_late(struct queue *q)
 {
 	struct late *late;
@@ -441,7 +497,9 @@ static struct late *take_late(struct queue *q)
 	return late;
 }
 
-/* Gives the chain back to whose request an answer came late, if there is one. Whether there was. */
+/* Gives the chain back to whose request an answer came late, if there is one. Whether there was. A reply
+ * that is longer than the room is cut, and its length is what was put. Marks come after the bytes, and the
+ * chain goes back after both, so that a machine that migrates has all that its guest was told of. */
 static int serve_late(struct guest *g, struct queue *q)
 {
 	struct late *late = take_late(q);
@@ -472,7 +530,9 @@ static int serve_late(struct guest *g, struct queue *q)
 /* What is in place of a chain: none waits; or one may, but a message or an answer that came late is first. */
 enum { NO_CHAIN = -1, NOT_YET = -2 };
 
-/* Gives a chain back, if it is one, and takes the next. */
+/* Gives a chain back, if it is one, and takes the next, both with the lock of the queue once. A front end
+ * that has gone gets nothing back, and nothing is taken of it. Answers the number of the chain, or what is
+ * in its place. */
 static int next_chain(struct guest *g, struct queue *q, int head, int64_t len)
 {
 	int calls = 0, next = NO_CHAIN;
@@ -490,7 +550,8 @@ static int next_chain(struct guest *g, struct queue *q, int head, int64_t len)
 	return next;
 }
 
-/* Answers what waits in a queue, up to where something else is first. Whether that is so. */
+/* Answers what waits in a queue, up to where something else is first. Whether that is so. The caller has
+ * `in_flight`, and no other lock: a request may take as long as it wants. */
 static int serve_chains(struct worker *w, struct guest *g, struct queue *q)
 {
 	int head = NO_CHAIN;
@@ -508,7 +569,8 @@ static int serve_chains(struct worker *w, struct guest *g, struct queue *q)
 	}
 }
 
-/* The guest that is served now, with a user more. */
+/* The guest that is served now, with a user more: it is there until put_guest(), even if its front end
+ * goes. */
 static struct guest *take_guest(void)
 {
 	struct guest *g;
@@ -530,6 +592,8 @@ static void drop_late(struct guest *g)
 			free(late);
 }
 
+/* Gives a guest up. The last user frees it, with the memory and the descriptors that the front end shared:
+ * no thread can have it any more, so no lock is taken for that. */
 static void put_guest(struct guest *g)
 {
 	unsigned users;
@@ -556,7 +620,8 @@ static void put_guest(struct guest *g)
 	free(g);
 }
 
-/* Answers what waits in a queue; in each that is to be looked at, if it is none's number. */
+/* Answers what waits in a queue; in each that is to be looked at, if it is none's number. Where the calling
+ * thread waits for `in_flight`, the worker lets go of it, and has it again after that one. */
 static void serve_queue(struct worker *w, uint32_t number)
 {
 	struct guest *g = take_guest();
@@ -566,6 +631,7 @@ static void serve_queue(struct worker *w, uint32_t number)
 	for (uint32_t i = number < QUEUES ? number : 0; i < QUEUES; i++) {
 		struct queue *q = &g->queue[i];
 
+		/* (most are not to be looked at, and reading that takes no cache line from others) */
 		if (number >= QUEUES && (!atomic_load(&q->look) || !atomic_exchange(&q->look, 0)))
 			continue;
 		do {
@@ -582,6 +648,8 @@ static void serve_queue(struct worker *w, uint32_t number)
 	put_guest(g);
 }
 
+/* A worker's thread. It ends once the event `stop` is told, which stays so for the others, or if it fails,
+ * of which `over` tells. Where `begin` fails there is no `end`. */
 static void *run(void *given)
 {
 	struct worker *w = given;
@@ -611,8 +679,10 @@ static void *run(void *given)
 	return NULL;
 }
 
-/* A front end can cut the file that its memory is of. Where that memory was are zeros from then on,
- * so that the worker goes on, up to when the front end is hung up on. */
+/* The handler of SIGBUS. A front end can cut the file that its memory is of. Where that memory was are
+ * zeros from then on, so that the worker goes on, up to when the front end is hung up on. It is mapped over
+ * at the same place, with the same length, so what unmaps the region later unmaps that. Only what a handler
+ * may call is called. A fault anywhere else, or of a thread that serves none, is a fault of the program. */
 static void lose_memory(int number, siginfo_t *about, void *context)
 {
 	const uintptr_t at = (uintptr_t)about->si_addr;
@@ -641,7 +711,8 @@ static void lose_memory(int number, siginfo_t *about, void *context)
 
 /* ---- queues and workers, by the calling thread */
 
-/* A ring of the front end's view, in one region and aligned as it must be, or NULL. */
+/* A ring by its address in the front end, as SET_VRING_ADDR gives it, in one region and aligned as it must
+ * be, or NULL. Addresses of a message are aligned, but a region may begin anywhere in a page. */
 static void *ring_at(uint64_t address, uint64_t len, uintptr_t align)
 {
 	unsigned char *at;
@@ -653,6 +724,9 @@ static void *ring_at(uint64_t address, uint64_t len, uintptr_t align)
 	return (uintptr_t)at % align == 0 ? at : NULL;
 }
 
+/* An available ring has two fields of 2 bytes and an entry of 2 bytes for each chain, a used ring the same
+ * fields and entries of 8 bytes. With indices each has one of 2 bytes more at its end. No `available` means
+ * that no chain is taken. */
 void queue_place(struct queue *q)
 {
 	const uint64_t size = q->size, event = q->has_events ? sizeof(uint16_t) : 0;
@@ -665,6 +739,7 @@ void queue_place(struct queue *q)
 		q->available = NULL;
 }
 
+/* No worker is about to write to the one before: the caller has `in_flight` for writing. */
 void queue_call(struct queue *q, int fd)
 {
 	if (q->call >= 0)
@@ -677,7 +752,9 @@ void queue_call(struct queue *q, int fd)
 		fcntl(fd, F_SETFL, O_NONBLOCK);
 }
 
-/* A worker is told of each kick, so none is read. */
+/* A worker is told of each kick, so none is read: each write to an event is an edge of its own. A front end
+ * that kicks without end has a worker look at an empty queue, and no more. What epoll can't wait for, as a
+ * file, is refused. */
 int queue_kick(struct queue *q, int fd)
 {
 	struct epoll_event event = { .events = EPOLLIN | EPOLLET,
@@ -694,6 +771,7 @@ int queue_kick(struct queue *q, int fd)
 	return epoll_ctl(events, EPOLL_CTL_ADD, fd, &event);
 }
 
+/* The time that many milliseconds from now. */
 static struct timespec after(int milliseconds, clockid_t clock)
 {
 	struct timespec time;
@@ -712,6 +790,8 @@ static int has_passed(const struct timespec *time)
 	return now.tv_sec > time->tv_sec || (now.tv_sec == time->tv_sec && now.tv_nsec > time->tv_nsec);
 }
 
+/* Waits up to so long until no request is in flight, and holds `in_flight` for writing then: 0. Otherwise
+ * it is an error, and nothing is held. (pthread_rwlock_timedwrlock() goes by CLOCK_REALTIME.) */
 static int try_hold(int milliseconds)
 {
 	const struct timespec most = after(milliseconds, CLOCK_REALTIME);
@@ -723,7 +803,8 @@ static int try_hold(int milliseconds)
 	return late;
 }
 
-/* (One that takes long holds up the others for a part of the time alone.) */
+/* While it waits no worker takes a chain. So it rests in between, and one request that takes long holds up
+ * the others for a part of the time alone. At -1 the caller hangs up. */
 int queues_hold(int signals, int client)
 {
 	struct pollfd wait[] = { { signals, POLLIN, 0 }, { client, POLLRDHUP, 0 } };
@@ -739,6 +820,7 @@ void queues_go(void)
 	pthread_rwlock_unlock(&vhost_guest->in_flight);
 }
 
+/* No worker uses the memory: the caller has `in_flight` for writing, or is the last user. */
 void guest_unshare(struct guest *g)
 {
 	while (g->regions > 0) {
@@ -781,6 +863,9 @@ void queues_tell(void)
 		fprintf(stderr, "%s: no chain: %lu\n", by->program, count);
 }
 
+/* What the next front end shares into, with the calling thread as its user; NULL: there is no memory. The
+ * lock of what is in flight goes to who wants it for writing first, or workers that take turns would keep
+ * that one out for ever. */
 static struct guest *new_guest(void)
 {
 	struct guest *g = calloc(1, sizeof(*g));
@@ -800,12 +885,15 @@ static struct guest *new_guest(void)
 	return g;
 }
 
+/* The handler of SIGRTMIN, which does nothing: a call that waits ends with EINTR, since it is set without
+ * SA_RESTART. */
 static void interrupted(int number)
 {
 	(void)number;
 }
 
-/* Makes what workers wait for: events. */
+/* Makes what workers wait for: events. That of a look wakes one worker each time, that of the end all that
+ * there are. -1: it failed, and said why; queues_end() closes what was made. */
 static int make_events(void)
 {
 	struct epoll_event looks = { .events = EPOLLIN | EPOLLET, .data.u32 = LOOK };
@@ -827,7 +915,7 @@ static int make_events(void)
 	return 0;
 }
 
-/* Starts the next worker. */
+/* Starts the next worker, whose number is how many there were. -1: it failed, and said why. */
 static int start_worker(void)
 {
 	struct worker *w = calloc(1, sizeof(*w));
@@ -854,7 +942,8 @@ int queues_begin(const transport *with)
 	return 0;
 }
 
-/* Lets requests that take long go on with EINTR. Who is about to wait is interrupted the next time. */
+/* Lets requests that take long go on with EINTR, as a call of the kernel or a write to the front end's
+ * event. Who is about to wait is interrupted the next time: it is called again until all are back. */
 static void interrupt(void)
 {
 	for (unsigned i = 0; i < started; i++)
@@ -878,7 +967,9 @@ static unsigned join_workers(void)
 	return left;
 }
 
-/* Leaves what a front end shared to the workers that still use it, and begins others in their place. */
+/* Leaves what a front end shared to the workers that still use it, and begins others in their place, as far
+ * as there may be more. 1, or -1: it failed, and said why. The last of those workers frees it. If some
+ * never come back, one front end after another may use up TRANSPORT_MOST_WORKERS, and fewer serve then. */
 static int leave_guest(void)
 {
 	struct guest *gone = vhost_guest, *next = new_guest();
@@ -905,7 +996,7 @@ static int leave_guest(void)
 	return 1;
 }
 
-/* Whether nothing is kept, and no answer is to be given back. */
+/* Whether nothing is kept, and no answer is to be given back. Nothing more can be kept as it is called. */
 static int is_answered(struct guest *g)
 {
 	int is_late = 0;
@@ -918,6 +1009,7 @@ static int is_answered(struct guest *g)
 	return !is_late && later_is_empty(&g->later);
 }
 
+/* It is called without `in_flight`, so that workers give back what is answered now. */
 void queues_recall(void)
 {
 	const struct timespec most = after(MOST, CLOCK_MONOTONIC), pause = { 0, 1000000 };
@@ -936,6 +1028,8 @@ void queues_keep(void)
 	later_open(&vhost_guest->later);
 }
 
+/* Once `gone` is set no chain is taken or completed. At the answer 0 `in_flight` is held for writing, and
+ * the same guest serves the next front end. */
 int queues_part(int signals)
 {
 	const struct timespec interrupts = after(INTERRUPTS, CLOCK_MONOTONIC),
@@ -958,6 +1052,8 @@ int queues_part(int signals)
 	return 0;
 }
 
+/* The event `stop` wakes all workers, since nobody reads it. One that waits in a request is interrupted
+ * time after time. With -1 nothing is freed, since that one may still use it: the process ends then. */
 int queues_end(void)
 {
 	const struct timespec interrupts = after(INTERRUPTS, CLOCK_MONOTONIC),

@@ -1,4 +1,9 @@
-/* The state of a device, as it goes: vhost_state.h. */
+/* The state of a device, as it goes: vhost_state.h.
+ *
+ * It goes by the descriptor of SET_DEVICE_STATE_FD, on the calling thread of vhost_user.c, while no request
+ * is in flight. What the bytes are the file system says; here they are only moved. The other end is the
+ * front end's, which may read or write as slowly as it likes, or not at all: so each wait is for a signal
+ * and for its going too, and has no other end. */
 #define _GNU_SOURCE
 #include <errno.h>
 #include <fcntl.h>
@@ -8,16 +13,19 @@
 #include <unistd.h>
 #include "vhost_state.h"
 
+/* In bytes: what is put is written, and what comes is read, that much at once. */
 enum { BUFFER = 65536 };
 
 struct transport_state {
 	int descriptor, signals, client;
-	/* What was put, and is not written yet; or what came, and was not got yet. */
+	/* What was put, and is not written yet; or what came, and was not got yet: the bytes of the buffer
+	 * from `at` up to `end`. A state goes one way. */
 	size_t at, end;
 	int puts;
 	unsigned char buffer[BUFFER];
 };
 
+/* The descriptor is made not to wait: so await() alone does, which a signal and the front end's going end. */
 transport_state *state_new(int descriptor, int signals, int client)
 {
 	transport_state *state = malloc(sizeof(*state));
@@ -35,7 +43,9 @@ transport_state *state_new(int descriptor, int signals, int client)
 	return state;
 }
 
-/* Waits for the descriptor, at most so long: 0, or -1. */
+/* Waits for the descriptor, at most so many milliseconds, and for ever with -1: 0, or -1 with errno, which
+ * is ECANCELED where a signal came or the front end has gone. 0 does not say that the descriptor is ready,
+ * but that it may be tried: an error of it comes from read(2) or write(2). */
 static int await(const transport_state *state, short event, int most)
 {
 	struct pollfd wait[] = { { state->descriptor, event, 0 },
@@ -45,6 +55,7 @@ static int await(const transport_state *state, short event, int most)
 	while (poll(wait, 3, most) < 0)
 		if (errno != EINTR)
 			return -1;
+	/* (POLLHUP and POLLERR come without being asked for, and count as that the other has gone) */
 	errno = ECANCELED;
 	return wait[1].revents || wait[2].revents ? -1 : 0;
 }
@@ -54,13 +65,14 @@ int transport_wants_state(transport_state *of)
 	return await(of, 0, 0);
 }
 
-/* Whether what came to an error is to be tried again. */
+/* Whether what came to an error is to be tried again: the descriptor was not ready after all, or a signal's
+ * handler ran. */
 static int is_for_now(void)
 {
 	return errno == EAGAIN || errno == EWOULDBLOCK || errno == EINTR;
 }
 
-/* Writes what was put. */
+/* Writes what was put: 0, or -1 with errno, and then the save has failed. */
 static int flush(transport_state *to)
 {
 	while (to->at < to->end) {
@@ -77,6 +89,8 @@ static int flush(transport_state *to)
 	return 0;
 }
 
+/* The last bytes are written at the end alone, so who puts a whole state learns by state_end() whether it
+ * went. */
 int transport_put_state(transport_state *to, const void *bytes, size_t len)
 {
 	to->puts = 1;
@@ -93,7 +107,8 @@ int transport_put_state(transport_state *to, const void *bytes, size_t len)
 	return 0;
 }
 
-/* Reads what comes next, after what was got: how many bytes, 0 at the end, or -1. */
+/* Reads what comes next, once all that came was got: how many bytes, 0 at the end, which is where the front
+ * end closes its end, or -1. */
 static ssize_t fill(transport_state *from)
 {
 	ssize_t got;
@@ -108,6 +123,7 @@ static ssize_t fill(transport_state *from)
 	return got;
 }
 
+/* Bytes that don't come end the loop: so fewer than `len` are the last ones. */
 ssize_t transport_get_state(transport_state *from, void *bytes, size_t len)
 {
 	size_t done = 0;
@@ -130,6 +146,7 @@ ssize_t transport_get_state(transport_state *from, void *bytes, size_t len)
 	return (ssize_t)done;
 }
 
+/* To close it is what tells the front end that nothing more comes. */
 int state_end(transport_state *state)
 {
 	int error = state->puts ? flush(state) : 0;

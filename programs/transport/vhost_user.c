@@ -1,8 +1,16 @@
 /* A transport for vhost-user: transport.h. It is the virtio-fs device of a virtual machine.
  *
- * The calling thread does what the front end's messages ask. The workers of vhost_queue.c wait for
- * kicks of any queue, and take one chain at a time, so as many requests are in flight as there are
- * workers. A message that changes queues or memory waits until no request is. */
+ * The calling thread does what the front end's messages ask. The workers of vhost_queue.c wait for kicks of
+ * any queue, and take one chain at a time, so as many requests are in flight as there are workers. Each
+ * message waits until none is. A third thread waits for signals too, and ends the process if the others are
+ * late.
+ *
+ * A front end is believed no more than a guest. What its bytes say is told by proved functions (border.h),
+ * which refuse a message that is cut, of another size or with other descriptors than its request has, and
+ * numbers that can't be. What it shares is mapped only if the file has that many bytes. One that breaks the
+ * protocol, or sends a message in part, is hung up on, and the next one served. What it can still do is to
+ * cut its file, which lose_memory() of vhost_queue.c handles, and to have calls wait that write to its own
+ * descriptors, which are interrupted once it has gone. */
 #define _GNU_SOURCE
 #include <errno.h>
 #include <fcntl.h>
@@ -22,7 +30,7 @@
 #include "vhost_queue.h"
 #include "vhost_state.h"
 
-/* Messages of the front end. */
+/* Messages of the front end: VHOST_USER_GET_FEATURES .. of the protocol, by their numbers. */
 enum {
 	GET_FEATURES = 1,
 	SET_FEATURES,
@@ -46,19 +54,28 @@ enum {
 	CHECK_DEVICE_STATE
 };
 
+/* Features, by the bits of GET_FEATURES: VIRTIO_F_VERSION_1, VHOST_USER_F_PROTOCOL_FEATURES, those of
+ * rings, and VHOST_F_LOG_ALL. Then those of GET_PROTOCOL_FEATURES: MQ, LOG_SHMFD, REPLY_ACK and
+ * DEVICE_STATE. */
 #define VERSION_1 (1ull << 32)
 #define PROTOCOL_FEATURES (1ull << 30)
 #define INDIRECT_DESCRIPTORS (1ull << VIRTIO_RING_F_INDIRECT_DESC)
 #define EVENT_INDICES (1ull << VIRTIO_RING_F_EVENT_IDX)
 #define LOG_ALL (1ull << 26)
 enum { MANY_QUEUES = 1 << 0, LOG_IN_FILE = 1 << 1, REPLY_ACK = 1 << 3, DEVICE_STATE = 1 << 19 };
-/* What is answered to SET_DEVICE_STATE_FD: it is taken, and no other descriptor wanted. */
+/* What is answered to SET_DEVICE_STATE_FD: it is taken, and no other descriptor wanted. The low byte would
+ * be an error. */
 enum { TAKES_DESCRIPTOR = 1 << 8 };
+/* The flags of a header: the version, which is the low two bits, and that it is a reply. */
 enum { VERSION = 1, IS_REPLY = 1 << 2 };
 
+/* What is offered to each front end: it does not change while one is served. The calling thread alone
+ * changes what is static here. */
 static struct vhost_offer offer;
 
-/* A message as it came, and what it says. */
+/* A message as it came, and what it says. Its first `descriptors` descriptors are open, and are closed once
+ * it was obeyed, unless they were taken. A payload is at most VHOST_MOST_BODY bytes, that of SET_MEM_TABLE
+ * with 8 regions. */
 struct message {
 	unsigned char head[VHOST_HEAD], body[VHOST_MOST_BODY];
 	uint32_t size;
@@ -66,17 +83,20 @@ struct message {
 	struct vhost_message said;
 };
 
-/* Those queues that the front end named are before this one. */
+/* Those queues that the front end named are before this one: only these can have something to do. */
 static size_t queues;
 
 static const transport *by;
+/* The features of the protocol that the front end has set. */
 static uint64_t protocol;
 /* What CHECK_DEVICE_STATE is answered: whether the last state was saved or loaded wholly. */
 static uint64_t state_failed = 1;
 
-/* What came of a message: GONE if the front end hung up, or is to be hung up on. */
+/* What came of a message: DONE if it was obeyed, REPLIED if it was answered too, so that it wants no other
+ * reply; GONE if the front end hung up, or is to be hung up on. */
 enum outcome { DONE, REPLIED, GONE };
 
+/* Says on standard error what failed, and why by errno, and answers -1. */
 static int failed(const char *what)
 {
 	fprintf(stderr, "%s: %s: %s\n", by->program, what, strerror(errno));
@@ -90,7 +110,7 @@ static enum outcome wrong(const char *what)
 	return GONE;
 }
 
-/* The same of a message that is refused. */
+/* The same of a message that is refused. Its header came whole, unless the refusal is VHOST_CUT. */
 static enum outcome refused(const struct message *m, uint32_t refusal)
 {
 	static const char *const whys[VHOST_REFUSALS] = {
@@ -118,6 +138,7 @@ static enum outcome refused(const struct message *m, uint32_t refusal)
 	const char *why = refusal < VHOST_REFUSALS ? whys[refusal] : NULL;
 	uint32_t request;
 
+	/* (the number of one that is not served helps who wonders what the front end wanted) */
 	if (why)
 		return wrong(why);
 	memcpy(&request, m->head, sizeof(request));
@@ -126,7 +147,10 @@ static enum outcome refused(const struct message *m, uint32_t refusal)
 	return GONE;
 }
 
-/* Maps a region that the front end shares, which is the next one. */
+/* Maps a region that the front end shares, which is the next one. The descriptor stays the caller's. A file
+ * that is shorter is refused; if it is cut later a worker gets a SIGBUS, which lose_memory() handles. It is
+ * mapped from its first byte on, since an offset need not be one of a page. Size and offset together are no
+ * more than a file may have. */
 static enum outcome share_region(const struct vhost_region *shared, int descriptor)
 {
 	struct region *r = &vhost_guest->region[vhost_guest->regions];
@@ -144,7 +168,9 @@ static enum outcome share_region(const struct vhost_region *shared, int descript
 	return DONE;
 }
 
-/* Takes over the memory that the front end shares, in place of what it shared before. */
+/* Takes over the memory that the front end shares, in place of what it shared before: SET_MEM_TABLE. What
+ * was mapped is gone, and so are pointers into it: the rings of each queue are found anew. There are as
+ * many descriptors as regions. */
 static enum outcome share_memory(const struct message *m)
 {
 	enum outcome outcome = DONE;
@@ -157,7 +183,8 @@ static enum outcome share_memory(const struct message *m)
 	return outcome;
 }
 
-/* Maps the log that the front end shares, in place of the one before. */
+/* Maps the log that the front end shares, in place of the one before: SET_LOG_BASE. It has a bit for each
+ * page of the guest, and may be shorter than its memory. */
 static enum outcome share_log(const struct message *m)
 {
 	struct log *log = &vhost_guest->log;
@@ -179,12 +206,14 @@ static enum outcome share_log(const struct message *m)
 	return DONE;
 }
 
-/* Takes the only descriptor of a message; -1: it has none. */
+/* Takes the only descriptor of a message, which is the caller's to close then; -1: it has none, as
+ * SET_VRING_KICK may. */
 static int take_descriptor(struct message *m)
 {
 	return m->said.descriptors ? m->descriptor[--m->descriptors] : -1;
 }
 
+/* Sends a reply whole, or hangs up: who doesn't read for as long as serve_client() allows, or has gone. */
 static enum outcome reply(int client, uint32_t request, void *body, uint32_t size)
 {
 	uint32_t head[] = { request, VERSION | IS_REPLY, size };
@@ -201,7 +230,9 @@ static enum outcome reply_number(int client, uint32_t request, uint64_t number)
 	return reply(client, request, &number, sizeof(number));
 }
 
-/* Receives a message with its descriptors, which are the caller's to close. */
+/* Receives a message with its descriptors, which are the caller's to close, whatever it answers. They come
+ * with the header, and there is room for as many as a table of memory may have: of more, MSG_CTRUNC tells.
+ * The size of the payload is looked at before that is read, so it fits. */
 static enum outcome receive(int client, struct message *m)
 {
 	_Alignas(struct cmsghdr) char control[CMSG_SPACE(sizeof(m->descriptor))];
@@ -244,7 +275,7 @@ static enum outcome receive_said(int client, struct message *m)
 	return refusal ? refused(m, refusal) : DONE;
 }
 
-/* The queue of a message, which is one from now on. */
+/* The queue of a message, which is one from now on. Its number is below QUEUES, as offered. */
 static struct queue *queue_of(const struct message *m)
 {
 	if (m->said.queue >= queues)
@@ -252,7 +283,9 @@ static struct queue *queue_of(const struct message *m)
 	return &vhost_guest->queue[m->said.queue];
 }
 
-/* Does what a message of one queue asks. */
+/* Does what a message of one queue asks. Numbers are those that can be: a size is a power of two up to
+ * 32768, a base an index of 16 bits. The rings are aligned, but may lie in no memory, and then the queue is
+ * stopped, or over one another, which harms the guest alone. No request is in flight. */
 static enum outcome obey_for(int client, struct message *m, struct queue *q)
 {
 	uint32_t state[] = { m->said.queue, q->next };
@@ -271,6 +304,7 @@ static enum outcome obey_for(int client, struct message *m, struct queue *q)
 		queue_place(q);
 		return DONE;
 	case SET_VRING_BASE:
+		/* (with no request in flight as many were given back as were taken) */
 		q->next = q->done = (uint16_t)m->said.number;
 		return DONE;
 	case GET_VRING_BASE:
@@ -290,7 +324,8 @@ static enum outcome obey_for(int client, struct message *m, struct queue *q)
 	}
 }
 
-/* Takes over the features that were agreed on. */
+/* Takes over the features that were agreed on, all of which were offered. Without
+ * VHOST_USER_F_PROTOCOL_FEATURES there is no SET_VRING_ENABLE, and queues begin enabled. */
 static void take_features(uint64_t features)
 {
 	vhost_guest->logs = (features & LOG_ALL) != 0;
@@ -304,7 +339,7 @@ static void take_features(uint64_t features)
 	}
 }
 
-/* Has what signals the log. */
+/* Has what signals the log: SET_LOG_FD. It is closed with the log. The log may come before or after it. */
 static enum outcome call_log(int event)
 {
 	struct log *log = &vhost_guest->log;
@@ -316,8 +351,11 @@ static enum outcome call_log(int event)
 	return DONE;
 }
 
-/* Saves or loads the state of the device, by a descriptor that the front end has the other end of. It waits for that,
- * and then asks by CHECK_DEVICE_STATE what came of it. */
+/* Saves or loads the state of the device, by a descriptor that the front end has the other end of. It waits
+ * for that, and then asks by CHECK_DEVICE_STATE what came of it. The reply comes first, since it begins to
+ * read or write after that. A state that it doesn't take, or breaks off, fails: meanwhile no request is
+ * served, so it is waited for only as long as the front end is there and no signal comes. The message is
+ * offered only where `save` and `load` are there. */
 static enum outcome transfer_state(int client, int signals, struct message *m)
 {
 	transport_state *state = state_new(take_descriptor(m), signals, client);
@@ -333,7 +371,7 @@ static enum outcome transfer_state(int client, int signals, struct message *m)
 	return REPLIED;
 }
 
-/* Tells whether the state went wholly. */
+/* Tells whether the state went wholly: 0, and 1 if not, or if no state went since it was last asked. */
 static enum outcome check_state(int client)
 {
 	const uint64_t failed_so = state_failed;
@@ -342,7 +380,7 @@ static enum outcome check_state(int client)
 	return reply_number(client, CHECK_DEVICE_STATE, failed_so);
 }
 
-/* Does what a message asks. */
+/* Does what a message asks, with no request in flight. What is for one queue comes to obey_for(). */
 static enum outcome obey(int client, int signals, struct message *m)
 {
 	enum outcome outcome;
@@ -350,9 +388,11 @@ static enum outcome obey(int client, int signals, struct message *m)
 	switch (m->said.request) {
 	case GET_FEATURES:
 		return reply_number(client, GET_FEATURES, offer.features);
+	/* (it may come again, as with VHOST_F_LOG_ALL once the machine migrates) */
 	case SET_FEATURES:
 		take_features(m->said.number);
 		return DONE;
+	/* (there is one front end at a time; and no error of a queue is told, so that descriptor is closed) */
 	case SET_OWNER:
 	case RESET_OWNER:
 	case SET_VRING_ERR:
@@ -380,7 +420,9 @@ static enum outcome obey(int client, int signals, struct message *m)
 	}
 }
 
-/* Whether a message changes queues or memory, in which a request may wait, or tells of all requests. */
+/* Whether a message changes queues or memory, in which a request may wait, or tells of all requests: then
+ * what is kept has to be answered before it, since it has pointers into that memory and a place in that
+ * queue. */
 static int changes(const struct message *m)
 {
 	switch (m->said.request) {
@@ -397,8 +439,9 @@ static int changes(const struct message *m)
 	}
 }
 
-/* Takes one message, if the front end has not hung up, and does what it asks, with no request in
- * flight. */
+/* Takes one message, if the front end has not hung up, and does what it asks, with no request in flight. A
+ * front end that set REPLY_ACK, and wants a reply of this message, gets 0: what fails is no reply but an
+ * end. Descriptors that nobody took are closed. */
 static enum outcome serve_message(int client, int signals)
 {
 	struct message m;
@@ -406,6 +449,8 @@ static enum outcome serve_message(int client, int signals)
 
 	if (outcome == DONE && changes(&m))
 		queues_recall();
+	/* (a request that takes long holds a message up, but neither a signal nor that the front end hangs
+	 * up) */
 	if (outcome == DONE && queues_hold(signals, client)) {
 		outcome = GONE;
 	} else if (outcome == DONE) {
@@ -420,7 +465,8 @@ static enum outcome serve_message(int client, int signals)
 	return outcome;
 }
 
-/* Lets go of what the front end told and shared, with no request in flight. */
+/* Lets go of what the front end told and shared, with no request in flight, so that the next one begins as
+ * the first did. */
 static void clear_guest(void)
 {
 	for (int i = 0; i < QUEUES; i++) {
@@ -439,7 +485,9 @@ static void clear_guest(void)
 }
 
 /* Lets go of all that a front end left, and tells what came of its requests. -1: that can't be, or a signal
- * came. */
+ * came: then what it shared is left as it is, and all is to end. Where a request doesn't come back, its
+ * worker keeps what was shared. The event of lost memory is for this front end: it is read until there is
+ * none. */
 static int part_from_client(int client, int signals)
 {
 	const int parted = queues_part(signals);
@@ -455,6 +503,7 @@ static int part_from_client(int client, int signals)
 	queues = 0;
 	protocol = 0;
 	state_failed = 1;
+	/* (before a request of the next front end comes, which is another client) */
 	if (by->parted)
 		by->parted(by->user);
 	if (!parted)
@@ -471,10 +520,11 @@ static int part_from_client(int client, int signals)
 /* In milliseconds: when the process ends after a signal, whatever still waits. */
 enum { MOST_END = 1800 };
 
-/* What ended a wait. */
+/* What ended a wait: a signal, the front end, or a fault here, which was told. */
 enum end { SIGNALLED, HUNG_UP, BROKEN };
 
-/* Serves a front end until it hangs up or is hung up on. */
+/* Serves a front end until it hangs up or is hung up on, and closes its socket. A signal is not read, but
+ * looked at: the other thread waits for it too. */
 static enum end serve_client(int client, int signals)
 {
 	/* A message that comes in part is not waited for longer. */
@@ -499,6 +549,7 @@ static enum end serve_client(int client, int signals)
 			failed("poll");
 			wait[1].revents = POLLIN;
 		}
+		/* (a signal, and a worker that failed, come before what the front end still asks) */
 		if (wait[0].revents || wait[1].revents) {
 			end = wait[1].revents ? BROKEN : SIGNALLED;
 			break;
@@ -522,7 +573,8 @@ static enum end serve_client(int client, int signals)
 	return end;
 }
 
-/* Serves one front end after another. */
+/* Serves one front end after another. One that connects meanwhile waits in the socket's queue. What a front
+ * end can bring about, as one that hangs up before it is accepted, ends nothing. */
 static enum end serve_clients(int listener, int signals)
 {
 	const struct timespec pause = { 1, 0 };
@@ -557,7 +609,8 @@ static enum end serve_clients(int listener, int signals)
 	return end;
 }
 
-/* Ends the process, although a worker, or the calling thread, waits for what does not come. */
+/* Ends the process, although a worker, or the calling thread, waits for what does not come. Nothing is
+ * freed, and stdio is left alone: another thread may have its lock, and wait. */
 static _Noreturn void leave(int status)
 {
 	static const char said[] = ": a request does not come back: it ends without\n";
@@ -573,12 +626,14 @@ static _Noreturn void leave(int status)
 	_exit(status);
 }
 
-/* What waits for signals too: the calling thread may be late. */
+/* What waits for signals too: the calling thread may be late. `ended` is told once all has ended. */
 struct guard {
 	pthread_t thread;
 	int signals, ended;
 };
 
+/* Waits for a signal, and then MOST_END for the end. Status 0: a signal is no failure, even if a request is
+ * left. */
 static void *keep_guard(void *given)
 {
 	const struct guard *g = given;
@@ -593,7 +648,9 @@ static void *keep_guard(void *given)
 	return NULL;
 }
 
-/* Serves the front ends of a listening socket, or the only one of the other, by workers. Answers the status. */
+/* Serves the front ends of a listening socket, or the only one of the other, by workers. Answers the
+ * status. Signals are blocked here, so the threads that begin have them blocked too, and the descriptor
+ * alone tells of them. */
 static int serve_guarded(struct guard *g, int listener, int client)
 {
 	const uint64_t one = 1;
@@ -612,6 +669,9 @@ static int serve_guarded(struct guard *g, int listener, int client)
 	return end == BROKEN;
 }
 
+/* Serves by a listening socket or, if that is -1, a client's. A listener is closed when it answers, and so
+ * is a client that was served. What is offered of migration takes a file system that can save and load what
+ * a client knows. */
 static int serve_with_workers(const transport *with, int listener, int client)
 {
 	const sigset_t ending = transport_hold_signals(SIG_BLOCK);
@@ -621,6 +681,7 @@ static int serve_with_workers(const transport *with, int listener, int client)
 	by = with;
 	offer = (struct vhost_offer){ VERSION_1 | PROTOCOL_FEATURES | INDIRECT_DESCRIPTORS | EVENT_INDICES,
 				      MANY_QUEUES | REPLY_ACK, QUEUES };
+	/* (a machine migrates only if its writes are marked, and what its client knows can go with it) */
 	if (by->save && by->load) {
 		offer.features |= LOG_ALL;
 		offer.protocol |= LOG_IN_FILE | DEVICE_STATE;
@@ -643,6 +704,7 @@ static int serve_with_workers(const transport *with, int listener, int client)
 
 int vhost_user_serve(const transport *with, int listener)
 {
+	/* (who connected may be gone again when it is accepted) */
 	fcntl(listener, F_SETFL, O_NONBLOCK);
 	return serve_with_workers(with, listener, -1);
 }
@@ -659,6 +721,10 @@ static int refuse(const transport *with, int answer, const char *path, const cha
 	return answer;
 }
 
+/* What is at the path is removed only if it is a socket on which nobody listens, as one that a server left
+ * which was killed. Who may write to the folder could put something else there in between, and so is to be
+ * trusted; but bind(2) takes no path that is there. Signals are blocked before there is a socket, so that
+ * one can't end the process and leave it. */
 int vhost_user_listen(const transport *with, const char *path)
 {
 	struct sockaddr_un address = { .sun_family = AF_UNIX };
