@@ -1,14 +1,14 @@
 /* Files that Linux reads and writes by itself while a client has them open (passthrough): transport.h.
  *
- * To name such a file to it takes CAP_SYS_ADMIN, by which a server could leave its sandbox. So a process of its own
- * keeps that, and no other capability, with two descriptors: the device, and a socket to the server. It takes a
- * descriptor, and answers the number of the file; or takes a number, which is closed. What else it is sent ends it, and so
- * does the end of the server.
+ * To name such a file to it takes CAP_SYS_ADMIN, by which a server could leave its sandbox. So a process of
+ * its own keeps that, and no other capability, with two descriptors: the device, and a socket to the
+ * server. It takes a descriptor, and answers the number of the file; or takes a number, which is closed.
+ * What else it is sent ends it, and so does the end of the server.
  *
- * It opens nothing by a name. But Linux opens what it is given anew, for reading and writing, and asks nobody who may; so
- * it takes what was opened for reading, and no file that even root may not write, or only append to. And Linux writes such
- * a file with the rights of this process: it lacks CAP_FSETID, so that what is written loses its set-user-ID and
- * set-group-ID bits, whoever writes. */
+ * It opens nothing by a name. But Linux opens what it is given anew, for reading and writing, and asks
+ * nobody who may; so it takes what was opened for reading, and no file that even root may not write, or
+ * only append to. And Linux writes such a file with the rights of this process: it lacks CAP_FSETID, so
+ * that what is written loses its set-user-ID and set-group-ID bits, whoever writes. */
 #define _GNU_SOURCE
 #include <errno.h>
 #include <fcntl.h>
@@ -27,10 +27,12 @@
 #include "fuse_backing.h"
 #include "transport.h"
 
-/* In seconds: how long it is waited for. */
+/* In seconds: how long it is waited for. After that it is taken for gone, so an answer that comes later is
+ * read by nobody. */
 enum { PATIENCE = 10 };
 
-/* What is asked: a number to be closed; 0: a descriptor comes with it. */
+/* What is asked: a number to be closed; 0: a descriptor comes with it. Only a descriptor has an answer, of
+ * 4 bytes: the number of its file, or an error below 0. */
 struct asked {
 	uint32_t number;
 };
@@ -41,6 +43,7 @@ union beside {
 	struct cmsghdr aligned;
 };
 
+/* Says on standard error what failed, and why by errno, and answers -1. */
 static int say(const transport *by, const char *what)
 {
 	fprintf(stderr, "%s: passthrough: %s: %s\n", by->program, what, strerror(errno));
@@ -49,7 +52,8 @@ static int say(const transport *by, const char *what)
 
 /* ---- the process */
 
-/* Leaves it its two descriptors. */
+/* Leaves it its two descriptors, and closes all others, as those of the folder. (They are first moved out
+ * of each other's way.) 0, or -1. */
 static int keep_descriptors(int device, int socket)
 {
 	int ends[2] = { fcntl(device, F_DUPFD, 3), fcntl(socket, F_DUPFD, 3) };
@@ -61,7 +65,8 @@ static int keep_descriptors(int device, int socket)
 		       0;
 }
 
-/* Leaves it one capability, which nothing that it executes would have. */
+/* Leaves it one capability, which nothing that it executes would have: the bounding set is emptied before
+ * CAP_SETPCAP goes. */
 static int keep_capability(void)
 {
 	struct __user_cap_header_struct header = { _LINUX_CAPABILITY_VERSION_3, 0 };
@@ -72,7 +77,7 @@ static int keep_capability(void)
 	return syscall(SYS_capset, &header, one) || prctl(PR_SET_NO_NEW_PRIVS, 1, 0, 0, 0) ? -1 : 0;
 }
 
-/* The descriptors that came with a message: how many, the first two. */
+/* The descriptors that came with a message, which are the caller's to close: how many, the first two. */
 static unsigned take_descriptors(struct msghdr *message, int fds[2])
 {
 	struct cmsghdr *part = CMSG_FIRSTHDR(message);
@@ -90,7 +95,8 @@ static unsigned take_descriptors(struct msghdr *message, int fds[2])
 /* How many files have a number, and how many may: as many as a process may have open. */
 static unsigned long named, most_named;
 
-/* The number of a file, or its error below 0. */
+/* The number of a file, or its error below 0. The descriptor stays the caller's; Linux holds the file by
+ * itself then. The server may be in the hands of who attacks it, so the descriptor is looked at here. */
 static int32_t open_file(int fd)
 {
 	struct backing_map map = { .fd = fd };
@@ -111,7 +117,8 @@ static int32_t open_file(int fd)
 	return number < 0 ? -errno : number;
 }
 
-/* Closes a number. Whether it may have been one. */
+/* Closes a number. Whether it may have been one: ENOENT is that no file has it, and any other error ends
+ * the process. */
 static int close_number(uint32_t number)
 {
 	const int error = ioctl(BACKING_DEVICE, BACKING_CLOSE, &number) ? errno : 0;
@@ -120,7 +127,8 @@ static int close_number(uint32_t number)
 	return !error || error == ENOENT;
 }
 
-/* Does what one message asks. Whether another one may come. */
+/* Does what one message asks. Whether another one may come: not if it was no message of the server's, or
+ * that has ended. The process ends then, with whatever descriptors came with it. */
 static int answer_one(void)
 {
 	struct asked asked;
@@ -150,6 +158,7 @@ static int answer_one(void)
 	return send(BACKING_SOCKET, &told, sizeof(told), MSG_NOSIGNAL) == sizeof(told);
 }
 
+/* The process, after fork(2): it has one thread. `limit` filters its system calls, and so comes last. */
 static _Noreturn void name_files(const transport *by, int device, int socket, int (*limit)(void *user))
 {
 	struct rlimit files;
@@ -178,6 +187,7 @@ int fuse_backing_start(const transport *by, int device, int (*limit)(void *user)
 	int ends[2];
 	pid_t child;
 
+	/* (one that keeps messages apart: each is there wholly or not, and its descriptor with it) */
 	if (socketpair(AF_UNIX, SOCK_SEQPACKET | SOCK_CLOEXEC, 0, ends))
 		return say(by, "a socket");
 	/* (it answers soon, or never) */
@@ -195,6 +205,8 @@ int fuse_backing_start(const transport *by, int device, int (*limit)(void *user)
 
 /* ---- the server */
 
+/* Asks, with the descriptor if it isn't NULL. Below 0: nobody reads any more, or not for as long as it is
+ * waited for. */
 static ssize_t send_asked(int socket, uint32_t number, const int *fd)
 {
 	const struct asked asked = { number };

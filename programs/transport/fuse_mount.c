@@ -1,5 +1,9 @@
-/* Mounts and unmounts over /dev/fuse: transport.h. It is known where a mount was made, so that what is unmounted is
- * what was mounted. */
+/* Mounts and unmounts over /dev/fuse: transport.h. It is known where a mount was made, so that what is
+ * unmounted is what was mounted.
+ *
+ * Who may write to a folder above could otherwise rename it meanwhile, put a link in its place, or mount
+ * something else there, and have a program of root's unmount that. A process makes one mount, and `made`
+ * does not change after that: so any thread may unmount. */
 #define _GNU_SOURCE
 #include <errno.h>
 #include <fcntl.h>
@@ -12,6 +16,7 @@
 #include <unistd.h>
 #include "transport.h"
 
+/* Says on standard error what failed, and why by errno, and answers -1. */
 static int say(const transport *by, const char *what)
 {
 	fprintf(stderr, "%s: %s: %s\n", by->program, what, strerror(errno));
@@ -19,14 +24,16 @@ static int say(const transport *by, const char *what)
 }
 
 /* Where the mount was made: the directory above, wherever that is now, the name there, and the numbers that
- * mounts have there and above; 0: unknown. */
+ * mounts have there and above; 0: unknown. The directory is open until the process ends. It is -1 before,
+ * and where it can't be had, as without /proc. */
 static struct {
 	int directory;
 	char name[NAME_MAX + 1];
 	uint64_t own, above;
 } made = { .directory = -1 };
 
-/* The number of the mount that a path leads to; 0: unknown. Nobody is asked for it. */
+/* The number of the mount that a path leads to; 0: unknown, as before Linux 5.8. Nobody is asked for it,
+ * not even the file system that is mounted there, which may be this one, and would wait for itself. */
 static uint64_t number_of_mount(int directory, const char *name)
 {
 #ifdef STATX_MNT_ID
@@ -50,20 +57,22 @@ static const char *mount_point(const char *folder, char *place, size_t size)
 	return place;
 }
 
-/* Looks where a mount is about to be made. */
+/* Looks where a mount is about to be made. Where it can't be known, the path that was given is used. */
 static void find_mount_point(const char *folder)
 {
 	char path[PATH_MAX], *name;
 
 	if (!realpath(folder, path) || access("/proc/self/fd", F_OK))
 		return;
+	/* (the path is resolved, and so has a slash and no link; that of the root alone has no name) */
 	name = strrchr(path, '/');
 	snprintf(made.name, sizeof(made.name), "%s", name[1] ? name + 1 : ".");
 	*name = 0;
 	made.directory = open(*path ? path : "/", O_PATH | O_DIRECTORY | O_CLOEXEC);
 }
 
-/* Whether what is mounted there is what was made. 0: nothing is; -1: it is another one, and said so. */
+/* Whether what is mounted there is what was made, as far as it is known. 0: nothing is; -1: it is another
+ * one, and said so. */
 static int is_there(const transport *by, const char *folder)
 {
 	const uint64_t there = made.own ? number_of_mount(made.directory, made.name) : 0;
@@ -84,6 +93,7 @@ int fuse_device_unmount(const transport *by, const char *folder)
 
 	if (found <= 0)
 		return found;
+	/* (EINVAL: nothing is mounted there any more. What else fails is let pass too, but EBUSY.) */
 	if (!umount2(point, UMOUNT_NOFOLLOW) || errno != EBUSY)
 		return 0;
 	fprintf(stderr, "%s: %s is in use, and goes with its last user\n", by->program, folder);
@@ -106,6 +116,9 @@ int fuse_device_open(const transport *by)
 	return device < 0 ? say(by, "/dev/fuse") : device;
 }
 
+/* The options name the device by its number; `rootmode` is that the root is a directory, in octal; and the
+ * user and group are those who may use the mount where allow_other is not among the options. The type is
+ * shown in /proc/mounts. Signals are blocked first, so that one can't end the process and leave the mount. */
 int fuse_device_mount_on(const transport *by, int device, const char *source, const char *folder,
 			 unsigned long flags, const char *options)
 {

@@ -1,20 +1,29 @@
-/* Requests that are answered later: transport.h. One lock is for all, since few are: so whoever completes one and
- * whoever ends the transport have not to know of each other. */
+/* Requests that are answered later: transport.h. One lock is for all, since few are: so whoever completes
+ * one and whoever ends the transport have not to know of each other.
+ *
+ * A request that is kept is in a list of its transport until it is completed, or until later_end() takes it
+ * out. From then on its transport may be gone, and what completes it only frees it. No other lock is taken
+ * while this one is held, and `send` is called without it, since that may wait. */
 #define _GNU_SOURCE
 #include <pthread.h>
 #include <stdlib.h>
 #include "later.h"
 
+/* A request that was kept. It is allocated by transport_keep(), and freed by transport_complete(), which is
+ * called once. The lock guards all but `send` and `about`, which stay as they are. */
 struct transport_later {
 	/* NULL: it can't be completed any more. */
 	struct later_list *list;
+	/* The next in the list, and what points to this one. */
 	transport_later *next, **at;
 	void (*send)(void *about, int32_t code, const void *reply, size_t len);
+	/* What the transport keeps of it, copied: a struct of its own, so it is aligned for any. */
 	_Alignas(max_align_t) unsigned char about[];
 };
 
 static pthread_mutex_t lock = PTHREAD_MUTEX_INITIALIZER;
 static pthread_cond_t sent = PTHREAD_COND_INITIALIZER;
+/* What this thread serves now, on its stack; NULL: nothing that can be kept. */
 static _Thread_local struct later_source *serving;
 
 void later_serve(struct later_source *source)
@@ -22,11 +31,13 @@ void later_serve(struct later_source *source)
 	serving = source;
 }
 
+/* It is read after `serve` came back, on the same thread, so without the lock. */
 int later_keeps(const struct later_source *source, int32_t code)
 {
 	return code == NIZWARF_ASKED && source->is_kept;
 }
 
+/* Puts it first into the list. The lock is held. */
 static void link_later(transport_later *later, struct later_list *list)
 {
 	later->list = list;
@@ -38,11 +49,14 @@ static void link_later(transport_later *later, struct later_list *list)
 	list->kept++;
 }
 
+/* Whether one more may be kept. The lock is held. */
 static int has_room(const struct later_list *list)
 {
 	return !list->is_closed && (!list->most || list->kept < list->most);
 }
 
+/* `is_kept` is of this thread alone. Memory is allocated before the lock is taken, which so is held for a
+ * moment. */
 transport_later *transport_keep(void)
 {
 	struct later_source *source = serving;
@@ -56,6 +70,7 @@ transport_later *transport_keep(void)
 	memcpy(later->about, source->about, source->size);
 	later->send = source->send;
 	pthread_mutex_lock(&lock);
+	/* (from here on another thread may take it out of the list) */
 	source->is_kept = has_room(source->list);
 	if (source->is_kept)
 		link_later(later, source->list);
@@ -66,6 +81,7 @@ transport_later *transport_keep(void)
 	return NULL;
 }
 
+/* Takes it out of the list, and so out of the transport's hands. The lock is held. */
 static void unlink_later(struct later_list *list, transport_later *later)
 {
 	*later->at = later->next;
@@ -75,6 +91,7 @@ static void unlink_later(struct later_list *list, transport_later *later)
 	later->list = NULL;
 }
 
+/* While it is sent the list waits for that, in later_end(): so the transport that it is sent to is there. */
 void transport_complete(transport_later *later, int32_t code, const void *reply, size_t len)
 {
 	struct later_list *list;
@@ -110,6 +127,7 @@ void later_close(struct later_list *list)
 	pthread_mutex_unlock(&lock);
 }
 
+/* What is being sent is in no list any more, but its transport still has to take it. */
 int later_is_empty(struct later_list *list)
 {
 	int is_empty;
@@ -120,6 +138,7 @@ int later_is_empty(struct later_list *list)
 	return is_empty;
 }
 
+/* Whoever completes one that is taken out here frees it, and sends nothing. */
 void later_end(struct later_list *list)
 {
 	pthread_mutex_lock(&lock);

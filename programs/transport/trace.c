@@ -1,8 +1,14 @@
 /* A trace of the requests and replies of a transport: trace.h.
  *
- * It stands between the transport and its function, and copies what is in several pieces or in the
- * memory of a virtual machine before it is printed. The options by which requests are printed are those
- * of the last reply to an INIT. */
+ * It stands between the transport and its function, and copies what is in several pieces or in the memory
+ * of a virtual machine before it is printed. The options by which requests are printed are those of the
+ * last reply to an INIT. A guest may change its memory between the copy and the answer: then the trace is
+ * of other data of a WRITE, or another reply, than went. It is for who looks for a fault: it costs a copy
+ * of each request and reply, and a trace of bytes has the data of all files that were read and written.
+ *
+ * Each worker traces what it serves, on its own thread. A line is written at once, so that lines of several
+ * workers stand between one another but not in one another. A request that is answered later is traced as
+ * one that was refused; its reply is not traced. */
 #define _GNU_SOURCE
 #include <errno.h>
 #include <fcntl.h>
@@ -15,23 +21,26 @@
 #include <unistd.h>
 #include "trace.h"
 
-/* Names of the codes 1 to 10. */
+/* Names of the codes 1 to 10, as nizwarf-decode reads them: those of NIZWARF_DECODE_MESSAGE .. in
+ * nizwarf.h. */
 static const char *const refusals[] = {
 	"DecodeMessage",   "EncodeMessage",	  "FlushMessage",     "MissingParameter", "InvalidCString",
 	"InvalidCString2", "InvalidHeaderLength", "InvalidXattrSize", "MissingExtension", "OutOfMemory",
 };
 
-/* What is traced, and where its bytes go: NULL if it is printed by name. */
+/* What is traced, and where its bytes go: NULL if it is printed by name. Both are set before workers begin.
+ * The options are those of INIT that were agreed on; before it, and after a DESTROY, there are none. */
 static transport of;
 static FILE *file;
 static _Atomic uint64_t options;
 
+/* Bytes that were copied: allocated here, and freed by who has them. */
 struct bytes {
 	unsigned char *at;
 	size_t len;
 };
 
-/* The first `most` bytes of pieces, in one. */
+/* The first `most` bytes of pieces, in one. NULL: there is no memory. Of no bytes it is not NULL. */
 static struct bytes gather(const nizwarf_segment *piece, size_t pieces, size_t most)
 {
 	struct bytes all = { NULL, 0 };
@@ -52,12 +61,16 @@ static struct bytes gather(const nizwarf_segment *piece, size_t pieces, size_t m
 	return all;
 }
 
+/* Prints a line, and frees it. What is not printed for want of memory is told: the request is served all
+ * the same. */
 static void put_line(char *line)
 {
 	fprintf(stderr, "%s\n", line ? line : "(no memory for a line of the trace)");
 	free(line);
 }
 
+/* What prints is called twice: to learn how long the line is, and to have it. It takes any bytes, those of
+ * no request too. */
 static void print_request(const struct bytes *request)
 {
 	const size_t size = nizwarf_print_request(request->at, request->len, options, NULL, 0) + 1;
@@ -79,12 +92,15 @@ static void print_reply(const struct bytes *request, const struct bytes *reply)
 	put_line(line);
 }
 
+/* The name of a code. Others refuse no request: NIZWARF_ASKED, or that a server or the door was used
+ * wrongly. */
 static const char *refusal(int32_t code)
 {
 	return code >= 1 && code <= NIZWARF_OUT_OF_MEMORY ? refusals[code - 1] : "of the server";
 }
 
-/* The two sizes of a SETXATTR that is refused for them. */
+/* The two sizes of a SETXATTR that is refused for them: that which its record tells, and that of the bytes
+ * after the name. The record is longer where SETXATTR_EXT was agreed on. */
 static void record_sizes(const struct bytes *request)
 {
 	const size_t at = sizeof(struct fuse_in_header) + (options & FUSE_SETXATTR_EXT ?
@@ -105,7 +121,9 @@ static void record_bytes(const struct bytes *bytes)
 		fprintf(file, "%02x", bytes->at[i]);
 }
 
-/* A request with its answer, after one another, whichever worker has it. */
+/* A request with its answer, after one another, whichever worker has it: two lines, of which the first
+ * begins with the length of the room. The file's lock is held for both. That it is not whole is told once,
+ * and ends nothing: who fills the disk stops the trace, and not the server. */
 static void record(const struct bytes *request, size_t room, int32_t code, const struct bytes *reply)
 {
 	static bool is_told;
@@ -129,7 +147,8 @@ static void record(const struct bytes *request, size_t room, int32_t code, const
 	funlockfile(file);
 }
 
-/* Takes the options from the reply to an INIT. */
+/* Takes the options from the reply to an INIT. One that is shorter than a fuse_init_out changes nothing
+ * here. */
 static void agree(const struct bytes *request, const struct bytes *reply)
 {
 	struct fuse_init_out agreed = { 0 };
@@ -149,7 +168,8 @@ static void agree(const struct bytes *request, const struct bytes *reply)
 		options = agreed.flags | (uint64_t)agreed.flags2 << 32;
 }
 
-/* Prints what came of a request. */
+/* Prints what came of a request. A reply is the first `len` bytes of the rooms, which are read here. Where
+ * it was refused there is none. */
 static void tell(const struct bytes *request, const nizwarf_room *room, size_t rooms, int32_t code,
 		 size_t len)
 {
@@ -178,6 +198,9 @@ static void tell(const struct bytes *request, const nizwarf_room *room, size_t r
 	free(pieces);
 }
 
+/* Stands in place of the transport's function. The request is printed before that is called, so that one
+ * that doesn't come back is seen. Without memory for a copy it is served all the same, and a line says that
+ * there was none. */
 static int32_t serve(void *user, unsigned worker, const nizwarf_segment *request, size_t segments,
 		     const nizwarf_room *room, size_t rooms, size_t *len)
 {

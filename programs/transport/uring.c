@@ -1,4 +1,10 @@
-/* A ring of io_uring for commands to one device: uring.h. */
+/* A ring of io_uring for commands to one device: uring.h.
+ *
+ * The kernel and this program share two queues of numbers that only grow, modulo 2^32: that of commands,
+ * whose tail is written here, and that of completions, whose head is. A place in either is the last bits of
+ * such a number, since their sizes are powers of two. A number is stored with release after what it counts,
+ * and loaded with acquire before that is read. One thread has the ring, from uring_begin() on; another one
+ * may only tell its event. */
 #define _GNU_SOURCE
 #include <poll.h>
 #include <string.h>
@@ -14,10 +20,12 @@
 #define IORING_SETUP_NO_SQARRAY (1U << 16)
 #endif
 
-/* How long a command is, and where what it has of its own begins; and its files. */
+/* How many bytes a command has with IORING_SETUP_SQE128, and where what it has of its own begins: the field
+ * `cmd` of a struct io_uring_sqe. Then the files, by the numbers under which the ring has them. */
 enum { COMMAND = 128, OWN_PART = 48 };
 enum { DEVICE, EVENT, FILES };
 
+/* Maps a part of the ring; NULL: it can't be. */
 static void *map(int fd, size_t len, off_t at)
 {
 	void *memory = mmap(NULL, len, PROT_READ | PROT_WRITE, MAP_SHARED, fd, at);
@@ -25,13 +33,16 @@ static void *map(int fd, size_t len, off_t at)
 	return memory == MAP_FAILED ? NULL : memory;
 }
 
+/* Has the ring take what is in a list. 0, or -1 with errno. */
 static int enlist(const struct uring *r, unsigned what, const void *list, unsigned count)
 {
 	return (int)syscall(SYS_io_uring_register, r->fd, what, list, count);
 }
 
-/* What goes by a ring passes no filter of system calls. So it is for these commands to its own files, and nothing of it
- * is changed any more. */
+/* What goes by a ring passes no filter of system calls. So it is for these commands to its own files, and
+ * nothing of it is changed any more. The kernel takes restrictions only while the ring has not begun
+ * (IORING_SETUP_R_DISABLED). From uring_begin() on it refuses all that is not listed here, and so each
+ * change. */
 static int bound(const struct uring *r, int device)
 {
 	const int files[FILES] = { [DEVICE] = device, [EVENT] = r->event };
@@ -49,6 +60,8 @@ static int bound(const struct uring *r, int device)
 
 int uring_make(struct uring *r, unsigned commands, int device)
 {
+	/* (Commands have no array of indices; one thread alone puts them in; and what completes is worked
+	 * off as that thread waits, and interrupts it nowhere else.) */
 	struct io_uring_params made = { .flags = IORING_SETUP_SQE128 | IORING_SETUP_NO_SQARRAY |
 						 IORING_SETUP_SINGLE_ISSUER | IORING_SETUP_DEFER_TASKRUN |
 						 IORING_SETUP_R_DISABLED };
@@ -59,6 +72,7 @@ int uring_make(struct uring *r, unsigned commands, int device)
 	r->event = eventfd(0, EFD_CLOEXEC | EFD_NONBLOCK);
 	if (r->fd < 0 || r->event < 0)
 		return -1;
+	/* (both queues are in one mapping, of which the completions are the last part) */
 	r->queues_len = made.cq_off.cqes + made.cq_entries * sizeof(struct io_uring_cqe);
 	r->queues = queues = map(r->fd, r->queues_len, IORING_OFF_SQ_RING);
 	r->commands_len = (size_t)made.sq_entries * COMMAND;
@@ -74,6 +88,7 @@ int uring_make(struct uring *r, unsigned commands, int device)
 	return 0;
 }
 
+/* Frees what there is, also of a ring that was made in part, or not at all if its fields are NULL and -1. */
 void uring_free(struct uring *r)
 {
 	if (r->queues)
@@ -91,7 +106,8 @@ int uring_begin(struct uring *r)
 	return enlist(r, IORING_REGISTER_ENABLE_RINGS, NULL, 0);
 }
 
-/* Puts in what begins so. */
+/* Puts in what begins so, with `len` bytes of its own, which are at most those after OWN_PART. There is
+ * room as long as the caller has no more commands at once than it made the ring for. */
 static void put(struct uring *r, const struct io_uring_sqe *sqe, const void *own, size_t len)
 {
 	const uint32_t tail = atomic_load_explicit(r->tail, memory_order_relaxed);
@@ -121,6 +137,7 @@ void uring_put(struct uring *r, uint32_t what, uint64_t number, const void *memo
 	put(r, &sqe, own, len);
 }
 
+/* With IORING_POLL_ADD_MULTI it stays, as long as completions have IORING_CQE_F_MORE. */
 void uring_put_event(struct uring *r)
 {
 	const struct io_uring_sqe sqe = { .opcode = IORING_OP_POLL_ADD,
@@ -133,6 +150,9 @@ void uring_put_event(struct uring *r)
 	put(r, &sqe, "", 0);
 }
 
+/* EINTR: a signal came while it waited. EAGAIN and EBUSY: the kernel lacks memory, or completions are to be
+ * taken first; so what was not taken stays in the ring for the next time. All three are no errors for who
+ * takes and enters again. */
 int uring_enter(struct uring *r, int waits)
 {
 	const long taken = syscall(SYS_io_uring_enter, r->fd, r->waiting, waits ? 1 : 0,
@@ -143,6 +163,7 @@ int uring_enter(struct uring *r, int waits)
 	return taken >= 0 || errno == EINTR || errno == EAGAIN || errno == EBUSY ? 0 : -1;
 }
 
+/* The completion is copied before its place is given back to the kernel. */
 int uring_take(struct uring *r, struct io_uring_cqe *done)
 {
 	const uint32_t head = atomic_load_explicit(r->head, memory_order_relaxed);
@@ -161,6 +182,7 @@ void uring_tell(const struct uring *r)
 		return;
 }
 
+/* Nothing to read is no error: the event was taken before. */
 void uring_clear(const struct uring *r)
 {
 	eventfd_t times;
