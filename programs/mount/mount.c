@@ -3,13 +3,22 @@
  *
  * Usage: nizwarf-mount [-o OPTIONS] [--trace[=FILE]] FOLDER
  *
- * --help lists the options. SIGINT, SIGTERM and SIGHUP unmount. Where the folder is in use then, it
- * goes when the last user does, or at a second signal, or after two seconds if a request still waits. The server
- * has one caller at a time, so two workers are enough; but over io_uring there is one for each processor, since
- * what they do beside the server takes longer.
+ * --help lists the options. SIGINT, SIGTERM and SIGHUP unmount. Where the folder is in use then, it goes
+ * when the last user does, or at a second signal, or after two seconds if a request still waits. The server
+ * has one caller at a time, so two workers are enough; but over io_uring there is one for each processor,
+ * since what they do beside the server takes longer.
  *
- * Status 0: it was unmounted; 1: something failed; 2: the words or options can't be. Standard error
- * says what. */
+ * What is here: the words and options, a server under a lock, and its three ways to be asked: `serve` asks
+ * it, which a trace calls; `serve_traced` does that under the lock; and `serve_apart` copies the reply
+ * after it. The transport is fuse_device.c, with its threads: main() calls it, and each worker calls the
+ * functions that `by` has.
+ *
+ * Users of the mount are not trusted, nor is what they ask for: Linux checks permissions
+ * (default_permissions), and what they write takes memory up to `size` and `nr_inodes`, which have bounds
+ * without a word too. Who gives the words is root.
+ *
+ * Status 0: it was unmounted; 1: something failed; 2: the words or options can't be. Standard error says
+ * what. */
 #define _GNU_SOURCE
 #include <errno.h>
 #include <getopt.h>
@@ -39,7 +48,8 @@ static const char usage[] =
 	"  io_uring, no_io_uring   requests come by io_uring where Linux offers it, as without a word,\n"
 	"                          or by read and write alone\n";
 
-/* What the options say. */
+/* What the options say: set before there are workers, but for the time, which the first of them sets. Sizes
+ * are in bytes. Strings point into the words of main(), and are not freed. */
 static nizwarf_settings settings = NIZWARF_SETTINGS;
 static unsigned long flags = MS_NOSUID | MS_NODEV, max_read = TRANSPORT_PAYLOAD;
 static const char *name = "nizwarf", *allow_other = "", *trace_file;
@@ -79,7 +89,9 @@ static uint64_t number(const char *key, const char *value, const char *suffixes,
 	return n;
 }
 
-/* Takes one option: a word, or KEY=VALUE. */
+/* Takes one option: a word, whose value is NULL, or KEY=VALUE. Where several say the same the last one
+ * holds. Ends with status 2 if it can't be. A user or group of 2^32 - 1 is none, and a read of less than a
+ * page is not asked for. */
 static void take_option(const char *key, char *value)
 {
 	static const struct {
@@ -120,6 +132,7 @@ static void take_option(const char *key, char *value)
 		refuse_words("there is no such option: ", key);
 }
 
+/* Takes options with commas between them, which are cut apart in place. An empty one is let pass. */
 static void take_options(char *rest)
 {
 	char *option;
@@ -132,6 +145,7 @@ static void take_options(char *rest)
 	}
 }
 
+/* Long words, by numbers that no letter has. */
 enum word { TRACE = 256, VERSION, HELP };
 
 static const struct option known_words[] = { { "trace", optional_argument, NULL, TRACE },
@@ -139,7 +153,9 @@ static const struct option known_words[] = { { "trace", optional_argument, NULL,
 					     { "help", no_argument, NULL, HELP },
 					     { 0 } };
 
-/* Takes one word, which getopt_long found; the beginning of one is none. */
+/* Takes one word, which getopt_long found; the beginning of one is none, though getopt_long takes it: a
+ * word that is added later must not change what an old line means. `known` is NULL where it is no long
+ * word. */
 static void take_word(int found, const char *word, const struct option *known)
 {
 	const char letter[] = { '-', (char)optopt, 0 };
@@ -170,7 +186,7 @@ static void take_word(int found, const char *word, const struct option *known)
 	}
 }
 
-/* Takes the words, and gives the folder. */
+/* Takes the words, and gives the folder. What words ask to print is printed here, and ends the process. */
 static const char *take_words(int count, char **words)
 {
 	opterr = 0;
@@ -181,11 +197,13 @@ static const char *take_words(int count, char **words)
 	return words[optind];
 }
 
-/* The server, which has one caller at a time: whoever has the lock. How many workers there are that may. */
+/* The server, which has one caller at a time: whoever has the lock. How many workers there are that may;
+ * the lock guards that too. A trace takes that of its file while it is held. */
 static nizwarf_server server = NIZWARF_NONE;
 static pthread_mutex_t lock = PTHREAD_MUTEX_INITIALIZER;
 static unsigned callers;
-/* With a trace: what is called then. Else the memory of each worker's last reply. */
+/* With a trace: what is called then. Else the memory of each worker's last reply, by its number: that
+ * worker alone has it, and frees it as it ends. */
 static transport traced;
 static nizwarf_taken taken[TRANSPORT_MOST_WORKERS + 1];
 
@@ -193,7 +211,8 @@ static nizwarf_taken taken[TRANSPORT_MOST_WORKERS + 1];
  * three requests are copied. */
 enum { LOOKS = 5000 };
 
-/* The first worker to begin makes the server, and the last to end ends it. */
+/* The first worker to begin makes the server, and the last to end ends it: with it all files are gone. Not
+ * 0 ends the transport. A new server has the time of the day, for its root. */
 static int begin(void *user, unsigned worker)
 {
 	int32_t code = NIZWARF_OK;
@@ -224,6 +243,8 @@ static void end(void *user, unsigned worker)
 	pthread_mutex_unlock(&lock);
 }
 
+/* Tells the server the time, which it has no other way to learn: for what is made or changed by the next
+ * request. The lock is held. */
 static void tell_time(void)
 {
 	struct timespec now;
@@ -232,6 +253,7 @@ static void tell_time(void)
 	nizwarf_tell_time(&server, (uint64_t)now.tv_sec, (uint32_t)now.tv_nsec);
 }
 
+/* Asks the server, whose reply goes into the rooms. The lock is held. */
 static int32_t serve(void *user, unsigned worker, const nizwarf_segment *request, size_t segments,
 		     const nizwarf_room *room, size_t rooms, size_t *len)
 {
@@ -240,7 +262,8 @@ static int32_t serve(void *user, unsigned worker, const nizwarf_segment *request
 	return nizwarf_message(&server, request, segments, room, rooms, len);
 }
 
-/* (Another caller has it for less time than that, unless it copies many data.) */
+/* Takes the lock. (Another caller has it for less time than the looks take, unless it copies many data: so
+ * it is looked for before the thread sleeps.) */
 static void take_server(void)
 {
 	for (int i = 0; i < LOOKS; i++)
@@ -249,6 +272,7 @@ static void take_server(void)
 	pthread_mutex_lock(&lock);
 }
 
+/* Gives the lock up. (The heap is looked at before that, and so by one thread at a time.) */
 static void leave_server(void)
 {
 	heap_look();
@@ -267,7 +291,8 @@ static int32_t serve_traced(void *user, unsigned worker, const nizwarf_segment *
 	return code;
 }
 
-/* Copies a reply over the first bytes of the rooms, which are as many at least. */
+/* Copies a reply over the first bytes of the rooms, which are as many at least: the server was told how
+ * many there are, and makes no longer reply. */
 static void put_reply(const unsigned char *reply, size_t len, const nizwarf_room *room)
 {
 	for (size_t done; len; room++, reply += done, len -= done) {
@@ -276,7 +301,8 @@ static void put_reply(const unsigned char *reply, size_t len, const nizwarf_room
 	}
 }
 
-/* The same, whose reply is copied while another caller has the server. */
+/* The same, whose reply is copied while another caller has the server. The reply lies in memory that the
+ * server made and gave to this worker, until it asks again. NULL: there is none. */
 static int32_t serve_apart(void *user, unsigned worker, const nizwarf_segment *request, size_t segments,
 			   const nizwarf_room *room, size_t rooms, size_t *len)
 {
@@ -312,8 +338,10 @@ int main(int count, char **words)
 	heap_begin();
 	if (traces && trace_begin(&by, trace_file))
 		return 1;
+	/* (serve_traced() calls that: the trace's function, which calls serve()) */
 	traced = by;
 	by.serve = traces ? serve_traced : serve_apart;
+	/* (with default_permissions Linux checks them, by the attributes that the server tells) */
 	snprintf(options, sizeof(options), ",default_permissions,max_read=%lu%s", max_read, allow_other);
 	device = fuse_device_mount(&by, name, folder, flags, options);
 	return device < 0 ? 1 : fuse_device_serve(&by, device, folder);
