@@ -53,7 +53,7 @@ typedef struct {
 	const uint8_t *request;
 } nizwarf_req;
 
-/* What a function answers that answers later. */
+/* What a function answers that answers later. It is no error of Linux, and no negated one. */
 enum { NIZWARF_LATER = -0x10000 };
 
 /* An open file. `fh` is what OPEN or CREATE answered. `flags` are those of open(2), for open,
@@ -73,7 +73,7 @@ typedef struct {
 	struct timespec attr_timeout, entry_timeout;
 } nizwarf_entry_param;
 
-/* The items of a directory while it is read: see nizwarf_add_direntry. */
+/* The items of a directory while it is read, lent for the call: see nizwarf_add_direntry. */
 typedef struct nizwarf_dir nizwarf_dir;
 
 /* What a client offers at INIT (`capable`), and what is wanted of it, which begins as `want` of init does.
@@ -89,8 +89,13 @@ typedef struct {
 	uint64_t ino, nlookup;
 } nizwarf_forget;
 
+/* How many forgets forget_multi gets at once: they are copied to the stack, aligned, from the request. */
 enum { NIZWARF_MOST_FORGETS = 64 };
 
+/* The table. It is read by all threads at once, so it stays as it is while requests are served. A name ends
+ * with a 0, and is lent from the request; `size` and `len` are bytes; `off` and `offset` are bytes from the
+ * beginning of a file, or for lseek as `whence` says, but in a directory what an item told. An entry that
+ * is answered without an error counts as one lookup of its node, if that isn't 0, until it is forgotten. */
 typedef struct nizwarf_ops {
 	/* `capable` are the options that are offered. `want` begins as those of NIZWARF_WANT_USUAL and
 	 * READDIRPLUS that are offered and served: see nizwarf_served. Take out what you don't want,
@@ -165,15 +170,16 @@ typedef struct nizwarf_ops {
 	int (*conn)(const nizwarf_req *req, nizwarf_conn_info *conn);
 	/* At most NIZWARF_MOST_FORGETS at a time. */
 	void (*forget_multi)(const nizwarf_req *req, size_t count, const nizwarf_forget *forgets);
-	/* Locks of fcntl(2), if `init` added FUSE_POSIX_LOCKS to `*want`: otherwise Linux keeps them itself, and asks for
-	 * none. `fi->lock_owner` is who asks. getlk answers in `lock` one that is in the way, or F_UNLCK as its type.
-	 * With `sleep`, setlk waits until it has the lock: it answers later, or holds the thread. A close of a file is
-	 * a flush, which gives up all locks of its owner. */
+	/* Locks of fcntl(2), if `init` added FUSE_POSIX_LOCKS to `*want`: otherwise Linux keeps them
+	 * itself, and asks for none. `fi->lock_owner` is who asks. getlk answers in `lock` one that is in
+	 * the way, or F_UNLCK as its type. With `sleep`, setlk waits until it has the lock: it answers
+	 * later, or holds the thread. A close of a file is a flush, which gives up all locks of its owner. */
 	int (*getlk)(const nizwarf_req *req, uint64_t ino, const nizwarf_file_info *fi, nizwarf_lock *lock);
 	int (*setlk)(const nizwarf_req *req, uint64_t ino, const nizwarf_file_info *fi,
 		     const nizwarf_lock *lock, int sleep);
-	/* Locks of flock(2), if `init` added FUSE_FLOCK_LOCKS likewise. `op` is LOCK_SH, LOCK_EX or LOCK_UN, with LOCK_NB
-	 * where it does not wait. A release with NIZWARF_FLOCK_RELEASE in `req->call->has` gives the lock up. */
+	/* Locks of flock(2), if `init` added FUSE_FLOCK_LOCKS likewise. `op` is LOCK_SH, LOCK_EX or
+	 * LOCK_UN, with LOCK_NB where it does not wait. A release with NIZWARF_FLOCK_RELEASE in
+	 * `req->call->has` gives the lock up. */
 	int (*flock)(const nizwarf_req *req, uint64_t ino, const nizwarf_file_info *fi, int op);
 	/* Linux asks it of block devices alone (fuseblk). */
 	int (*bmap)(const nizwarf_req *req, uint64_t ino, size_t blocksize, uint64_t idx, uint64_t *block);
@@ -328,6 +334,8 @@ static inline nizwarf_statfs nizwarf_statfs_of(const struct statvfs *st)
 	return statfs;
 }
 
+/* The two parts of a time as a reply has them: no part is below 0, and of nanoseconds there are less than a
+ * second. */
 static inline uint64_t nizwarf_seconds_of(struct timespec time)
 {
 	return time.tv_sec < 0 ? 0 : (uint64_t)time.tv_sec;
@@ -340,11 +348,13 @@ static inline uint32_t nizwarf_nanoseconds_of(struct timespec time)
 	return time.tv_nsec > 999999999 ? 999999999 : (uint32_t)time.tv_nsec;
 }
 
+/* Whether a name is that of a directory itself, or of the one above: of these a reply gives no lookup. */
 static inline int nizwarf_is_dot(const char *name)
 {
 	return !strcmp(name, ".") || !strcmp(name, "..");
 }
 
+/* An entry as the door takes it. */
 static inline nizwarf_entry nizwarf_entry_of(const nizwarf_entry_param *e)
 {
 	nizwarf_entry entry;
@@ -366,7 +376,9 @@ static inline void nizwarf_give_back(const nizwarf_dir *dir, uint64_t ino)
 		dir->ops->forget(dir->req, ino, 1);
 }
 
-/* Adds an item, whose name is copied. 0: there is no more room. */
+/* Adds an item, whose name is copied into the room: 0 if there is no more, by the number of items or by the
+ * bytes of their records. A record is longer than the name in it, so names that fit as records fit as
+ * names; and the reply is made from them before it is put over them. */
 static inline int nizwarf_add_item(nizwarf_dir *dir, const char *name, nizwarf_item *item, int plus)
 {
 	size_t size;
@@ -408,6 +420,7 @@ static inline int nizwarf_add_direntry_plus(nizwarf_dir *dir, const char *name, 
 	memset(&item, 0, sizeof(item));
 	item.ino = e->attr.ino;
 	item.offset = off;
+	/* (the type of a file, S_IFMT of its mode, as DT_REG ..) */
 	item.type = e->attr.mode >> 12 & 15;
 	item.entry = nizwarf_entry_of(e);
 	if (nizwarf_is_dot(name))
@@ -418,7 +431,9 @@ static inline int nizwarf_add_direntry_plus(nizwarf_dir *dir, const char *name, 
 	return 0;
 }
 
-/* From here on to nizwarf_serve_ops: how a call is made by the table, by the kind of its answer. */
+/* From here on to nizwarf_serve_ops: how a call is made by the table, by the kind of its answer. A function
+ * that is not there is ENOSYS; a name is a range of the request, which the door has checked: it lies there,
+ * and ends with its only 0. */
 #define NIZWARF_DO(op, ...) (ops->op ? ops->op(req, __VA_ARGS__) : ENOSYS)
 #define NIZWARF_NAME(range) ((const char *)req->request + (range).at)
 
@@ -439,6 +454,7 @@ static inline int nizwarf_has_open_flags(uint32_t call)
 	}
 }
 
+/* What a call says of an open file. What it doesn't have is 0. */
 static inline nizwarf_file_info nizwarf_file_of(const nizwarf_call *call)
 {
 	nizwarf_file_info fi;
@@ -452,6 +468,8 @@ static inline nizwarf_file_info nizwarf_file_of(const nizwarf_call *call)
 	return fi;
 }
 
+/* BATCH_FORGET. The door has checked that the request has as many pairs as it says; each is two words of 8
+ * bytes, as a nizwarf_forget. They may be many, and are handed on in parts. */
 static inline void nizwarf_do_forgets(const nizwarf_ops *ops, const nizwarf_req *req)
 {
 	const uint64_t count = nizwarf_batch_forget_pairs(req->call);
@@ -472,6 +490,7 @@ static inline void nizwarf_do_forgets(const nizwarf_ops *ops, const nizwarf_req 
 	}
 }
 
+/* What has no reply, and so no error: DESTROY, FORGET, BATCH_FORGET and NOTIFY_REPLY. */
 static inline int nizwarf_do_quiet(const nizwarf_ops *ops, const nizwarf_req *req)
 {
 	const nizwarf_call *c = req->call;
@@ -488,7 +507,8 @@ static inline int nizwarf_do_quiet(const nizwarf_ops *ops, const nizwarf_req *re
 	return 0;
 }
 
-/* SETLK and SETLKW, of both kinds of locks. */
+/* SETLK and SETLKW, of both kinds of locks: the request says by a flag that it is one of flock(2), of a
+ * whole file, whose kinds are those of fcntl(2) there. */
 static inline int nizwarf_do_lock(const nizwarf_ops *ops, const nizwarf_req *req)
 {
 	const nizwarf_call *c = req->call;
@@ -504,6 +524,8 @@ static inline int nizwarf_do_lock(const nizwarf_ops *ops, const nizwarf_req *req
 	return NIZWARF_DO(flock, c->node, &fi, op);
 }
 
+/* What is answered by an error or 0 alone. Without a function a release is done all the same, as the open
+ * was. */
 static inline int nizwarf_do_done(const nizwarf_ops *ops, const nizwarf_req *req)
 {
 	const nizwarf_call *c = req->call;
@@ -548,6 +570,7 @@ static inline int nizwarf_do_done(const nizwarf_ops *ops, const nizwarf_req *req
 	}
 }
 
+/* What answers an entry. With an error the entry is not looked at. */
 static inline int nizwarf_do_entry(const nizwarf_ops *ops, const nizwarf_req *req, nizwarf_answer *answer)
 {
 	const nizwarf_call *c = req->call;
@@ -577,6 +600,7 @@ static inline int nizwarf_do_entry(const nizwarf_ops *ops, const nizwarf_req *re
 	return error;
 }
 
+/* GETATTR and SETATTR, which answer attributes and how long they hold. */
 static inline int nizwarf_do_attr(const nizwarf_ops *ops, const nizwarf_req *req, nizwarf_answer *answer)
 {
 	const nizwarf_call *c = req->call;
@@ -595,7 +619,8 @@ static inline int nizwarf_do_attr(const nizwarf_ops *ops, const nizwarf_req *req
 	return error;
 }
 
-/* OPEN and OPENDIR, which are done where they are not in the table, CREATE and TMPFILE. */
+/* OPEN and OPENDIR, which are done where they are not in the table, CREATE and TMPFILE. The answer has a
+ * handle in any case, and so nizwarf_do_release knows that something was opened. */
 static inline int nizwarf_do_open(const nizwarf_ops *ops, const nizwarf_req *req, nizwarf_answer *answer)
 {
 	const nizwarf_call *c = req->call;
@@ -620,7 +645,9 @@ static inline int nizwarf_do_open(const nizwarf_ops *ops, const nizwarf_req *req
 	return error;
 }
 
-/* READ, and what answers a text: it is put where it has its place in the reply. */
+/* READ, and what answers a text: it is put where it has its place in the reply. A function is told of no
+ * more bytes than there are, and if it tells of more than that it is an error: nothing behind them is sent.
+ * Where an attribute's size is 0 no bytes are put, and how many there are is the answer. */
 static inline int nizwarf_do_data(const nizwarf_ops *ops, const nizwarf_req *req, uint8_t *room, size_t space,
 				  nizwarf_answer *answer)
 {
@@ -656,7 +683,8 @@ static inline int nizwarf_do_data(const nizwarf_ops *ops, const nizwarf_req *req
 	return error;
 }
 
-/* What answers a record: it is put where it has its place in the reply. */
+/* What answers a record: it is put where it has its place in the reply. It is filled in here and copied,
+ * since the room is aligned in no way. After an IOCTL's record come its bytes. */
 static inline int nizwarf_do_record(const nizwarf_ops *ops, const nizwarf_req *req, uint8_t *room,
 				    size_t space, nizwarf_answer *answer)
 {
@@ -704,6 +732,9 @@ static inline int nizwarf_do_record(const nizwarf_ops *ops, const nizwarf_req *r
 	}
 }
 
+/* READDIR, with or without PLUS: as many items as there is room for, by what was asked for and by what
+ * there is. One that doesn't fit ends the reading, and is asked for again. With an error the items that
+ * were added are given back. */
 static inline int nizwarf_do_directory(const nizwarf_ops *ops, const nizwarf_req *req, nizwarf_dir *dir,
 				       nizwarf_answer *answer)
 {
@@ -723,6 +754,8 @@ static inline int nizwarf_do_directory(const nizwarf_ops *ops, const nizwarf_req
 	return error;
 }
 
+/* WRITE and both copies, which answer how many bytes, and POLL, which answers events. More bytes than were
+ * asked for are EIO: the kernel would believe that they went. */
 static inline int nizwarf_do_written(const nizwarf_ops *ops, const nizwarf_req *req, nizwarf_answer *answer)
 {
 	const nizwarf_call *c = req->call;
@@ -792,6 +825,8 @@ static inline int nizwarf_do_init(const nizwarf_ops *ops, const nizwarf_req *req
 	return error;
 }
 
+/* What is left: a copy that answers 64 bits, BMAP and LSEEK, which answer a place, and STATFS. Without a
+ * function STATFS tells of names of 255 bytes, in blocks of 512. */
 static inline int nizwarf_do_others(const nizwarf_ops *ops, const nizwarf_req *req, nizwarf_answer *answer)
 {
 	const nizwarf_call *c = req->call;
@@ -822,7 +857,8 @@ static inline int nizwarf_do_others(const nizwarf_ops *ops, const nizwarf_req *r
 #undef NIZWARF_DO
 #undef NIZWARF_NAME
 
-/* Makes the call, by the kind of its answer. */
+/* Makes the call, by the kind of its answer. `dir` has the room after the first 16 bytes, in which any text
+ * is put. 0, an error, or NIZWARF_LATER. */
 static inline int nizwarf_make_call(const nizwarf_ops *ops, const nizwarf_req *req, nizwarf_dir *dir,
 				    nizwarf_answer *answer)
 {
@@ -883,6 +919,8 @@ static inline nizwarf_session nizwarf_session_now(const nizwarf_session *session
 	return now;
 }
 
+/* Whether two pieces of memory have a byte in common. (Pointers to different memory are compared as
+ * numbers.) */
 static inline int nizwarf_overlap(const void *one, size_t one_len, const void *other, size_t other_len)
 {
 	const uintptr_t a = (uintptr_t)one, b = (uintptr_t)other;
@@ -890,7 +928,8 @@ static inline int nizwarf_overlap(const void *one, size_t one_len, const void *o
 	return one_len && other_len && (a < b ? b - a < one_len : a - b < other_len);
 }
 
-/* Answers a call that was made, and gives back what the client does not get. */
+/* Answers a call that was made, and gives back what the client does not get: what was opened is released
+ * before the lookup of its node is given back, since a release may need the node. */
 static inline int32_t nizwarf_reply_ops(const nizwarf_ops *ops, const nizwarf_req *req, nizwarf_slot *slot,
 					const nizwarf_session *now, const nizwarf_answer *answer,
 					const nizwarf_room *whole, nizwarf_told *told)
@@ -933,6 +972,7 @@ static inline int32_t nizwarf_answer_ops(const nizwarf_ops *ops, const nizwarf_r
 	if (call->call == NIZWARF_INIT || call->call == NIZWARF_DESTROY)
 		__atomic_store_n(&session->options, call->call == NIZWARF_DESTROY ? 0 : told.options,
 				 __ATOMIC_RELEASE);
+	/* (items that are not in the reply: of those of readdir the node is 0) */
 	for (i = (size_t)told.taken; i < dir->len; i++)
 		nizwarf_give_back(dir, dir->items[i].entry.node);
 	return code;
@@ -1003,6 +1043,7 @@ static inline int32_t nizwarf_serve_ops(const nizwarf_ops *ops, void *user, nizw
 	dir.items = items;
 	dir.len = 0;
 	dir.most = most;
+	/* (the reply begins with a fuse_out_header of 16 bytes) */
 	dir.names = (uint8_t *)room + (room_len < 16 ? room_len : 16);
 	dir.left = room_len < 16 ? 0 : room_len - 16;
 	return nizwarf_answer_ops(ops, &req, slot, session, &call, &dir, &whole, reply_len);
