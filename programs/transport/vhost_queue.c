@@ -820,6 +820,36 @@ void queues_go(void)
 	pthread_rwlock_unlock(&vhost_guest->in_flight);
 }
 
+/* Has workers look at each queue with an answer that came late. Whether there is one. */
+static int look_at_late(struct guest *g)
+{
+	int any = 0;
+
+	for (int i = 0; i < QUEUES; i++) {
+		if (has_late(&g->queue[i])) {
+			queue_look(&g->queue[i]);
+			any = 1;
+		}
+	}
+	return any;
+}
+
+/* An answer that came late goes into memory as it was when its request was taken. So workers give all of them
+ * back before that may change: after queues_recall() no more come. Workers that are busy have not looked yet. */
+int queues_hold_answered(int signals, int client)
+{
+	struct pollfd wait[] = { { signals, POLLIN, 0 }, { client, POLLRDHUP, 0 } };
+
+	while (!queues_hold(signals, client)) {
+		if (!look_at_late(vhost_guest))
+			return 0;
+		queues_go();
+		if (poll(wait, 2, REST) > 0)
+			return -1;
+	}
+	return -1;
+}
+
 /* No worker uses the memory: the caller has `in_flight` for writing, or is the last user. */
 void guest_unshare(struct guest *g)
 {
@@ -996,17 +1026,16 @@ static int leave_guest(void)
 	return 1;
 }
 
-/* Whether nothing is kept, and no answer is to be given back. Nothing more can be kept as it is called. */
+/* Whether nothing is kept, and no answer is to be given back. Nothing more can be kept as it is called. (What is
+ * kept is asked first: it becomes an answer, and never the other way round.) */
 static int is_answered(struct guest *g)
 {
-	int is_late = 0;
-
-	for (int i = 0; i < QUEUES && !is_late; i++) {
-		pthread_mutex_lock(&g->queue[i].lock);
-		is_late = g->queue[i].late != NULL;
-		pthread_mutex_unlock(&g->queue[i].lock);
-	}
-	return !is_late && later_is_empty(&g->later);
+	if (!later_is_empty(&g->later))
+		return 0;
+	for (int i = 0; i < QUEUES; i++)
+		if (has_late(&g->queue[i]))
+			return 0;
+	return 1;
 }
 
 /* It is called without `in_flight`, so that workers give back what is answered now. */

@@ -94,6 +94,8 @@ int queues_lost(void);
 /* Between the two no request is in flight. The answer -1: one takes long, and one of these two
  * descriptors tells of a signal, or that its front end hung up. */
 int queues_hold(int signals, int client);
+/* The same once nothing can be kept, and no answer is to be given back: queues and memory may change then. */
+int queues_hold_answered(int signals, int client);
 void queues_go(void);
 /* The same for a front end that has gone, whose requests are interrupted if they take long. The answer 1:
  * one did not come back within a second; so its worker keeps what it was shared, another worker begins in

@@ -446,12 +446,13 @@ static enum outcome serve_message(int client, int signals)
 {
 	struct message m;
 	enum outcome outcome = receive_said(client, &m);
+	const int recalls = outcome == DONE && changes(&m);
 
-	if (outcome == DONE && changes(&m))
+	if (recalls)
 		queues_recall();
 	/* (a request that takes long holds a message up, but neither a signal nor that the front end hangs
 	 * up) */
-	if (outcome == DONE && queues_hold(signals, client)) {
+	if (outcome == DONE && (recalls ? queues_hold_answered : queues_hold)(signals, client)) {
 		outcome = GONE;
 	} else if (outcome == DONE) {
 		outcome = obey(client, signals, &m);

@@ -691,6 +691,18 @@ try_sanitizers() {
     share=$plain
 }
 
+# An answer that comes late, while memory is to change: by the queues alone, since no client says when that is.
+try_late_answer() {
+    local border sanitizer
+    find_border
+    for sanitizer in address,undefined thread; do
+        cc -std=c11 -O1 -g "-fsanitize=$sanitizer" -Wall -Wextra -Werror -pthread -I "$here/include" \
+            -I "$here/programs/transport" -o "$work/late_answer" "$here"/tests/share/late_answer.c \
+            "$here"/programs/transport/{vhost_queue,later}.c "$border" "$(dirname "$(rt doc)")/c/liblibc_c.a"
+        "$work/late_answer" || wrong "an answer that comes late, by the sanitizer $sanitizer"
+    done
+}
+
 try_lint() {
     if command -v clang-tidy > /dev/null && command -v cppcheck > /dev/null; then
         "$here/tools/dev/lint.sh" || wrong "tools/dev/lint.sh"
@@ -776,6 +788,8 @@ part "what a client knows of files"
 try_nodes
 part "machines that migrate"
 try_migration
+part "an answer that comes late"
+try_late_answer
 part "hostile requests"
 ask_hostile "over vhost-user, in its sandbox" --xattr
 ask_hostile "with attributes and ids that are translated" "${translates[@]}"
