@@ -7,8 +7,8 @@
  * of each request and reply, and a trace of bytes has the data of all files that were read and written.
  *
  * Each worker traces what it serves, on its own thread. A line is written at once, so that lines of several
- * workers stand between one another but not in one another. A request that is answered later is traced as
- * one that was refused; its reply is not traced. */
+ * workers stand between one another but not in one another. Of a request that is answered later a line says
+ * so, in a file that it was refused; its reply is not traced. */
 #define _GNU_SOURCE
 #include <errno.h>
 #include <fcntl.h>
@@ -100,19 +100,27 @@ static const char *refusal(int32_t code)
 }
 
 /* The two sizes of a SETXATTR that is refused for them: that which its record tells, and that of the bytes
- * after the name. The record is longer where SETXATTR_EXT was agreed on. */
+ * after the name. The record is longer where SETXATTR_EXT was agreed on. A guest may have changed the request
+ * after it was copied, and another worker the options: so nothing is read past the copy, whatever its header
+ * says. */
 static void record_sizes(const struct bytes *request)
 {
 	const size_t at = sizeof(struct fuse_in_header) + (options & FUSE_SETXATTR_EXT ?
 								   sizeof(struct fuse_setxattr_in) :
 								   FUSE_COMPAT_SETXATTR_IN_SIZE);
 	struct fuse_in_header header;
-	uint32_t size;
+	uint32_t size = 0;
+	size_t end, name, value = 0;
 
-	memcpy(&header, request->at, sizeof(header));
-	memcpy(&size, request->at + sizeof(header), sizeof(size));
-	fprintf(file, " %u %zu", (unsigned)size,
-		header.len - at - strnlen((const char *)request->at + at, header.len - at) - 1);
+	if (request->len >= at) {
+		memcpy(&header, request->at, sizeof(header));
+		memcpy(&size, request->at + sizeof(header), sizeof(size));
+		end = header.len < request->len ? header.len : request->len;
+		end = end > at ? end : at;
+		name = strnlen((const char *)request->at + at, end - at);
+		value = name < end - at ? end - at - name - 1 : 0;
+	}
+	fprintf(file, " %u %zu", (unsigned)size, value);
 }
 
 static void record_bytes(const struct bytes *bytes)
@@ -188,6 +196,8 @@ static void tell(const struct bytes *request, const nizwarf_room *room, size_t r
 		put_line(NULL);
 	else if (file)
 		record(request, space, code, &reply);
+	else if (code == NIZWARF_ASKED)
+		fputs("-> answered later\n", stderr);
 	else if (code != NIZWARF_OK)
 		fprintf(stderr, "-> refused=%s\n", refusal(code));
 	else
