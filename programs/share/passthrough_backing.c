@@ -1,14 +1,18 @@
 /* Files that a client's kernel reads and writes by itself: passthrough_backing.h.
  *
- * Linux has a file either in its cache or by itself, as long as one open of it lasts, and by one number: an open that
- * is otherwise fails. So the first open of a node says how all are, up to the last one's RELEASE, of which Linux tells once
- * it has let go. What can't be had by itself, since there is no memory or no number, or since file systems are over one
- * another too deep, is read and written by requests as without.
+ * Linux has a file either in its cache or by itself, as long as one open of it lasts, and by one number:
+ * an open that is otherwise fails. So the first open of a node says how all are, up to the last one's
+ * RELEASE, of which Linux tells once it has let go. What can't be had by itself, since there is no memory
+ * or no number, or since file systems are over one another too deep, is read and written by requests as
+ * without.
  *
- * Where an open wants what Linux would not do, it has the file by itself in name alone: its mappings are the file's,
- * and its reads and writes are requests that go by no cache. So it is with O_APPEND, which Linux keeps as it was
- * at first; with O_DIRECT, which has rules that requests have not; and with a file that has a set-user-ID or set-group-ID
- * bit, which not every writer takes away. */
+ * Where an open wants what Linux would not do, it has the file by itself in name alone: its mappings are
+ * the file's, and its reads and writes are requests that go by no cache. So it is with O_APPEND, which
+ * Linux keeps as it was at first; with O_DIRECT, which has rules that requests have not; and with a file
+ * that has a set-user-ID or set-group-ID bit, which not every writer takes away.
+ *
+ * Workers call it. `lock` guards the chains, and how often each node is open; `asking` is held while
+ * the other process is asked, which may take seconds, and neither is taken under the other. */
 #define _GNU_SOURCE
 #include <errno.h>
 #include <fcntl.h>
@@ -94,6 +98,7 @@ static int number_of(const struct call *call, int fd)
 	if (!atomic_load(&all->is_over))
 		number = fuse_backing_open(all->socket, named);
 	pthread_mutex_unlock(&all->asking);
+	/* (others are of this file alone: the next one is asked for again) */
 	if (number == -EPIPE || number == -EPERM)
 		end_numbers(all, -number);
 	if (!is_read)
@@ -109,6 +114,7 @@ static bool takes_direct(const struct call *call, int fd)
 	return direct >= 0 && !close(direct);
 }
 
+/* Whether this open wants O_DIRECT, which the file does not take: Linux would fail the open. */
 static bool is_refused(const struct call *call, int fd)
 {
 	return call->asked->flags & O_DIRECT && !takes_direct(call, fd);
@@ -121,7 +127,8 @@ static struct backing **chain_of(struct backings *all, uint64_t node)
 	return &all->chains[(node ^ node >> 10) % CHAINS];
 }
 
-/* Adds an open of a node, which `made` is of, if that isn't NULL and there is no other. */
+/* Adds an open of a node, which `made` is of, if that isn't NULL and there is no other: what it was
+ * added to, or NULL. */
 static struct backing *add_open(struct backings *all, uint64_t node, struct backing *made)
 {
 	struct backing *found, **chain = chain_of(all, node);
@@ -141,6 +148,7 @@ static struct backing *add_open(struct backings *all, uint64_t node, struct back
 	return found;
 }
 
+/* (no answer is waited for: so this may be done by any thread, while another one asks) */
 static void free_backing(struct backing *backing)
 {
 	if (backing->number)
@@ -156,6 +164,8 @@ int backing_take(const struct call *call, uint64_t node, int fd, struct backing 
 	*taken = NULL;
 	if (!all || !(atomic_load(&call->all->agreed) & NIZWARF_PASSTHROUGH))
 		return 0;
+	/* The number is asked for without the lock, so another open of the node may be the first one
+	 * meanwhile: then the node is as that is. */
 	found = add_open(all, node, NULL);
 	if (!found) {
 		made = calloc(1, sizeof(*made));
@@ -165,7 +175,7 @@ int backing_take(const struct call *call, uint64_t node, int fd, struct backing 
 					  .node = node,
 					  .number = is_refused(call, fd) ? 0 : number_of(call, fd) };
 		found = add_open(all, node, made);
-		/* (another open of it came first) */
+		/* (another open of it came first, and has a number or none; this one's is closed) */
 		if (found != made)
 			free_backing(made);
 	}

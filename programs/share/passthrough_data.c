@@ -1,4 +1,10 @@
-/* A passthrough's open files: their data, and which call does what with one. */
+/* A passthrough's open files: their data, and which call does what with one. passthrough_call.c takes the
+ * node and the open file in hand, and calls make_of_file(); workers run it, any number of them with one
+ * open file at once.
+ *
+ * A client says which open file it means, and where it reads or writes. It may do with that file what
+ * the descriptor was opened for, to which the host sees. Places that would be below 0 to the host are
+ * refused. */
 #define _GNU_SOURCE
 #include <errno.h>
 #include <fcntl.h>
@@ -8,7 +14,7 @@
 #include <unistd.h>
 #include "passthrough_call.h"
 
-/* The most that is copied at once. */
+/* The most that is copied at once, and a page, in bytes. (A client asks again for what is left.) */
 enum { COPIED = 1 << 30, PAGE = 4096 };
 
 bool writes_later(const struct call *call)
@@ -16,7 +22,8 @@ bool writes_later(const struct call *call)
 	return atomic_load(&call->all->agreed) & FUSE_WRITEBACK_CACHE && call->all->options.writeback;
 }
 
-/* Leaves out of the pieces what was moved. */
+/* Leaves out of the pieces what was moved, which is no more than they have. They are the worker's own
+ * list, so they may be changed. */
 static void move_on(struct iovec **data, size_t *pieces, size_t moved)
 {
 	while (*pieces && moved >= (*data)->iov_len) {
@@ -40,7 +47,9 @@ static ssize_t move(int fd, bool is_read, const struct iovec *data, int pieces, 
 	return is_read ? preadv(fd, data, pieces, at) : pwritev(fd, data, pieces, at);
 }
 
-/* READ and WRITE: of all that is there, right from or into the pieces. */
+/* READ and WRITE: of all that is there, right from or into the pieces. A READ ends early at the end of
+ * the file, a WRITE where the host takes no more; what was moved before an error is answered, but for
+ * a WRITE out of a cache. */
 static int transfer(const struct call *call)
 {
 	const nizwarf_call *asked = call->asked;
@@ -52,12 +61,15 @@ static int transfer(const struct call *call)
 
 	if (asked->offset > INT64_MAX)
 		return is_read ? EINVAL : EFBIG;
+	/* (over /dev/fuse the data may go by a pipe, and by no memory of the server) */
 	if (pieces == 1 && is_read)
 		direct = fuse_device_read_from(fd, asked->offset, data->iov_len);
 	if (direct >= 0) {
 		call->answer->count = (uint64_t)direct;
 		return 0;
 	}
+	/* (those that are still in a pipe are written from there, and the others are in the segment
+	 * then) */
 	if (pieces == 1 && !is_read) {
 		direct = fuse_device_write_to(fd, asked->offset, data->iov_len);
 		if (direct < 0)
@@ -92,8 +104,11 @@ static int read_file(const struct call *call)
 	return transfer(call);
 }
 
-/* Has a file written at its end, or not, up to let_write(): as its flags are with who has it open, which may map it,
- * or change them. 0, or an error: the host lets some files be appended to alone (chattr +a). */
+/* Has a file written at its end, or not, up to let_write(): as its flags are with who has it open, which
+ * may map it, or change them. 0, or an error: the host lets some files be appended to alone (chattr +a).
+ *
+ * The flag is the descriptor's, and all WRITEs of the open file share it. Who wants it as it is holds
+ * the lock for reading, so they run at once; who changes it holds it for writing, and writes alone. */
 static int hold_write(struct open_file *file, bool at_end)
 {
 	int flags, error = 0;
@@ -101,6 +116,7 @@ static int hold_write(struct open_file *file, bool at_end)
 	pthread_rwlock_rdlock(&file->writing);
 	if (file->at_end == at_end)
 		return 0;
+	/* (another one may have changed it meanwhile: it is looked at again) */
 	pthread_rwlock_unlock(&file->writing);
 	pthread_rwlock_wrlock(&file->writing);
 	if (file->at_end == at_end)
@@ -120,8 +136,8 @@ static void let_write(struct open_file *file)
 	pthread_rwlock_unlock(&file->writing);
 }
 
-/* What a client's kernel writes out of its cache lies anywhere, and ends where the file does, which O_DIRECT doesn't
- * take: such a file goes by the host's cache from then on. */
+/* What a client's kernel writes out of its cache lies anywhere, and ends where the file does, which
+ * O_DIRECT doesn't take: such a file goes by the host's cache from then on. */
 static int leave_direct(const struct call *call)
 {
 	struct open_file *file = call->file;
@@ -150,6 +166,7 @@ static bool is_append(const struct call *call)
 	return asked->flags & O_APPEND && !(asked->has & NIZWARF_DELAYED) && !writes_later(call);
 }
 
+/* WRITE. The rights that keep set-user-ID bits are this thread's, and are had again at each return. */
 static int write_file(const struct call *call)
 {
 	int error = leave_direct(call);
@@ -167,6 +184,7 @@ static int write_file(const struct call *call)
 	return error;
 }
 
+/* FALLOCATE. Its mode is the host's to refuse: EOPNOTSUPP, EINVAL. */
 static int allocate(const struct call *call)
 {
 	const nizwarf_call *asked = call->asked;
@@ -183,6 +201,7 @@ static int allocate(const struct call *call)
 	return error;
 }
 
+/* LSEEK, of SEEK_DATA and SEEK_HOLE alone: the client has the place of its open file itself. */
 static int seek(const struct call *call)
 {
 	const nizwarf_call *asked = call->asked;
@@ -194,11 +213,15 @@ static int seek(const struct call *call)
 	/* What the kernel has yet to write is a hole to the host. Refused once, it answers by the size. */
 	if (writes_later(call))
 		return ENOSYS;
+	/* (the place of the descriptor, which this moves, is used by nobody: data are read and written
+	 * by offsets) */
 	at = lseek(call->file->counted.fd, (off_t)asked->offset, (int)whence);
 	nizwarf_answer_offset(call->answer, (uint64_t)at);
 	return failed(at < 0 ? -1 : 0);
 }
 
+/* COPY_FILE_RANGE, from the call's open file to another one, which is in hand up to the end. What
+ * isn't copied the client asks for again. At EXDEV and EOPNOTSUPP its kernel copies by READ and WRITE. */
 static int copy_range(const struct call *call)
 {
 	const nizwarf_call *asked = call->asked;
@@ -210,8 +233,10 @@ static int copy_range(const struct call *call)
 
 	if (!into)
 		return EBADF;
+	/* (no flag has a meaning yet) */
 	error = from < 0 || to < 0 || nizwarf_copy_flags(asked) ? EINVAL :
 								  lose_capability(call, into->counted.fd);
+	/* (copy_file_range(2) refuses what is open with O_APPEND) */
 	if (!error)
 		error = hold_write(into, false);
 	if (!error) {
@@ -226,8 +251,9 @@ static int copy_range(const struct call *call)
 	return error;
 }
 
-/* Tells the host that a descriptor of the file is closed, as it may have an error to tell, and gives up the locks of
- * whose it was. */
+/* Tells the host that a descriptor of the file is closed, as it may have an error to tell, and gives
+ * up the locks of whose it was. (A copy is closed, since the file stays open; by that a process loses
+ * its locks of fcntl(2), and this one has none of that kind.) */
 static int flush(const struct call *call)
 {
 	const int copy = dup(call->file->counted.fd);

@@ -1,10 +1,23 @@
 /* Locks of a passthrough: passthrough_locks.h.
  *
- * The client tells locks by a number of their owner. Those of an owner in a file are held by a description of that file
- * of their own, since the host keeps locks by descriptions: for flock(2), and by F_OFD_SETLK for fcntl(2). So they are
- * locks against other clients, and against programs of the host; and closing the description gives them up.
+ * The client tells locks by a number of their owner. Those of an owner in a file are held by a
+ * description of that file of their own, since the host keeps locks by descriptions: for flock(2), and by
+ * F_OFD_SETLK for fcntl(2). So they are locks against other clients, and against programs of the host;
+ * and closing the description gives them up.
  *
- * A lock that is not free is waited for by a thread of its own, and by no worker. A signal ends the waiting. */
+ * A lock that is not free is waited for by a thread of its own, and by no worker. A signal ends the
+ * waiting.
+ *
+ * Workers make the calls, among them INIT and DESTROY, by which all locks go. The transport's own thread
+ * recalls who waits, asks whether locks are held, and lets all go once a client has gone.
+ *
+ * `lock` guards the table of holders, their counts, and the list of waiters. The host is asked under it
+ * who has a lock; no lock is taken, waited for or given up under it. `replying` guards the slot, and
+ * neither is taken under the other.
+ *
+ * A hostile client may name any owner and any node. It gets holders of files alone that it has open,
+ * each with a descriptor that counts among those that it may have, and can give up no locks but its
+ * own. */
 #define _GNU_SOURCE
 #include <errno.h>
 #include <fcntl.h>
@@ -19,6 +32,9 @@
 #include "passthrough_call.h"
 #include "passthrough_locks.h"
 
+/* How many threads may wait at once, and how many bytes of stack each has. KICKS and TRIES are pauses
+ * of a millisecond: how long a worker kicks who waits, and how long a reply is tried for want of
+ * memory. */
 enum { CHAINS = 256, MOST_WAITERS = 1024, STACK = 65536, KICKS = 50, TRIES = 10000 };
 
 /* Locks of one owner, in one file, of one of the two kinds. */
@@ -64,6 +80,8 @@ static int kick(void)
 	return SIGRTMIN + 1;
 }
 
+/* Does nothing: without a handler the signal would end the process, and one that is ignored interrupts
+ * no call. */
 static void kicked(int number)
 {
 	(void)number;
@@ -79,6 +97,7 @@ struct locks *locks_new(struct nodes *nodes)
 	all->nodes = nodes;
 	pthread_mutex_init(&all->lock, NULL);
 	pthread_mutex_init(&all->replying, NULL);
+	/* (without SA_RESTART, so that a call that waits comes back with EINTR) */
 	sigaction(kick(), &kicks, NULL);
 	return all;
 }
@@ -90,6 +109,7 @@ static struct holder **chain_of(struct locks *all, uint64_t node, uint64_t owner
 	return &all->chains[(node * 31 + owner * 17 + (owner >> 8)) % CHAINS];
 }
 
+/* The holder of these three, or NULL. The lock is held. */
 static struct holder *find(struct locks *all, uint64_t node, uint64_t owner, bool is_flock)
 {
 	struct holder *h = *chain_of(all, node, owner);
@@ -99,7 +119,8 @@ static struct holder *find(struct locks *all, uint64_t node, uint64_t owner, boo
 	return h;
 }
 
-/* One has it in hand no longer. (To close a file may take long.) */
+/* One has it in hand no longer. The last one closes the description, by which the host drops all its
+ * locks. That is done without the lock, since to close a file may take long. */
 static void put(struct locks *all, struct holder *h)
 {
 	bool is_last;
@@ -128,6 +149,8 @@ static int open_description(const struct call *call, bool is_flock)
 	return fd >= 0 ? fd : open_again(&call->all->nodes, of, O_RDONLY | flags);
 }
 
+/* Makes a holder that is in no table yet. NULL: there is no memory, no descriptor is left, the file is
+ * a directory, or the host doesn't open it again. */
 static struct holder *new_holder(const struct call *call, bool is_flock)
 {
 	struct nodes *nodes = &call->all->nodes;
@@ -151,7 +174,8 @@ static struct holder *new_holder(const struct call *call, bool is_flock)
 	return h;
 }
 
-/* Who holds the locks of the owner of this call, in hand. NULL: none does, and none can. */
+/* Who holds the locks of the owner of this call, in hand: the caller puts it. If there is none and
+ * `makes` is said, one is made. NULL: none does, and none can. */
 static struct holder *take(const struct call *call, bool is_flock, bool makes)
 {
 	struct locks *all = call->all->locks;
@@ -165,11 +189,14 @@ static struct holder *take(const struct call *call, bool is_flock, bool makes)
 	pthread_mutex_unlock(&all->lock);
 	if (h || !makes)
 		return h;
+	/* The description is opened without the lock. So another worker may have entered a holder of
+	 * the same owner by then: it is looked for again, and the second one is of no use. */
 	made = new_holder(call, is_flock);
 	if (!made)
 		return NULL;
 	pthread_mutex_lock(&all->lock);
 	h = find(all, asked->node, asked->lock_owner, is_flock);
+	/* (for the table, and below one more for the caller) */
 	made->users = 1;
 	if (!h) {
 		h = made;
@@ -184,7 +211,8 @@ static struct holder *take(const struct call *call, bool is_flock, bool makes)
 	return h;
 }
 
-/* Those that are in the table no longer go once no one has them in hand. */
+/* Takes an owner's holder out of the table: its locks go at once, or else once no one has it in hand,
+ * as a thread that waits does. */
 static void drop(struct locks *all, uint64_t node, uint64_t owner, bool is_flock)
 {
 	struct holder *h, **at = chain_of(all, node, owner);
@@ -202,7 +230,8 @@ static void drop(struct locks *all, uint64_t node, uint64_t owner, bool is_flock
 
 /* ---- the locks of the host */
 
-/* A lock as the host tells it. False: no such can be. */
+/* A lock as the host tells it. False: no such can be. FUSE tells the last byte, or INT64_MAX where
+ * there is none; the host wants a length, of which 0 leads to whatever end the file has. */
 static bool to_host(const nizwarf_lock *lock, struct flock *host)
 {
 	if (lock->start > INT64_MAX || lock->end < lock->start)
@@ -215,6 +244,7 @@ static bool to_host(const nizwarf_lock *lock, struct flock *host)
 	return true;
 }
 
+/* The same the other way round. FUSE has the types as Linux numbers them. */
 static nizwarf_lock from_host(const struct flock *host, uint32_t pid)
 {
 	const uint64_t start = (uint64_t)host->l_start;
@@ -230,7 +260,8 @@ static int flock_of(uint32_t type)
 	return type == F_UNLCK ? LOCK_UN : type == F_RDLCK ? LOCK_SH : LOCK_EX;
 }
 
-/* Takes or gives up a lock of the host: 0, or an error. */
+/* Takes or gives up a lock of the host: 0, or an error. EAGAIN: it isn't free. EINTR: a signal came
+ * while it waited. EBADF: the description isn't open for what the lock wants. */
 static int lock_host(const struct holder *h, const nizwarf_lock *lock, bool waits)
 {
 	struct flock host;
@@ -242,8 +273,9 @@ static int lock_host(const struct holder *h, const nizwarf_lock *lock, bool wait
 	return failed(fcntl(h->fd, waits ? F_OFD_SETLKW : F_OFD_SETLK, &host));
 }
 
-/* Which process of the client has a lock that is in the way, 0 if none is known: by its own description it is not in
- * the way. */
+/* Which process of the client has a lock that is in the way, 0 if none is known: by its own
+ * description it is not in the way. (The host tells no process of a lock that a description has.) If
+ * several share it for reading, or a program of the host has it, none is found. */
 static uint32_t pid_of(struct locks *all, const nizwarf_call *asked, const struct flock *found)
 {
 	uint32_t pid = 0;
@@ -264,6 +296,8 @@ static uint32_t pid_of(struct locks *all, const nizwarf_call *asked, const struc
 	return pid;
 }
 
+/* GETLK: a lock that would be in the way, or F_UNLCK. An owner that has none here asks by the client's
+ * own description of the file, which never has any. */
 int get_lock(const struct call *call)
 {
 	const nizwarf_lock asked = nizwarf_lock_asked(call->asked);
@@ -289,6 +323,7 @@ int get_lock(const struct call *call)
 
 /* ---- waiting */
 
+/* Lets a millisecond pass. */
 static void let_pass(void)
 {
 	const struct timespec pause = { 0, 1000000 };
@@ -296,6 +331,7 @@ static void let_pass(void)
 	nanosleep(&pause, NULL);
 }
 
+/* Takes a waiter out of the list, under the lock: no one kicks it from then on. */
 static void unlink_waiter(struct waiter *w)
 {
 	*w->at = w->next;
@@ -303,8 +339,8 @@ static void unlink_waiter(struct waiter *w)
 		w->next->at = w->at;
 }
 
-/* Answers the request, and waits no longer. (If there is no memory for the reply, it tries for some ten seconds: who has
- * the lock should know it.) */
+/* Answers the request, and waits no longer. (If there is no memory for the reply, it tries for some
+ * ten seconds: who has the lock should know it.) */
 static void finish(struct waiter *w, int error)
 {
 	struct locks *all = w->of;
@@ -337,6 +373,9 @@ static void finish(struct waiter *w, int error)
 	pthread_mutex_unlock(&all->lock);
 }
 
+/* The thread of a waiter. A signal that comes between the look at `stop` and the call of the host is
+ * missed: it is sent again. A lock that was got is answered as one, even if the waiting was to end
+ * meanwhile. */
 static void *wait_for_lock(void *given)
 {
 	struct waiter *w = given;
@@ -349,7 +388,9 @@ static void *wait_for_lock(void *given)
 	return NULL;
 }
 
-/* Starts a thread that waits, which has the holder in hand from then on: LOCK_WAITS, or an error. */
+/* Starts a thread that waits, which has the holder in hand from then on: LOCK_WAITS, or an error, by
+ * which it stays the caller's. The waiter comes to the list under the lock under which `early` is
+ * looked at: so an INTERRUPT of it either came before, and is found there, or finds the waiter. */
 static int start_waiter(const struct call *call, struct holder *h)
 {
 	struct locks *all = call->all->locks;
@@ -390,14 +431,17 @@ static int start_waiter(const struct call *call, struct holder *h)
 		free(w);
 		return is_interrupted ? EINTR : ENOLCK;
 	}
+	/* There is no thread, but the request is kept already. So it is refused here, and its worker
+	 * is told that it waits. */
 	put(all, h);
 	transport_complete(w->later, NIZWARF_OUT_OF_MEMORY, NULL, 0);
 	free(w);
 	return LOCK_WAITS;
 }
 
-/* Kicks those that are to stop: that of this number, which is kept if there is none; or all, with ENOLCK, since by EINTR
- * Linux takes it that a signal has come. (One that did not wait yet misses it, and is kicked again.) */
+/* Kicks those that are to stop: that of this number, which is kept if there is none; or all, with
+ * ENOLCK, since by EINTR Linux takes it that a signal has come. (One that did not wait yet misses it,
+ * and is kicked again.) */
 static void kick_each(struct locks *all, const uint64_t *unique, bool keeps, bool *is_left)
 {
 	*is_left = false;
@@ -413,6 +457,9 @@ static void kick_each(struct locks *all, const uint64_t *unique, bool keeps, boo
 	pthread_mutex_unlock(&all->lock);
 }
 
+/* An INTERRUPT, whose worker kicks for some 50 milliseconds at most: if the host does not come back by
+ * then, the waiter has the error for when it does. One that came before its SETLKW, by another worker,
+ * is remembered. */
 void locks_interrupt(struct locks *all, uint64_t unique)
 {
 	bool is_left;
@@ -426,6 +473,8 @@ void locks_interrupt(struct locks *all, uint64_t unique)
 
 /* ---- calls */
 
+/* SETLK and SETLKW. ENOLCK: there is nothing to hold the lock by, or as many wait as may. EAGAIN: it
+ * isn't free, and SETLK doesn't wait. */
 int set_lock(const struct call *call)
 {
 	const nizwarf_call *asked = call->asked;
@@ -444,17 +493,21 @@ int set_lock(const struct call *call)
 	if (lock.type != F_UNLCK)
 		atomic_store(&h->pid, lock.pid);
 	error = lock_host(h, &lock, false);
+	/* (POSIX lets fcntl(2) say either of the two) */
 	if (error == EACCES)
 		error = EAGAIN;
 	if (error == EAGAIN && asked->call == NIZWARF_SETLKW)
 		error = start_waiter(call, h);
 	if (error != LOCK_WAITS)
 		put(all, h);
+	/* (it was one of the whole file, and the holder has no other; by fcntl(2) there may be more) */
 	if (!error && is_flock && lock.type == F_UNLCK)
 		drop(all, asked->node, asked->lock_owner, true);
 	return error;
 }
 
+/* By POSIX whoever closes a descriptor of a file loses all its locks of fcntl(2) in it: that is FLUSH.
+ * A lock of flock(2) lasts up to the last close of the description, of which RELEASE tells. */
 void locks_close(struct locks *all, const nizwarf_call *asked)
 {
 	if (asked->call == NIZWARF_FLUSH || asked->has & NIZWARF_FLUSHES)
@@ -463,6 +516,7 @@ void locks_close(struct locks *all, const nizwarf_call *asked)
 		drop(all, asked->node, asked->lock_owner, true);
 }
 
+/* It kicks once: the transport calls again while something is kept, since a kick may be missed. */
 void locks_recall(struct locks *all)
 {
 	bool is_left;
@@ -499,7 +553,9 @@ static struct holder *take_any(struct locks *all)
 	return h;
 }
 
-/* Whether an owner has locks. Those of fcntl(2) it may have given up, each by itself. */
+/* Whether an owner has locks. Those of fcntl(2) it may have given up, each by itself. A new
+ * description has none, so a lock for writing of the whole file tells whether anyone has one: also a
+ * program of the host, which is taken for the owner, and so is what can't be looked at. */
 static bool has_locks(const struct locks *all, const struct holder *h)
 {
 	struct flock any = { .l_type = F_WRLCK, .l_whence = SEEK_SET };
@@ -527,6 +583,8 @@ bool locks_are_held(struct locks *all)
 	return are_held;
 }
 
+/* What waits still after a second, since the host does not come back, keeps its holder, and puts it
+ * when it ends. */
 void locks_forget_all(struct locks *all)
 {
 	struct holder *h;

@@ -1,17 +1,21 @@
 /* A watch of the files that a client knows: passthrough_watch.h.
  *
- * It stands on fanotify(7), which tells of a file whoever changes it by whichever name, and whether it was this process:
- * what a client does by requests is known to it. Marks are of single files, which takes no capability, and nothing is told
- * of files that the server can't open. A file is known by its handle.
+ * It stands on fanotify(7), which tells of a file whoever changes it by whichever name, and whether it
+ * was this process: what a client does by requests is known to it. Marks are of single files, which takes
+ * no capability, and nothing is told of files that the server can't open. A file is known by its handle.
  *
- * Notices are sent by a thread of its own: the kernel may wait in one for requests that are answered meanwhile. A name
- * that is looked up meanwhile is dropped after the reply, for which the notice waits; attributes that are told meanwhile
- * are dropped by the kernel, if it has the file already. So attributes hold for long if GETATTR or STATX told them, and
- * for a second with what names the file first.
+ * Notices are sent by a thread of its own: the kernel may wait in one for requests that are answered
+ * meanwhile. A name that is looked up meanwhile is dropped after the reply, for which the notice waits;
+ * attributes that are told meanwhile are dropped by the kernel, if it has the file already. So attributes
+ * hold for long if GETATTR or STATX told them, and for a second with what names the file first.
  *
- * If more happens than is taken, or if what is to be told is lost, all that the client remembers is old: its names by
- * INC_EPOCH, which Linux has from 6.16 on, and the attributes and bytes of each file. Before, names hold for a minute. What
- * is written to a mapping is told once that is closed. */
+ * If more happens than is taken, or if what is to be told is lost, all that the client remembers is old:
+ * its names by INC_EPOCH, which Linux has from 6.16 on, and the attributes and bytes of each file.
+ * Before, names hold for a minute. What is written to a mapping is told once that is closed.
+ *
+ * Workers add and remove files, each under the lock of its part alone; the thread looks files up,
+ * under one such lock at a time, and sends no notice under any. A node may go between the two: no
+ * other one gets its number, and the kernel refuses a notice of what it doesn't know. */
 #define _GNU_SOURCE
 #include <errno.h>
 #include <fcntl.h>
@@ -29,6 +33,10 @@
 #include "passthrough_mounts.h"
 #include "passthrough_watch.h"
 
+/* In how many parts files are, and with how many chains each begins; how many bytes of events are read
+ * at once; how many nodes one file may have here; how many files may have changed between two
+ * tellings, of which half are used so that a free place is near; how many nodes of a chain are told
+ * under one locking. */
 enum { PARTS = 64, FIRST_CHAINS = 64, EVENTS = 65536, MOST_ALIKE = 64, CHANGED = 4096, EACH = 256 };
 /* In milliseconds: how long events gather; how long it rests once some were lost; how often it looks whether there is a
  * client; and how long names hold where they can't be dropped all at once. */
@@ -36,10 +44,15 @@ enum { GATHER = 1, REST = 100, LOOK = 20, MINUTE = 60000 };
 /* How many times events are read that are not looked at, since all is old. */
 enum { MOST_DRAINED = 64 };
 
+/* What is asked of fanotify: of a directory what happens to names in it, also those of directories,
+ * and to its own attributes; of a file what happens to its bytes and attributes, and that one who
+ * could write has closed it. */
 #define IN_DIRECTORY (FAN_CREATE | FAN_DELETE | FAN_MOVED_FROM | FAN_MOVED_TO)
 #define OF_DIRECTORY (IN_DIRECTORY | FAN_ATTRIB | FAN_ONDIR)
 #define OF_FILE (FAN_MODIFY | FAN_CLOSE_WRITE | FAN_ATTRIB)
 
+/* A file that is watched: it is its node's, and is freed with that. `next` is guarded by the lock of
+ * its part, and what has no other comment stays as it was made. */
 struct watched {
 	struct watched *next;
 	/* 0: no client knows it yet. */
@@ -65,6 +78,8 @@ struct changed {
 };
 
 struct watch {
+	/* The descriptors of the group of fanotify, of /proc/self/fd, which isn't its own, and of an
+	 * eventfd that ends the thread. `own` is this process, as events tell it. */
 	int group, proc, stop;
 	pid_t own;
 	transport_notices *notices;
@@ -81,6 +96,7 @@ struct watch {
 	_Alignas(struct fanotify_event_metadata) char events[EVENTS];
 };
 
+/* FNV-1a, over the type and the bytes of a handle, with a last step for those that use the lower bits. */
 static uint64_t hash_of(const struct file_handle *handle)
 {
 	uint64_t hash = UINT64_C(0xcbf29ce484222325) ^ (uint32_t)handle->handle_type;
@@ -100,6 +116,7 @@ static struct watched **chain_of(const struct part *part, uint64_t hash)
 	return &part->chains[hash / PARTS % part->size];
 }
 
+/* Whether a handle is that of a file that is watched. */
 static bool is_of(const struct watched *watched, uint64_t hash, const struct file_handle *handle)
 {
 	return watched->hash == hash && watched->type == (uint32_t)handle->handle_type &&
@@ -183,6 +200,8 @@ static bool grow_part(struct part *part)
 	return true;
 }
 
+/* Adds or removes the mark of a file. It is named by its descriptor in /proc, as fanotify takes none
+ * with O_PATH. */
 static int mark(const struct watch *all, unsigned how, int fd, bool is_directory)
 {
 	return fanotify_mark(all->group, how, is_directory ? OF_DIRECTORY : OF_FILE, all->proc,
@@ -214,6 +233,7 @@ struct watched *watch_add(struct watch *all, int fd, bool is_directory)
 		made->type = (uint32_t)handle->handle_type;
 		made->size = handle->handle_bytes;
 		memcpy(made->bytes, handle->f_handle, made->size);
+		/* (a mark that is there already is no error: the host has one of a file) */
 		part = part_of(all, made->hash);
 		pthread_mutex_lock(&part->lock);
 		error = !grow_part(part) ? ENOMEM : mark(all, FAN_MARK_ADD, fd, is_directory) < 0 ? errno : 0;
@@ -232,6 +252,7 @@ struct watched *watch_add(struct watch *all, int fd, bool is_directory)
 	return NULL;
 }
 
+/* (up to then the thread leaves it out: the client can't remember anything of it) */
 void watch_name(struct watched *watched, uint64_t node)
 {
 	atomic_store(&watched->node, node);
@@ -254,6 +275,7 @@ void watch_remove(struct watch *all, struct watched *watched, int fd)
 	struct watched **at;
 
 	pthread_mutex_lock(&part->lock);
+	/* (if it fails too much is told, of a file that isn't found here) */
 	if (!has_other(part, watched))
 		mark(all, FAN_MARK_REMOVE, fd, watched->is_directory);
 	at = chain_of(part, watched->hash);
@@ -283,12 +305,16 @@ static unsigned find(struct watch *all, const struct file_handle *handle, uint64
 
 /* ---- notices */
 
+/* 0, or an error: ENOTCONN before INIT was answered or after unmounting, ENOENT where the kernel
+ * doesn't know the node or the name. look_for_epoch() alone acts on one: what the client doesn't know
+ * it doesn't remember either. */
 static int send_notice(struct watch *all, const void *notice, size_t len)
 {
 	return len ? fuse_device_notify(all->notices, notice, len, NULL, 0) : EINVAL;
 }
 
-/* What is remembered of a file is old: its attributes, or its bytes too. */
+/* What is remembered of a file is old: its attributes, or its bytes too. (At offset -1 no bytes are
+ * meant, and of length 0 all up to the end are.) */
 static void tell_file(struct watch *all, uint64_t node, bool has_data)
 {
 	unsigned char notice[64];
@@ -378,7 +404,8 @@ static void tell_changed(struct watch *all)
 	}
 }
 
-/* Notes that a file changed. */
+/* Notes that a file changed, in a table of open addressing: a node that changes many times is told of
+ * once. When it is half full it is told and emptied, so a free place is always found. */
 static void note(struct watch *all, uint64_t node, bool has_data)
 {
 	size_t at = (node ^ node >> 32) % CHANGED;
@@ -411,8 +438,8 @@ static void take_record(struct watch *all, uint64_t mask, bool is_own, const str
 	}
 }
 
-/* Takes an event: its records are of a file, or of a directory with a name in it; or of both, where the file is
- * watched. */
+/* Takes an event: its records are of a file, or of a directory with a name in it; or of both, where
+ * the file is watched. With FAN_Q_OVERFLOW the host has dropped some, and says no more of them. */
 static void take_event(struct watch *all, const struct fanotify_event_metadata *event, const char *at,
 		       const char *end)
 {
@@ -422,11 +449,15 @@ static void take_event(struct watch *all, const struct fanotify_event_metadata *
 		all->is_lost = true;
 		return;
 	}
+	/* Each record is a head, a handle, and with DFID_NAME a name that ends with a 0. The length in
+	 * its head leads to the next one. They are the kernel's, and believed. */
 	while ((size_t)(end - at) >= sizeof(struct fanotify_event_info_fid) + sizeof(struct file_handle)) {
 		const struct fanotify_event_info_fid *record = (const void *)at;
 		const struct file_handle *handle = (const void *)record->handle;
 		const char *name = (const char *)handle->f_handle + handle->handle_bytes;
 
+		/* (of what happens to a file itself a directory and a name are told too, which mean
+		 * nothing here; "." is a directory itself) */
 		if (record->hdr.info_type == FAN_EVENT_INFO_TYPE_FID ||
 		    record->hdr.info_type == FAN_EVENT_INFO_TYPE_DFID)
 			take_record(all, event->mask & ~(uint64_t)IN_DIRECTORY, is_own, handle, NULL);
@@ -460,7 +491,9 @@ static void let_pass(long milliseconds)
 	nanosleep(&pause, NULL);
 }
 
-/* Some events were lost: those that are there need not be looked at. */
+/* Some events were lost: those that are there need not be looked at, since all is told to be old.
+ * Whoever makes more than can be read meanwhile doesn't hold it up: it reads so many times, and what
+ * comes later is taken as usual. */
 static void begin_anew(struct watch *all)
 {
 	for (int i = 0; i < MOST_DRAINED && read(all->group, all->events, sizeof(all->events)) > 0; i++)
@@ -471,6 +504,9 @@ static void begin_anew(struct watch *all)
 	let_pass(REST);
 }
 
+/* The thread, from watch_start() up to watch_free(). While it isn't known whether Linux has INC_EPOCH
+ * it looks every 20 milliseconds, as a notice can be sent once INIT was answered; then it sleeps until
+ * something happens. */
 static void *run(void *given)
 {
 	struct watch *all = given;
