@@ -1,4 +1,9 @@
-/* Ids of a passthrough: passthrough_ids.h. */
+/* Ids of a passthrough: passthrough_ids.h. The rules are read once, from --translate-uid and
+ * --translate-gid, before a worker begins, and never change: so any number of threads translate at once,
+ * without a lock.
+ *
+ * The two ways are lists of their own. An id that a rule of one of them moves comes back by itself
+ * with `map` alone: with `guest` the host's id is told as it is. */
 #define _GNU_SOURCE
 #include <ctype.h>
 #include <errno.h>
@@ -13,12 +18,13 @@ static bool overlap(const struct id_rule *a, const struct id_rule *b)
 	return a->from < (uint64_t)b->from + b->count && b->from < (uint64_t)a->from + a->count;
 }
 
-/* Adds a rule: NULL, or what is wrong with it. */
+/* Adds a rule: NULL, or what is wrong with it. Each id has one rule at most, so their order means
+ * nothing. One of no id is let pass. */
 static const char *add(struct id_rules *all, const struct id_rule *rule)
 {
 	struct id_rule *more;
 
-	/* (the last id of 32 bits is that of no one) */
+	/* (the last id of 32 bits is that of no one: to chown(2) it means that the id stays) */
 	if ((uint64_t)rule->from + rule->count > UINT32_MAX ||
 	    (rule->how == IDS_SHIFTED && (uint64_t)rule->to + rule->count > UINT32_MAX) ||
 	    (rule->how == IDS_SQUASHED && rule->to == UINT32_MAX))
@@ -36,7 +42,8 @@ static const char *add(struct id_rules *all, const struct id_rule *rule)
 	return NULL;
 }
 
-/* Reads numbers with a sign between them: how many there are, or -1. */
+/* Reads numbers with a sign between them: how many there are, or -1. Only digits make a number:
+ * strtoul() alone would take spaces, and a - before it. */
 static int read_numbers(const char *text, char sign, uint32_t number[3])
 {
 	int count = 0;
@@ -60,7 +67,8 @@ static int read_numbers(const char *text, char sign, uint32_t number[3])
 	}
 }
 
-/* The types of rules: which way they go, and how. */
+/* The types of rules: which way they go, and how; and how many numbers follow. FROM is the client's id
+ * but for those of the host, of which it is the host's. */
 static const struct type {
 	const char *name;
 	bool of_client, of_host;
@@ -87,10 +95,13 @@ const char *ids_add(struct ids *ids, const char *text)
 		return "its type is none of guest, host, squash-guest, squash-host, forbid-guest, map";
 	if (!text[len] || read_numbers(text + len + 1, text[len], number) != type->numbers)
 		return type->numbers == 2 ? "it is forbid-guest:FROM:COUNT" : "it is TYPE:FROM:TO:COUNT";
+	/* FROM and COUNT alone. */
 	if (type->how == IDS_FORBIDDEN)
 		return add(&ids->to_host, &(struct id_rule){ number[0], number[1], 0, IDS_FORBIDDEN });
+	/* (a squashing rule makes of COUNT ids the one id TO) */
 	if (type->of_client)
 		why = add(&ids->to_host, &(struct id_rule){ number[0], number[2], number[1], type->how });
+	/* A map goes both ways: the host's ids are its second number, and the client's the first. */
 	if (!why && type->of_host) {
 		const uint32_t from = number[type->of_client], to = number[!type->of_client];
 
@@ -99,11 +110,13 @@ const char *ids_add(struct ids *ids, const char *text)
 	return why;
 }
 
+/* (--posix-acl does not go with them, whose lists have ids too) */
 bool ids_are_translated(const struct ids *ids)
 {
 	return ids->to_host.count || ids->to_client.count;
 }
 
+/* The rule of an id; NULL: it stays as it is. There are few of them. */
 static const struct id_rule *find(const struct id_rules *all, uint32_t id)
 {
 	for (size_t i = 0; i < all->count; i++)
@@ -112,6 +125,7 @@ static const struct id_rule *find(const struct id_rules *all, uint32_t id)
 	return NULL;
 }
 
+/* (the sum doesn't run over: add() looked at the ends) */
 static uint32_t apply(const struct id_rule *rule, uint32_t id)
 {
 	if (!rule)
@@ -119,6 +133,7 @@ static uint32_t apply(const struct id_rule *rule, uint32_t id)
 	return rule->how == IDS_SHIFTED ? rule->to + (id - rule->from) : rule->to;
 }
 
+/* EPERM fails the call: by a forbidden id nothing is made, and nothing gets it as its owner. */
 int ids_to_host(const struct ids *ids, uint32_t id, uint32_t *host)
 {
 	const struct id_rule *rule = find(&ids->to_host, id);

@@ -1,4 +1,10 @@
-/* Directories and extended attributes of a passthrough. */
+/* Directories and extended attributes of a passthrough: READDIR and READDIRPLUS, which passthrough_data.c
+ * hands here, and the calls of attributes, which passthrough_call.c does. Workers run it, any number at
+ * once.
+ *
+ * A directory has one place where the host reads on, and one buffer, so one READDIR of an open
+ * directory goes on at a time, under its lock. What a worker answers by, its items, names and text, is
+ * its own up to its next call. */
 #define _GNU_SOURCE
 #include <dirent.h>
 #include <errno.h>
@@ -19,17 +25,21 @@ static int move_to(struct open_file *file, uint64_t offset)
 {
 	const bool is_first = !file->buffer;
 
+	/* (it is freed with the open directory, or by drop_buffer()) */
 	if (is_first) {
 		file->buffer = malloc(ENTRIES);
 		if (!file->buffer)
 			return ENOMEM;
 		atomic_fetch_add(&file->of->buffers, 1);
 	}
-	/* (at 0 a directory is read anew, but for the first time) */
+	/* (at 0 a directory is read anew, but for the first time: rewinddir(3) shows what was made
+	 * since) */
 	if (offset == file->offset && (offset || is_first))
 		return 0;
 	if (offset > INT64_MAX)
 		return EINVAL;
+	/* (an offset that the client made up is the host's to refuse, or to take for some other place
+	 * in the same directory) */
 	if (lseek(file->counted.fd, (off_t)offset, SEEK_SET) < 0)
 		return errno;
 	file->at = file->end = 0;
@@ -38,7 +48,8 @@ static int move_to(struct open_file *file, uint64_t offset)
 	return 0;
 }
 
-/* Drops what was read and not told, if many keep such. */
+/* Drops what was read and not told, if many keep such. The host then reads on from the item that was
+ * told last; where it can't be moved there the buffer stays. */
 static void drop_buffer(struct open_file *file)
 {
 	atomic_uint *buffers = &file->of->buffers;
@@ -52,7 +63,8 @@ static void drop_buffer(struct open_file *file)
 	atomic_fetch_sub(buffers, 1);
 }
 
-/* The next item of a directory, or NULL: with errno 0 at its end. */
+/* The next item of a directory, or NULL: with errno 0 at its end. It lies in the buffer up to the next
+ * reading of it, and counts as told once its caller moves `at` on. */
 static const struct dirent64 *next_item(struct open_file *file)
 {
 	if (file->at == file->end) {
@@ -74,7 +86,9 @@ struct space {
 	bool lacks_memory;
 };
 
-/* A place for one item more, without an entry; NULL: there is no memory. */
+/* A place for one item more, without an entry; NULL: there is no memory. What is new is zeroed, and so
+ * is each entry that a listing used, before the next one: so an item that gets none says that nothing
+ * was looked up. */
 static nizwarf_item *add_item(struct worker *w, size_t count)
 {
 	const size_t size = w->items_size;
@@ -95,7 +109,9 @@ static void clear_entries(struct worker *w)
 	w->entries = 0;
 }
 
-/* The entry of an item. Of one that can't be looked up, or went, there is the name alone. */
+/* The entry of an item. Of one that can't be looked up, or went, there is the name alone. Each that is
+ * told counts as a lookup; answer_call() gives back those that don't fit. Somebody may put another
+ * file in place of the name meanwhile: then the entry is that file's, as by a LOOKUP. */
 static void find_entry(const struct call *call, const struct dirent64 *found, nizwarf_entry *entry)
 {
 	const struct found at = found_in(&call->node, found->d_name);
@@ -140,7 +156,7 @@ static bool put_item(const struct call *call, const struct dirent64 *found, bool
 	item->name_size = len;
 	if (entries && is_plain(found->d_name))
 		find_entry(call, found, &item->entry);
-	/* What is above the folder is not told. */
+	/* What is above the folder is not told: its `..` is itself, as that of /. */
 	if (call->node.node->counted.number == ROOT_NODE && !strcmp(found->d_name, ".."))
 		item->ino = inode_of(call, call->node.node->on->device, call->node.node->inode, false);
 	space->names += len;
@@ -149,7 +165,8 @@ static bool put_item(const struct call *call, const struct dirent64 *found, bool
 	return true;
 }
 
-/* Puts the items that fit into the worker's, under the lock of the file. */
+/* Puts the items that fit into the worker's, under the lock of the file. 0, and no item: the directory
+ * ends there. An error after some items is not told: the next READDIR meets it, if it lasts. */
 static int list(const struct call *call)
 {
 	struct worker *w = call->worker;
@@ -217,7 +234,8 @@ static int refused(const struct call *call, const char *name)
 	return name && is_list(name) && !call->all->options.posix_acl ? EOPNOTSUPP : 0;
 }
 
-/* Turns the client's name of an attribute into the host's: 0, or an error if it isn't served. */
+/* Turns the client's name of an attribute into the host's: 0, or an error if it isn't served. `*name`
+ * leads into the request, or into `host`, which is to live as long. */
 static int find_name_of(const struct call *call, const char **name, struct xattr_name *host)
 {
 	const struct xattr_map *map = call->all->options.xattr_map;
@@ -230,6 +248,8 @@ static int find_name_of(const struct call *call, const char **name, struct xattr
 	return error;
 }
 
+/* With a map of names the host keeps a file's capabilities under a name that it doesn't know, so it
+ * doesn't take them away when the file is changed, as it does those of its own name. */
 int lose_capability(const struct call *call, int fd)
 {
 	const char *name = call->all->options.capability;
@@ -246,6 +266,7 @@ int lose_capability(const struct call *call, int fd)
 	return error == ENODATA || error == EOPNOTSUPP ? 0 : error;
 }
 
+/* If it fails, so does the call that made the file, which is removed: none stays that lacks its label. */
 int label(const struct call *call, int fd)
 {
 	const nizwarf_call *asked = call->asked;
@@ -268,7 +289,8 @@ int set_xattr(const struct call *call)
 	if (error)
 		return error;
 	lose_fsetid(call);
-	/* (the path leads to the node itself: the process is in /proc/self/fd) */
+	/* (the path leads to the node itself: the process is in /proc/self/fd. A link there is
+	 * followed once, so of a symbolic link that is the node it is the link's own attribute.) */
 	error = failed(setxattr(name_fd(call->node.fd).bytes, name, call->request + asked->data.at,
 				asked->data.len, (int)asked->flags));
 	regain_fsetid(call);
@@ -286,7 +308,8 @@ int remove_xattr(const struct call *call)
 	return error;
 }
 
-/* Answers a text, or how long it is. */
+/* Answers a text of the worker's, or how long it is, where the client has no room and asks for that.
+ * ERANGE: its room is too small. `got` is below 0 where the host failed, with errno. */
 static int tell_text(const struct call *call, ssize_t got)
 {
 	nizwarf_answer *answer = call->answer;
@@ -317,6 +340,8 @@ int get_xattr(const struct call *call)
 	return error == EOPNOTSUPP && is_list(asked) && call->all->options.posix_acl ? ENODATA : error;
 }
 
+/* LISTXATTR. The host's list is names with a 0 after each. They are translated where they lie, from
+ * the first to the last: none gets longer, so what is written never reaches what is still to be read. */
 int list_xattr(const struct call *call)
 {
 	const struct xattr_map *map = call->all->options.xattr_map;
@@ -329,6 +354,7 @@ int list_xattr(const struct call *call)
 	got = listxattr(name_fd(call->node.fd).bytes, text, LONGEST_VALUE);
 	if (got < 0)
 		return errno;
+	/* (the text has room for one byte more; a name that were cut would end there) */
 	text[got] = 0;
 	for (from = 0; from < got;) {
 		const char *name = text + from;

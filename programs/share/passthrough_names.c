@@ -1,4 +1,10 @@
-/* Names of a passthrough: they are looked up, and made. */
+/* Names of a passthrough: LOOKUP, SYMLINK, MKNOD, MKDIR, LINK and RENAME, which passthrough_call.c hands
+ * here once the nodes are in hand and the names are plain. Workers run it, any number at once, without a
+ * lock: the host orders what happens to one name.
+ *
+ * Others may rename, replace or remove a name between two calls of the host. What is told is what was
+ * there when it was opened, in the same directory; and no symbolic link is followed, so nothing is
+ * told of what is elsewhere. */
 #define _GNU_SOURCE
 #include <errno.h>
 #include <fcntl.h>
@@ -11,7 +17,10 @@
 
 /* Takes back a name that a call made and can't answer, as there is no memory or the host has no
  * descriptor. It is left if it leads to another file by now. Of what was made the inode may not be known:
- * such a file has no data yet. */
+ * such a file has no data yet.
+ *
+ * Between the look and the removing another file may still take the name, and go in its place: Linux
+ * can't remove a name of one file alone. A directory goes only if it is empty. */
 static void unmake(int directory, const char *name, const struct statx *made)
 {
 	struct statx seen;
@@ -19,11 +28,13 @@ static void unmake(int directory, const char *name, const struct statx *made)
 	if (statx(directory, name, AT_SYMLINK_NOFOLLOW | AT_NO_AUTOMOUNT, WANTED, &seen) ||
 	    (seen.stx_mode ^ made->stx_mode) & S_IFMT)
 		return;
+	/* (without an inode it is as what was made: a directory, or of the size of that) */
 	if (made->stx_ino ? seen.stx_ino == made->stx_ino && seen.stx_mnt_id == made->stx_mnt_id :
 			    S_ISDIR(seen.stx_mode) || seen.stx_size == made->stx_size)
 		unlinkat(directory, name, S_ISDIR(seen.stx_mode) ? AT_REMOVEDIR : 0);
 }
 
+/* (if it can't be looked at the name stays, and the client sees it later) */
 void unmake_of(int directory, const char *name, int fd)
 {
 	struct statx made;
@@ -32,7 +43,8 @@ void unmake_of(int directory, const char *name, int fd)
 		unmake(directory, name, &made);
 }
 
-/* What is known of what a call made. */
+/* What is known of what a call made, without a look: its type, and of a symbolic link the size, which
+ * is that of its text. MKNOD without a type makes a regular file. */
 static struct statx made_by(const struct call *call)
 {
 	const nizwarf_call *asked = call->asked;
@@ -46,6 +58,8 @@ static struct statx made_by(const struct call *call)
 										     S_IFREG) };
 }
 
+/* By the name, as what was made is not open. A file that took the name meanwhile gets the label, which
+ * the client could give it by SETXATTR too. */
 int label_name(const struct call *call, int directory, const char *name)
 {
 	const int fd = openat(directory, name, O_PATH | O_NOFOLLOW | O_CLOEXEC);
@@ -56,6 +70,8 @@ int label_name(const struct call *call, int directory, const char *name)
 	return error;
 }
 
+/* LOOKUP. Of a name that isn't there an entry of node 0 is answered, if that may be remembered, and
+ * else ENOENT. Since a name is looked up, listings with entries are of use again. */
 int find_name(const struct call *call, const char *name)
 {
 	const uint64_t time = name_time(call, call->node.node, call->all->options.negative_time);
@@ -74,6 +90,8 @@ int find_name(const struct call *call, const char *name)
 	return 0;
 }
 
+/* SYMLINK, MKNOD and MKDIR. The node is reserved first: so a call that can't be answered for want of
+ * one makes nothing. The host makes no file in place of one that is there (EEXIST). */
 int make_node(const struct call *call)
 {
 	const nizwarf_call *asked = call->asked;
@@ -111,7 +129,8 @@ int make_node(const struct call *call)
 	return error;
 }
 
-/* RENAME_WHITEOUT makes a device, which is who asks' own. */
+/* RENAME. RENAME_WHITEOUT makes a device, which is who asks' own. Linux says EINVAL of flags that it
+ * doesn't have. */
 int rename_node(const struct call *call)
 {
 	const nizwarf_call *asked = call->asked;
@@ -126,6 +145,8 @@ int rename_node(const struct call *call)
 	return error;
 }
 
+/* LINK. The node has a lookup more before the name is made, so that the client's forgetting of it
+ * meanwhile takes nothing away that is told. */
 int link_node(const struct call *call)
 {
 	struct node *node = call->node.node;
@@ -142,6 +163,7 @@ int link_node(const struct call *call)
 	/* (that leads to the node itself, also where it is a symbolic link) */
 	error = failed(
 		linkat(nodes->proc, name_fd(call->node.fd).bytes, call->other.fd, name, AT_SYMLINK_FOLLOW));
+	/* (the attributes are those after it: there is a link more) */
 	if (!error && look_at(call->node.fd, &seen)) {
 		error = errno;
 		unmake(call->other.fd, name, &made);

@@ -1,4 +1,10 @@
-/* As whom a worker of a passthrough makes files. */
+/* As whom a worker of a passthrough makes files, and with which capabilities it works. Each worker runs
+ * it for itself: Linux has ids and capabilities by threads, and the C library's functions, which change
+ * those of all threads, are not used for that.
+ *
+ * A request names who asks, and its client's kernel has looked at permissions. So a worker of root
+ * takes these ids for what it makes alone, so that it is theirs; a hostile client may name anyone, and
+ * so make files that are root's. A server that isn't root has one user, and makes all as that. */
 #define _GNU_SOURCE
 #include <errno.h>
 #include <linux/fuse.h>
@@ -13,6 +19,7 @@
 enum { CLEARS_GROUP = 1 };
 #define NO_GROUP (UINT32_MAX - 1)
 
+/* Sets those of this thread, by bits; none can be inherited. 0, or -1 with errno. */
 static int set_capabilities(uint64_t permitted, uint64_t effective)
 {
 	struct __user_cap_header_struct header = { _LINUX_CAPABILITY_VERSION_3, 0 };
@@ -30,7 +37,7 @@ struct who {
 	bool has_group;
 };
 
-/* Finds them: 0, or an error. */
+/* Finds them: 0, or an error. EPERM: one of them is forbidden by --translate-uid or --translate-gid. */
 static int find_who(const struct call *call, struct who *who)
 {
 	const struct passthrough_options *options = &call->all->options;
@@ -53,7 +60,11 @@ static bool changes_who(const struct worker *w, const struct who *who)
 }
 
 /* Its kernel has looked at permissions, so the host's don't count; but it is no one who may keep a
- * set-group-ID bit of another group. What is renamed may be another's. */
+ * set-group-ID bit of another group. What is renamed may be another's.
+ *
+ * Only the effective ids change, and the real ones stay root's, so that it can be root again. With an
+ * id above 0 Linux takes the effective capabilities; those that are left are set again. It is followed
+ * by become_root(), also if it fails halfway. */
 int become(const struct call *call)
 {
 	const nizwarf_call *asked = call->asked;
@@ -68,7 +79,7 @@ int become(const struct call *call)
 		umask(asked->umask & 0777);
 	if (!changes_who(w, &who))
 		return 0;
-	/* (-1 would leave it who it is) */
+	/* (-1 means to setresuid(2) that the id stays, which is root's) */
 	if (who.uid == UINT32_MAX || who.gid == UINT32_MAX)
 		return EINVAL;
 	/* (by raw calls, which are of this thread alone) */
@@ -81,6 +92,8 @@ int become(const struct call *call)
 	return 0;
 }
 
+/* What become() did is taken back, in the other order: the user first, by which the groups may be
+ * changed again. */
 void become_root(const struct call *call)
 {
 	const struct worker *w = call->worker;
@@ -139,7 +152,8 @@ void regain_fsetid(const struct call *call)
 static const int kept[] = { CAP_CHOWN, CAP_DAC_OVERRIDE, CAP_FOWNER, CAP_FSETID,
 			    CAP_MKNOD, CAP_SETFCAP,	 CAP_SETGID, CAP_SETUID };
 
-/* Leaves the calling thread these, as far as it had them, and tells which: -1 with errno. */
+/* Leaves the calling thread these, as far as it had them, and tells which: -1 with errno. None comes
+ * back later: they are no longer permitted. */
 static int limit(uint64_t *left, const struct passthrough_options *options)
 {
 	struct __user_cap_header_struct header = { _LINUX_CAPABILITY_VERSION_3, 0 };
@@ -155,6 +169,7 @@ static int limit(uint64_t *left, const struct passthrough_options *options)
 	if (syscall(SYS_capget, &header, had))
 		return -1;
 	*left = mask & (had[0].permitted | (uint64_t)had[1].permitted << 32);
+	/* (what --modcaps adds was asked for, and is not left out without a word) */
 	if (options->more_capabilities & mask & ~*left) {
 		errno = EPERM;
 		return -1;
@@ -178,7 +193,7 @@ int begin_worker(struct worker *w, const struct passthrough_options *options)
 	w->keeps_groups = options->keeps_groups;
 	if (!w->is_root)
 		return 0;
-	/* (a namespace of users may have none of that id) */
+	/* (a namespace of users may have no group 0: then what root makes has the group of the server) */
 	w->gid = syscall(SYS_setresgid, -1, 0, -1) ? getegid() : 0;
 	return limit(&w->capabilities, options) || (!w->keeps_groups && syscall(SYS_setgroups, 0, NULL)) ?
 		       -1 :

@@ -1,4 +1,11 @@
-/* Rules of extended attributes: passthrough_xattrmap.h. */
+/* Rules of extended attributes: passthrough_xattrmap.h. They are read once, from --xattrmap, before a
+ * worker begins, and never change: so any number of threads translate at once, without a lock.
+ *
+ * A rule is TYPE, SCOPE, KEY and PREPEND, each between two of the sign that it begins with, as in
+ * :prefix:client:trusted.:user.virtiofs.: A map rule has no SCOPE. Spaces stand between rules alone.
+ *
+ * A text that has no rule for what is left is refused: so whoever looks for the rule of a name finds
+ * one. */
 #define _GNU_SOURCE
 #include <errno.h>
 #include <stdbool.h>
@@ -7,7 +14,11 @@
 #include <string.h>
 #include "passthrough_xattrmap.h"
 
+/* What becomes of a name: PREFIX: the text is prepended for the host, and taken away for the client;
+ * OK: it stays as it is; BAD: EPERM, and it isn't listed; UNSUPPORTED: EOPNOTSUPP, and it isn't listed
+ * either. MAP stands for others. */
 enum type { PREFIX, OK, BAD, UNSUPPORTED, MAP };
+/* (bits of a scope: of which names a rule is) */
 enum { CLIENT = 1, SERVER = 2, ALL = CLIENT | SERVER };
 
 /* The first one whose `key` a name of the client begins with, or whose `prepend` one of the host does, is that which
@@ -35,7 +46,8 @@ static bool is_space(char c)
 	return c == ' ' || (c >= '\t' && c <= '\r');
 }
 
-/* Takes what stands before the sign: NULL, if that isn't there. */
+/* Takes what stands before the sign: NULL, if that isn't there. It ends with a 0 in place of the sign,
+ * and lives as long as the text. */
 static const char *take(char **rest, char sign)
 {
 	char *from = *rest, *end = strchr(from, sign);
@@ -56,7 +68,8 @@ static int one_of(const char *word, const char *const *known)
 	return -1;
 }
 
-/* Reads one rule: NULL, or what is wrong with it. */
+/* Reads one rule, whose sign is the next one: NULL, or what is wrong with it. Scopes are in the order
+ * of their bits, so that the number of one and 1 more is CLIENT, SERVER or ALL. */
 static const char *read_rule(char **rest, struct rule *rule)
 {
 	static const char *const types[] = { "prefix", "ok", "bad", "unsupported", "map", NULL };
@@ -82,7 +95,9 @@ static const char *read_rule(char **rest, struct rule *rule)
 	return rule->prepend ? NULL : "it ends too early, or without its sign";
 }
 
-/* Puts in place of a map rule the two or three that it stands for. How many there are then. */
+/* Puts in place of a map rule the two or three that it stands for. How many there are then. With a key
+ * that is renamed: a client is refused the new name, and isn't told what the host has by the old one;
+ * all else stays. Without a key all names are renamed, and what the host has by others isn't told. */
 static size_t expand(struct rule *at)
 {
 	const char *key = at->key, *prepend = at->prepend;
@@ -95,7 +110,8 @@ static size_t expand(struct rule *at)
 	return count;
 }
 
-/* Whether some rule holds, whatever the name is. */
+/* Whether some rule holds, whatever the name is, both for a client's and for one of the host: one with
+ * an empty key, and one with an empty PREPEND. */
 static bool is_whole(const struct xattr_map *map)
 {
 	unsigned scopes = 0;
@@ -147,6 +163,7 @@ const struct xattr_map *xattr_map_read(const char *text, const char **why, unsig
 	if (map)
 		map->text = strdup(text);
 	*why = map && map->text ? read_rules(map->text, map) : "there is no memory";
+	/* (what is wrong with one rule is told with its number; all of them together have none) */
 	if (*why && map && map->text)
 		*rule = (unsigned)map->count + 1;
 	else if (!*why && !map->count)
@@ -161,6 +178,7 @@ const struct xattr_map *xattr_map_read(const char *text, const char **why, unsig
 	return NULL;
 }
 
+/* A name that gets longer than the host takes is refused, and not cut: ERANGE. */
 int xattr_map_to_host(const struct xattr_map *map, const char *name, struct xattr_name *host)
 {
 	const struct rule *rule = map->rules;
@@ -191,6 +209,7 @@ const char *xattr_map_to_client(const struct xattr_map *map, const char *name)
 {
 	const struct rule *rule = map->rules;
 
+	/* (one holds here too) */
 	while (!(rule->scope & SERVER) || !begins(name, rule->prepend))
 		rule++;
 	if (rule->type == BAD || rule->type == UNSUPPORTED)
