@@ -1,4 +1,11 @@
-/* Mounts of the host, and handles of a passthrough: passthrough_mounts.h. */
+/* Mounts of the host, and handles of a passthrough: passthrough_mounts.h.
+ *
+ * `mounts_lock` guards the list, `handles` and `fd` of each mount, and that `users` reaches 0. It is
+ * taken under no other lock, and none is taken under it. A handle is opened without it: as long as a node
+ * has one its mount's descriptor stays.
+ *
+ * Somebody may want to unmount what nodes are on. Their descriptors keep it, or that by which their
+ * handles are opened: umount(8) finds it busy as long as one of them is known. */
 #define _GNU_SOURCE
 #include <errno.h>
 #include <stdlib.h>
@@ -11,6 +18,7 @@ uint64_t device_of(const struct statx *seen)
 	return makedev(seen->stx_dev_major, seen->stx_dev_minor);
 }
 
+/* (Linux has it from 5.8 on; before, files are told apart by their devices alone) */
 uint64_t mount_of(const struct statx *seen)
 {
 	return seen->stx_mask & STATX_MNT_ID ? seen->stx_mnt_id : 0;
@@ -27,7 +35,7 @@ struct host_mount *mount_take(struct nodes *all, const struct found *found, cons
 {
 	struct host_mount *mount = found->node && !is_across(found->node, seen) ? found->node->on : NULL;
 
-	/* (the node, which is in hand, keeps it) */
+	/* (the node, which is in hand, keeps it: so it needs no lock) */
 	if (mount) {
 		atomic_fetch_add(&mount->users, 1);
 		return mount;
@@ -36,6 +44,7 @@ struct host_mount *mount_take(struct nodes *all, const struct found *found, cons
 	mount = all->mounts;
 	while (mount && (mount->id != mount_of(seen) || mount->device != device_of(seen)))
 		mount = mount->next;
+	/* (it is freed by mount_put(), with its last node) */
 	if (!mount && (mount = calloc(1, sizeof(*mount)))) {
 		mount->of = all;
 		mount->device = device_of(seen);
@@ -50,6 +59,8 @@ struct host_mount *mount_take(struct nodes *all, const struct found *found, cons
 	return mount;
 }
 
+/* One user less. The last one takes the lock before it goes to 0, since mount_take() may find the
+ * mount in the list up to then; the others need none. */
 void mount_put(struct host_mount *mount)
 {
 	unsigned users = atomic_load(&mount->users);
@@ -73,6 +84,8 @@ void mount_put(struct host_mount *mount)
 
 /* ---- handles */
 
+/* A file system may have no handles (EOPNOTSUPP), as some that Linux has over others or over a
+ * network. */
 bool handle_by(int fd, union handle_room *room)
 {
 	int id;
@@ -81,13 +94,17 @@ bool handle_by(int fd, union handle_room *room)
 	return !name_to_handle_at(fd, "", &room->handle, &id, AT_EMPTY_PATH);
 }
 
+/* It takes CAP_DAC_READ_SEARCH, and opens any file of the file system, also one outside of the folder.
+ * So only handles are opened that this server was told by the host, or that passthrough_state.c holds
+ * against the folder. ESTALE: there is no such file any more. */
 int open_by_handle(const struct host_mount *mount, struct file_handle *handle)
 {
 	return open_by_handle_at(mount->fd, handle, O_PATH | O_NOFOLLOW | O_CLOEXEC);
 }
 
 /* Opens what handles of a mount are opened by: the file if that is a directory, or else the one that
- * it was found in, so that no file is kept which its owner removes. -1: neither can be. */
+ * it was found in, so that no file is kept which its owner removes. -1: neither can be. (No descriptor
+ * made with O_PATH will do.) */
 static int open_mount(const struct host_mount *mount, const struct found *found, int fd,
 		      const struct statx *seen)
 {
@@ -116,6 +133,9 @@ void mount_let_go(struct host_mount *mount)
 		fd_let_go(mount->of, fd);
 }
 
+/* Opens the handle once to see whether it does: a file system may tell one that it can't open, and the
+ * file's own descriptor is closed after that. False: the node keeps that, or isn't made if handles
+ * alone are wanted. */
 bool mount_hold(struct host_mount *mount, const struct found *found, int fd, const struct statx *seen,
 		struct file_handle *handle)
 {

@@ -1,4 +1,9 @@
-/* Paths of a passthrough: passthrough_paths.h. */
+/* Paths of a passthrough: passthrough_paths.h. They are wanted only when a machine migrates
+ * (passthrough_state.c), on the transport's own thread; what serves requests walks no path.
+ *
+ * A path that Linux tells is a hint: who may write to the folder can rename, replace or unlink what it
+ * leads to at any time. So each is looked at from the folder on, and is told if the very file is
+ * there. */
 #define _GNU_SOURCE
 #include <dirent.h>
 #include <errno.h>
@@ -26,6 +31,7 @@ int paths_begin(struct paths *paths, struct nodes *nodes)
 	/* (the root stays, and its descriptor) */
 	paths->root = root.fd;
 	node_put(&root);
+	/* (one that was deleted is told with " (deleted)" behind it: then nothing is found below it) */
 	got = readlinkat(nodes->proc, name_fd(paths->root).bytes, paths->folder, sizeof(paths->folder));
 	if (got <= 0 || (size_t)got >= sizeof(paths->folder) || *paths->folder != '/')
 		return -1;
@@ -34,6 +40,9 @@ int paths_begin(struct paths *paths, struct nodes *nodes)
 	return 0;
 }
 
+/* Opens a path of less than PATH_MAX bytes in a directory. Linux refuses what leads out of that, by
+ * `..`, by / or by a symbolic link, also if somebody renames what is on the way (RESOLVE_BENEATH);
+ * another mount below is let pass. */
 static int open_next(int directory, const char *path, int flags)
 {
 	struct open_how how = { .flags = (uint64_t)(flags | O_CLOEXEC | O_NOFOLLOW),
@@ -49,7 +58,8 @@ int open_below(const struct paths *paths, char *path, int flags)
 
 	if (!*path)
 		path = folder;
-	/* (Linux takes no longer ones at once) */
+	/* (Linux takes no longer ones at once: so they go by pieces, and the / that is taken out of a
+	 * path to cut it is put back) */
 	while (strlen(path) >= PATH_MAX) {
 		char *cut = memrchr(path, '/', PATH_MAX - 1);
 
@@ -74,6 +84,8 @@ int open_below(const struct paths *paths, char *path, int flags)
 	return fd;
 }
 
+/* By device, inode and mount. (An inode's number comes again once its file is gone; of what a
+ * descriptor holds it doesn't.) */
 bool is_same(const struct statx *one, const struct statx *other)
 {
 	return one->stx_ino == other->stx_ino && one->stx_dev_major == other->stx_dev_major &&
@@ -92,14 +104,17 @@ ssize_t find_path(const struct paths *paths, int fd, const struct statx *seen, c
 	len -= (ssize_t)paths->len + 1;
 	memcpy(path, told + paths->len + 1, (size_t)len);
 	path[len] = 0;
-	/* (what is deleted is told by a name that is none, and what was moved meanwhile by an old one) */
+	/* (what is deleted is told by a name that is none, and what was moved meanwhile by an old one.
+	 * Symbolic links on the way are followed, which does no harm: it is only looked at, and
+	 * open_below() follows none.) */
 	if (statx(paths->root, path, AT_SYMLINK_NOFOLLOW | AT_NO_AUTOMOUNT, WANTED, &there) ||
 	    !is_same(seen, &there))
 		return -1;
 	return len;
 }
 
-/* The path of the directory in which a node was found first, if that is known, and the name after it. */
+/* The path of the directory in which a node was found first, if that is known, and the name after it;
+ * its length, or -1. It is of use where Linux tells none, as of a file that is opened by its handle. */
 static ssize_t find_first_path(const struct paths *paths, const struct node *node, char *path)
 {
 	const char *name;
@@ -116,6 +131,7 @@ static ssize_t find_first_path(const struct paths *paths, const struct node *nod
 	else if (!look_at(grip.fd, &seen))
 		len = find_path(paths, grip.fd, &seen, path);
 	node_put(&grip);
+	/* (the name is the node's own, which the caller has in hand) */
 	more = strlen(name);
 	if (len < 0 || (size_t)len + 1 + more >= PATH_MAX)
 		return -1;
@@ -148,6 +164,8 @@ struct place {
 	char path[];
 };
 
+/* What is sought is in chains by inodes, up to when it is found; directories that are to be looked at
+ * are a stack, each with its whole path. */
 struct search {
 	const struct paths *paths;
 	struct sought *chains[CHAINS];
@@ -156,6 +174,7 @@ struct search {
 	_Alignas(struct dirent64) char entries[ENTRIES];
 };
 
+/* (the upper 12 bits: as many as there are CHAINS) */
 static struct sought **chain_of(struct search *s, uint64_t inode)
 {
 	return &s->chains[(inode * UINT64_C(0x9e3779b97f4a7c15)) >> 52];
@@ -187,13 +206,17 @@ static void match(struct search *s, const struct statx *seen, const char *path)
 			at = &one->next;
 			continue;
 		}
+		/* (no memory for the path is as no path; another name of the file needs not be looked
+		 * for) */
 		*at = one->next;
 		one->path = strdup(path);
 		s->left--;
 	}
 }
 
-/* Looks at an entry of a directory. */
+/* Looks at an entry of a directory. By the inode that the directory tells most entries need no call of
+ * the host; where something is mounted that is what is below it, so a directory is looked at by
+ * itself, once it is open. */
 static void look_at_entry(struct search *s, const struct place *directory, int fd,
 			  const struct dirent64 *entry)
 {
@@ -210,6 +233,7 @@ static void look_at_entry(struct search *s, const struct place *directory, int f
 		is_directory = S_ISDIR(seen.stx_mode);
 	}
 	place = place_in(directory, entry->d_name);
+	/* (a directory that is in no list for want of memory is not searched) */
 	if (place && is_directory) {
 		place->next = s->places;
 		s->places = place;
@@ -220,7 +244,8 @@ static void look_at_entry(struct search *s, const struct place *directory, int f
 	free(place);
 }
 
-/* Looks at a directory, and all that is in it. (What is mounted there is seen once it is open.) */
+/* Looks at a directory, and all that is in it. (What is mounted there is seen once it is open.) It is
+ * opened by its path from the folder on, so what was moved out of that, or replaced by a link, is not. */
 static void look_into(struct search *s, struct place *place)
 {
 	const int fd = open_below(s->paths, place->path, O_RDONLY | O_DIRECTORY);
@@ -241,6 +266,8 @@ static void look_into(struct search *s, struct place *place)
 	close(fd);
 }
 
+/* A directory that is moved while it runs may be missed, or looked at twice. Who moves some without
+ * end may keep it going, up to when `goes_on` says otherwise. */
 void search_paths(const struct paths *paths, struct sought *sought, size_t count, bool (*goes_on)(void *user),
 		  void *user)
 {
@@ -256,7 +283,9 @@ void search_paths(const struct paths *paths, struct sought *sought, size_t count
 		sought[i].next = *chain;
 		*chain = &sought[i];
 	}
+	/* (the folder, whose path is empty) */
 	s->places = calloc(1, sizeof(*s->places) + 1);
+	/* (once all are found, or it is to stop, the rest is only freed) */
 	while (s->places) {
 		struct place *place = s->places;
 

@@ -1,19 +1,25 @@
-/* The state of a passthrough, by which another server goes on with a machine: passthrough.h. That are the options of INIT,
- * the nodes that the client knows, with its numbers and lookups, and the open files, with their flags; no locks. Where a
- * directory is read on the client says itself.
+/* The state of a passthrough, by which another server goes on with a machine: passthrough.h. That are the
+ * options of INIT, the nodes that the client knows, with its numbers and lookups, and the open files,
+ * with their flags; no locks. Where a directory is read on the client says itself.
  *
- * A state is a header, records, and an end, with numbers as this machine has them. Each record is a kind, a size, and so
- * many bytes:
+ * A state is a header, records, and an end, with numbers as this machine has them. Each record is a
+ * kind, a size, and so many bytes:
  *   MOUNT  a directory of a file system by whose handles nodes come, counted from 0: its path
- *   NODE   a file: struct node_record, its handle if one is told, and its path, which is empty where none is known, or the
- *          node is the root
+ *   NODE   a file: struct node_record, its handle if one is told, and its path, which is empty where none is
+ *          known, or the node is the root
  *   FILE   an open file: struct file_record
  *   END    how many nodes and files there were, and a sum of all bytes before it
+ *
  * Paths are below the folder, plain names with a / between them.
  *
- * Who sends a state may be anyone. So nothing outside of the folder is opened: no path has `..` or leads through a symbolic
- * link; and handles are taken if it was asked for by --migration-mode alone, and of those the files that the folder has, or
- * that have no name any more, which nobody finds by chance. Numbers, flags and sizes are looked at as a client's are. */
+ * Who sends a state may be anyone. So nothing outside of the folder is opened: no path has `..` or leads
+ * through a symbolic link; and handles are taken if it was asked for by --migration-mode alone, and of
+ * those the files that the folder has, or that have no name any more, which nobody finds by chance.
+ * Numbers, flags and sizes are looked at as a client's are.
+ *
+ * The transport's own thread saves and loads, while no request is in flight: so no worker changes
+ * nodes or files. Others may change the folder at any time. What is found by a path was that file when
+ * it was looked at, and is held by its descriptor from then on. */
 #define _GNU_SOURCE
 #include <errno.h>
 #include <fcntl.h>
@@ -38,8 +44,10 @@ struct header {
 	uint64_t agreed;
 };
 
+/* (their numbers stand in the state) */
 enum kind { END, MOUNT, NODE, FILE_OPEN, KINDS };
 
+/* What each record begins with. The size is that of what follows, in bytes. */
 struct record {
 	uint32_t kind, size;
 };
@@ -53,11 +61,13 @@ struct node_record {
 	uint8_t is_apart, padding;
 };
 
+/* An open file of a node. `flags` are those of open(2), of KEPT_FLAGS alone. */
 struct file_record {
 	uint64_t number, node;
 	uint32_t flags, padding;
 };
 
+/* What was counted up to the end; while a state is saved or loaded, what was so far. */
 struct end_record {
 	uint64_t nodes, files, sum;
 };
@@ -65,13 +75,14 @@ struct end_record {
 enum { LONGEST_RECORD = sizeof(struct node_record) + MAX_HANDLE_SZ + LONGEST_PATH, MOST_MOUNTS = 1024 };
 /* Options of INIT that the library agrees on by itself, besides FUSE_SUBMOUNTS. */
 #define OF_LIBRARY (FUSE_HAS_IOCTL_DIR | FUSE_INIT_EXT | TRANSPORT_ALLOW_IDMAP)
+/* So that lookups which the client adds can't run over. */
 #define MOST_LOOKUPS (UINT64_C(1) << 62)
 /* Flags of open(2) that an open file keeps. */
 #define KEPT_FLAGS (O_ACCMODE | O_APPEND | O_SYNC | O_DSYNC | O_NOATIME | O_DIRECT | O_DIRECTORY)
 /* How many files that are lost are told of. */
 enum { MOST_TOLD = 20 };
 
-/* FNV-1a */
+/* FNV-1a: it finds what was changed by chance, and stops no one who means to deceive. */
 #define FIRST_SUM UINT64_C(0xcbf29ce484222325)
 
 static uint64_t sum_up(uint64_t sum, const void *bytes, size_t len)
@@ -125,6 +136,8 @@ struct saving {
 	char path[LONGEST_PATH];
 };
 
+/* Puts bytes into the state, and into the sum. 0, or -1: it failed, and said why. So it is with all
+ * that saves or loads from here on, where nothing else is said. */
 static int put(struct saving *s, const void *bytes, size_t len)
 {
 	s->end.sum = sum_up(s->end.sum, bytes, len);
@@ -133,6 +146,7 @@ static int put(struct saving *s, const void *bytes, size_t len)
 	return refuse("the state can't be sent: %s", strerror(errno));
 }
 
+/* Puts a record of three parts, each of which may be empty. */
 static int put_record(struct saving *s, enum kind kind, const void *bytes, size_t len, const void *more,
 		      size_t more_len, const char *path, size_t path_len)
 {
@@ -144,7 +158,8 @@ static int put_record(struct saving *s, enum kind kind, const void *bytes, size_
 		       0;
 }
 
-/* Puts a node, with its handle and its path where they are known. */
+/* Puts a node, with its handle and its path where they are known. One with neither is told all the
+ * same: the other server has its number then, and says or shows to the client what became of it. */
 static int put_node(struct saving *s, const struct node *node, const struct file_handle *handle,
 		    uint32_t mount, const char *path)
 {
@@ -187,7 +202,11 @@ static bool tells_handles(const struct saving *s)
 	return s->all->options.migration_mode == MIGRATES_BY_HANDLES || s->all->options.verifies;
 }
 
-/* Saves a node which a descriptor is of, or leaves it for the search. */
+/* Saves a node which a descriptor is of, or leaves it for the search.
+ *
+ * By paths a handle goes beside the path if files are verified, and the path is only told with it. By
+ * handles the path is a help, where the other server's Linux doesn't tell one. A file that has no name
+ * any more isn't sought. */
 static int save_open_node(struct saving *s, const struct grip *grip)
 {
 	const bool by_handles = s->all->options.migration_mode == MIGRATES_BY_HANDLES;
@@ -198,6 +217,7 @@ static int save_open_node(struct saving *s, const struct grip *grip)
 	bool has_handle;
 
 	*s->path = 0;
+	/* (a file system over a network may have lost it) */
 	if (look_at(grip->fd, &seen))
 		return put_node(s, grip->node, NULL, 0, "");
 	has_handle = tells_handles(s) && mount < MOST_MOUNTS && handle_by(grip->fd, &room);
@@ -213,6 +233,8 @@ static int save_open_node(struct saving *s, const struct grip *grip)
 	return put_node(s, grip->node, has_handle ? &room.handle : NULL, mount, s->path);
 }
 
+/* Saves a node by its number. One that went meanwhile is left out; one whose handle doesn't open, as
+ * where its file is gone, is told without any. */
 static int save_node(struct saving *s, uint64_t number)
 {
 	struct nodes *nodes = &s->all->nodes;
@@ -257,7 +279,7 @@ static int note_mount(struct saving *s, uint64_t number)
 	return 0;
 }
 
-/* Calls for each node. */
+/* Calls for each node, up to a first failure. */
 static int for_each_node(struct saving *s, int (*call)(struct saving *s, uint64_t number))
 {
 	uint32_t place = 0;
@@ -269,6 +291,8 @@ static int for_each_node(struct saving *s, int (*call)(struct saving *s, uint64_
 	return failed;
 }
 
+/* By handles: tells of each mount a directory by which the other server opens its handles. What has no
+ * directory among the nodes has none: its nodes go without a handle, and are lost. */
 static int save_mounts(struct saving *s)
 {
 	int failed;
@@ -284,12 +308,14 @@ static int save_mounts(struct saving *s)
 	return failed;
 }
 
+/* (the search may take long: it ends if the front end goes, or a signal comes) */
 static bool goes_on(void *user)
 {
 	return !transport_wants_state(((struct saving *)user)->to);
 }
 
-/* Saves the nodes that a search finds, which takes as long as the folder is large, and those that it doesn't. */
+/* Saves the nodes that a search finds, which takes as long as the folder is large, and those that it
+ * doesn't. It is done once for all of them. */
 static int save_sought(struct saving *s)
 {
 	const bool by_handles = s->all->options.migration_mode == MIGRATES_BY_HANDLES;
@@ -305,6 +331,7 @@ static int save_sought(struct saving *s)
 		uint32_t mount;
 		bool has_handle;
 
+		/* (the handle may open it no longer: save_node() tells it without) */
 		if (node_get(&s->all->nodes, one->number, &grip)) {
 			failed = save_node(s, one->number);
 			continue;
@@ -319,6 +346,8 @@ static int save_sought(struct saving *s)
 	return failed;
 }
 
+/* Saves the open files. Their flags are asked of the host, as O_APPEND and O_DIRECT may have changed
+ * since the open. */
 static int save_files(struct saving *s)
 {
 	struct nodes *nodes = &s->all->nodes;
@@ -345,6 +374,9 @@ static int save_files(struct saving *s)
 	return failed;
 }
 
+/* The order is that of loading: mounts before the nodes whose handles they open, nodes before the
+ * files that are open of them. Locks can't go: another process has no share in a description here, and
+ * to drop them would deceive who has one. */
 static int save_all(struct saving *s)
 {
 	struct header header = { .version = VERSION,
@@ -363,6 +395,7 @@ static int save_all(struct saving *s)
 	if (put(s, &header, sizeof(header)) || save_mounts(s) || for_each_node(s, save_node) ||
 	    save_sought(s) || save_files(s))
 		return -1;
+	/* (the sum is of what is before the end, and putting the record counts on) */
 	end = s->end;
 	if (put_record(s, END, &end, sizeof(end), "", 0, "", 0))
 		return -1;
@@ -411,6 +444,7 @@ struct loading {
 	_Alignas(uint64_t) char body[LONGEST_RECORD + 1];
 };
 
+/* Gets so many bytes, and adds them to the sum. Fewer are the end of the state, and a fault. */
 static int get(struct loading *l, void *bytes, size_t len)
 {
 	const ssize_t got = transport_get_state(l->from, bytes, len);
@@ -423,7 +457,8 @@ static int get(struct loading *l, void *bytes, size_t len)
 	return 0;
 }
 
-/* A node or an open file that can't be had: -1, or 0 if the client is to see that, as an error. */
+/* A node or an open file that can't be had: -1, or 0 if the client is to see that, as an error. It is
+ * said of the one that ends the loading, or else of the first MOST_TOLD. */
 static int lose(struct loading *l, const char *what, uint64_t number, char *path, int error)
 {
 	if (!l->all->options.loses_files || l->lost++ < MOST_TOLD)
@@ -433,7 +468,8 @@ static int lose(struct loading *l, const char *what, uint64_t number, char *path
 	return l->all->options.loses_files ? 0 : -1;
 }
 
-/* Whether a path is of plain names, each after a / but the first. */
+/* Whether a path is of plain names, each after a / but the first: none is empty, `.` or `..`, none has
+ * a 0 or more than 255 bytes, and no / is at the end. The empty path is one. */
 static bool is_path(const char *path, size_t len)
 {
 	while (len) {
@@ -449,6 +485,7 @@ static bool is_path(const char *path, size_t len)
 	return true;
 }
 
+/* A MOUNT: they are counted as they come, and nodes name them by that number. */
 static int load_mount(struct loading *l)
 {
 	if (l->header.mode != MIGRATES_BY_HANDLES || l->mount_count == MOST_MOUNTS ||
@@ -459,7 +496,7 @@ static int load_mount(struct loading *l)
 	return 0;
 }
 
-/* Whether a descriptor is of the file that a handle names. */
+/* Whether a descriptor is of the file that a handle names, as the host tells a handle of it. */
 static bool has_handle(int fd, const struct file_handle *handle)
 {
 	union handle_room room;
@@ -469,10 +506,12 @@ static bool has_handle(int fd, const struct file_handle *handle)
 	       !memcmp(room.handle.f_handle, handle->f_handle, handle->handle_bytes);
 }
 
-/* Whether a file, of which a descriptor was opened by its handle, is in the folder, by a path that Linux tells, or that the
- * other server did; or has no name any more. */
+/* Whether a file, of which a descriptor was opened by its handle, is in the folder, by a path that
+ * Linux tells, or that the other server did; or has no name any more. By a handle any file of the file
+ * system opens, so without this who sends a state could have one from outside. */
 static bool is_in_folder(struct loading *l, int fd, char *path)
 {
+	/* (one thread alone loads) */
 	static char told[LONGEST_PATH];
 	struct statx seen, there;
 	bool is_there = false;
@@ -499,7 +538,8 @@ static int open_handle(struct loading *l, const struct node_record *told, struct
 
 	errno = ESTALE;
 	fd = mount < 0 ? -1 : open_by_handle_at(mount, handle, O_PATH | O_NOFOLLOW | O_CLOEXEC);
-	/* (a handle that is cut may open something) */
+	/* (a handle that is cut, or made up, may open something: of what was opened the host tells its
+	 * own) */
 	if (fd >= 0 && (!has_handle(fd, handle) || !is_in_folder(l, fd, path))) {
 		close(fd);
 		fd = -1;
@@ -508,7 +548,8 @@ static int open_handle(struct loading *l, const struct node_record *told, struct
 	return fd;
 }
 
-/* Opens a file by its path; if a handle is told, it is of the same file. */
+/* Opens a file by its path; if a handle is told, it is of the same file. -1: errno says why, EXDEV
+ * that it isn't. */
 static int open_path(struct loading *l, const struct node_record *told, const struct file_handle *handle,
 		     char *path)
 {
@@ -524,6 +565,8 @@ static int open_path(struct loading *l, const struct node_record *told, const st
 	return fd;
 }
 
+/* A NODE. What a server can't have sent is refused, and ends the loading: a record that is too short,
+ * a path that is none, a number 0, a number or a file twice. What can't be found is lost. */
 static int load_node(struct loading *l)
 {
 	struct node_record told;
@@ -540,15 +583,20 @@ static int load_node(struct loading *l)
 	    !(uint32_t)told.number || told.lookups > MOST_LOOKUPS)
 		return refuse("a state with a node that can't be");
 	l->end.nodes++;
+	/* (the room takes MAX_HANDLE_SZ bytes, and the size was looked at) */
 	room.handle.handle_type = told.handle_type;
 	room.handle.handle_bytes = told.handle_size;
 	memcpy(room.handle.f_handle, path, told.handle_size);
 	path += told.handle_size;
+	/* The root is there, by the folder that this server was started with. If files are verified
+	 * its handle tells whether that is the other one's folder; by handles it needs not be. */
 	if (told.number == ROOT_NODE)
 		return !told.handle_size || l->header.mode == MIGRATES_BY_HANDLES ||
 				       has_handle(l->paths.root, &room.handle) ?
 			       0 :
 			       refuse("the folder is another one");
+	/* The type must be that of before. (node_restore() has the descriptor from then on, also if it
+	 * fails.) */
 	fd = l->header.mode == MIGRATES_BY_HANDLES ? open_handle(l, &told, &room.handle, path) :
 						     open_path(l, &told, &room.handle, path);
 	error = fd < 0 || look_at(fd, &seen) ? errno : (seen.stx_mode & S_IFMT) != told.type ? EXDEV : 0;
@@ -560,11 +608,14 @@ static int load_node(struct loading *l)
 		return refuse("a state with a file, or a number, twice");
 	if (!error)
 		return 0;
+	/* (no other node gets this number, by which the client knows a file) */
 	node_lose(&l->all->nodes, told.number);
 	return lose(l, "node", told.number, path, error);
 }
 
-/* Opens the file of a node as it was open. -1: errno says why. */
+/* Opens the file of a node as it was open. -1: errno says why. Only a file or a directory is opened,
+ * by its own descriptor, and with no right that this server doesn't give: not for writing if nothing
+ * is changed, with no O_DIRECT unless it is allowed. */
 static int open_as(struct loading *l, const struct node *node, int of, int flags)
 {
 	const struct passthrough_options *options = &l->all->options;
@@ -584,6 +635,8 @@ static int open_as(struct loading *l, const struct node *node, int of, int flags
 		       fd;
 }
 
+/* A FILE, whose node came before. No flag is taken that opens otherwise, as O_CREAT or O_TRUNC would.
+ * A descriptor is reserved before it is opened, as for an OPEN. */
 static int load_file(struct loading *l)
 {
 	struct nodes *nodes = &l->all->nodes;
@@ -614,6 +667,7 @@ static int load_file(struct loading *l)
 	if (!error)
 		return 0;
 	file_lose(nodes, told.number);
+	/* (an open file has no path to tell) */
 	l->body[0] = 0;
 	return lose(l, "open file", told.number, l->body, error);
 }
@@ -640,6 +694,7 @@ static int load_record(struct loading *l)
 	l->sum_before = l->end.sum;
 	if (get(l, &record, sizeof(record)))
 		return -1;
+	/* (the body has room for one byte more, for the 0 after a path) */
 	if (record.size > LONGEST_RECORD)
 		return refuse("a state with a record that is too long");
 	l->size = record.size;
@@ -660,6 +715,8 @@ static int load_record(struct loading *l)
 	}
 }
 
+/* The header. A client may have agreed by INIT on what this server would not: it would go on to ask
+ * for it. */
 static int load_header(struct loading *l)
 {
 	struct header *header = &l->header;
@@ -698,6 +755,8 @@ static int load_all(struct loading *l)
 	return came > 0 ? 0 : -1;
 }
 
+/* What the passthrough has goes first, and if the loading fails all that came goes too. Numbers that
+ * the other server gave to nothing are given again from nodes_settle() on. */
 int passthrough_load(void *user, transport_state *from)
 {
 	struct passthrough *all = user;
