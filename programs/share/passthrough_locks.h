@@ -10,7 +10,7 @@ struct call;
 struct locks;
 struct nodes;
 
-/* NULL: there is no memory. */
+/* NULL: there is no memory. The nodes are to last as long: they count the descriptors of locks. */
 struct locks *locks_new(struct nodes *nodes);
 /* False: somebody waits for the host still, and uses what there is. */
 bool locks_free(struct locks *all);

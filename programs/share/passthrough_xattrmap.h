@@ -12,13 +12,15 @@ struct xattr_name {
 
 struct xattr_map;
 
-/* The rules of a text, which stay for good. NULL: `*why` says what is wrong, and `*rule` in which rule, from 1 on, or 0. */
+/* The rules of a text, which stay for good. NULL: `*why` says what is wrong, and `*rule` in which
+ * rule, from 1 on, or 0. */
 const struct xattr_map *xattr_map_read(const char *text, const char **why, unsigned *rule);
 
-/* The host's name of an attribute that a client names: 0, or an error. */
+/* The host's name of an attribute that a client names: 0, or an error: EPERM or EOPNOTSUPP, by a rule,
+ * or ERANGE: it gets too long. */
 int xattr_map_to_host(const struct xattr_map *map, const char *name, struct xattr_name *host);
 
-/* The client's name of an attribute of the host: NULL, if it isn't told. */
+/* The client's name of an attribute of the host, which is the end of that: NULL, if it isn't told. */
 const char *xattr_map_to_client(const struct xattr_map *map, const char *name);
 
 #endif
