@@ -1,4 +1,11 @@
-/* The words of a share, taken and held together: share_words.h. */
+/* The words of a share, taken and held together: share_words.h. It runs first, in one thread, with the
+ * rights and in the folder that the program was started with; what it leaves in `words` doesn't change
+ * from then on, but for what main() finds out.
+ *
+ * Words come from a person, from a manager of machines, which writes them as for virtiofsd, or from
+ * mount(8), as a line of fstab(5) says them (share_helped.c). The same is served whether a word is
+ * said as --no-readdirplus or, by -o, as no_readdirplus. What can't be ends the program with status 2,
+ * and is named. */
 #define _GNU_SOURCE
 #include <ctype.h>
 #include <errno.h>
@@ -17,6 +24,7 @@
 #include "share_words.h"
 #include "transport.h"
 
+/* How many descriptors, files that a client knows, and workers there may be, if nothing else is said. */
 enum { MOST_FILES = 1000000, MOST_NODES = 1000000, WORKERS = 4 };
 
 /* What is so without a word. */
@@ -32,6 +40,8 @@ struct share_words words = {
 		   .entry_time = AS_CACHE_SAYS,
 		   .attr_time = AS_CACHE_SAYS },
 	.allow_other = "",
+	/* (so set-user-ID files and devices mean nothing below the mount point, unless suid and dev
+	 * are asked for) */
 	.flags = MS_NOSUID | MS_NODEV,
 	.max_read = TRANSPORT_PAYLOAD,
 	.most_files = MOST_FILES,
@@ -47,6 +57,8 @@ _Noreturn void refuse(const char *why, const char *word)
 	exit(2);
 }
 
+/* The number that a value is, between two that it may be. It is decimal, and begins with a digit:
+ * strtoul() would take spaces and signs before it. */
 static unsigned long number(const char *key, const char *value, unsigned long least, unsigned long most)
 {
 	unsigned long n;
@@ -59,7 +71,8 @@ static unsigned long number(const char *key, const char *value, unsigned long le
 	return n;
 }
 
-/* Which of the words, which end with NULL, the value is. */
+/* Which of the words, which end with NULL, the value is, in capitals or not. Callers take the number
+ * as that of an enum, whose order is that of the words. */
 static int one_of(const char *key, const char *value, const char *const *known)
 {
 	for (int i = 0; known[i]; i++)
@@ -72,7 +85,8 @@ static int one_of(const char *key, const char *value, const char *const *known)
 	refuse("it is not ", value);
 }
 
-/* Seconds, perhaps with digits after a point, in milliseconds. */
+/* Seconds, perhaps with digits after a point, in milliseconds. Neither a hexadecimal number nor one
+ * with an exponent is taken, nor more than 1e9, which is some thirty years. */
 static uint64_t milliseconds(const char *key, const char *value)
 {
 	double seconds = -1;
@@ -85,17 +99,21 @@ static uint64_t milliseconds(const char *key, const char *value)
 	return (uint64_t)(seconds * 1000 + 0.5);
 }
 
+/* The levels of virtiofsd: from info on is said what isn't wrong, and from debug on each request is
+ * traced. */
 static void take_log_level(const char *value)
 {
 	static const char *const levels[] = { "off", "error", "warn", "info", "debug", "trace", NULL };
 	const int level = one_of("--log-level", value, levels);
 
+	/* (error and warn say the same: all that is wrong) */
 	words.is_off = level == 0;
 	words.says_more = level >= 3;
 	words.traces = level >= 4;
 }
 
-/* Takes an option of mount(8) that all file systems have. Whether it is one. */
+/* Takes an option of mount(8) that all file systems have. Whether it is one. The kernel looks at
+ * permissions in any case, so default_permissions sets nothing. */
 static bool take_flag(const char *key)
 {
 	static const struct {
@@ -119,7 +137,7 @@ static bool take_flag(const char *key)
 	return false;
 }
 
-/* Takes a word of virtiofsd's old options. Whether it is one. */
+/* Takes a word of virtiofsd's old options, as managers of machines write them. Whether it is one. */
 static bool take_switch(const char *key)
 {
 	static const struct {
@@ -153,14 +171,16 @@ static bool take_switch(const char *key)
 	return false;
 }
 
-/* Whether an attribute has another name on the host. */
+/* Whether an attribute has another name on the host, which `host` is then. One that the map refuses
+ * has none. */
 static bool is_renamed(const char *name, struct xattr_name *host)
 {
 	return words.files.xattr_map && !xattr_map_to_host(words.files.xattr_map, name, host) &&
 	       strcmp(host->bytes, name) != 0;
 }
 
-/* Takes the rules of attributes, and finds what they make of the name of a file's capabilities. */
+/* Takes the rules of attributes, and finds what they make of the name of a file's capabilities. The
+ * rules stay for good; if some are said twice the last ones hold. */
 static void take_xattr_map(const char *rules)
 {
 	static struct xattr_name capability;
@@ -178,9 +198,11 @@ static void take_xattr_map(const char *rules)
 	words.files.capability = is_renamed(XATTR_NAME_CAPS, &capability) ? capability.bytes : NULL;
 }
 
+/* (in the order of enum sandbox; and so are the others in that of theirs) */
 static const char *const sandboxes[] = { "none", "chroot", "namespace", NULL };
 
-/* The same of those that have a value. */
+/* The same of those that have a value. (`none` of a cache is virtiofsd's word of old for never, and
+ * stands behind the others, as no number of the enum is its own.) */
 static bool take_setting(const char *key, char *value)
 {
 	static const char *const caches[] = { "never", "auto", "always", "metadata", "none", NULL };
@@ -205,7 +227,8 @@ static bool take_setting(const char *key, char *value)
 	return true;
 }
 
-/* Takes an option that mount(8) and others read in fstab(5), and no file system. Whether it is one. */
+/* Takes an option that mount(8) and others read in fstab(5), and no file system. Whether it is one.
+ * With nofail a folder that isn't there is no error. */
 static bool take_of_others(const char *key)
 {
 	static const char *const known[] = { "defaults", "auto",    "noauto",  "user",	  "nouser",
@@ -221,7 +244,9 @@ static bool take_of_others(const char *key)
 
 static bool take_as_word(const char *key, char *value);
 
-/* Takes one option: a word, or KEY=VALUE. */
+/* Takes one option: a word, or KEY=VALUE. What is none of those above may be a word of --help without
+ * its dashes. What is none at all is refused, unless mount(8) was started with -s, or changes a mount,
+ * whose options the kernel listed. */
 static void take_option(const char *key, char *value)
 {
 	if ((value ? take_setting(key, value) : take_flag(key) || take_switch(key)) || take_of_others(key))
@@ -246,12 +271,14 @@ static void take_option(const char *key, char *value)
 		refuse("there is no such option, or its value can't be: ", key);
 }
 
-/* The next option of a list. In the path of a source a comma is doubled. */
+/* The next option of a list. In the path of a source a comma is doubled: the two are made one where
+ * they lie, and the option goes on behind it. */
 static char *next_option(char **rest)
 {
 	char *option = strsep(rest, ",");
 
 	while (option && !strncmp(option, "source=", 7) && *rest && **rest == ',') {
+		/* (strsep() put a 0 in place of the first comma) */
 		(*rest)[-1] = ',';
 		memmove(*rest, *rest + 1, strlen(*rest));
 		strsep(rest, ",");
@@ -259,6 +286,7 @@ static char *next_option(char **rest)
 	return option;
 }
 
+/* (a list may have nothing between two commas) */
 void take_options(char *rest)
 {
 	char *option;
@@ -271,29 +299,39 @@ void take_options(char *rest)
 	}
 }
 
+/* The words, from a number on that no letter has. Their order has a meaning: those from CACHE to TRACE
+ * say what is served, and how, and so are taken as options too; those from MIGRATION_MODE to
+ * CONFIRM_PATHS are of a machine that migrates. */
 enum word {
+	/* Which folder, where, and who may connect. */
 	SHARED_DIR = 256,
 	SOCKET_PATH,
 	FD,
 	SOCKET_GROUP,
+	/* What managers of machines say besides. */
 	TAG,
 	SYSLOG,
+	/* Of a machine that migrates. */
 	MIGRATION_MODE,
 	MIGRATION_ON_ERROR,
 	VERIFY_HANDLES,
 	CONFIRM_PATHS,
+	/* What the client may remember, and do by itself. */
 	CACHE,
 	ALLOW_MMAP,
 	ALLOW_DIRECT_IO,
 	WRITEBACK,
+	/* Attributes and locks. */
 	XATTR,
 	XATTRMAP,
 	SECURITY_LABEL,
 	POSIX_ACL,
 	FLOCK,
 	POSIX_LOCK,
+	/* Over a mount: what its kernel does by itself, and is told. */
 	PASSTHROUGH,
 	WATCH,
+	/* What of the folder is shown, and changed. */
 	READONLY,
 	NO_READDIRPLUS,
 	ANNOUNCE,
@@ -301,19 +339,24 @@ enum word {
 	KILLPRIV,
 	NO_KILLPRIV,
 	NOATIME,
+	/* How much is held of it, and by what. */
 	NODE_LIMIT,
 	FILE_HANDLES,
+	/* With what the process works, and what it may. */
 	MODCAPS,
 	POOL,
 	NOFILE,
 	SANDBOX,
 	UID_MAP,
 	GID_MAP,
+	/* Whose a file is. */
 	TRANSLATE_UID,
 	TRANSLATE_GID,
+	/* Which calls it makes, and what it says. */
 	SECCOMP,
 	LOG,
 	TRACE,
+	/* Of the process alone, and no options. */
 	DAEMONIZE,
 	PRINT,
 	VERSION,
@@ -321,17 +364,21 @@ enum word {
 };
 
 static const struct option known_words[] = {
+	/* The folder, and where it is served: below they stand as in the enum. */
 	{ "shared-dir", required_argument, NULL, SHARED_DIR },
 	{ "socket-path", required_argument, NULL, SOCKET_PATH },
+	/* (virtiofsd's word of old) */
 	{ "socket", required_argument, NULL, SOCKET_PATH },
 	{ "fd", required_argument, NULL, FD },
 	{ "socket-group", required_argument, NULL, SOCKET_GROUP },
 	{ "tag", required_argument, NULL, TAG },
 	{ "syslog", no_argument, NULL, SYSLOG },
+	/* Of a machine that migrates, and of nothing else. */
 	{ "migration-mode", required_argument, NULL, MIGRATION_MODE },
 	{ "migration-on-error", required_argument, NULL, MIGRATION_ON_ERROR },
 	{ "migration-verify-handles", no_argument, NULL, VERIFY_HANDLES },
 	{ "migration-confirm-paths", no_argument, NULL, CONFIRM_PATHS },
+	/* From here to trace: what may be an option, too. */
 	{ "cache", required_argument, NULL, CACHE },
 	{ "allow-mmap", no_argument, NULL, ALLOW_MMAP },
 	{ "allow-direct-io", no_argument, NULL, ALLOW_DIRECT_IO },
@@ -364,6 +411,7 @@ static const struct option known_words[] = {
 	{ "seccomp", required_argument, NULL, SECCOMP },
 	{ "log-level", required_argument, NULL, LOG },
 	{ "trace", optional_argument, NULL, TRACE },
+	/* And no more. */
 	{ "daemonize", no_argument, NULL, DAEMONIZE },
 	{ "print-capabilities", no_argument, NULL, PRINT },
 	{ "version", no_argument, NULL, VERSION },
@@ -371,7 +419,8 @@ static const struct option known_words[] = {
 	{ 0 },
 };
 
-/* What is printed, and all then. */
+/* What is printed, and all then: status 0, or 1 if it couldn't be written. The features are those of
+ * vhost-user back ends, which managers of machines ask for. */
 static _Noreturn void print(int word)
 {
 	if (word == PRINT)
@@ -384,7 +433,8 @@ static _Noreturn void print(int word)
 	exit(fflush(stdout) != 0);
 }
 
-/* A range of ids: three numbers with a sign between them and around, as :0:100000:65536: */
+/* A range of ids: three numbers with a sign between them and around, as :0:100000:65536: are inside,
+ * outside and how many. The text is taken apart. (4294967295 is no id, and no range reaches it.) */
 static void take_range(const char *key, char *rest, struct id_map *map)
 {
 	const char sign[] = { *rest, 0 };
@@ -406,6 +456,7 @@ static void take_range(const char *key, char *rest, struct id_map *map)
 	*range = (struct id_range){ (uint32_t)value[0], (uint32_t)value[1], (uint32_t)value[2] };
 }
 
+/* A rule of ids, which ids_add() reads. What is wrong is said by its own words, and ends the program. */
 static void take_translation(const char *key, const char *rule, struct ids *ids)
 {
 	const char *why = ids_add(ids, rule);
@@ -424,6 +475,7 @@ static bool take_plain(int word)
 		int word;
 		bool is;
 	} known[] = {
+		/* What it is, the word, and what that says of it. */
 		{ &words.logs, SYSLOG, true },
 		{ &words.files.verifies, VERIFY_HANDLES, true },
 		{ &words.confirms, CONFIRM_PATHS, true },
@@ -465,16 +517,19 @@ static void take_served(int word)
 	static const char *const on_errors[] = { "abort", "guest-error", NULL };
 	int which;
 
+	/* (by their order in the enum) */
 	words.migrates |= word >= MIGRATION_MODE && word <= CONFIRM_PATHS;
 	if (take_plain(word))
 		return;
 	switch (word) {
+	/* Of a machine that migrates. */
 	case MIGRATION_MODE:
 		words.files.migration_mode = (enum migration_mode)one_of("--migration-mode", optarg, modes);
 		break;
 	case MIGRATION_ON_ERROR:
 		words.files.loses_files = one_of("--migration-on-error", optarg, on_errors) == 1;
 		break;
+	/* What is served of the folder. */
 	case CACHE:
 		words.files.cache = (enum passthrough_cache)one_of("--cache", optarg, caches);
 		break;
@@ -485,23 +540,29 @@ static void take_served(int word)
 		words.files.most_nodes = (unsigned)number("--node-limit", optarg, 2, INT_MAX);
 		break;
 	case FILE_HANDLES:
+		/* (fallback is as prefer) */
 		which = one_of("--inode-file-handles", optarg, handles);
 		words.files.file_handles =
 			which <= HANDLES_ALONE ? (enum file_handles)which : HANDLES_PREFERRED;
 		break;
+	/* With what the process works. */
 	case MODCAPS:
 		take_capabilities(optarg);
 		break;
+	/* With 0 virtiofsd has no pool, and serves on one thread: so does this. More than may be are
+	 * as many. */
 	case POOL:
 		words.files.workers = (unsigned)number("--thread-pool-size", optarg, 0, UINT_MAX);
 		words.files.workers += !words.files.workers;
 		if (words.files.workers > TRANSPORT_MOST_WORKERS)
 			words.files.workers = TRANSPORT_MOST_WORKERS;
 		break;
+	/* (of 0 the limit stays as it is) */
 	case NOFILE:
 		words.most_files = number("--rlimit-nofile", optarg, 0, INT_MAX);
 		words.wants_files = true;
 		break;
+	/* What it may, and as whom. */
 	case SANDBOX:
 		words.sandbox = one_of("--sandbox", optarg, sandboxes);
 		break;
@@ -520,6 +581,7 @@ static void take_served(int word)
 	case SECCOMP:
 		words.filter = one_of("--seccomp", optarg, filters);
 		break;
+	/* What it says. */
 	case LOG:
 		take_log_level(optarg);
 		break;
@@ -532,6 +594,8 @@ static void take_served(int word)
 	}
 }
 
+/* Takes a word that getopt_long(3) found: `optarg` is its value, or NULL. They are words of this
+ * process, or else of what is served. */
 static void take_word(int word)
 {
 	switch (word) {
@@ -574,7 +638,7 @@ static void take_word(int word)
 	}
 }
 
-/* Whether an option is a word's name, with _ in place of -. */
+/* Whether an option is a word's name, with _ in place of -, as virtiofsd's options are written. */
 static bool is_of_word(const char *key, const char *name)
 {
 	for (; *name; key++, name++)
@@ -583,7 +647,8 @@ static bool is_of_word(const char *key, const char *name)
 	return !*key;
 }
 
-/* Takes an option that is a word, if it is one of what is served, and how. Whether it is one. */
+/* Takes an option that is a word, if it is one of what is served, and how. Whether it is one. Where a
+ * value is missing, or there is one too many, it is none. */
 static bool take_as_word(const char *key, char *value)
 {
 	for (const struct option *word = known_words; word->name; word++) {
@@ -591,6 +656,7 @@ static bool take_as_word(const char *key, char *value)
 			continue;
 		if (value ? word->has_arg == no_argument : word->has_arg == required_argument)
 			return false;
+		/* (where getopt_long(3) leaves a value, take_served() looks for it) */
 		optarg = value;
 		take_served(word->val);
 		return true;
@@ -598,7 +664,8 @@ static bool take_as_word(const char *key, char *value)
 	return false;
 }
 
-/* Refuses a word that getopt_long found to be none, or took for one whose beginning it is. */
+/* Refuses a word that getopt_long found to be none, or took for one whose beginning it is: a word that
+ * comes later could make the same beginning mean another one. */
 static _Noreturn void refuse_word(int found, const char *word)
 {
 	const char letter[] = { '-', (char)optopt, 0 };
@@ -615,7 +682,8 @@ bool is_mount(void)
 	return !words.socket_path && words.fd < 0;
 }
 
-/* Refuses words of a mount, by which its kernel does something, that can't be together. */
+/* Refuses words of a mount, by which its kernel does something, that can't be together: each line says
+ * why. */
 static void hold_mount_together(void)
 {
 	if (words.files.passthrough && !is_mount())
@@ -630,9 +698,11 @@ static void hold_mount_together(void)
 	if (words.watches && words.files.writeback)
 		refuse("--watch and --writeback are not both wanted: a client that writes later knows the size itself",
 		       "");
+	/* (a node that is held by a handle has no descriptor by which it is marked) */
 	if (words.watches && words.files.file_handles != HANDLES_NEVER)
 		refuse("--watch and --inode-file-handles are not both wanted: what is watched stays open",
 		       "");
+	/* (of what a client writes by itself the server doesn't know) */
 	if (words.files.passthrough && words.files.capability)
 		refuse("--passthrough and an --xattrmap of ",
 		       XATTR_NAME_CAPS " are not both wanted: Linux takes them away by their own name alone");
@@ -652,11 +722,13 @@ static void hold_migration_together(void)
 		       "");
 }
 
-/* Refuses words that can't be together. */
+/* Refuses words that can't be together, or by whom it was started. It is looked at once all are taken,
+ * so their order doesn't matter. */
 static void hold_together(void)
 {
 	struct xattr_name host;
 
+	/* What is served, and where. */
 	if (!words.folder || !*words.folder)
 		refuse("a folder is wanted", "");
 	if (is_mount() && !words.mount_point)
@@ -665,15 +737,20 @@ static void hold_together(void)
 		refuse("--socket-path and --fd are not both wanted", "");
 	if (words.socket_group && !words.socket_path)
 		refuse("--socket-group is of --socket-path", "");
+	/* As who it was started. */
 	if (is_mount() && geteuid() != 0)
 		refuse("only root may mount: run it as root", "");
+	/* (chroot(2) takes a capability: who isn't root gets such by a namespace of users, with the
+	 * other sandbox) */
 	if (words.sandbox == SANDBOX_CHROOT && geteuid() != 0)
 		refuse("root alone has --sandbox=chroot", "");
 	if ((words.files.more_capabilities || words.files.fewer_capabilities) && geteuid() != 0)
 		refuse("root alone has --modcaps", "");
+	/* (root makes no namespace of users, and needs none) */
 	if ((words.uids.count || words.gids.count) &&
 	    (geteuid() == 0 || (words.sandbox >= 0 && words.sandbox != SANDBOX_NAMESPACE)))
 		refuse("who isn't root has --uid-map and --gid-map, and with --sandbox=namespace", "");
+	/* What is served together. */
 	if (words.files.posix_acl && (is_renamed(XATTR_NAME_POSIX_ACL_ACCESS, &host) ||
 				      is_renamed(XATTR_NAME_POSIX_ACL_DEFAULT, &host)))
 		refuse("--posix-acl wants lists under their own names, which the host looks at: --xattrmap begins with ",
@@ -688,7 +765,8 @@ static void hold_together(void)
 		refuse("--seccomp: it was built without libseccomp", "");
 }
 
-/* Copies of the words, which are taken apart: /proc shows the process as it was started. */
+/* Copies of the words, which are taken apart: /proc shows the process as it was started. They are one
+ * piece of memory, the pointers first, and stay for good, as `words` leads into them. */
 static char **copies_of(int count, char **given)
 {
 	/* (volatile: the compiler would drop what is never read, and a sanitizer find a leak) */
@@ -703,6 +781,7 @@ static char **copies_of(int count, char **given)
 		fprintf(stderr, "nizwarf-share: %s\n", strerror(errno));
 		exit(1);
 	}
+	/* (the texts stand behind the pointers, of which the last one is NULL) */
 	at = (char *)(copies + count + 1);
 	for (int i = 0; i < count; i++, at += len) {
 		len = strlen(given[i]) + 1;
@@ -712,7 +791,8 @@ static char **copies_of(int count, char **given)
 	return copies;
 }
 
-/* Takes what a person or a manager of machines gives. */
+/* Takes what a person or a manager of machines gives. The folder and the mount point may stand after
+ * the words, or the folder be said by one of them. */
 static void take_given(int count, char **given)
 {
 	for (int found, i = -1; (found = getopt_long(count, given, ":dfho:V", known_words, &i)) != -1;
@@ -720,6 +800,8 @@ static void take_given(int count, char **given)
 		/* (a value may stand after it, as a word of its own) */
 		const char *word = given[optind - 1 - (optarg == given[optind - 1])];
 
+		/* (getopt_long(3) takes a beginning for the word, where it is that of one alone: it is
+		 * refused here) */
 		if (found == '?' || found == ':' ||
 		    (i >= 0 && strcspn(word, "=") != strlen(known_words[i].name) + 2))
 			refuse_word(found, word);
@@ -733,9 +815,12 @@ static void take_given(int count, char **given)
 		refuse("there is a word too many: ", given[optind]);
 }
 
+/* It comes back with words that go together, or not at all. What wasn't said is filled in here, where
+ * it depends on what was: the sandbox and the filter are the strictest that there are. */
 void take_words(int count, char **given)
 {
 	given = copies_of(count, given);
+	/* (what is wrong is said by refuse_word(), as all else here) */
 	opterr = 0;
 	if (is_started_by_mount(given[0]))
 		take_from_mount(count, given);
@@ -746,10 +831,13 @@ void take_words(int count, char **given)
 		words.sandbox = SANDBOX_NAMESPACE;
 	if (words.filter < 0)
 		words.filter = has_filter ? FILTER_KILL : FILTER_NONE;
+	/* (each of these is of no use without attributes) */
 	words.files.xattr |= words.files.posix_acl || words.files.xattr_map || words.files.security_label;
+	/* (both the mount and the server hold to it, whichever word said so) */
 	if (words.files.read_only)
 		words.flags |= MS_RDONLY;
 	if (words.flags & MS_RDONLY)
 		words.files.read_only = true;
+	/* (it ends here if mount(8) wants nothing done, or a mount changed that is there) */
 	end_helped();
 }
