@@ -166,7 +166,8 @@ static bool put_item(const struct call *call, const struct dirent64 *found, bool
 }
 
 /* Puts the items that fit into the worker's, under the lock of the file. 0, and no item: the directory
- * ends there. An error after some items is not told: the next READDIR meets it, if it lasts. */
+ * ends there (or not even one fits, for which Linux always leaves room). An error after some items is
+ * not told: the next READDIR meets it, if it lasts. */
 static int list(const struct call *call)
 {
 	struct worker *w = call->worker;

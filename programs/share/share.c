@@ -1,9 +1,13 @@
-/* Shares a folder of the host: mounts it on another one over /dev/fuse, or serves it to a virtual
- * machine over vhost-user, as its virtio-fs device.
+/* Shares a folder of the host: mounts it on another one over /dev/fuse, or serves it to a virtual machine
+ * over vhost-user, as its virtio-fs device.
  *
- * --help lists the words. Standard error says what is wrong.
- * Status 0: it was unmounted, or a signal ended it; 1: something failed; 2: the words or options
- * can't be. */
+ * --help lists the words. Standard error says what is wrong. Status 0: it was unmounted, or a signal
+ * ended it; 1: something failed; 2: the words or options can't be.
+ *
+ * main() takes the words (share_words.c), opens what takes a path and root, and forks into the sandbox
+ * (share_sandbox.c). There serve() begins the passthrough (passthrough.c) and hands it to a transport,
+ * which has threads for its workers. What follows has an order: each right that is given up is one
+ * that nothing later needs. */
 #define _GNU_SOURCE
 #include <errno.h>
 #include <fcntl.h>
@@ -30,8 +34,8 @@
 #include "trace.h"
 
 enum { LARGE_TABLE = 65536 };
-/* Descriptors besides those of the folder's files: of a mount, with a device and a pipe for each worker; of
- * a socket, with two for each queue, if there are as many as workers. */
+/* Descriptors besides those of the folder's files: of a mount, with a device and a pipe for each
+ * worker; of a socket, with two for each queue, if there are as many as workers. */
 enum { OF_MOUNT = 16, OF_MOUNT_WORKER = 3, OF_RING_WORKER = 2, OF_SOCKET = 24, OF_SOCKET_WORKER = 2 };
 /* How many requests of each processor may wait for locks over io_uring. */
 enum { MOST_WAITING = 63 };
@@ -42,8 +46,8 @@ static int failed(const char *what)
 	return -1;
 }
 
-/* Has each of the standard descriptors lead somewhere: a file of the folder that got one would be written
- * what is said. */
+/* Has each of the standard descriptors lead somewhere: a file of the folder that got one would be
+ * written what is said. (A new descriptor is the lowest that is free.) */
 static int fill_standard(void)
 {
 	for (int fd = 0; fd <= 2; fd++)
@@ -64,7 +68,8 @@ static void pass_signals(pid_t child)
 			kill(child, ending[i]);
 }
 
-/* Each file that a client knows may have a descriptor. */
+/* Each file that a client knows may have a descriptor. Who isn't root may not raise the limit above
+ * its hard one: then that is what there is, and a client may know fewer files. */
 static void raise_limit(void)
 {
 	struct rlimit limit = { words.most_files, words.most_files };
@@ -88,13 +93,16 @@ static void grow_table(int root)
 
 	if (getrlimit(RLIMIT_NOFILE, &limit) || !limit.rlim_cur)
 		return;
+	/* (a descriptor of such a number makes the table as large, and it stays so) */
 	fd = fcntl(root, F_DUPFD_CLOEXEC,
 		   limit.rlim_cur < LARGE_TABLE ? (int)limit.rlim_cur - 1 : LARGE_TABLE - 1);
 	if (fd >= 0)
 		close(fd);
 }
 
-/* A socket by which a service manager is told, connected; -1: none is wanted. */
+/* A socket by which a service manager is told, connected; -1: none is wanted. (sd_notify(3): a path,
+ * or an abstract name, which begins with @ in place of a 0. In the sandbox the path leads nowhere, so
+ * it is connected before.) */
 static int meet_manager(void)
 {
 	const char *path = getenv("NOTIFY_SOCKET");
@@ -117,8 +125,8 @@ static int meet_manager(void)
 	return fd;
 }
 
-/* Forks, and goes on in the child: the parent waits until that serves. Gives where to tell it, or
- * -1. */
+/* Forks, and goes on in the child: the parent waits until that serves. Gives where to tell it, or -1.
+ * If the child ends before, the pipe is closed, and the parent ends with status 1. */
 static int go_to_background(void)
 {
 	int ends[2];
@@ -137,6 +145,7 @@ static int go_to_background(void)
 		_exit(read(ends[0], &told, 1) == 1 ? 0 : 1);
 	}
 	close(ends[0]);
+	/* (so no terminal's signal is for it) */
 	setsid();
 	/* (the path of a socket may be one from here) */
 	if (is_mount() && chdir("/"))
@@ -145,7 +154,8 @@ static int go_to_background(void)
 }
 
 /* Who waits until it serves: a service manager, and the process that was started. /dev/null, if it
- * goes to the background or is to be quiet. -1: there is none. */
+ * goes to the background or is to be quiet. -1: there is none. Both the server and what stands by have
+ * them, and each lets go. */
 static int manager = -1, starter = -1, nothing = -1;
 
 /* Lets go of those who wait, and of output, but for that which is logged. */
@@ -162,7 +172,7 @@ static void go_quiet(void)
 		close(manager);
 }
 
-/* Tells whoever waits that it serves. */
+/* Tells whoever waits that it serves: by what stands by, if there is such, and else by the server. */
 static void tell_ready(void *user)
 {
 	static const char ready[] = "READY=1\n";
@@ -200,7 +210,8 @@ static int give_to_group(const char *path, gid_t group)
 	return error;
 }
 
-/* Listens for the owner, and for the group of those who may connect too. */
+/* Listens for the owner, and for the group of those who may connect too. Who connects has the whole
+ * folder, as the server has it. If it can't, the program ends: status 2 if a word can't be, or else 1. */
 static int listen_on_socket(const transport *of)
 {
 	const struct group *group = words.socket_group ? getgrnam(words.socket_group) : NULL;
@@ -220,7 +231,7 @@ static int listen_on_socket(const transport *of)
 	if (pid_file_take(words.socket_path))
 		exit(1);
 	atexit(pid_file_remove);
-	/* (it has its mode as soon as it is there) */
+	/* (it has its mode as soon as it is there: nobody else may connect in between) */
 	before = umask(group ? 0117 : 0177);
 	listener = vhost_user_listen(of, words.socket_path);
 	umask(before);
@@ -234,7 +245,7 @@ static int listen_on_socket(const transport *of)
 	return listener;
 }
 
-/* Whether a path leads to the folder, or below it. */
+/* Whether a path leads to the folder, or below it. (Both are as realpath(3) gives them.) */
 static bool is_below(const char *path, const char *folder)
 {
 	const size_t len = strlen(folder);
@@ -242,7 +253,8 @@ static bool is_below(const char *path, const char *folder)
 	return !strncmp(path, folder, len) && (!path[len] || path[len] == '/' || folder[len - 1] == '/');
 }
 
-/* (what stands by removes it, where something does) */
+/* (what stands by removes it, where something does. This is called at the end, or by the transport if
+ * a request doesn't come back.) */
 static void remove_socket(void *user)
 {
 	(void)user;
@@ -276,6 +288,7 @@ static void look_for_rings(void)
 	if (!words.by_ring || device < 0)
 		return;
 	by.ring_workers = by.workers;
+	/* (a request that waits for a lock is kept, and no other one is) */
 	by.most_kept = words.files.flock || words.files.posix_lock ? MOST_WAITING : 0;
 	by.wants_ring = 1;
 	queues = fuse_ring.count();
@@ -293,7 +306,8 @@ static void make_rings(void)
 		fputs("nizwarf-share: there is no io_uring here: requests come by read(2)\n", stderr);
 }
 
-/* How many workers there are at most, and descriptors besides those of files. */
+/* How many workers there are at most, and descriptors besides those of files. Over io_uring the worker
+ * 0 reads the device, and the others are those of the rings. */
 static void count_workers(void)
 {
 	const unsigned of_socket = OF_SOCKET + OF_SOCKET_WORKER * by.workers;
@@ -304,6 +318,8 @@ static void count_workers(void)
 		words.files.workers = 1 + ring_workers;
 }
 
+/* Mounts: in the process that stands by, or without a sandbox in the server. The kernel looks at
+ * permissions (default_permissions), by the modes that it is told. 0, or -1: it failed, and said why. */
 static int mount_folder(void *user)
 {
 	char options[80];
@@ -329,7 +345,7 @@ static int unmount_folder(void *user)
 	return fuse_device_unmount(&by, words.mount_point);
 }
 
-/* The same of the process that names files to Linux. */
+/* Leaves the process that names files to Linux the calls that it needs (fuse_backing_start). */
 static int limit_backing(void *user)
 {
 	(void)user;
@@ -348,6 +364,7 @@ static int limit(struct passthrough *all)
 		return failed("privileges");
 	if (passthrough_watch(all))
 		return failed("--watch");
+	/* (last of all: what is opened or made from here on is by the calls of the filter) */
 	return sandbox_filter((enum calls_filter)words.filter,
 			      (mounts ? MAY_UNMOUNT : 0) | (words.files.notices ? MAY_WATCH : 0) |
 				      (is_mount() ? 0 : MAY_TELL_HANDLES) |
@@ -373,7 +390,9 @@ static void tell_outside(void)
 	}
 }
 
-/* Serves in the sandbox, from its entering on. */
+/* Serves in the sandbox, from its entering on: the status with which the process ends. Rings are made
+ * before the filter forbids it, and it is told that it serves once nothing can fail any more but the
+ * serving. */
 static int serve(int listener)
 {
 	/* What stands by unmounts, where something does. */
@@ -383,6 +402,7 @@ static int serve(int listener)
 
 	if (sandbox_enter((enum sandbox)words.sandbox, words.folder, &root, &proc, &words.files.no_devices))
 		return 1;
+	/* (a mode is the client's, which has taken its own umask off, or says it) */
 	umask(0);
 	grow_table(root);
 	all = passthrough_new(root, proc, &words.files);
@@ -405,7 +425,8 @@ static int serve(int listener)
 	return status;
 }
 
-/* Finds the folder and where it is mounted. Status 2: they can't be. */
+/* Finds the folder and where it is mounted. Status 2: they can't be. (Who may write to what is above
+ * may replace what they lead to, up to when the sandbox is entered.) */
 static int find_places(void)
 {
 	static char folder[PATH_MAX], mount_point[PATH_MAX];
@@ -441,6 +462,7 @@ int main(int count, char **given)
 		fprintf(stderr, "nizwarf-share: --tag=%s is let pass: the line of the machine says its tag\n",
 			words.tag);
 	by.workers = words.files.workers;
+	/* (over a mount data may go by a pipe, and one that holds so much takes no privilege) */
 	words.files.payload = is_mount() ? FUSE_DEVICE_PIPED : TRANSPORT_PAYLOAD;
 	by.quiet = !words.says_more;
 	if (words.watches)
@@ -462,6 +484,7 @@ int main(int count, char **given)
 		return failed("/dev/null"), 1;
 	/* (one that came before it serves would leave the file of its process too) */
 	transport_hold_signals(SIG_BLOCK);
+	/* (both while paths lead there, and before it goes to the background, so that a fault is seen) */
 	if (words.mount_point && (device = fuse_device_open(&by)) < 0)
 		return 1;
 	if (!words.mount_point)
@@ -472,6 +495,7 @@ int main(int count, char **given)
 		return 1;
 	if (pid_file_write())
 		return 1;
+	/* (outside of the sandbox: what is forked here keeps CAP_SYS_ADMIN) */
 	if (words.files.passthrough &&
 	    (words.files.backing = fuse_backing_start(&by, device, limit_backing)) < 0)
 		return 1;
@@ -488,6 +512,7 @@ int main(int count, char **given)
 	/* (in a sandbox its path leads elsewhere) */
 	if (words.sandbox != SANDBOX_NONE)
 		pid_file_leave();
+	/* (while there is a /proc) */
 	words.files.keeps_groups = users_keep_groups();
 	status = serve(listener);
 	remove_socket(NULL);

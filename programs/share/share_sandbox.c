@@ -1,4 +1,11 @@
-/* Sandboxes and filters of a share: share_sandbox.h. */
+/* Sandboxes and filters of a share: share_sandbox.h. All of it runs before there are workers: main()
+ * forks (sandbox_fork), and the child enters the sandbox, makes what the filter forbids, and has the
+ * filter loaded before it takes a request.
+ *
+ * With a sandbox there are two processes. The child serves, and is to reach the folder, /proc/self/fd
+ * and what is open, and nothing else. The parent stands by outside, and does what takes a path: it
+ * mounts, unmounts, and removes the socket and the file of its process. They talk by two pipes, a byte
+ * at a time; a child that was taken over by a client can ask it for nothing else than that mount. */
 #define _GNU_SOURCE
 #include <errno.h>
 #include <fcntl.h>
@@ -30,16 +37,19 @@ static int failed(const char *what)
 	return -1;
 }
 
-/* By which the server asks for a mount, and is told that it is there; and tells that it is ready. */
+/* By which the server asks for a mount, and is told that it is there; and tells that it is ready. Of
+ * each pipe the first end is read, and the second written. */
 static int asks[2] = { -1, -1 }, tells[2] = { -1, -1 };
 enum { MOUNT = 'm', READY = 'r' };
 
-/* Does what the server asks, up to when it is ready. Whether it is mounted. */
+/* Does what the server asks, up to when it is ready. Whether it is mounted. A server that ends before
+ * closes its end of the pipe, so the reading ends too. */
 static bool begin_outside(const struct outside *outside)
 {
 	bool is_mounted = false;
 	char asked;
 
+	/* (the child's ends: else it would not be seen that it has ended) */
 	close(asks[1]);
 	close(tells[0]);
 	while (read(asks[0], &asked, 1) == 1) {
@@ -56,6 +66,7 @@ static bool begin_outside(const struct outside *outside)
 	return is_mounted;
 }
 
+/* (a mount that failed is not answered: the pipe is closed in place of that) */
 int sandbox_mount(void)
 {
 	const char mounts = MOUNT;
@@ -81,7 +92,8 @@ enum { PATIENCE = 3 };
 /* How far the end has come: the child serves up to its last user; it is to end; it is killed. */
 enum end { NOT_ASKED, UNMOUNTED, TOLD, KILLED };
 
-/* Passes a signal on, or has the child end otherwise, which did not by the last one. */
+/* Passes a signal on, or has the child end otherwise, which did not by the last one: a number below 0
+ * says that its time is over. Answers how far the end has come then. */
 static enum end pass_on(pid_t child, int signal, enum end end, bool is_mounted, const struct outside *outside)
 {
 	const union sigval unmounted = { .sival_int = FUSE_DEVICE_UNMOUNTED };
@@ -91,7 +103,8 @@ static enum end pass_on(pid_t child, int signal, enum end end, bool is_mounted, 
 		kill(child, SIGKILL);
 		return KILLED;
 	}
-	/* (where that is in use it goes with its last user, and the server with it) */
+	/* (where that is in use it goes with its last user, and the server with it. The signal comes
+	 * first, by whose value the server knows that it is unmounted here.) */
 	if (is_mounted && end == NOT_ASKED && !sigqueue(child, SIGTERM, unmounted) &&
 	    !outside->unmount(outside->user))
 		return UNMOUNTED;
@@ -99,7 +112,9 @@ static enum end pass_on(pid_t child, int signal, enum end end, bool is_mounted, 
 	return end == KILLED ? KILLED : TOLD;
 }
 
-/* Waits for the child, and ends as it did. */
+/* Waits for the child, and ends as it did: with its status; or with 1 if a signal ended it, and 0 if
+ * that was the one from here. Signals come only while it waits, as they are blocked. Once the child
+ * was told to end it waits for PATIENCE. */
 static _Noreturn void stand_by(pid_t child, const sigset_t *awaited, const struct outside *outside)
 {
 	const struct timespec most = { PATIENCE, 0 };
@@ -111,6 +126,7 @@ static _Noreturn void stand_by(pid_t child, const sigset_t *awaited, const struc
 		const int signal =
 			end < TOLD ? sigwaitinfo(awaited, NULL) : sigtimedwait(awaited, NULL, &most);
 
+		/* (SIGCHLD comes for what names files too, which it doesn't wait for here) */
 		if (signal == SIGCHLD && waitpid(child, &status, WNOHANG) == child)
 			break;
 		if (signal == SIGCHLD || (signal < 0 && errno == EINTR))
@@ -120,6 +136,8 @@ static _Noreturn void stand_by(pid_t child, const sigset_t *awaited, const struc
 			break;
 		end = pass_on(child, signal, end, is_mounted, outside);
 	}
+	/* (the child may have ended by itself; where nothing of it is mounted any more this does
+	 * nothing) */
 	if (is_mounted)
 		outside->unmount(outside->user);
 	if (outside->socket_path)
@@ -131,7 +149,8 @@ static _Noreturn void stand_by(pid_t child, const sigset_t *awaited, const struc
 	_exit(WIFEXITED(status) ? WEXITSTATUS(status) : end != KILLED);
 }
 
-/* The signals that a server, or what stands by, waits for. */
+/* The signals that a server, or what stands by, waits for: they are blocked, and taken when it wants
+ * to. */
 static void block_signals(sigset_t *awaited)
 {
 	sigemptyset(awaited);
@@ -157,10 +176,12 @@ int sandbox_fork(enum sandbox sandbox, const struct id_map *uids, const struct i
 		return failed("--sandbox=namespace");
 	if (pipe2(asks, O_CLOEXEC) || pipe2(tells, O_CLOEXEC))
 		return failed("a pipe");
+	/* (before there is a child: so neither of them loses one that comes early) */
 	block_signals(&awaited);
 	child = fork();
 	if (child < 0)
 		return failed("fork");
+	/* (which ends this process, and doesn't come back) */
 	if (child)
 		stand_by(child, &awaited, outside);
 	close(asks[0]);
@@ -174,15 +195,17 @@ int sandbox_fork(enum sandbox sandbox, const struct id_map *uids, const struct i
 	sigprocmask(SIG_UNBLOCK, &child_ended, NULL);
 	if (users_be_root(uids, gids))
 		return -1;
-	/* (it must not outlive what stands by) */
+	/* (it must not outlive what stands by, which alone can unmount. If that went before this,
+	 * sandbox_mount() or sandbox_ready() fails.) */
 	prctl(PR_SET_PDEATHSIG, SIGTERM);
 	return 0;
 }
 
+/* (by such a descriptor files are named, and nothing is read) */
 enum { KEEPS_PATH = O_PATH | O_DIRECTORY | O_CLOEXEC };
 
-/* Opens /proc/self/fd, in a namespace of mounts of its own, as the root of a mount that is nowhere: no `..`
- * leads out of it. */
+/* Opens /proc/self/fd, in a namespace of mounts of its own, as the root of a mount that is nowhere: no
+ * `..` leads out of it. -1: errno says why. */
 static int open_apart(void)
 {
 	int fd;
@@ -205,7 +228,7 @@ static int open_copy(void)
 	int fd = -1;
 
 #ifdef SYS_open_tree
-	/* (1: a copy of the mount) */
+	/* (OPEN_TREE_CLONE, which older headers lack: a copy of the mount, which is nowhere) */
 	fd = (int)syscall(SYS_open_tree, AT_FDCWD, "/proc/self/fd", 1 | O_CLOEXEC);
 #endif
 	if (fd >= 0)
@@ -217,7 +240,11 @@ static int open_copy(void)
 }
 
 /* Makes the folder the root of the process, in a namespace of its own, with nothing else in it. Opens
- * /proc/self/fd before. */
+ * /proc/self/fd before. 0, or -1: it failed, and said why.
+ *
+ * Mounts become slaves: what the host mounts or unmounts below the folder later is seen here, and
+ * nothing that is done here is seen there. The folder is mounted on itself, since pivot_root(2) takes
+ * a mount; and with "." for both the old root lies on the new one, from where it is unmounted. */
 static int pivot(const char *folder, int *proc)
 {
 	if (unshare(CLONE_NEWNS | CLONE_NEWNET | CLONE_NEWIPC | CLONE_NEWUTS) ||
@@ -236,7 +263,8 @@ static int pivot(const char *folder, int *proc)
 	return 0;
 }
 
-/* What who isn't root has in namespaces of its own: by these it could do more with its own files. */
+/* What who isn't root has in namespaces of its own: by these it could do more with its own files.
+ * (Root's workers limit themselves, in passthrough_who.c.) */
 static int drop_capabilities(void)
 {
 	struct __user_cap_header_struct header = { _LINUX_CAPABILITY_VERSION_3, 0 };
@@ -245,7 +273,8 @@ static int drop_capabilities(void)
 	return syscall(SYS_capset, &header, none) ? failed("capabilities") : 0;
 }
 
-/* Whether no device can be opened in the mount of the root from now on. */
+/* Whether no device can be opened in the mount of the root from now on: it becomes one with nodev. Of
+ * a mount below it nothing is said. Linux has the call from 5.12 on. */
 static bool refuse_devices(void)
 {
 #ifdef MOUNT_ATTR_NODEV
@@ -257,13 +286,16 @@ static bool refuse_devices(void)
 #endif
 }
 
-/* Leaves nothing that could be got by executing something, as far as it may. */
+/* Leaves nothing that could be got by executing something, as far as it may: to drop takes
+ * CAP_SETPCAP. */
 static void empty_bound(void)
 {
 	for (unsigned long i = 0; prctl(PR_CAPBSET_READ, i, 0, 0, 0) >= 0; i++)
 		prctl(PR_CAPBSET_DROP, i, 0, 0, 0);
 }
 
+/* What takes a path or a capability comes first, and what gives these up last. The descriptors are the
+ * caller's to close, and where it fails it is to end. */
 int sandbox_enter(enum sandbox sandbox, const char *folder, int *root, int *proc, bool *no_devices)
 {
 	*no_devices = false;
@@ -283,9 +315,11 @@ int sandbox_enter(enum sandbox sandbox, const char *folder, int *root, int *proc
 			return failed("--sandbox=chroot");
 		folder = "/";
 	}
+	/* (from here on files are named by these two descriptors, and by no path) */
 	*root = open(folder, KEEPS_PATH);
 	if (*root < 0)
 		return failed(folder);
+	/* (a descriptor is named by its number alone there, for calls that take a path) */
 	if (fchdir(*proc))
 		return failed("/proc/self/fd");
 	empty_bound();
@@ -295,7 +329,8 @@ int sandbox_enter(enum sandbox sandbox, const char *folder, int *root, int *proc
 #ifdef WITH_SECCOMP
 const bool has_filter = true;
 
-/* What a server calls, its threads and its C library. */
+/* What a server calls, its threads and its C library; some by other names on other processors. None
+ * executes a program, traces another process, mounts, or makes a socket. */
 static const char *const calls[] = {
 	"accept4",
 	"brk",
@@ -402,7 +437,8 @@ static const char *const calls[] = {
 	"writev",
 };
 
-/* And to hold files by handles, or tell the handles alone. By one that is made up any file of the file system is opened. */
+/* And to hold files by handles, or tell the handles alone. By one that is made up any file of the file
+ * system is opened. */
 static const char *const handle_calls[] = { "name_to_handle_at", "open_by_handle_at" };
 
 /* And to use rings that are there. (By a ring that it made it would call what it likes.) */
@@ -411,7 +447,8 @@ static const char *const ring_calls[] = { "io_uring_enter", "sched_setaffinity" 
 /* And by ioctl: a worker's descriptor of the device; whether what is written to is a terminal. */
 static const uint32_t controls[] = { FUSE_DEV_IOC_CLONE, TCGETS };
 
-/* Lets calls through by their names: 0, or an error below 0. */
+/* Lets calls through by their names: 0, or an error below 0. One that this processor lacks has a
+ * number of libseccomp's own, and its rule does nothing. */
 static int let(scmp_filter_ctx rules, const char *const *names, size_t count)
 {
 	int error = 0;
@@ -421,6 +458,8 @@ static int let(scmp_filter_ctx rules, const char *const *names, size_t count)
 	return error;
 }
 
+/* Of io_uring_register(2) it has one operation, by which a ring begins that was made disabled: others
+ * could give it more. */
 static int let_rings(scmp_filter_ctx rules)
 {
 	const int error = let(rules, ring_calls, sizeof(ring_calls) / sizeof(*ring_calls));
@@ -444,7 +483,8 @@ static scmp_filter_ctx begin_rules(enum calls_filter filter)
 	return rules;
 }
 
-/* Has the process go by rules, if there was no error. */
+/* Has the process go by rules, if there was no error. They are this thread's, and those of all that it
+ * makes, for good. */
 static int end_rules(scmp_filter_ctx rules, int error)
 {
 	if (!error)
@@ -479,6 +519,7 @@ int sandbox_filter_backing(enum calls_filter filter)
 	if (!rules)
 		return filter == FILTER_NONE ? 0 : -1;
 	error = let(rules, backing_calls, sizeof(backing_calls) / sizeof(*backing_calls));
+	/* (Linux looks at the lower 32 bits of the number alone, and so do the rules) */
 	for (size_t i = 0; i < sizeof(asked) / sizeof(*asked) && !error; i++)
 		error = seccomp_rule_add(rules, SCMP_ACT_ALLOW, SCMP_SYS(ioctl), 2,
 					 SCMP_A0(SCMP_CMP_EQ, BACKING_DEVICE),
@@ -513,6 +554,7 @@ int sandbox_filter(enum calls_filter filter, unsigned may)
 					 SCMP_A0(SCMP_CMP_EQ, CLONE_FS));
 	if (!error && may & MAY_WATCH)
 		error = let_watch(rules);
+	/* (without a sandbox the server unmounts by itself) */
 	if (!error && may & MAY_UNMOUNT)
 		error = seccomp_rule_add(rules, SCMP_ACT_ALLOW, SCMP_SYS(umount2), 0);
 	return end_rules(rules, error);

@@ -1,4 +1,10 @@
-/* The namespace of users of a share: share_users.h. */
+/* The namespace of users of a share: share_users.h. share_sandbox.c enters it first, in the process that
+ * stands by and before that forks, since it gives who isn't root the capabilities that the other
+ * namespaces take. There is one thread.
+ *
+ * By itself a user may map its own id alone. More are mapped by newuidmap(1) and newgidmap(1), which
+ * are set-user-ID and look whether root gave this user those ids; they do so from outside of the
+ * namespace, so a process is forked before it is made. */
 #define _GNU_SOURCE
 #include <errno.h>
 #include <fcntl.h>
@@ -15,7 +21,8 @@ static int failed(const char *what)
 	return -1;
 }
 
-/* Writes a text to a file in one piece. */
+/* Writes a text to a file in one piece, as the kernel takes a map: once, and whole. 0, or -1 with
+ * errno. */
 static int put(const char *path, const char *text)
 {
 	const int fd = open(path, O_WRONLY | O_CLOEXEC);
@@ -32,6 +39,7 @@ static bool is_own(const struct id_map *map, uint32_t own)
 	return map->count == 1 && map->ranges[0].outside == own && map->ranges[0].count == 1;
 }
 
+/* Writes a map of one id. (40 bytes hold two numbers of ten digits, and a 1.) */
 static int put_own(const char *path, const struct id_map *map)
 {
 	char text[40];
@@ -40,10 +48,11 @@ static int put_own(const char *path, const struct id_map *map)
 	return put(path, text);
 }
 
-/* Runs newuidmap or newgidmap for a process, which hold the map against subuid(5) or subgid(5). Whether it
- * was written. */
+/* Runs newuidmap or newgidmap for a process, which hold the map against subuid(5) or subgid(5).
+ * Whether it was written. (The name is looked for in PATH, with the rights of who started the server.) */
 static bool run(const char *program, pid_t of, const struct id_map *map)
 {
+	/* (the process, and three numbers for each range, of at most ten digits) */
 	static char numbers[1 + 3 * MOST_RANGES][12];
 	char *words[3 + 3 * MOST_RANGES] = { (char *)(uintptr_t)program, numbers[0] };
 	int status;
@@ -66,8 +75,9 @@ static bool run(const char *program, pid_t of, const struct id_map *map)
 	return child > 0 && waitpid(child, &status, 0) == child && WIFEXITED(status) && !WEXITSTATUS(status);
 }
 
-/* Forks a process that stays outside and writes those maps of this one that are more than its own id, once a
- * byte comes through the pipe. */
+/* Forks a process that stays outside and writes those maps of this one that are more than its own id,
+ * once a byte comes through the pipe. It ends with 0 if they are written; if the pipe is closed
+ * before, nothing is written. */
 static pid_t begin_outside(const int ends[2], const struct id_map *uids, const struct id_map *gids)
 {
 	const pid_t of = getpid();
@@ -82,7 +92,9 @@ static pid_t begin_outside(const int ends[2], const struct id_map *uids, const s
 	      (by_gid && !run("newgidmap", of, gids)));
 }
 
-/* Makes the namespace, and has its maps written. */
+/* Makes the namespace, and has its maps written: 0, or -1: it failed, and said why. Linux lets who
+ * isn't root map the own group only where setgroups(2) is given up before, by which a process could
+ * leave a group that denies it something. */
 static int leave(const int ends[2], const struct id_map *uids, const struct id_map *gids)
 {
 	const bool own_uid = is_own(uids, geteuid()), own_gid = is_own(gids, getegid());
@@ -98,6 +110,7 @@ static int leave(const int ends[2], const struct id_map *uids, const struct id_m
 		fputs("nizwarf-share: --sandbox=none serves without\n", stderr);
 		return -1;
 	}
+	/* (the namespace is there: the maps of more ids can be written from outside) */
 	if (write(ends[1], "", 1) != 1 || waitpid(child, &status, 0) != child)
 		return failed("ids of users");
 	if (!WIFEXITED(status) || WEXITSTATUS(status)) {
@@ -117,12 +130,14 @@ int users_leave(const struct id_map *uids, const struct id_map *gids)
 
 	if (pipe2(ends, O_CLOEXEC))
 		return failed("a pipe");
+	/* (a map that isn't said is of the own id) */
 	status = leave(ends, uids->count ? uids : &uid, gids->count ? gids : &gid);
 	close(ends[0]);
 	close(ends[1]);
 	return status;
 }
 
+/* Whether the id 0 of the namespace is one. */
 static bool has_root(const struct id_map *map)
 {
 	for (size_t i = 0; i < map->count; i++)
@@ -139,6 +154,7 @@ int users_be_root(const struct id_map *uids, const struct id_map *gids)
 	return 0;
 }
 
+/* (if that can't be read they are taken to be free; where they aren't, setgroups(2) will fail) */
 bool users_keep_groups(void)
 {
 	char text[8] = "";
