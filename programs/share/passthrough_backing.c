@@ -98,7 +98,7 @@ static int number_of(const struct call *call, int fd)
 	if (!atomic_load(&all->is_over))
 		number = fuse_backing_open(all->socket, named);
 	pthread_mutex_unlock(&all->asking);
-	/* (others are of this file alone: the next one is asked for again) */
+	/* (another may be of this file alone: for the next one it is asked again) */
 	if (number == -EPIPE || number == -EPERM)
 		end_numbers(all, -number);
 	if (!is_read)

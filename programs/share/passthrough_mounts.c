@@ -1,8 +1,8 @@
 /* Mounts of the host, and handles of a passthrough: passthrough_mounts.h.
  *
  * `mounts_lock` guards the list, `handles` and `fd` of each mount, and that `users` reaches 0. It is
- * taken under no other lock, and none is taken under it. A handle is opened without it: as long as a node
- * has one its mount's descriptor stays.
+ * never taken under the lock of the nodes, and none is taken under it. What opens the handles of a mount
+ * is opened under it, and a handle without it: as long as a node has one its mount's descriptor stays.
  *
  * Somebody may want to unmount what nodes are on. Their descriptors keep it, or that by which their
  * handles are opened: umount(8) finds it busy as long as one of them is known. */

@@ -13,8 +13,8 @@
  * its names by INC_EPOCH, which Linux has from 6.16 on, and the attributes and bytes of each file.
  * Before, names hold for a minute. What is written to a mapping is told once that is closed.
  *
- * Workers add and remove files, each under the lock of its part alone; the thread looks files up,
- * under one such lock at a time, and sends no notice under any. A node may go between the two: no
+ * Workers add and remove files, each under the lock of its part; the thread looks files up, under one
+ * such lock at a time, and sends no notice under any. A node may go between the two: no
  * other one gets its number, and the kernel refuses a notice of what it doesn't know. */
 #define _GNU_SOURCE
 #include <errno.h>
