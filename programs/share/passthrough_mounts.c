@@ -1,8 +1,8 @@
 /* Mounts of the host, and handles of a passthrough: passthrough_mounts.h.
  *
  * `mounts_lock` guards the list, `handles` and `fd` of each mount, and that `users` reaches 0. It is
- * never taken under the lock of the nodes, and none is taken under it. What opens the handles of a mount
- * is opened under it, and a handle without it: as long as a node has one its mount's descriptor stays.
+ * never taken under the lock of the nodes, and none is taken under it. Nothing is opened under it, neither a
+ * handle nor that by which a mount's handles are: as long as a node has one its mount's descriptor stays.
  *
  * Somebody may want to unmount what nodes are on. Their descriptors keep it, or that by which their
  * handles are opened: umount(8) finds it busy as long as one of them is known. */
@@ -133,6 +133,32 @@ void mount_let_go(struct host_mount *mount)
 		fd_let_go(mount->of, fd);
 }
 
+/* Has a mount opened, with one handle more: false, it can't be. It is opened without the lock, since its file
+ * system may be one that does not answer: then only who needs this mount waits. Of two workers that open it
+ * the first one's stays. */
+static bool mount_open(struct host_mount *mount, const struct found *found, int fd, const struct statx *seen)
+{
+	int own = -1;
+	bool is_open;
+
+	if (!fd_reserve(mount->of, 1)) {
+		own = open_mount(mount, found, fd, seen);
+		if (own < 0)
+			fd_give_back(mount->of, 1);
+	}
+	pthread_mutex_lock(&mount->of->mounts_lock);
+	if (mount->fd < 0) {
+		mount->fd = own;
+		own = -1;
+	}
+	is_open = mount->fd >= 0;
+	mount->handles += is_open;
+	pthread_mutex_unlock(&mount->of->mounts_lock);
+	if (own >= 0)
+		fd_let_go(mount->of, own);
+	return is_open;
+}
+
 /* Opens the handle once to see whether it does: a file system may tell one that it can't open, and the
  * file's own descriptor is closed after that. False: the node keeps that, or isn't made if handles
  * alone are wanted. */
@@ -143,15 +169,10 @@ bool mount_hold(struct host_mount *mount, const struct found *found, int fd, con
 	int opened;
 
 	pthread_mutex_lock(&mount->of->mounts_lock);
-	if (mount->fd < 0 && !fd_reserve(mount->of, 1)) {
-		mount->fd = open_mount(mount, found, fd, seen);
-		if (mount->fd < 0)
-			fd_give_back(mount->of, 1);
-	}
 	is_open = mount->fd >= 0;
 	mount->handles += is_open;
 	pthread_mutex_unlock(&mount->of->mounts_lock);
-	if (!is_open)
+	if (!is_open && !mount_open(mount, found, fd, seen))
 		return false;
 	opened = open_by_handle(mount, handle);
 	if (opened >= 0)
