@@ -8,6 +8,7 @@
 #   documents  the pages against the sources
 #   figures    the commands and commits that made pages name; `Older: PAGE ..` if what they measure changed since
 #   opcode     the files in which an opcode stands, against the list of CONTRIBUTING.md
+#   edits      that each wrong body of tests/edits can still be tried
 #   numbers    opcodes, calls, kinds, bits, codes and fields, wherever they stand, against their one table
 #   shell      scripts, by shellcheck
 #   rattle     the format of Rattle's files, by `rt fmt` on a copy
@@ -28,10 +29,10 @@ set -euo pipefail
 . "$(dirname "$0")/lib/man.sh"
 cd "$here"
 
-parts=(documents figures opcode numbers shell rattle rust python c format door crate)
+parts=(documents figures opcode edits numbers shell rattle rust python c format door crate)
 # What a part runs, by its package. The toolchain is none of Debian's.
 declare -A wanted=(
-    [documents]="rt python3" [figures]="python3 git" [opcode]="python3" [numbers]="python3" [shell]="shellcheck" [rattle]="rt"
+    [documents]="rt python3" [figures]="python3 git" [opcode]="python3" [edits]="bash" [numbers]="python3" [shell]="shellcheck" [rattle]="rt"
     [rust]="rustfmt" [python]="pyflakes3"
     [c]="cc python3" [format]="clang-format" [door]="rt cc" [crate]="cargo rt cc"
 )
@@ -96,6 +97,7 @@ c_files() { files '*.c' '*.h'; }
 check_documents() { tools/dev/documents.sh; }
 check_figures() { tools/dev/figures.py; }
 check_opcode() { tools/dev/opcode.py; }
+check_edits() { tests/edits/run.sh --texts; }
 check_numbers() { tools/dev/numbers.py; }
 check_shell() { scripts | each shellcheck; }
 # (one by one from the input: some name modules that stand elsewhere)
@@ -142,6 +144,7 @@ count_of() {
         documents) echo "$(files '*.md' | wc -l) pages" ;;
         figures) echo "$(files 'docs/generated/*.md' docs/SPEED.md | wc -l) pages" ;;
         opcode) echo "$(tools/dev/opcode.py --opcodes | wc -w) opcodes" ;;
+        edits) echo "$(files 'tests/edits/*.edit' | wc -l) edits" ;;
         numbers) tools/dev/numbers.py | sed 's/:.*//' ;;
         shell) echo "$(scripts | wc -l) scripts" ;;
         rattle) echo "$(files 'crates/*.rt' 'crates/*.antt' | wc -l) files" ;;
