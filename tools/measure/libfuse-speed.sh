@@ -4,20 +4,25 @@
 # both, in turns, its ratio, and that of the least by the clock; below 1 it is quicker here; then, if valgrind is
 # installed, the ratio of instructions. (The least, since a busy processor is half as quick, by turns)
 #
-# Usage: tools/measure/libfuse-speed.sh [--mount [--class CLASS]..] [ROUNDS [FOLDER]]
+# Usage: tools/measure/libfuse-speed.sh [--mount [--one] [--class CLASS]..] [ROUNDS [FOLDER]]
 # Without a word 40 rounds, with --mount 9. FOLDER is that of tools/libfuse.sh. It takes a minute.
 # With --mount libfuse's passthrough_ll is mounted with both, in turns, and files are used, by one job and by four: a cell
 # is the ratio by the clock, and in brackets that of the processor time of the server, the kernel's part included. That
-# takes root and ten minutes; the classes are those of tools/measure/share-speed.sh.
+# takes root and ten minutes; the classes are those of tools/measure/share-speed.sh. With --one all is on one processor: on
+# more it is chance where a server and who waits for it are, and the ratios of few rounds say little.
 # Status 0: it was timed; 1: not so; 2: it could not start.
 set -euo pipefail
 . "$(dirname "$0")/../lib/usage.sh"
 . "$(dirname "$0")/../lib/program.sh"
 . "$(dirname "$0")/../lib/mounts.sh"
 
-given=("$@") mount='' classes=()
+given=("$@") mount='' classes=() where=()
 if [ "${1:-}" = --mount ]; then
     mount=yes
+    shift
+fi
+if [ "$mount ${1:-}" = "yes --one" ]; then
+    where=(taskset -c "$(nproc --all | awk '{ print $1 - 1 }')")
     shift
 fi
 while [ "$mount ${1:-}" = "yes --class" ] && [ $# -ge 2 ]; do
@@ -26,7 +31,7 @@ while [ "$mount ${1:-}" = "yes --class" ] && [ $# -ge 2 ]; do
 done
 rounds=${1:-$([ -n "$mount" ] && echo 9 || echo 40)}
 if ! [[ $rounds =~ ^[1-9][0-9]*$ ]] || [ $# -gt 2 ]; then
-    echo "Usage: tools/measure/libfuse-speed.sh [--mount [--class CLASS]..] [ROUNDS [FOLDER]]" >&2
+    echo "Usage: tools/measure/libfuse-speed.sh [--mount [--one] [--class CLASS]..] [ROUNDS [FOLDER]]" >&2
     exit 2
 fi
 folder=$(realpath -m "${2:-$here/out/libfuse}")
@@ -41,7 +46,7 @@ if [ -n "$mount" ]; then
     cc -O2 -w -D_FILE_OFFSET_BITS=64 -pthread -I "$folder/source-$suite/include" -I "$folder/$suite-unmodified/build" \
         -o "$work/passthrough_ll" "$folder/source-$suite/example/passthrough_ll.c" "$theirs/libfuse3.so.3"
     cc -std=c11 -O2 -Wall -Wextra -Werror -o "$work/share_speed" "$here/tools/measure/share_speed.c"
-    LD_LIBRARY_PATH=$theirs python3 -B "$here/tools/measure/share_speed.py" libfuse "$work/share_speed" "$ours" - '' \
+    LD_LIBRARY_PATH=$theirs "${where[@]}" python3 -B "$here/tools/measure/share_speed.py" libfuse "$work/share_speed" "$ours" - '' \
         "$work/passthrough_ll" - "$here" "$work" "$rounds" '' "${classes[@]}"
     exit
 fi
