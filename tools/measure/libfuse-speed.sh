@@ -8,8 +8,8 @@
 # Without a word 40 rounds, with --mount 9. FOLDER is that of tools/libfuse.sh. It takes a minute.
 # With --mount libfuse's passthrough_ll is mounted with both, in turns, and files are used, by one job and by four: a cell
 # is the ratio by the clock, and in brackets that of the processor time of the server, the kernel's part included. That
-# takes root and ten minutes; the classes are those of tools/measure/share-speed.sh. With --one all is on one processor: on
-# more it is chance where a server and who waits for it are, and the ratios of few rounds say little.
+# takes root and ten minutes; the classes are those of tools/measure/share-speed.sh. With --one all is on one processor: with
+# more it is chance where a server and who waits for it come to, and few rounds say little.
 # Status 0: it was timed; 1: not so; 2: it could not start.
 set -euo pipefail
 . "$(dirname "$0")/../lib/usage.sh"
@@ -46,8 +46,8 @@ if [ -n "$mount" ]; then
     cc -O2 -w -D_FILE_OFFSET_BITS=64 -pthread -I "$folder/source-$suite/include" -I "$folder/$suite-unmodified/build" \
         -o "$work/passthrough_ll" "$folder/source-$suite/example/passthrough_ll.c" "$theirs/libfuse3.so.3"
     cc -std=c11 -O2 -Wall -Wextra -Werror -o "$work/share_speed" "$here/tools/measure/share_speed.c"
-    LD_LIBRARY_PATH=$theirs "${where[@]}" python3 -B "$here/tools/measure/share_speed.py" libfuse "$work/share_speed" "$ours" - '' \
-        "$work/passthrough_ll" - "$here" "$work" "$rounds" '' "${classes[@]}"
+    LD_LIBRARY_PATH=$theirs "${where[@]}" python3 -B "$here/tools/measure/share_speed.py" libfuse "$work/share_speed" \
+        "$ours" - '' "$work/passthrough_ll" - "$here" "$work" "$rounds" '' "${classes[@]}"
     exit
 fi
 work=$(mktemp -d -p "$folder")
