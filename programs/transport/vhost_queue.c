@@ -835,16 +835,17 @@ static int look_at_late(struct guest *g)
 }
 
 /* An answer that came late goes into memory as it was when its request was taken. So workers give all of them
- * back before that may change: after queues_recall() no more come. Workers that are busy have not looked yet. */
+ * back before that may change: after queues_recall() no more come. Workers that are busy have not looked yet; if
+ * one failed, all is to end. */
 int queues_hold_answered(int signals, int client)
 {
-	struct pollfd wait[] = { { signals, POLLIN, 0 }, { client, POLLRDHUP, 0 } };
+	struct pollfd wait[] = { { signals, POLLIN, 0 }, { client, POLLRDHUP, 0 }, { over, POLLIN, 0 } };
 
 	while (!queues_hold(signals, client)) {
 		if (!look_at_late(vhost_guest))
 			return 0;
 		queues_go();
-		if (poll(wait, 2, REST) > 0)
+		if (poll(wait, 3, REST) > 0)
 			return -1;
 	}
 	return -1;
