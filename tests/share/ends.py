@@ -3,7 +3,7 @@ an event that is full, keeps nobody: neither the next front end, nor a signal. A
 mounted. Usage: ends.py SHARE WORK [WORDS]; and for tests/mount/check.sh ends.py --tree MOUNT VHOST WORK. It
 wants root, in a namespace of mounts of its own."""
 
-import atexit, ctypes, fcntl, mmap, os, select, signal, socket, struct, subprocess, sys, time
+import atexit, contextlib, ctypes, fcntl, mmap, os, select, signal, socket, struct, subprocess, sys, time
 
 sys.path.insert(0, os.path.dirname(os.path.abspath(__file__)) + "/../lib")
 import held  # noqa: E402
@@ -120,7 +120,9 @@ class Server:
         """Ends by signals to itself, or others that are named."""
         from_then = time.monotonic()
         for it, number in signals or ((self.process.pid, signal.SIGTERM),):
-            os.kill(it, number)
+            # (by the first one both may have ended)
+            with contextlib.suppress(ProcessLookupError):
+                os.kill(it, number)
         try:
             came = self.process.wait(SOON)
         except subprocess.TimeoutExpired:
