@@ -266,7 +266,7 @@ def main():
         rows.append([name, *(machines(name, count) for count in (1, MACHINES))])
     table(["Daemon", "1 machine", f"{MACHINES} machines"], rows)
     print("\n## Locks\n\nOf four queues and workers, 64 in flight: how often a request takes a lock, how many of a thousand wait for it, and the\n"
-          "nanoseconds that a request waits (tools/measure/locks.c).")
+          "nanoseconds that a request waits (tools/measure/locks.c); `lock` is that of a queue.")
     locks()
     print("\n## Where the processor's time goes\n\nMicroseconds of the processor for a request, 16 in flight, of a daemon with one worker that holds files by descriptors:\n"
           "medians of {} rounds in turns. The transport is that of a back end that answers at once without a file system; the second\n"
