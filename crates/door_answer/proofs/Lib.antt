@@ -1,4 +1,4 @@
-pub mod Behind
+pub mod Following
 pub mod Told
 pub mod Taking
 pub mod Listed

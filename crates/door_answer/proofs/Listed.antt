@@ -6,7 +6,7 @@ use Rattle.fuse_segments.specs.Written.{Written, Moves, held_over}
 use Rattle.fs_trait.specs.declared.entry.Context.{Context}
 use Rattle.fs_trait.specs.Calls.{Readdir, Failed, Data, Counts, IsAnswer, read_answer}
 use Rattle.fs_trait.specs.Runs.{Event, Called, OpenedDirectory}
-use Rattle.fuse_messages.specs.Rooms.{PutsBehindHeader, Replies}
+use Rattle.fuse_messages.specs.Rooms.{PutsAfterHeader, Replies}
 use Rattle.fuse_grammar.specs.Listing.{Line, Stop, IsListing, AreWritten, Stops, answer_of, line_events, stop_events, line_bytes, line_len}
 use Rattle.fuse_grammar.specs.Words.{reply_to}
 use Rattle.fuse_listings.specs.Reading.{Puts}
@@ -21,7 +21,7 @@ use Rattle.door_answer.specs.declared.answered.Answered.{Answered}
 
 -- records were put, and perhaps the beginning of one more
 records_after : (old held new : Written) (records beyond : List ℕ) → held ≡ held_over old 16 → 16 ≤ length old.left → Puts held (records ++ beyond) new
-    → PutsBehindHeader old records new
+    → PutsAfterHeader old records new
 records_after old held new records beyond e enough puts = record {
   beyond = beyond;
   enough = enough;
@@ -29,7 +29,7 @@ records_after old held new records beyond e enough puts = record {
 }
 
 -- nothing was put
-none_after : (old held new : Written) → held ≡ held_over old 16 → 16 ≤ length old.left → new ≡ held → PutsBehindHeader old [] new
+none_after : (old held new : Written) → held ≡ held_over old 16 → 16 ≤ length old.left → new ≡ held → PutsAfterHeader old [] new
 none_after old held new e enough same = record {
   beyond = [];
   enough = enough;
@@ -74,7 +74,7 @@ short plus size a items old answer taken new small (inr h) =
 module _ (call : CallData) (a : AnswerData) (items : List ItemData) (old held mid : Written) (answer : Result ℕ (Option ℕ)) (came : Answered) (new : Written)
     (holds : held ≡ held_over old 16) (enough : 16 ≤ length old.left) (room : length old.left ≡ call.room) (small : call.size < 2 ^ 32 - 16)
     (kind : (bytes : List ℕ) (size : ℕ) → Counts answer bytes size → IsAnswer (Data size) (read_answer answer bytes))
-    (replied : (before : Written) (bytes : List ℕ) (size : ℕ) → PutsBehindHeader before bytes mid → Counts answer bytes size
+    (replied : (before : Written) (bytes : List ℕ) (size : ℕ) → PutsAfterHeader before bytes mid → Counts answer bytes size
     → Replies (reply_to call.unique (Data size) (read_answer answer bytes)) before came.outcome new)
     (same_options : came.options ≡ call.options) (none_given : came.given ≡ 0) where
   unopened : (fault : Option ℕ) → IsFailed a fault → answer ≡ Err fault → came.taken ≡ 0 → mid ≡ held → IsListed call a items old came new

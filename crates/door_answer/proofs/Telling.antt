@@ -76,8 +76,8 @@ read_short space room within h =
     let short : nat_le 16 space ≡ false = first_false (nat_le 16 space) (nat_le space room) below h in
     grind (arith, nat_tests)
 
-other_short : (space behind room : ℕ) → space + behind ≡ room → (space == room) ≡ false → 0 < behind
-other_short space behind room all h = grind (arith, nat_tests)
+other_short : (space following room : ℕ) → space + following ≡ room → (space == room) ≡ false → 0 < following
+other_short space following room all h = grind (arith, nat_tests)
 
 list_short : (space room size : ℕ) → space ≡ room → ((space == room) && (nat_le 16 space && nat_lt size (2 ^ 32 - 16))) ≡ false
     → (space < 16) ⊎ (2 ^ 32 - 16 ≤ size)
@@ -86,38 +86,38 @@ list_short space room size same h =
     either space size (nat_le 16 space) (nat_lt size (2 ^ 32 - 16)) refl refl (second_false (space == room) _ whole h)
 
 module _ (limits : Limits) (told : CallData) (a : AnswerData) (text : List ℕ) (items : List ItemData) (old new : Written) where
-  is_answered : (came : Answered) (echo : Echo) (c : Call) (behind : List ℕ) → TellsEcho told echo → TellsCall told c
-      → IsAnswered limits told (kind_of c) a text (with_after old behind) came (with_after new behind)
-      → CallIsAnswered limits echo c told.options a text (with_after old behind) came (with_after new behind)
-  is_answered came echo c behind e t h =
+  is_answered : (came : Answered) (echo : Echo) (c : Call) (following : List ℕ) → TellsEcho told echo → TellsCall told c
+      → IsAnswered limits told (kind_of c) a text (with_after old following) came (with_after new following)
+      → CallIsAnswered limits echo c told.options a text (with_after old following) came (with_after new following)
+  is_answered came echo c following e t h =
       let same = told_reply limits told echo came.options (kind_of c) h.answer e in
-      let space : ℕ = length (old.left ++ behind) in
+      let space : ℕ = length (old.left ++ following) in
       record {
         answer = h.answer;
         said = h.said;
         fits = h.comes.0;
-        replied = subst (λ (r : Reply). Replies r (with_after old behind) came.outcome (with_after new behind)) same h.comes.1;
+        replied = subst (λ (r : Reply). Replies r (with_after old following) came.outcome (with_after new following)) same h.comes.1;
         options_are = h.comes.2 ∙ told_options told c h.answer t.number t.offer;
         given_is = h.comes.3 ∙ ap (λ (r : Reply). unwrap_or (unseen space r (node_answered (kind_of c) h.answer)) 0) same;
         kept = h.kept;
         none_taken = h.comes.4;
       }
 
-  call_short : (kind : Kind) (behind : ℕ) → kind ≢ Iterators → length old.left + behind ≡ told.room → can_answer (Some kind) told (length old.left) ≡ false → IsShort kind (length old.left) behind
-  call_short (Data size) behind other room h = read_short (length old.left) told.room (omega (arith, room)) h
-  call_short Iterators behind other room h = absurd (other refl)
-  call_short _ behind other room h = other_short (length old.left) behind told.room room h
+  call_short : (kind : Kind) (following : ℕ) → kind ≢ Iterators → length old.left + following ≡ told.room → can_answer (Some kind) told (length old.left) ≡ false → IsShort kind (length old.left) following
+  call_short (Data size) following other room h = read_short (length old.left) told.room (omega (arith, room)) h
+  call_short Iterators following other room h = absurd (other refl)
+  call_short _ following other room h = other_short (length old.left) following told.room room h
 
-  call_answered : (result : Option Answered) (echo : Echo) (c : Call) (behind : List ℕ) → TellsEcho told echo → TellsCall told c → kind_of c ≢ Iterators
-      → length old.left + length behind ≡ told.room → AnswersCall limits (Some (kind_of c)) told a text old result new
-      → MatchOption result (IsShort (kind_of c) (length old.left) (length behind)) (λ came. CallIsAnswered limits echo c told.options a text (with_after old behind) came (with_after new behind))
-  call_answered None echo c behind e t other room h = call_short (kind_of c) (length behind) other room h.0
-  call_answered (Some came) echo c behind e t other room h = is_answered came echo c behind e t (h.1 behind room)
+  call_answered : (result : Option Answered) (echo : Echo) (c : Call) (following : List ℕ) → TellsEcho told echo → TellsCall told c → kind_of c ≢ Iterators
+      → length old.left + length following ≡ told.room → AnswersCall limits (Some (kind_of c)) told a text old result new
+      → MatchOption result (IsShort (kind_of c) (length old.left) (length following)) (λ came. CallIsAnswered limits echo c told.options a text (with_after old following) came (with_after new following))
+  call_answered None echo c following e t other room h = call_short (kind_of c) (length following) other room h.0
+  call_answered (Some came) echo c following e t other room h = is_answered came echo c following e t (h.1 following room)
 
   pub each_call : (result : Option Answered) → Answers limits (kind_told told.answer told.size) told a text items old result new → AnswersEachCall limits told a text old result new
-  each_call result h echo c behind e t other room =
+  each_call result h echo c following e t other room =
       let kind : kind_told told.answer told.size ≡ Some (kind_of c) = rw (t.kind, t.size) (told_kind c) in
-      call_answered result echo c behind e t other room (by_value limits (kind_of c) told a text items old result new other
+      call_answered result echo c following e t other room (by_value limits (kind_of c) told a text items old result new other
       (subst (λ (k : Option Kind). Answers limits k told a text items old result new) kind h))
 
   listing_answered : (result : Option Answered) (echo : Echo) (listing : Listing) → TellsEcho told echo → TellsListing told listing → length old.left ≡ told.room

@@ -14,7 +14,7 @@ use Rattle.door_answer.specs.Kinds.{kind_told}
 use Rattle.door_answer.specs.Answering.{can_answer, AnswersCall, Comes, KeepsData, IsAnswered}
 use Rattle.door_answer.specs.declared.answered.Answered.{Answered}
 use Rattle.fuse_messages.proofs.Rooms.{with_none_after}
-use Rattle.door_answer.proofs.Behind.{data_replied, data_kept, fault_replied, fault_kept}
+use Rattle.door_answer.proofs.Following.{data_replied, data_kept, fault_replied, fault_kept}
 
 -- in all the room that was told, nothing comes after
 pub answered : (limits : Limits) (call : CallData) (kind : Kind) (a : AnswerData) (text : List ℕ) (old : Written) (came : Answered) (new : Written) (answer : Answer)
@@ -24,9 +24,9 @@ pub answered : (limits : Limits) (call : CallData) (kind : Kind) (a : AnswerData
 answered limits call kind a text old came new answer told room can said comes kept =
     subst (λ (k : Option Kind). AnswersCall limits k call a text old (Some came) new) (sym told) (
       can,
-      λ behind all.
-          let none : length behind ≡ 0 = omega (arith, room, all) in
-          rw (with_none_after old behind none, with_none_after new behind none)
+      λ following all.
+          let none : length following ≡ 0 = omega (arith, room, all) in
+          rw (with_none_after old following none, with_none_after new following none)
           (record { answer = answer; said = said; comes = comes; kept = kept }),
     )
 
@@ -39,17 +39,17 @@ pub read_answered : (limits : Limits) (call : CallData) (a : AnswerData) (text :
     → MatchResult said
     (λ count. (came.outcome ≡ Ok (16 + count)) × (new ≡ wrote old (bytes_of out_header (data_header (Ok count) call.unique))))
     (λ fault. IsFault fault × Replies (Bytes (fault_reply fault call.unique)) old came.outcome new)
-    → (behind : List ℕ) → length old.left + length behind ≡ call.room
-    → IsAnswered limits call (Data call.size) a text (with_after old behind) came (with_after new behind)
-read_answered limits call a text old new came (Ok count) room fits said plain put behind all =
-    let whole : length (old.left ++ behind) ≡ call.room = length-append old.left behind ∙ all in
-    let bytes = take a.count (drop 16 (old.left ++ behind)) in
-    let within : 16 + count ≤ length (old.left ++ behind) = omega (arith, whole, fits.0, fits.1.room_for) in
-    let long : length bytes ≡ a.count = omega (arith, within, fits.0, length-take a.count (drop 16 (old.left ++ behind)), length-drop 16 (old.left ++ behind)) in
-    let replied = data_replied old new behind count call.unique room within put.1 in
+    → (following : List ℕ) → length old.left + length following ≡ call.room
+    → IsAnswered limits call (Data call.size) a text (with_after old following) came (with_after new following)
+read_answered limits call a text old new came (Ok count) room fits said plain put following all =
+    let whole : length (old.left ++ following) ≡ call.room = length-append old.left following ∙ all in
+    let bytes = take a.count (drop 16 (old.left ++ following)) in
+    let within : 16 + count ≤ length (old.left ++ following) = omega (arith, whole, fits.0, fits.1.room_for) in
+    let long : length bytes ≡ a.count = omega (arith, within, fits.0, length-take a.count (drop 16 (old.left ++ following)), length-drop 16 (old.left ++ following)) in
+    let replied = data_replied old new following count call.unique room within put.1 in
     record {
       answer = read_answer (Ok count) bytes;
-      said = said text (old.left ++ behind) whole;
+      said = said text (old.left ++ following) whole;
       comes = (
         (omega (arith, long, fits.1.asked_for), omega (arith, long, fits.1.short)),
         rw (put.0, ← fits.0) replied,
@@ -57,19 +57,19 @@ read_answered limits call a text old new came (Ok count) room fits said plain pu
         ap (λ (x : Answered). x.given) plain,
         ap (λ (x : Answered). x.taken) plain,
       );
-      kept = data_kept old new behind count call.unique room put.1;
+      kept = data_kept old new following count call.unique room put.1;
     }
-read_answered limits call a text old new came (Err fault) room fits said plain put behind all =
-    let whole : length (old.left ++ behind) ≡ call.room = length-append old.left behind ∙ all in
+read_answered limits call a text old new came (Err fault) room fits said plain put following all =
+    let whole : length (old.left ++ following) ≡ call.room = length-append old.left following ∙ all in
     record {
-      answer = read_answer (Err fault) (take a.count (drop 16 (old.left ++ behind)));
-      said = said text (old.left ++ behind) whole;
+      answer = read_answer (Err fault) (take a.count (drop 16 (old.left ++ following)));
+      said = said text (old.left ++ following) whole;
       comes = (
         put.0,
-        fault_replied old new behind fault call.unique came.outcome room put.1,
+        fault_replied old new following fault call.unique came.outcome room put.1,
         ap (λ (x : Answered). x.options) plain,
         ap (λ (x : Answered). x.given) plain,
         ap (λ (x : Answered). x.taken) plain,
       );
-      kept = fault_kept old new behind fault call.unique came.outcome room put.1;
+      kept = fault_kept old new following fault call.unique came.outcome room put.1;
     }

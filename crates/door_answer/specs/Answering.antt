@@ -79,8 +79,8 @@ AnswersCall limits kind call a text old None new =
 AnswersCall limits None call a text old (Some came) new = ⊥
 AnswersCall limits (Some kind) call a text old (Some came) new =
     (can_answer (Some kind) call (length old.left) ≡ true)
-    × ((behind : List ℕ) → length old.left + length behind ≡ call.room
-    → IsAnswered limits call kind a text (with_after old behind) came (with_after new behind))
+    × ((following : List ℕ) → length old.left + length following ≡ call.room
+    → IsAnswered limits call kind a text (with_after old following) came (with_after new following))
 
 -- the same of READDIR and READDIRPLUS
 abbrev pub AnswersDirectory : CallData → AnswerData → (items : List ItemData) → (old : Written)

@@ -65,21 +65,21 @@ pub record CallIsAnswered (limits : Limits) (echo : Echo) (call : Call) (options
 
 -- The room of a writer is too short for an answer: of a READ for the header; else it is not all that was
 -- told at the call, of which that much comes after.
-abbrev pub IsShort : Kind → (space behind : ℕ) → Type 0
-IsShort (Data size) space behind = space < size_of out_header
-IsShort kind space behind = 0 < behind
+abbrev pub IsShort : Kind → (space following : ℕ) → Type 0
+IsShort (Data size) space following = space < size_of out_header
+IsShort kind space following = 0 < following
 
 -- Each call that these data tell was answered, whatever comes after the writer's room up to the room that
 -- was told at the call; only where the writer's is too short it wasn't.
 abbrev pub AnswersEachCall : Limits → CallData → AnswerData → (text : List ℕ) → (old : Written)
     → Option Answered → (new : Written) → Type 0
 AnswersEachCall limits told a text old result new =
-    (echo : Echo) (call : Call) (behind : List ℕ)
+    (echo : Echo) (call : Call) (following : List ℕ)
     → TellsEcho told echo → TellsCall told call → kind_of call ≢ Iterators
-    → length old.left + length behind ≡ told.room
-    → MatchOption result (IsShort (kind_of call) (length old.left) (length behind)) (λ came.
-    CallIsAnswered limits echo call told.options a text (with_after old behind) came
-    (with_after new behind))
+    → length old.left + length following ≡ told.room
+    → MatchOption result (IsShort (kind_of call) (length old.left) (length following)) (λ came.
+    CallIsAnswered limits echo call told.options a text (with_after old following) came
+    (with_after new following))
 
 -- A directory was read from the items that were offered: its records are the reply, by the rule of rooms,
 -- and that many of the items are in it.

@@ -3,7 +3,7 @@
 ghost use Rattle.std.specs.Prelude.{◌≡◌, ◌≢◌, ◌==◌, ◌<◌, ◌≤◌, ◌-◌, ◌^◌, ℕ, List, length, IfOk, IfSome, Some};
 ghost use Rattle.fuse_segments.specs.Written.{Written};
 ghost use Rattle.fs_trait.specs.Answers.{Counts, Data, Entries, IsAnswer, Iterators, TimedAttributes, read_answer};
-ghost use Rattle.fuse_messages.specs.Rooms.{PutsBehindHeader, Replies};
+ghost use Rattle.fuse_messages.specs.Rooms.{PutsAfterHeader, Replies};
 ghost use Rattle.fuse_grammar.specs.Words.{reply_to};
 ghost use Rattle.fuse_grammar.specs.Limits.{AreLimits};
 ghost use Rattle.fuse_grammar.specs.declared.limits.Limits.{Limits};
@@ -180,7 +180,7 @@ fn answer_listed(call: &CallData, listed: Listed, w: &mut Writer) -> Answered
     requires held { w.old.held ≡ 16 }
     requires short { IfOk listed.answer (λ count. count < 2 ^ 32 - 16) }
     ensures replied { (old : Written) (bytes : List ℕ) (size : ℕ) →
-        PutsBehindHeader old bytes w.old → Counts listed.answer bytes size →
+        PutsAfterHeader old bytes w.old → Counts listed.answer bytes size →
         Replies (reply_to call.now.unique (Data size) (read_answer listed.answer bytes))
         old result.outcome w.new }
     ensures kind { (bytes : List ℕ) (size : ℕ) → Counts listed.answer bytes size →

@@ -48,11 +48,11 @@ pub tells_at_once : (terms : Terms) (h : InHeader) (rest : List ℕ) (o : Opcode
     → terms.len < 2 ^ 64 → h.len ≤ max_len terms.limits → (h.opcode ≡ 36 → ⊥) → opcode_of h.opcode ≡ Some o
     → o ≢ opcode.Init → o ≢ opcode.Readdir → o ≢ opcode.Readdirplus → may_have_context (fs_options_bits terms.options) o ≡ false
     → IsToldAtOnce terms o h rest told_call → TellsAtOnce terms h rest told_call
-tells_at_once terms h rest o told_call fits within other known no_init no_readdir no_plus lacks n = λ writer writer_after request long first behind.
+tells_at_once terms h rest o told_call fits within other known no_init no_readdir no_plus lacks n = λ writer writer_after request long first following.
     let options = fs_options_bits terms.options in
     let below : nat_lt (max_len terms.limits) h.len ≡ false = not_above (max_len terms.limits) h.len within in
     let number = other_number h.opcode other in
-    let is = rw behind at (told_by_opcode request h (header_fits request h first) terms.limits options terms.room terms.len long fits o no_init no_readdir no_plus lacks) in
+    let is = rw following at (told_by_opcode request h (header_fits request h first) terms.limits options terms.room terms.len long fits o no_init no_readdir no_plus lacks) in
     rw (below, known, number)
     (tells_call request options terms.room writer writer_after h terms.len o
     (ask_opcode terms.limits options terms.room o h rest) told_call is n)

@@ -83,8 +83,8 @@ context_stands q at n body c is e =
     let o = or_ok (record_of secctx body) _ c e in
     let s = sized_size o.0.size (o.0.size == 0) body c refl o.2 in
     let k = dropped 8 n (drop at q) in
-    let behind : drop 8 body ≡ take k.0 (drop (at + 8) q) = ap (drop 8) is ∙ k.1 ∙ ap (take k.0) (drop-drop 8 at q) in
-    both_within q (at + 8) k.0 (drop 8 body) c behind (omega (arith, s.0, s.1.sized)) s.1.parts
+    let following : drop 8 body ≡ take k.0 (drop (at + 8) q) = ap (drop 8) is ∙ k.1 ∙ ap (take k.0) (drop-drop 8 at q) in
+    both_within q (at + 8) k.0 (drop 8 body) c following (omega (arith, s.0, s.1.sized)) s.1.parts
 
 -- ---- blocks
 

@@ -16,7 +16,7 @@ use Rattle.fuse_grammar.specs.Memory.{header_of}
 use Rattle.fuse_grammar.specs.Forms.{Ask, Ends, Asks, Lists, WithMemory, Form, ask_form, ask_version, faulted, within}
 use Rattle.fuse_grammar.specs.Limits.{max_len}
 use Rattle.fuse_grammar.specs.Records.{record_of, size_of}
-use Rattle.fuse_grammar.specs.Reply.{Reply, Refusal, NoReply, Bytes, OpenBehind, fault_reply, body_reply, version_out}
+use Rattle.fuse_grammar.specs.Reply.{Reply, Refusal, NoReply, Bytes, OpenAfter, fault_reply, body_reply, version_out}
 use Rattle.fuse_grammar.specs.declared.limits.Limits.{Limits}
 use Rattle.fuse_grammar.specs.declared.error.Error.{Error}
 use Rattle.fuse_grammar.specs.declared.error.Error.TheVariants.{DecodeMessage, EncodeMessage, FlushMessage, MissingParameter, InvalidCString, InvalidCString2, InvalidHeaderLength, InvalidXattrSize, MissingExtension, OutOfMemory}
@@ -232,8 +232,8 @@ pub judges_after : (wanted : Type 0) (q : List ℕ) (options interrupts room : �
     → EndsShort (ask_header limits options room h rest)
     → Tells wanted q options interrupts room (ask_header limits options room h rest) writer result writer_after told
     → Judges wanted q options interrupts room (ask_header limits options room h rest) (checked_of room result) told
-judges_after wanted q options n room writer writer_after none told limits result h rest first behind short tells =
-    let asks : ask limits options room q ≡ ask_header limits options room h rest = rw (first, behind) refl in
+judges_after wanted q options n room writer writer_after none told limits result h rest first following short tells =
+    let asks : ask limits options room q ≡ ask_header limits options room h rest = rw (first, following) refl in
     subst (λ (a : Ask). Judges wanted q options n room a (checked_of room result) told) asks
     (judges wanted q options n room writer writer_after none told limits result
     (subst EndsShort (sym asks) short)

@@ -74,10 +74,10 @@ or_ok (Ok part) next x h = (part, refl, h)
 
 -- ---- parts
 
-pub tail_stands : (h : InHeader) (size : ℕ) (behind tail : List ℕ) → tail_of h size behind ≡ Ok tail → (n : ℕ) × (tail ≡ take n behind)
-tail_stands h size behind tail e =
+pub tail_stands : (h : InHeader) (size : ℕ) (following tail : List ℕ) → tail_of h size following ≡ Ok tail → (n : ℕ) × (tail ≡ take n following)
+tail_stands h size following tail e =
     let a = else_ok (nat_lt h.len (size_of in_header + size)) _ _ tail e in
-    let b = else_ok (nat_lt (length behind) (h.len - (size_of in_header + size))) _ _ tail a in
+    let b = else_ok (nat_lt (length following) (h.len - (size_of in_header + size))) _ _ tail a in
     (h.len - (size_of in_header + size), sym (same_ok _ tail b))
 
 -- a name of bytes, whose first 0 is at this place

@@ -26,7 +26,7 @@ use Rattle.fuse_grammar.specs.declared.error.Error.{Error}
 use Rattle.fuse_grammar.specs.declared.limits.Limits.{Limits}
 use Rattle.door_calls.specs.Shapes.{nothing, shape_of, unplaced}
 use Rattle.door_calls.specs.declared.call.CallData.{CallData}
-use Rattle.fuse_server.specs.MemoryByPieces.{MayWantBehind}
+use Rattle.fuse_server.specs.MemoryByPieces.{MayWantAfter}
 use Rattle.door_ask.specs.Asked.{IsNameIn, IsTold, Stand, Tells}
 use Rattle.door_ask.specs.Contexts.{ContextAt, GivesTailOf, PlacesContext, StandsInBlocks, blocks_of, blocks_place, may_have_context, sum_or_most, tail_after, with_context_at}
 use Rattle.door_ask.specs.Noting.{IsNoted, NotedAndTold}
@@ -76,9 +76,9 @@ module _ (wanted : Type 0) (q : List ℕ) (options room : ℕ) (writer : Written
 
 -- for a request that may have a context memory may always be wanted
 pub context_wants_memory : (limits : Limits) (options space : ℕ) (h : InHeader) (pieces : List ℕ) (o : Opcode) → may_have_context options o ≡ true
-    → MayWantBehind limits options space (Some o) h pieces
+    → MayWantAfter limits options space (Some o) h pieces
 context_wants_memory limits options space h pieces o may =
-    of_four (λ o. may_have_context options o ≡ true → MayWantBehind limits options space (Some o) h pieces)
+    of_four (λ o. may_have_context options o ≡ true → MayWantAfter limits options space (Some o) h pieces)
     (λ is. inr is) (λ is. inr is) (λ is. inr is) (λ is. inr is) options o may may
 
 some_length : (n : ℕ) → 0 < n → (n == 0) ≡ false
@@ -210,13 +210,13 @@ module _ (q : List ℕ) (h : InHeader) (head : size_of in_header ≤ length q) (
       let d = length name + 1 in
       let end = name_end 40 name tail n is (omega (arith, within, length-drop d tail)) in
       let k = dropped d n (drop 40 q) in
-      let behind : drop d tail ≡ take k.0 (drop (40 + d) q) = ap (drop d) is ∙ k.1 ∙ ap (take k.0) (drop-drop d 40 q) in
-      let last = name_end (40 + d) text (drop d tail) k.0 behind within in
+      let following : drop d tail ≡ take k.0 (drop (40 + d) q) = ap (drop d) is ∙ k.1 ∙ ap (take k.0) (drop-drop d 40 q) in
+      let last = name_end (40 + d) text (drop d tail) k.0 following within in
       let blocks : drop (place_after (40 + d) (unplaced text) - 40) tail ≡ drop (length text + 1) (drop d tail) =
       ap (λ m. drop m tail) (omega (arith, last)) ∙ sym (drop-drop (length text + 1) d tail) in
       let there : ContextAt (drop (length text + 1) (drop d tail)) place c =
       (rw (end, blocks) at stands) options (record { context = Some c; group = group }) c says refl in
-      let placed = context_placed (40 + d) text (drop d tail) k.0 behind within place c there in
+      let placed = context_placed (40 + d) text (drop d tail) k.0 following within place c there in
       rw (some_length (length c.1) there.some, end) (record { numbers = refl; places = (s.front, s.back, placed); others = refl })
 
   abbrev rest : List ℕ

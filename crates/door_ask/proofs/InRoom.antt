@@ -8,13 +8,13 @@ use Rattle.fuse_grammar.specs.Words.{ask_opcode}
 use Rattle.fuse_grammar.specs.declared.limits.Limits.{Limits}
 use Rattle.fuse_grammar.specs.declared.error.Error.{Error}
 use Rattle.door_calls.specs.declared.call.CallData.{CallData}
-use Rattle.fuse_server.specs.MemoryByPieces.{MayWantBehind}
+use Rattle.fuse_server.specs.MemoryByPieces.{MayWantAfter}
 use Rattle.door_ask.specs.Noting.{IsNoted}
 
 module _ (limits : Limits) (options left room : ℕ) (h : InHeader) (rest pieces : List ℕ)
     (writer : Written) (outcome : Result ℕ Error) (writer_after : Written) (noted : CallData) where
   abbrev Noted : (space : ℕ) → Opcode → Type 0
-  Noted space o = IsNoted (MayWantBehind limits options space (Some o) h pieces) (ask_opcode limits options space o h rest) writer outcome writer_after noted
+  Noted space o = IsNoted (MayWantAfter limits options space (Some o) h pieces) (ask_opcode limits options space o h rest) writer outcome writer_after noted
 
   pub noted_in_room : (o : Opcode) → o ≢ opcode.Readdir → o ≢ opcode.Readdirplus → o ≢ opcode.Read → Noted left o → Noted room o
   noted_in_room opcode.Read not_readdir not_plus not_read n = absurd (not_read refl)

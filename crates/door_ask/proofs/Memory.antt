@@ -8,7 +8,7 @@ use Rattle.fuse_grammar.specs.Ask.{ask}
 use Rattle.fuse_grammar.specs.Memory.{header_of}
 use Rattle.fuse_grammar.specs.Forms.{Ask, Ends, Asks, Lists, WithMemory}
 use Rattle.fuse_grammar.specs.Records.{record_of}
-use Rattle.fuse_grammar.specs.Reply.{Reply, Refusal, NoReply, Bytes, OpenBehind}
+use Rattle.fuse_grammar.specs.Reply.{Reply, Refusal, NoReply, Bytes, OpenAfter}
 use Rattle.fuse_grammar.specs.Room.{IsReplied}
 use Rattle.fuse_grammar.specs.Turn.{Turn}
 use Rattle.fuse_grammar.specs.Witnesses.{turn_with_memory_tells, FollowsFor}
@@ -50,7 +50,7 @@ came : (reply : Reply) (old new : Written) (outcome : Result ℕ Error) → Repl
 came (Refusal error) old new outcome h = record { room_after = old.left; says = (h.0, refl) }
 came NoReply old new outcome h = record { room_after = old.left; says = (h.0, refl) }
 came (Bytes reply) old new outcome h = record { room_after = h.room_after; says = h.says }
-came (OpenBehind reply) old new outcome h = record { room_after = h.room_after; says = h.says }
+came (OpenAfter reply) old new outcome h = record { room_after = h.room_after; says = h.says }
 
 module _ (wanted : Type 0) (none : ¬ wanted) (q : List ℕ) (limits : Limits) (options interrupts room : ℕ) (writer writer_after : Written) (told : CallData)
     (outcome : Result ℕ Error) (interrupted : ℕ) where

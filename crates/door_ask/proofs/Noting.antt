@@ -9,7 +9,7 @@ use Rattle.fs_trait.specs.Runs.{Event, Called, OpenedDirectory, IsRun}
 use Rattle.fs_trait.specs.declared.entry.Context.{Context}
 use Rattle.fuse_grammar.specs.Forms.{Ask, Ends, Asks, Lists, WithMemory}
 use Rattle.fuse_grammar.specs.Listing.{Listing}
-use Rattle.fuse_grammar.specs.Reply.{Reply, Refusal, NoReply, Bytes, OpenBehind, reply_of}
+use Rattle.fuse_grammar.specs.Reply.{Reply, Refusal, NoReply, Bytes, OpenAfter, reply_of}
 use Rattle.fuse_grammar.specs.Room.{unseen}
 use Rattle.fuse_grammar.specs.Turn.{node_answered}
 use Rattle.fuse_grammar.specs.Words.{IsRead}
@@ -121,7 +121,7 @@ replied_room : (reply : Reply) (old new : Written) (outcome : Result ℕ Error) 
 replied_room (Refusal error) old new outcome h = same_room old new h.1
 replied_room NoReply old new outcome h = same_room old new h.1
 replied_room (Bytes reply) old new outcome h = left_room old h.room_after new h.leaves
-replied_room (OpenBehind reply) old new outcome h = left_room old h.room_after new h.leaves
+replied_room (OpenAfter reply) old new outcome h = left_room old h.room_after new h.leaves
 
 -- whatever was handled leaves a writer its room
 pub handled_room : (wanted : Type 0) (limits : Limits) (options after : ℕ) (a : Ask) (old new : ServerState Asking)

@@ -20,7 +20,7 @@ use Rattle.fs_trait.specs.Calls.{Call, Readdir}
 use Rattle.fs_trait.specs.Calls as call
 use Rattle.fs_trait.specs.Values.{context_of, ExtensionValues}
 use Rattle.fuse_grammar.specs.Ask.{form_of, has_flag, if_set}
-use Rattle.fuse_grammar.specs.Words.{ask_opcode, name_in, behind}
+use Rattle.fuse_grammar.specs.Words.{ask_opcode, name_in, following}
 use Rattle.fuse_grammar.specs.Extensions.{extensions_in}
 use Rattle.fuse_grammar.specs.Forms.{Ask, Ends, Asks, Lists, WithMemory, Without, Record, refused_or, within, tail_of, two_names_in, value_in, extended_in, link_in_tail, pairs_in, pairs_of, space_after_header, Layout, layout_size, layout_record, Form, NoTail, NameTail, TwoNames, NameAndValue, NameAndExtensions, LinkAndExtensions, Pairs, WithRest, IntoRoom, Directories, Versions, Silent, NotServed, ask_form}
 use Rattle.fuse_grammar.specs.Listing.{Listing}
@@ -108,10 +108,10 @@ module _ (q : List ℕ) (h : InHeader) (head : size_of in_header ≤ length q) (
   Shown (NameAndValue {R} layout size call) =
       (r : R) (name value : List ℕ) → StandBoth q (after_record layout) name value → P (echo_of h) (call r name value)
   Shown (NameAndExtensions {R} layout options call) =
-      (r : R) (name : List ℕ) (ext : ExtensionValues) (tail : List ℕ) → tail_of h (layout_size layout) (behind layout (drop (size_of in_header) q)) ≡ Ok tail
+      (r : R) (name : List ℕ) (ext : ExtensionValues) (tail : List ℕ) → tail_of h (layout_size layout) (following layout (drop (size_of in_header) q)) ≡ Ok tail
       → NameStands q (after_record layout) name → length name < length tail → extensions_in options (drop (length name + 1) tail) ≡ Ok ext → P (echo_of h) (call r name ext)
   Shown (LinkAndExtensions {R} layout options call) =
-      (r : R) (name text : List ℕ) (ext : ExtensionValues) (tail : List ℕ) → tail_of h (layout_size layout) (behind layout (drop (size_of in_header) q)) ≡ Ok tail
+      (r : R) (name text : List ℕ) (ext : ExtensionValues) (tail : List ℕ) → tail_of h (layout_size layout) (following layout (drop (size_of in_header) q)) ≡ Ok tail
       → NamesStand q (after_record layout) name text → length text < length (drop (length name + 1) tail)
       → extensions_in options (drop (length text + 1) (drop (length name + 1) tail)) ≡ Ok ext → P (echo_of h) (call r name text ext)
   Shown (Pairs {R} layout above count call) =
@@ -137,7 +137,7 @@ module _ (q : List ℕ) (h : InHeader) (head : size_of in_header ≤ length q) (
   abbrev rest : List ℕ
   rest = drop (size_of in_header) q
 
-  pub place : {R : Type 0} (layout : Layout R) → behind layout rest ≡ drop (after_record layout) q
+  pub place : {R : Type 0} (layout : Layout R) → following layout rest ≡ drop (after_record layout) q
   place layout = drop-drop (layout_size layout) (size_of in_header) q
 
   -- a record that is whole ends within the request
@@ -155,34 +155,34 @@ module _ (q : List ℕ) (h : InHeader) (head : size_of in_header ≤ length q) (
 
   -- a tail ends within the request
   pub tail_ends : {R : Type 0} (layout : Layout R) (tail : List ℕ) → after_record layout ≤ length q
-      → tail_of h (layout_size layout) (behind layout rest) ≡ Ok tail → after_record layout + length tail ≤ length q
+      → tail_of h (layout_size layout) (following layout rest) ≡ Ok tail → after_record layout + length tail ≤ length q
   tail_ends layout tail end whole =
-      let t = tail_stands h (layout_size layout) (behind layout rest) tail whole in
-      omega (arith, end, ap length t.1, length-take t.0 (behind layout rest), ap length (place layout), length-drop (after_record layout) q)
+      let t = tail_stands h (layout_size layout) (following layout rest) tail whole in
+      omega (arith, end, ap length t.1, length-take t.0 (following layout rest), ap length (place layout), length-drop (after_record layout) q)
 
   -- the first name of the tail comes after the record
   first_stands : {R : Type 0} (layout : Layout R) (tail x : List ℕ) (a : ℕ) → after_record layout ≤ length q
-      → tail_of h (layout_size layout) (behind layout rest) ≡ Ok tail → x ≡ take a tail → position is_nul tail ≡ Some (length x)
+      → tail_of h (layout_size layout) (following layout rest) ≡ Ok tail → x ≡ take a tail → position is_nul tail ≡ Some (length x)
       → NameStands q (after_record layout) x
   first_stands layout tail x a end whole e ends =
-      let t = tail_stands h (layout_size layout) (behind layout rest) tail whole in
+      let t = tail_stands h (layout_size layout) (following layout rest) tail whole in
       record {
         within = omega (arith, tail_ends layout tail end whole, (position-Some is_nul tail (length x) 0 ends).0);
-        bytes_are = sym (stands_in a t.0 x (behind layout rest) (e ∙ ap (take a) t.1) ∙ ap (take (length x)) (place layout));
+        bytes_are = sym (stands_in a t.0 x (following layout rest) (e ∙ ap (take a) t.1) ∙ ap (take (length x)) (place layout));
         ended = ap (position is_nul) (sym (place layout))
-            ∙ first_nul_in t.0 (behind layout rest) (length x) (ap (position is_nul) (sym t.1) ∙ ends);
+            ∙ first_nul_in t.0 (following layout rest) (length x) (ap (position is_nul) (sym t.1) ∙ ends);
       }
 
   both_stand : {R : Type 0} (layout : Layout R) (tail first second : List ℕ) → after_record layout ≤ length q
-      → tail_of h (layout_size layout) (behind layout rest) ≡ Ok tail
+      → tail_of h (layout_size layout) (following layout rest) ≡ Ok tail
       → Both tail first second → StandBoth q (after_record layout) first second
   both_stand layout tail first second end whole b =
-      let t = tail_stands h (layout_size layout) (behind layout rest) tail whole in
+      let t = tail_stands h (layout_size layout) (following layout rest) tail whole in
       let d = length first + 1 in
-      let k = dropped d t.0 (behind layout rest) in
-      let e : second ≡ take b.n (take k.0 (drop d (behind layout rest))) = b.second_is ∙ ap (λ (xs : List ℕ). take b.n (drop d xs)) t.1 ∙ ap (take b.n) k.1 in
-      let s = stands_in b.n k.0 second (drop d (behind layout rest)) e in
-      let at : drop d (behind layout rest) ≡ drop (after_record layout + d) q =
+      let k = dropped d t.0 (following layout rest) in
+      let e : second ≡ take b.n (take k.0 (drop d (following layout rest))) = b.second_is ∙ ap (λ (xs : List ℕ). take b.n (drop d xs)) t.1 ∙ ap (take b.n) k.1 in
+      let s = stands_in b.n k.0 second (drop d (following layout rest)) e in
+      let at : drop d (following layout rest) ≡ drop (after_record layout + d) q =
       ap (drop d) (place layout) ∙ drop-drop d (after_record layout) q in
       let long = tail_ends layout tail end whole in
       record {
@@ -194,15 +194,15 @@ module _ (q : List ℕ) (h : InHeader) (head : size_of in_header ≤ length q) (
       }
 
   names_stand_in : {R : Type 0} (layout : Layout R) (tail first second : List ℕ) → after_record layout ≤ length q
-      → tail_of h (layout_size layout) (behind layout rest) ≡ Ok tail
+      → tail_of h (layout_size layout) (following layout rest) ≡ Ok tail
       → BothNames tail first second → NamesStand q (after_record layout) first second
   names_stand_in layout tail first second end whole b =
-      let t = tail_stands h (layout_size layout) (behind layout rest) tail whole in
+      let t = tail_stands h (layout_size layout) (following layout rest) tail whole in
       let d = length first + 1 in
-      let k = dropped d t.0 (behind layout rest) in
-      let at : drop d (behind layout rest) ≡ drop (after_record layout + d) q =
+      let k = dropped d t.0 (following layout rest) in
+      let at : drop d (following layout rest) ≡ drop (after_record layout + d) q =
       ap (drop d) (place layout) ∙ drop-drop d (after_record layout) q in
-      let cut : take k.0 (drop d (behind layout rest)) ≡ drop d tail = sym (ap (drop d) t.1 ∙ k.1) in
+      let cut : take k.0 (drop d (following layout rest)) ≡ drop d tail = sym (ap (drop d) t.1 ∙ k.1) in
       let s = both_stand layout tail first second end whole b.parts in
       let last = (position-Some is_nul (drop d tail) (length second) 0 b.ended).0 in
       record {
@@ -211,7 +211,7 @@ module _ (q : List ℕ) (h : InHeader) (head : size_of in_header ≤ length q) (
           within = omega (arith, b.parts.within, tail_ends layout tail end whole, last, length-drop d tail);
           bytes_are = s.back.bytes_are;
           ended = ap (position is_nul) (sym at)
-              ∙ first_nul_in k.0 (drop d (behind layout rest)) (length second) (ap (position is_nul) cut ∙ b.ended);
+              ∙ first_nul_in k.0 (drop d (following layout rest)) (length second) (ap (position is_nul) cut ∙ b.ended);
         };
       }
 
@@ -221,12 +221,12 @@ module _ (q : List ℕ) (h : InHeader) (head : size_of in_header ≤ length q) (
   spelled_in true count bytes pairs b e = absurd (let a = e in cc)
   spelled_in false count bytes pairs b e = (grind (arith, nat_tests, b), let a = e in cc)
 
-  pairs_spell : {R : Type 0} (layout : Layout R) (count : ℕ) (pairs : List (ℕ × ℕ)) → after_record layout ≤ length q → pairs_in count (behind layout rest) ≡ Ok pairs
+  pairs_spell : {R : Type 0} (layout : Layout R) (count : ℕ) (pairs : List (ℕ × ℕ)) → after_record layout ≤ length q → pairs_in count (following layout rest) ≡ Ok pairs
       → SpelledAt q (after_record layout) count pairs
   pairs_spell layout count pairs end e =
-      let s = spelled_in (nat_lt (length (behind layout rest)) (count * 16)) count (behind layout rest) pairs refl e in
+      let s = spelled_in (nat_lt (length (following layout rest)) (count * 16)) count (following layout rest) pairs refl e in
       record {
-        many = ap length s.1 ∙ length-pairs_of count (behind layout rest);
+        many = ap length s.1 ∙ length-pairs_of count (following layout rest);
         within = omega (arith, end, s.0, ap length (place layout), length-drop (after_record layout) q);
         spelled = s.1 ∙ ap (pairs_of count) (place layout);
       }
@@ -239,22 +239,22 @@ module _ (q : List ℕ) (h : InHeader) (head : size_of in_header ≤ length q) (
   form_shown (NoTail layout above call) s =
       part (layout_record layout rest) _ (λ r is. limit (above r) _ (s r))
   form_shown (NameTail layout above call) s =
-      part (layout_record layout rest) _ (λ r is. part (tail_of h (layout_size layout) (behind layout rest)) _ (λ tail whole.
+      part (layout_record layout rest) _ (λ r is. part (tail_of h (layout_size layout) (following layout rest)) _ (λ tail whole.
       limit (above r) _ (part (name_in tail) _ (λ name found. let n = name_stands tail name found in s r name (first_stands layout tail name n.i (ends layout r is) whole n.name_is n.ended)))))
   form_shown (TwoNames layout call) s =
-      part (layout_record layout rest) _ (λ r is. part (tail_of h (layout_size layout) (behind layout rest)) _ (λ tail whole.
+      part (layout_record layout rest) _ (λ r is. part (tail_of h (layout_size layout) (following layout rest)) _ (λ tail whole.
       part (two_names_in tail) _ (λ x found. s r x.0 x.1 (names_stand_in layout tail x.0 x.1 (ends layout r is) whole (names_stand tail x found)))))
   form_shown (NameAndValue layout size call) s =
-      part (layout_record layout rest) _ (λ r is. part (tail_of h (layout_size layout) (behind layout rest)) _ (λ tail whole.
+      part (layout_record layout rest) _ (λ r is. part (tail_of h (layout_size layout) (following layout rest)) _ (λ tail whole.
       part (value_in (size r) tail) _ (λ x found. s r x.0 x.1 (both_stand layout tail x.0 x.1 (ends layout r is) whole (value_stands (size r) tail x found)))))
   form_shown (NameAndExtensions layout options call) s =
-      part (layout_record layout rest) _ (λ r is. part (tail_of h (layout_size layout) (behind layout rest)) _ (λ tail whole.
+      part (layout_record layout rest) _ (λ r is. part (tail_of h (layout_size layout) (following layout rest)) _ (λ tail whole.
       part (extended_in options tail) _ (λ x found. let n = extended_stands options tail x found in s r x.0 x.1 tail whole (first_stands layout tail x.0 n.i (ends layout r is) whole n.name_is n.ended) n.within n.says)))
   form_shown (LinkAndExtensions layout options call) s =
-      part (layout_record layout rest) _ (λ r is. part (tail_of h (layout_size layout) (behind layout rest)) _ (λ tail whole.
+      part (layout_record layout rest) _ (λ r is. part (tail_of h (layout_size layout) (following layout rest)) _ (λ tail whole.
       part (link_in_tail options tail) _ (λ x found. let n = link_stands options tail x found in s r x.0 x.1 x.2 tail whole (names_stand_in layout tail x.0 x.1 (ends layout r is) whole n.parts) n.within n.says)))
   form_shown (Pairs layout above count call) s =
-      part (layout_record layout rest) _ (λ r is. limit (above r) _ (part (pairs_in (count r) (behind layout rest)) _ (λ pairs whole. s r pairs (pairs_spell layout (count r) pairs (ends layout r is) whole))))
+      part (layout_record layout rest) _ (λ r is. limit (above r) _ (part (pairs_in (count r) (following layout rest)) _ (λ pairs whole. s r pairs (pairs_spell layout (count r) pairs (ends layout r is) whole))))
   form_shown (WithRest layout call) s =
       part (layout_record layout rest) _ (λ r is. rw (place layout) (s r (ends layout r is)))
   form_shown (IntoRoom layout space call) s =

@@ -13,7 +13,7 @@ use Rattle.fuse_grammar.specs.Words.{ask_header}
 use Rattle.fuse_grammar.specs.Forms.{Ask, Ends, Asks, Lists, WithMemory, Form, ask_form, refused_or, faulted}
 use Rattle.fuse_grammar.specs.Limits.{max_len}
 use Rattle.fuse_grammar.specs.Records.{size_of}
-use Rattle.fuse_grammar.specs.Reply.{Reply, Refusal, NoReply, Bytes, OpenBehind, body_reply, version_out}
+use Rattle.fuse_grammar.specs.Reply.{Reply, Refusal, NoReply, Bytes, OpenAfter, body_reply, version_out}
 use Rattle.fuse_grammar.specs.declared.limits.Limits.{Limits}
 use Rattle.fuse_grammar.specs.declared.error.Error.{Error}
 use Rattle.fuse_grammar.specs.declared.error.Error.TheVariants.{DecodeMessage, EncodeMessage, OutOfMemory}
@@ -76,35 +76,35 @@ is_short limits options space request =
 -- ---- the room goes on after what the writer has
 
 -- either there is no more room after, or a short reply fits before it
-enough_after : (left behind room : ℕ) → left + behind ≡ room → IsEnough left room → (behind ≡ 0) ⊎ (longest_reply ≤ left)
-enough_after left behind room sum (inl all) = inl (omega (arith, sum, all))
-enough_after left behind room sum (inr enough) = inr enough.0
+enough_after : (left following room : ℕ) → left + following ≡ room → IsEnough left room → (following ≡ 0) ⊎ (longest_reply ≤ left)
+enough_after left following room sum (inl all) = inl (omega (arith, sum, all))
+enough_after left following room sum (inr enough) = inr enough.0
 
-module _ (wanted : Type 0) (q : List ℕ) (options interrupts room : ℕ) (writer writer_after : Written) (told : CallData) (behind : List ℕ)
-    (enough : (length behind ≡ 0) ⊎ (longest_reply ≤ length writer.left)) where
+module _ (wanted : Type 0) (q : List ℕ) (options interrupts room : ℕ) (writer writer_after : Written) (told : CallData) (following : List ℕ)
+    (enough : (length following ≡ 0) ⊎ (longest_reply ≤ length writer.left)) where
   finished_after : (result : Asked) (reply : Reply) → IsShortReply longest_reply reply
       → IsFinished reply interrupts writer result writer_after told
-      → IsFinished reply interrupts (with_after writer behind) result (with_after writer_after behind) told
+      → IsFinished reply interrupts (with_after writer following) result (with_after writer_after following) told
   finished_after (asked.Finished outcome interrupted) reply short f =
-      (replies_after longest_reply reply writer writer_after outcome behind enough short f.0, f.1, f.2)
+      (replies_after longest_reply reply writer writer_after outcome following enough short f.0, f.1, f.2)
   finished_after asked.Call reply short f = absurd f
 
-  told_behind : (a : Ask) (result : Asked) → IsShort a → Tells wanted q options interrupts room a writer result writer_after told
-      → Tells wanted q options interrupts room a (with_after writer behind) result (with_after writer_after behind) told
-  told_behind (Ends reply) result short t = finished_after result reply short t
-  told_behind (Asks echo call) result short t = t
-  told_behind (Lists echo l) result short t = t
-  told_behind (WithMemory rest) result short (inl t) = inl (told_behind rest result short t)
-  told_behind (WithMemory rest) result short (inr t) = inr (t.0, finished_after result (Refusal OutOfMemory) tt t.1)
+  told_following : (a : Ask) (result : Asked) → IsShort a → Tells wanted q options interrupts room a writer result writer_after told
+      → Tells wanted q options interrupts room a (with_after writer following) result (with_after writer_after following) told
+  told_following (Ends reply) result short t = finished_after result reply short t
+  told_following (Asks echo call) result short t = t
+  told_following (Lists echo l) result short t = t
+  told_following (WithMemory rest) result short (inl t) = inl (told_following rest result short t)
+  told_following (WithMemory rest) result short (inr t) = inr (t.0, finished_after result (Refusal OutOfMemory) tt t.1)
 
 -- so what is told in the beginning of a room is told in all of it
-pub told_in_room : (wanted : Type 0) (q : List ℕ) (limits : Limits) (options interrupts room : ℕ) (writer writer_after : Written) (told : CallData) (behind : List ℕ) (result : Asked)
-    → length writer.left + length behind ≡ room → IsEnough (length writer.left) room
+pub told_in_room : (wanted : Type 0) (q : List ℕ) (limits : Limits) (options interrupts room : ℕ) (writer writer_after : Written) (told : CallData) (following : List ℕ) (result : Asked)
+    → length writer.left + length following ≡ room → IsEnough (length writer.left) room
     → Tells wanted q options interrupts room (ask limits options room q) writer result writer_after told
-    → Tells wanted q options interrupts room (ask limits options room q) (with_after writer behind) result (with_after writer_after behind) told
-told_in_room wanted q limits options interrupts room writer writer_after told behind result sum enough t =
-    told_behind wanted q options interrupts room writer writer_after told behind
-    (enough_after (length writer.left) (length behind) room sum enough) (ask limits options room q) result (is_short limits options room q) t
+    → Tells wanted q options interrupts room (ask limits options room q) (with_after writer following) result (with_after writer_after following) told
+told_in_room wanted q limits options interrupts room writer writer_after told following result sum enough t =
+    told_following wanted q options interrupts room writer writer_after told following
+    (enough_after (length writer.left) (length following) room sum enough) (ask limits options room q) result (is_short limits options room q) t
 
 -- ---- a reply lies within what the writer has left
 
@@ -119,7 +119,7 @@ reply_within (Refusal error) writer writer_after outcome short w = rw (w.0) (tt 
 reply_within NoReply writer writer_after outcome short w = rw (w.0) (omega arith)
 reply_within (Bytes reply) writer writer_after outcome short w =
     put_within (nat_le (length reply) (length writer.left)) (length reply) (length writer.left) outcome refl w.says.says
-reply_within (OpenBehind reply) writer writer_after outcome short w = absurd short
+reply_within (OpenAfter reply) writer writer_after outcome short w = absurd short
 
 finished_within : (interrupts : ℕ) (reply : Reply) (writer writer_after : Written) (told : CallData) (result : Asked) → IsShortReply longest_reply reply
     → IsFinished reply interrupts writer result writer_after told → LiesWithin (length writer.left) result
@@ -145,8 +145,8 @@ usual = record { page_size = 4096; max_buffer = 1048576 }
 
 -- where the writer has all of the room
 pub told_in_all : (limits : Limits) (options room : ℕ) (q : List ℕ) (writer writer_after : Written) (told : CallData) (result : Asked)
-    → ((behind : List ℕ) → length writer.left + length behind ≡ room
-    → IsAsked limits options q (with_after writer behind) result (with_after writer_after behind) told)
+    → ((following : List ℕ) → length writer.left + length following ≡ room
+    → IsAsked limits options q (with_after writer following) result (with_after writer_after following) told)
     → room ≡ length writer.left → IsAsked limits options q writer result writer_after told
 told_in_all limits options room q writer writer_after told result is all =
     subst (λ (w : Written). IsAsked limits options q w result writer_after told) (with_none_after writer [] refl)

@@ -10,7 +10,7 @@ use Rattle.door_calls.specs.Shapes.{shape_of}
 use Rattle.door_calls.specs.declared.call.CallData.{CallData}
 use Rattle.door_ask.specs.Asked.{interrupted_after}
 use Rattle.door_ask.specs.Parts.{told_with}
-use Rattle.door_ask.specs.Terms.{TellsBehind}
+use Rattle.door_ask.specs.Terms.{TellsAfter}
 use Rattle.door_ask.specs.declared.asked.Asked.TheVariants as asked
 use Rattle.door_ask.specs.declared.asked.Terms.{Terms}
 
@@ -31,6 +31,6 @@ IsToldAtOnce terms o h rest told =
 abbrev pub TellsAtOnce : Terms → InHeader → (rest : List ℕ) → CallData → Type 0
 TellsAtOnce terms h rest told =
     (writer writer_after : Written) →
-    TellsBehind terms ⊤ (interrupted_after terms.limits h rest) h rest
+    TellsAfter terms ⊤ (interrupted_after terms.limits h rest) h rest
     (ask_header terms.limits (fs_options_bits terms.options) terms.room h rest)
     writer asked.Call writer_after told

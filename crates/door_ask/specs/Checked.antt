@@ -9,13 +9,13 @@ use Rattle.fuse_grammar.specs.Ask.{ask}
 use Rattle.fuse_grammar.specs.Words.{ask_header}
 use Rattle.fuse_grammar.specs.Forms.{Ask, Ends, Asks, Lists, WithMemory}
 use Rattle.fuse_grammar.specs.Records.{record_of, size_of}
-use Rattle.fuse_grammar.specs.Reply.{Reply, Refusal, NoReply, Bytes, OpenBehind}
+use Rattle.fuse_grammar.specs.Reply.{Reply, Refusal, NoReply, Bytes, OpenAfter}
 use Rattle.fuse_grammar.specs.declared.limits.Limits.{Limits}
 use Rattle.fuse_grammar.specs.declared.error.Error.{Error}
 use Rattle.fuse_grammar.specs.declared.error.Error.TheVariants.{EncodeMessage, OutOfMemory}
 use Rattle.door_calls.specs.Shapes.{nothing}
 use Rattle.door_calls.specs.declared.call.CallData.{CallData}
-use Rattle.fuse_server.specs.MemoryByPieces.{MayWantBehind}
+use Rattle.fuse_server.specs.MemoryByPieces.{MayWantAfter}
 use Rattle.door_ask.specs.Asked.{IsTold, interrupted_after, interrupted_by, told_of_listing}
 use Rattle.door_ask.specs.Memory.{MayWant}
 use Rattle.door_ask.specs.declared.asked.Asked.{Asked}
@@ -34,7 +34,7 @@ abbrev pub judged : (room interrupts : ℕ) → Reply → Checked
 judged room interrupts (Refusal error) = checked.Refused error
 judged room interrupts NoReply = checked.Finished interrupts
 judged room interrupts (Bytes reply) = answered room interrupts (length reply)
-judged room interrupts (OpenBehind reply) = answered room interrupts (length reply)
+judged room interrupts (OpenAfter reply) = answered room interrupts (length reply)
 
 -- what is said of a request that asks this, for which memory may be wanted so, with that much room for a reply
 abbrev pub Judges : (wanted : Type 0) → (request : List ℕ) → (options interrupts room : ℕ) → Ask → Checked
@@ -72,6 +72,6 @@ JudgesHeader terms h r result told =
     (request : List ℕ) → length request ≡ terms.len → record_of in_header request ≡ Ok h
     → drop (size_of in_header) request ≡ r.left
     → Judges
-    (MayWantBehind terms.limits (fs_options_bits terms.options) terms.room (opcode_of h.opcode) h r.pieces)
+    (MayWantAfter terms.limits (fs_options_bits terms.options) terms.room (opcode_of h.opcode) h r.pieces)
     request (fs_options_bits terms.options) (interrupted_after terms.limits h r.left) terms.room
     (ask_header terms.limits (fs_options_bits terms.options) terms.room h r.left) result told

@@ -8,20 +8,20 @@ use Rattle.fuse_grammar.specs.Memory.{header_of}
 use Rattle.fuse_grammar.specs.Records.{size_of}
 use Rattle.fuse_grammar.specs.declared.error.Error.TheVariants.{OutOfMemory}
 use Rattle.fuse_grammar.specs.declared.limits.Limits.{Limits}
-use Rattle.fuse_server.specs.MemoryByPieces.{MayWantBehind}
+use Rattle.fuse_server.specs.MemoryByPieces.{MayWantAfter}
 use Rattle.door_ask.specs.declared.asked.Asked.{Asked}
 use Rattle.door_ask.specs.declared.asked.Asked.TheVariants as asked
 
 -- memory may be wanted for the request that a reader has left
 abbrev pub MayWant : Limits → (options space : ℕ) → Unread → Type 0
 MayWant limits options space u =
-    MayWantBehind limits options space (opcode_of (header_of u.left).opcode) (header_of u.left)
+    MayWantAfter limits options space (opcode_of (header_of u.left).opcode) (header_of u.left)
     (lengths_from (size_of in_header) u.pieces)
 
 -- memory may be wanted for a request with these bytes, of which those after the header lie in these pieces
-abbrev pub MayWantBehindHeader : Limits → (options space : ℕ) → (request : List ℕ) → (pieces : List ℕ) → Type 0
-MayWantBehindHeader limits options space q pieces =
-    MayWantBehind limits options space (opcode_of (header_of q).opcode) (header_of q) pieces
+abbrev pub MayWantAfterHeader : Limits → (options space : ℕ) → (request : List ℕ) → (pieces : List ℕ) → Type 0
+MayWantAfterHeader limits options space q pieces =
+    MayWantAfter limits options space (opcode_of (header_of q).opcode) (header_of q) pieces
 
 -- a request is not refused for want of memory: a call is told, or what it came to is another thing
 abbrev pub LacksNoMemory : Asked → Type 0

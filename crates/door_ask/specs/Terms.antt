@@ -10,16 +10,16 @@ use Rattle.fuse_segments.specs.Written.{Written}
 use Rattle.fuse_grammar.specs.Words.{ask_header, ask_opcode}
 use Rattle.fuse_grammar.specs.Forms.{Ask}
 use Rattle.fuse_grammar.specs.Records.{record_of, size_of}
-use Rattle.fuse_server.specs.MemoryByPieces.{MayWantBehind}
+use Rattle.fuse_server.specs.MemoryByPieces.{MayWantAfter}
 use Rattle.door_calls.specs.declared.call.CallData.{CallData}
 use Rattle.door_ask.specs.declared.asked.Asked.{Asked}
 use Rattle.door_ask.specs.declared.asked.Terms.{Terms}
 use Rattle.door_ask.specs.Asked.{Tells, interrupted_after}
 
 -- What is told of a request that asks this, whose header is followed by these bytes.
-abbrev pub TellsBehind : Terms → (wanted : Type 0) → (interrupts : ℕ) → InHeader → (rest : List ℕ) → Ask
+abbrev pub TellsAfter : Terms → (wanted : Type 0) → (interrupts : ℕ) → InHeader → (rest : List ℕ) → Ask
     → (writer : Written) → Asked → (writer_after : Written) → CallData → Type 0
-TellsBehind terms wanted interrupts h rest a writer result writer_after told =
+TellsAfter terms wanted interrupts h rest a writer result writer_after told =
     (request : List ℕ) → length request ≡ terms.len → record_of in_header request ≡ Ok h
     → drop (size_of in_header) request ≡ rest
     → Tells wanted request (fs_options_bits terms.options) interrupts terms.room a writer result writer_after
@@ -29,8 +29,8 @@ TellsBehind terms wanted interrupts h rest a writer result writer_after told =
 abbrev pub TellsOfHeader : Terms → InHeader → Unread → (writer : Written) → Asked → (writer_after : Written)
     → CallData → Type 0
 TellsOfHeader terms h r writer result writer_after told =
-    TellsBehind terms
-    (MayWantBehind terms.limits (fs_options_bits terms.options) terms.room (opcode_of h.opcode) h r.pieces)
+    TellsAfter terms
+    (MayWantAfter terms.limits (fs_options_bits terms.options) terms.room (opcode_of h.opcode) h r.pieces)
     (interrupted_after terms.limits h r.left) h r.left
     (ask_header terms.limits (fs_options_bits terms.options) terms.room h r.left)
     writer result writer_after told
@@ -39,7 +39,7 @@ TellsOfHeader terms h r writer result writer_after told =
 abbrev pub TellsOfOpcode : Terms → Opcode → InHeader → Unread → (writer : Written) → Asked
     → (writer_after : Written) → CallData → Type 0
 TellsOfOpcode terms opcode h r writer result writer_after told =
-    TellsBehind terms
-    (MayWantBehind terms.limits (fs_options_bits terms.options) terms.room (Some opcode) h r.pieces) 0 h r.left
+    TellsAfter terms
+    (MayWantAfter terms.limits (fs_options_bits terms.options) terms.room (Some opcode) h r.pieces) 0 h r.left
     (ask_opcode terms.limits (fs_options_bits terms.options) terms.room opcode h r.left)
     writer result writer_after told

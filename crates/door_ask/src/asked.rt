@@ -11,7 +11,7 @@ ghost use Rattle.fuse_grammar.specs.Ask.{ask};
 ghost use Rattle.fuse_grammar.specs.Words.{ask_header, ask_opcode};
 ghost use Rattle.fuse_grammar.specs.Limits.{AreLimits, max_len};
 ghost use Rattle.fuse_grammar.specs.Records.{record_of, size_of};
-ghost use Rattle.fuse_server.specs.MemoryByPieces.{MayWantBehind};
+ghost use Rattle.fuse_server.specs.MemoryByPieces.{MayWantAfter};
 ghost use Rattle.door_calls.specs.Shapes.{nothing};
 ghost use Rattle.door_ask.specs.declared.asked.Asked.TheVariants.{Finished, Call as IsCall};
 ghost use Rattle.door_ask.specs.Contexts.{may_have_context};
@@ -103,9 +103,9 @@ pub fn ask(
 ) -> Asked
     requires limits { AreLimits limits }
     requires enough { IsEnough (length w.old.left) room }
-    ensures asked { (behind : List ℕ) → length w.old.left + length behind ≡ room →
-        IsAsked limits (fs_options_bits options) r.entry.left (with_after w.old behind) result
-        (with_after w.new behind) call.new }
+    ensures asked { (following : List ℕ) → length w.old.left + length following ≡ room →
+        IsAsked limits (fs_options_bits options) r.entry.left (with_after w.old following) result
+        (with_after w.new following) call.new }
     ensures within { LiesWithin (length w.old.left) result }
 
     // It is refused for want of memory only where its tail is cut, it may have a context, or it has pairs.
@@ -282,7 +282,7 @@ fn note_opcode(
     requires no_readdir { opcode ≢ Opcode.Readdir }
     requires no_readdirplus { opcode ≢ Opcode.Readdirplus }
     ensures noted { IsNoted
-        (MayWantBehind terms.limits (fs_options_bits terms.options) terms.room (Some opcode)
+        (MayWantAfter terms.limits (fs_options_bits terms.options) terms.room (Some opcode)
         q.entry.header.now q.entry.r.now.pieces)
         (ask_opcode terms.limits (fs_options_bits terms.options) terms.room opcode q.entry.header.now
         q.entry.r.now.left)
@@ -314,7 +314,7 @@ fn tell(
     requires no_readdir { opcode ≢ Opcode.Readdir }
     requires no_readdirplus { opcode ≢ Opcode.Readdirplus }
     ensures told { NotedAndTold
-        (MayWantBehind terms.limits (fs_options_bits terms.options) terms.room (Some opcode)
+        (MayWantAfter terms.limits (fs_options_bits terms.options) terms.room (Some opcode)
         q.entry.header.now q.entry.r.now.pieces)
         (ask_opcode terms.limits (fs_options_bits terms.options) terms.room opcode q.entry.header.now
         q.entry.r.now.left)

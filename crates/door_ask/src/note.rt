@@ -5,7 +5,7 @@ ghost use Rattle.fuse_flags.specs.Flags.{fs_options_bits};
 ghost use Rattle.fuse_flags.specs.Numbers.{opcode_of};
 ghost use Rattle.fuse_grammar.specs.Words.{ask_header};
 ghost use Rattle.fuse_grammar.specs.Limits.{AreLimits};
-ghost use Rattle.fuse_server.specs.MemoryByPieces.{MayWantBehind};
+ghost use Rattle.fuse_server.specs.MemoryByPieces.{MayWantAfter};
 ghost use Rattle.door_calls.specs.Shapes.{nothing};
 ghost use Rattle.door_ask.specs.Noting.{IsNoted};
 ghost use Rattle.door_ask.specs.Room.{KeepsRoom};
@@ -22,7 +22,7 @@ fn handle(session: &mut Session<Asking<'_>>, q: Request<'_, '_>, w: &mut Writer)
     requires { session.old.fs.call.now ≡ nothing }
     ensures same_record { session.new.fs.call.ghost_name ≡ session.old.fs.call.ghost_name }
     ensures noted { IsNoted
-        (MayWantBehind session.old.limits session.old.options (length w.old.left)
+        (MayWantAfter session.old.limits session.old.options (length w.old.left)
         (opcode_of q.entry.header.now.opcode) q.entry.header.now q.entry.r.now.pieces)
         (ask_header session.old.limits session.old.options (length w.old.left) q.entry.header.now
         q.entry.r.now.left)
@@ -45,7 +45,7 @@ pub fn note(
     requires limits { AreLimits limits }
     requires none { call.old ≡ nothing }
     ensures noted { IsNoted
-        (MayWantBehind limits (fs_options_bits options) (length w.old.left)
+        (MayWantAfter limits (fs_options_bits options) (length w.old.left)
         (opcode_of q.entry.header.now.opcode) q.entry.header.now q.entry.r.now.pieces)
         (ask_header limits (fs_options_bits options) (length w.old.left) q.entry.header.now
         q.entry.r.now.left)

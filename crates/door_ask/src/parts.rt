@@ -36,7 +36,7 @@ pub enum Parts {
 }
 
 // Where the parts after a record of this size begin.
-fn behind(size: usize) -> u64
+fn following(size: usize) -> u64
     requires { size ≤ LARGEST_RECORD }
     ensures { result ≡ size_of in_header + size }
 {
@@ -51,19 +51,19 @@ impl Parts {
     {
         match opcode {
             Opcode::Lookup | Opcode::Unlink | Opcode::Rmdir | Opcode::Removexattr => {
-                Parts::Name(behind(0))
+                Parts::Name(following(0))
             }
-            Opcode::Mknod => Parts::Name(behind(MknodIn::SIZE)),
-            Opcode::Mkdir => Parts::Name(behind(MkdirIn::SIZE)),
-            Opcode::Link => Parts::Name(behind(LinkIn::SIZE)),
-            Opcode::Getxattr => Parts::Name(behind(GetxattrIn::SIZE)),
-            Opcode::Create => Parts::Name(behind(CreateIn::SIZE)),
-            Opcode::Symlink => Parts::Names(behind(0)),
-            Opcode::Rename => Parts::Names(behind(RenameIn::SIZE)),
-            Opcode::Rename2 => Parts::Names(behind(Rename2In::SIZE)),
-            Opcode::Setxattr => Parts::NameAndValue(behind(setxattr_size(options))),
-            Opcode::BatchForget => Parts::Pairs(behind(BatchForgetIn::SIZE)),
-            Opcode::Write => Parts::Rest(behind(WriteIn::SIZE)),
+            Opcode::Mknod => Parts::Name(following(MknodIn::SIZE)),
+            Opcode::Mkdir => Parts::Name(following(MkdirIn::SIZE)),
+            Opcode::Link => Parts::Name(following(LinkIn::SIZE)),
+            Opcode::Getxattr => Parts::Name(following(GetxattrIn::SIZE)),
+            Opcode::Create => Parts::Name(following(CreateIn::SIZE)),
+            Opcode::Symlink => Parts::Names(following(0)),
+            Opcode::Rename => Parts::Names(following(RenameIn::SIZE)),
+            Opcode::Rename2 => Parts::Names(following(Rename2In::SIZE)),
+            Opcode::Setxattr => Parts::NameAndValue(following(setxattr_size(options))),
+            Opcode::BatchForget => Parts::Pairs(following(BatchForgetIn::SIZE)),
+            Opcode::Write => Parts::Rest(following(WriteIn::SIZE)),
             Opcode::Read => Parts::Room,
             _ => Parts::Nowhere,
         }

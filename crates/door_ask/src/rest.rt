@@ -9,7 +9,7 @@ ghost use Rattle.fuse_grammar.specs.Limits.{AreLimits};
 ghost use Rattle.door_ask.specs.declared.asked.Asked.TheVariants.{Call as IsCall};
 ghost use Rattle.door_ask.specs.Room.{KeepsRoom};
 ghost use Rattle.door_ask.specs.Asked.{IsAsked, IsEnough, LiesWithin, Tells, interrupted_by};
-ghost use Rattle.door_ask.specs.Memory.{LacksNoMemory, MayWantBehindHeader};
+ghost use Rattle.door_ask.specs.Memory.{LacksNoMemory, MayWantAfterHeader};
 
 use crate::asked::{Asked, Terms, ask_after};
 use crate::at_once::record_in;
@@ -39,11 +39,11 @@ pub fn ask_rest(
     requires head { length head.now ≡ 40 }
     requires fits { 40 + length r.left < 2 ^ 64 }
     requires enough { IsEnough (length w.old.left) room }
-    ensures asked { (behind : List ℕ) → length w.old.left + length behind ≡ room →
+    ensures asked { (following : List ℕ) → length w.old.left + length following ≡ room →
         IsAsked limits (fs_options_bits options) (head.now ++ r.entry.left)
-        (with_after w.old behind) result (with_after w.new behind) call.new }
+        (with_after w.old following) result (with_after w.new following) call.new }
     ensures within { LiesWithin (length w.old.left) result }
-    ensures memory { ¬ (MayWantBehindHeader limits (fs_options_bits options) room (head.now ++ r.entry.left)
+    ensures memory { ¬ (MayWantAfterHeader limits (fs_options_bits options) room (head.now ++ r.entry.left)
         r.entry.pieces) → LacksNoMemory result }
     ensures room { result ≡ IsCall → KeepsRoom w.old w.new }
 {
@@ -65,7 +65,7 @@ fn ask_request_rest(
     requires limits { AreLimits limits }
     requires head { length head.now ≡ 40 }
     requires fits { 40 + length r.left < 2 ^ 64 }
-    ensures told { Tells (MayWantBehindHeader limits (fs_options_bits options) room
+    ensures told { Tells (MayWantAfterHeader limits (fs_options_bits options) room
         (head.now ++ r.entry.left) r.entry.pieces)
         (head.now ++ r.entry.left) (fs_options_bits options)
         (interrupted_by limits (head.now ++ r.entry.left)) room

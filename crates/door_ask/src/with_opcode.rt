@@ -34,9 +34,9 @@ pub fn ask_as(
 ) -> Asked
     requires limits { AreLimits limits }
     requires enough { IsEnough (length w.old.left) room }
-    ensures asked { (behind : List ℕ) → length w.old.left + length behind ≡ room →
+    ensures asked { (following : List ℕ) → length w.old.left + length following ≡ room →
         IsAsked limits (fs_options_bits options) (with_opcode_of opcode r.entry.left)
-        (with_after w.old behind) result (with_after w.new behind) call.new }
+        (with_after w.old following) result (with_after w.new following) call.new }
     ensures within { LiesWithin (length w.old.left) result }
     ensures memory { ¬ (MayWant limits (fs_options_bits options) room (unread_with_opcode opcode r.entry)) →
         LacksNoMemory result }

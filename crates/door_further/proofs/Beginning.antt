@@ -75,13 +75,13 @@ front_by offers limits q n false short is =
     rw n_is (what_front q long offers limits (length q))
 
 -- the first bytes that were copied, of a request that goes on or not
-pub front : (offers : ℕ) (limits : Limits) (q : List ℕ) (n : ℕ) (behind : List ℕ) → n ≡ min (length q) 96
-    → what_after offers limits (record_of in_header (take n (take n q ++ behind)))
-    (drop 40 (take n (take n q ++ behind))) (length q)
+pub front : (offers : ℕ) (limits : Limits) (q : List ℕ) (n : ℕ) (following : List ℕ) → n ≡ min (length q) 96
+    → what_after offers limits (record_of in_header (take n (take n q ++ following)))
+    (drop 40 (take n (take n q ++ following))) (length q)
     ≡ what_of offers limits q
-front offers limits q n behind is =
+front offers limits q n following is =
     let long : length (take n q) ≡ n = length-take-le n q (omega (arith, is)) in
-    let first : take n (take n q ++ behind) ≡ take n q = take_at (take n q) behind n long in
+    let first : take n (take n q ++ following) ≡ take n q = take_at (take n q) following n long in
     rw first (front_by offers limits q n (nat_lt (length q) 96) refl is)
 
 -- ---- what is told

@@ -89,7 +89,7 @@ renamed limits created a text items old came new is x =
     subst (λ (k : Option Kind). Answers limits k (named_tmpfile created) a text items old (Some came) new) k x in
     let z : Answers limits (Some Creations) created a text items old (Some came) new = (
       y.0,
-      λ behind long.
-          let w = y.1 behind long in record { answer = w.answer; said = w.said; comes = w.comes; kept = w.kept },
+      λ following long.
+          let w = y.1 following long in record { answer = w.answer; said = w.said; comes = w.comes; kept = w.kept },
     ) in
     subst (λ (k : Option Kind). Answers limits k created a text items old (Some came) new) (sym k) z

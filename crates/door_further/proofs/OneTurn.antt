@@ -62,69 +62,69 @@ of_kind limits told kind a text old came new options none fit x = record {
 abbrev RowTurns : CallData → Type 0
 RowTurns row =
     (options room : ℕ) (limits : Limits) (a : AnswerData) (text : List ℕ) (items : List ItemData) (old : Written)
-    (came : Answered) (new : Written) (behind : List ℕ)
+    (came : Answered) (new : Written) (following : List ℕ)
     → Answers limits (kind_told row.answer row.size) (told_under options room row)
     (answer_offered (told_under options room row) a text) text items old (Some came) new
-    → length old.left + length behind ≡ room
+    → length old.left + length following ≡ room
     → IsRowAnswered limits (told_under options room row) (row_kind row.answer)
-    (answer_offered (told_under options room row) a text) text (with_after old behind) came (with_after new behind)
+    (answer_offered (told_under options room row) a text) text (with_after old following) came (with_after new following)
 
 each_row : OfEachRow RowTurns
 each_row = record {
-  getlk = λ h r options room limits a text items old came new behind x long.
-      of_kind limits _ Texts _ text _ came _ (λ _. refl) (λ _. refl) (said_fits (told_under options room (lock_told number.GETLK kind.TEXT h r)) refl a text (old.left ++ behind)) (x.1 behind long);
-  setlk = λ h r options room limits a text items old came new behind x long.
-      of_kind limits _ Told _ text _ came _ (λ _. refl) (λ _. refl) (λ _ _. tt) (x.1 behind long);
-  setlkw = λ h r options room limits a text items old came new behind x long.
-      of_kind limits _ Told _ text _ came _ (λ _. refl) (λ _. refl) (λ _ _. tt) (x.1 behind long);
-  bmap = λ h r options room limits a text items old came new behind x long.
-      of_kind limits _ Offsets _ text _ came _ (λ _. refl) (λ _. refl) (λ _ _. tt) (x.1 behind long);
-  ioctl = λ h r options room limits a text items old came new behind x long.
-      of_kind limits _ Texts _ text _ came _ (λ _. refl) (λ _. refl) (said_fits (told_under options room (ioctl_told h r)) refl a text (old.left ++ behind)) (x.1 behind long);
-  poll = λ h r options room limits a text items old came new behind x long.
-      of_kind limits _ Writes _ text _ came _ (λ _. refl) (λ _. refl) (λ _ _. tt) (x.1 behind long);
-  notify = λ h r options room limits a text items old came new behind x long.
-      of_kind limits _ Quiet _ text _ came _ (λ _. refl) (λ _. refl) (λ _ _. tt) (x.1 behind long);
-  statx = λ h r options room limits a text items old came new behind x long.
-      of_kind limits _ Texts _ text _ came _ (λ _. refl) (λ _. refl) (said_fits (told_under options room (statx_told h r)) refl a text (old.left ++ behind)) (x.1 behind long);
-  copy = λ h r options room limits a text items old came new behind x long.
-      of_kind limits _ Offsets _ text _ came _ (λ _. refl) (λ _. refl) (λ _ _. tt) (x.1 behind long);
+  getlk = λ h r options room limits a text items old came new following x long.
+      of_kind limits _ Texts _ text _ came _ (λ _. refl) (λ _. refl) (said_fits (told_under options room (lock_told number.GETLK kind.TEXT h r)) refl a text (old.left ++ following)) (x.1 following long);
+  setlk = λ h r options room limits a text items old came new following x long.
+      of_kind limits _ Told _ text _ came _ (λ _. refl) (λ _. refl) (λ _ _. tt) (x.1 following long);
+  setlkw = λ h r options room limits a text items old came new following x long.
+      of_kind limits _ Told _ text _ came _ (λ _. refl) (λ _. refl) (λ _ _. tt) (x.1 following long);
+  bmap = λ h r options room limits a text items old came new following x long.
+      of_kind limits _ Offsets _ text _ came _ (λ _. refl) (λ _. refl) (λ _ _. tt) (x.1 following long);
+  ioctl = λ h r options room limits a text items old came new following x long.
+      of_kind limits _ Texts _ text _ came _ (λ _. refl) (λ _. refl) (said_fits (told_under options room (ioctl_told h r)) refl a text (old.left ++ following)) (x.1 following long);
+  poll = λ h r options room limits a text items old came new following x long.
+      of_kind limits _ Writes _ text _ came _ (λ _. refl) (λ _. refl) (λ _ _. tt) (x.1 following long);
+  notify = λ h r options room limits a text items old came new following x long.
+      of_kind limits _ Quiet _ text _ came _ (λ _. refl) (λ _. refl) (λ _ _. tt) (x.1 following long);
+  statx = λ h r options room limits a text items old came new following x long.
+      of_kind limits _ Texts _ text _ came _ (λ _. refl) (λ _. refl) (said_fits (told_under options room (statx_told h r)) refl a text (old.left ++ following)) (x.1 following long);
+  copy = λ h r options room limits a text items old came new following x long.
+      of_kind limits _ Offsets _ text _ came _ (λ _. refl) (λ _. refl) (λ _ _. tt) (x.1 following long);
 }
 
 -- ---- each request
 
 module _ (limits : Limits) (offers options : ℕ) (request : List ℕ) (asked_in after : Written) (told : CallData)
-    (a : AnswerData) (text : List ℕ) (items : List ItemData) (old : Written) (behind : List ℕ) (came : Answered)
+    (a : AnswerData) (text : List ℕ) (items : List ItemData) (old : Written) (following : List ℕ) (came : Answered)
     (new : Written)
-    (same : length (old.left ++ behind) ≡ length asked_in.left)
+    (same : length (old.left ++ following) ≡ length asked_in.left)
     (by_kind : Answers limits (kind_told told.answer told.size) told (answer_offered told a text) text items old
     (Some came) new)
     (calls : AnswersEachCall limits told (answer_offered told a text) text old (Some came) new)
-    (listings : AnswersEachListing limits told (answer_offered told a text) items (with_after old behind) (Some came)
-    (with_after new behind)) where
+    (listings : AnswersEachListing limits told (answer_offered told a text) items (with_after old following) (Some came)
+    (with_after new following)) where
   -- what is to be shown of a request that asks this
   record Turned (what : What) : Type 0 where
     events : List Event
     row : Option (CallData × Answer)
     room_after : List ℕ
     happened :
-        HappenedOffered limits options request what told (answer_offered told a text) text items (old.left ++ behind)
+        HappenedOffered limits options request what told (answer_offered told a text) text items (old.left ++ following)
         came events row
-    leaves : Leaves (with_after old behind) room_after (with_after new behind)
+    leaves : Leaves (with_after old following) room_after (with_after new following)
     follows :
-        FollowsOffered (offered_turn offers request (with_after old behind) events came room_after row) limits options
+        FollowsOffered (offered_turn offers request (with_after old following) events came room_after row) limits options
         what came.options
 
   turned_row : (row : CallData) → RowTurns row → told ≡ told_under options (length asked_in.left) row → Turned (Row row)
   turned_row row turns is =
-      let space = length (old.left ++ behind) in
+      let space = length (old.left ++ following) in
       let e : told ≡ told_under options space row = is ∙ ap (λ (n : ℕ). told_under options n row) (sym same) in
       let x : Answers limits (kind_told row.answer row.size) (told_under options space row)
       (answer_offered (told_under options space row) a text) text items old (Some came) new =
       subst (λ (c : CallData). Answers limits (kind_told c.answer c.size) c (answer_offered c a text) text items old
       (Some came) new) e by_kind in
-      let r = turns options space limits a text items old came new behind x (sym (length-append old.left behind)) in
-      let b = came_back _ (with_after old behind) (with_after new behind) came.outcome r.replied in
+      let r = turns options space limits a text items old came new following x (sym (length-append old.left following)) in
+      let b = came_back _ (with_after old following) (with_after new following) came.outcome r.replied in
       record {
         events = [];
         row = Some (told, r.answer);
@@ -132,7 +132,7 @@ module _ (limits : Limits) (offers options : ℕ) (request : List ℕ) (asked_in
         happened = (
           r.answer,
           refl,
-          subst (λ (c : CallData). IsSaid (answer_offered c a text) text (old.left ++ behind) (row_kind c.answer) r.answer)
+          subst (λ (c : CallData). IsSaid (answer_offered c a text) text (old.left ++ following) (row_kind c.answer) r.answer)
               (sym e) r.said,
           refl,
           r.given,
@@ -144,7 +144,7 @@ module _ (limits : Limits) (offers options : ℕ) (request : List ℕ) (asked_in
   turned : (what : What) → OfRow RowTurns what → IsToldOffered limits options request what asked_in after told
       → Turned what
   turned Ordinary turns is =
-      let t = are_one_turn limits options request asked_in after told (answer_offered told a text) text items old behind
+      let t = are_one_turn limits options request asked_in after told (answer_offered told a text) text items old following
       came new (record { is_asked = is; same_room = same; call = calls; listing = listings }) in
       record {
         events = t.events;
@@ -165,7 +165,7 @@ module _ (limits : Limits) (offers options : ℕ) (request : List ℕ) (asked_in
       (Some came) new) is.2 by_kind in
       let y = renamed limits created (answer_offered told a text) text items old came new kind_is x in
       let t = are_one_turn limits options (as_create request) asked_in after created (answer_offered told a text) text
-      items old behind came new (record {
+      items old following came new (record {
         is_asked = is.1;
         same_room = same;
         call = each_call limits created (answer_offered told a text) text items old new (Some came) y;
@@ -181,8 +181,8 @@ module _ (limits : Limits) (offers options : ℕ) (request : List ℕ) (asked_in
       }
 
 pub are_one_offered_turn : AreOneOfferedTurn
-are_one_offered_turn limits offers options request asked_in after told a text items old behind came new is =
-    let t = turned limits offers options request asked_in after told a text items old behind came new is.same_room
+are_one_offered_turn limits offers options request asked_in after told a text items old following came new is =
+    let t = turned limits offers options request asked_in after told a text items old following came new is.same_room
     is.by_kind is.call is.listing (what_of offers limits request)
     (of_what RowTurns each_row offers limits (record_of in_header request) _ _) is.is_told in
     record {

@@ -88,21 +88,21 @@ pub record IsAnsweredOffered (limits : Limits) (offers options : ℕ) (request :
 -- READ perhaps without the bytes after the first ones.
 pub record IsAskedAndAnswered (limits : Limits) (offers options : ℕ) (request : List ℕ)
     (asked_in after : Written) (told : CallData) (a : AnswerData) (text : List ℕ) (items : List ItemData)
-    (old : Written) (behind : List ℕ) (came : Answered) (new : Written) : Type 0 where
+    (old : Written) (following : List ℕ) (came : Answered) (new : Written) : Type 0 where
   pub is_told : IsToldOffered limits options request (what_of offers limits request) asked_in after told
-  pub same_room : length (old.left ++ behind) ≡ length asked_in.left
+  pub same_room : length (old.left ++ following) ≡ length asked_in.left
   pub by_kind : Answers limits (kind_told told.answer told.size) told a text items old (Some came) new
   pub call : AnswersEachCall limits told a text old (Some came) new
   pub listing :
-      AnswersEachListing limits told a items (with_after old behind) (Some came) (with_after new behind)
+      AnswersEachListing limits told a items (with_after old following) (Some came) (with_after new following)
 
 -- each such request is one turn, whose answer is that of the data, or EIO where a text doesn't fit
 abbrev pub AreOneOfferedTurn : Type 0
 AreOneOfferedTurn =
     (limits : Limits) (offers options : ℕ) (request : List ℕ) (asked_in after : Written) (told : CallData)
-    (a : AnswerData) (text : List ℕ) (items : List ItemData) (old : Written) (behind : List ℕ)
+    (a : AnswerData) (text : List ℕ) (items : List ItemData) (old : Written) (following : List ℕ)
     (came : Answered) (new : Written)
     → IsAskedAndAnswered limits offers options request asked_in after told (answer_offered told a text) text
-    items old behind came new
+    items old following came new
     → IsAnsweredOffered limits offers options request told (answer_offered told a text) text items
-    (with_after old behind) came (with_after new behind)
+    (with_after old following) came (with_after new following)

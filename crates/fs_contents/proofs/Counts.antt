@@ -52,8 +52,8 @@ holds_other held n m apart = by (holds held n)
 
 missing_other : (held : List ℕ) (n from count : ℕ) → n < from
     → missing (with_page held n) from count ≡ missing held from count
-missing_other held n from zero behind = refl
-missing_other held n from (suc k) behind =
+missing_other held n from zero following = refl
+missing_other held n from (suc k) following =
     let here = ap (λ t. cond {A = ℕ} t 0 1) (holds_other held n from (omega arith)) in
     omega (arith, here, missing_other held n (from + 1) k (omega arith))
 

@@ -26,7 +26,7 @@ pub over_none : (at : ℕ) (old : ℕ → ℕ) (k : ℕ) → byte_over at [] old
 over_none at old k =
     ⊎_elim
     (λ (before : k < at). over_before at [] old k before)
-    (λ (behind : at ≤ k). over_after at [] old k (omega arith))
+    (λ (following : at ≤ k). over_after at [] old k (omega arith))
     (cases_lt k at)
 
 -- more bytes after those that were written
@@ -44,11 +44,11 @@ over_more at next a b f g k is same =
     ∙ sym (get_or_append_left a b 0 (k - at) (omega arith))
     ∙ sym (over_in at (a ++ b) f k in_a (omega arith)))
     (cases_lt k at))
-    (λ (behind : next ≤ k).
+    (λ (following : next ≤ k).
     ⊎_elim
     (λ (in_b : k < next + length b).
     let place : k - at - length a ≡ k - next = omega arith in
-    over_in next b g k behind in_b ∙ ap (λ j. get_or b j 0) (sym place)
+    over_in next b g k following in_b ∙ ap (λ j. get_or b j 0) (sym place)
     ∙ sym (get_or-append_right a b (length a) (k - at) 0 refl (omega arith))
     ∙ sym (over_in at (a ++ b) f k (omega arith) (omega arith)))
     (λ (out : next + length b ≤ k).

@@ -64,7 +64,7 @@ found p (k ∷ ks) n there passes = by (p k) refl (found p ks n)
         ⊎_elim
         (λ (here : is_at (nat_cmp n) k ≡ true).
         absurd (both_ways (p n) (ap p (is_at_same n k here) ∙ is) passes))
-        (λ (behind : holds ks n ≡ true). later behind passes)
+        (λ (following : holds ks n ≡ true). later following passes)
         (or_cases (is_at (nat_cmp n) k) (holds ks n) there)
 
 not_found : (p : ℕ → Bool) (ks : List ℕ) → ((n : ℕ) → holds ks n ≡ true → p n ≡ false)
@@ -90,9 +90,9 @@ some_from es last page there most =
     ∙ sym (not_found (nat_le page) (keys_of es) (λ q held.
     lt-leb page q
     (⊎_elim
-    (λ (behind : last < q).
+    (λ (following : last < q).
     absurd (both_ways (is_lt (nat_cmp last q)) (most q (found-any (is_at (nat_cmp q)) es ∙ held))
-    (ap is_lt (sym (nat_cmp_is last q Less behind)))))
+    (ap is_lt (sym (nat_cmp_is last q Less following)))))
     (λ (before : q ≤ last). let less : q < page = omega arith in less)
     (cases_lt last q)))))
     (λ (from : page ≤ last).

@@ -145,9 +145,9 @@ module _ (at : ℕ) (bs : List ℕ) (old : ℕ → ℕ) (k : ℕ) where
       (and_left (nat_le at k) (nat_lt k (at + length bs)) (lt-leb at k before))
 
   pub over_after : at + length bs ≤ k → byte_over at bs old k ≡ old k
-  over_after behind =
+  over_after following =
       cond-false (nat_le at k && nat_lt k (at + length bs)) (get_or bs (k - at) 0) (old k)
-      (and_right (nat_le at k) (nat_lt k (at + length bs)) (le-ltb k (at + length bs) behind))
+      (and_right (nat_le at k) (nat_lt k (at + length bs)) (le-ltb k (at + length bs) following))
 
 -- the bytes of a list with some in place of as many
 pub list_over : (from : ℕ) (bs xs : List ℕ) (i : ℕ) → from + length bs ≤ length xs
@@ -167,8 +167,8 @@ list_over from bs xs i fits =
     (λ (within : i - from < length bs).
     get_or_append_left bs (drop (length bs) (drop from xs)) 0 (i - from) within
     ∙ sym (over_in from bs (λ i. get_or xs i 0) i at (omega arith)))
-    (λ (behind : length bs ≤ i - from).
-    get_or-append_right bs (drop (length bs) (drop from xs)) (length bs) (i - from) 0 refl behind
+    (λ (following : length bs ≤ i - from).
+    get_or-append_right bs (drop (length bs) (drop from xs)) (length bs) (i - from) 0 refl following
     ∙ get_or-drop (length bs) (drop from xs) (i - from - length bs) 0
     ∙ get_or-drop from xs (length bs + (i - from - length bs)) 0
     ∙ ap (λ j. get_or xs j 0)
@@ -194,9 +194,9 @@ list_on from bs xs i past =
     ∙ ⊎_elim
     (λ (inside : i < length xs).
     get_or_append_left head (replicate k 0) 0 i (omega arith) ∙ get_or-take from xs i 0 before)
-    (λ (behind : length xs ≤ i).
-    get_or-append_right head (replicate k 0) (length xs) i 0 (omega arith) behind
-    ∙ zero_at k (i - length xs) 0 ∙ sym (get_or_past xs i 0 behind))
+    (λ (following : length xs ≤ i).
+    get_or-append_right head (replicate k 0) (length xs) i 0 (omega arith) following
+    ∙ zero_at k (i - length xs) 0 ∙ sym (get_or_past xs i 0 following))
     (cases_lt i (length xs))
     ∙ sym (over_before from bs (λ i. get_or xs i 0) i before))
     (λ (at : from ≤ i).
@@ -204,8 +204,8 @@ list_on from bs xs i past =
     ∙ ⊎_elim
     (λ (within : i - from < length bs).
     sym (over_in from bs (λ i. get_or xs i 0) i at (omega arith)))
-    (λ (behind : length bs ≤ i - from).
-    get_or_past bs (i - from) 0 behind ∙ sym (get_or_past xs i 0 (omega arith))
+    (λ (following : length bs ≤ i - from).
+    get_or_past bs (i - from) 0 following ∙ sym (get_or_past xs i 0 (omega arith))
     ∙ sym (over_after from bs (λ i. get_or xs i 0) i (omega arith)))
     (cases_lt (i - from) (length bs)))
     (cases_lt i from)
@@ -222,10 +222,10 @@ over_moved at page from bs xs old place is rest here same =
     (λ (before : i < from).
     over_before from bs inner i before ∙ sym same
     ∙ sym (over_before at bs old place (omega arith)))
-    (λ (behind : from ≤ i).
+    (λ (following : from ≤ i).
     ⊎_elim
     (λ (within : i < from + length bs).
-    over_in from bs inner i behind within
+    over_in from bs inner i following within
     ∙ ap (λ j. get_or bs j 0) (let e : i - from ≡ place - at = omega arith in e)
     ∙ sym (over_in at bs old place (omega arith) (omega arith)))
     (λ (past : from + length bs ≤ i).
@@ -258,7 +258,7 @@ bytes_put old new at page from v w bs was is others number rest fits put place =
     (others (place / 4096) (is_at_other page (place / 4096) apart))
     ∙ ⊎_elim
     (λ (before : place < at). sym (over_before at bs (byte_at old) place before))
-    (λ (behind : at ≤ place). sym (over_after at bs (byte_at old) place (omega arith)))
+    (λ (following : at ≤ place). sym (over_after at bs (byte_at old) place (omega arith)))
     (cases_lt place at))
     (cases_eq page (place / 4096))
 
@@ -390,9 +390,9 @@ none_after es last page most below q fails = by (lookup (is_at (nat_cmp q)) es) 
     by None is = is
     by (Some v) is =
         let some : IsSome (lookup (is_at (nat_cmp q)) es) = rw is refl in
-        let behind : last < q = omega (arith, ltb-false q page fails, below) in
+        let following : last < q = omega (arith, ltb-false q page fails, below) in
         absurd (both_ways (is_lt (nat_cmp last q)) (most q some)
-        (ap is_lt (sym (nat_cmp_is last q Less behind))))
+        (ap is_lt (sym (nat_cmp_is last q Less following))))
 
 -- ---- one page more
 

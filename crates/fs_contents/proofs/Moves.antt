@@ -23,12 +23,12 @@ module _ (count room off : ℕ) (low : off + count < 2 ^ 64) where
             ⊎_elim
             (λ (front : i < length c.0).
             get_or_append_left c.0 (bytes_moved cs) 0 i front ∙ r.bytes i front)
-            (λ (behind : length c.0 ≤ i).
+            (λ (following : length c.0 ≤ i).
             let j : ℕ = i - length c.0 in
             let inside : j < length (bytes_moved cs) =
             omega (arith, within, length-append c.0 (bytes_moved cs)) in
             let place : off + (moved + length c.0) + j ≡ off + moved + i = omega arith in
-            get_or-append_right c.0 (bytes_moved cs) (length c.0) i 0 refl behind
+            get_or-append_right c.0 (bytes_moved cs) (length c.0) i 0 refl following
             ∙ rest.1 j inside ∙ ap (byte_at c.1) place
             ∙ ap (λ (p : Pages). byte_at p (off + moved + i)) r.same)
             (cases_lt i (length c.0)),

@@ -22,8 +22,8 @@ outside_before first last n before =
     ap not (and_left (nat_le first n) (nat_lt n last) (lt-leb first n before))
 
 outside_after : (first last n : ℕ) → last ≤ n → is_outside first last n ≡ true
-outside_after first last n behind =
-    ap not (and_right (nat_le first n) (nat_lt n last) (le-ltb n last behind))
+outside_after first last n following =
+    ap not (and_right (nat_le first n) (nat_lt n last) (le-ltb n last following))
 
 inside : (first last n : ℕ) → first ≤ n → n < last → is_outside first last n ≡ false
 inside first last n from to =
@@ -36,8 +36,8 @@ between first last n is = (
       absurd (both_ways (is_outside first last n) is (outside_before first last n before)))
       (λ (from : first ≤ n). from) (cases_lt n first),
   ⊎_elim (λ (to : n < last). to)
-      (λ (behind : last ≤ n).
-      absurd (both_ways (is_outside first last n) is (outside_after first last n behind)))
+      (λ (following : last ≤ n).
+      absurd (both_ways (is_outside first last n) is (outside_after first last n following)))
       (cases_lt n last),
 )
 
@@ -87,14 +87,14 @@ module _ (at n : ℕ) (old : ℕ → ℕ) (k : ℕ) where
       ∙ zeros_at (replicate n 0) n (k - at) refl
 
   zeros_after : at + n ≤ k → byte_over at (replicate n 0) old k ≡ old k
-  zeros_after behind =
+  zeros_after following =
       over_after at (replicate n 0) old k (omega (arith, length-replicate {A = ℕ} n 0))
 
 -- zeros are in place of that many bytes, and the others are as they were
 pub record IsZeroed (old new : ℕ → ℕ) (off len : ℕ) : Type 0 where
   pub zeros : (k : ℕ) → off ≤ k → k < off + len → new k ≡ 0
   pub before : (k : ℕ) → k < off → new k ≡ old k
-  pub behind : (k : ℕ) → off + len ≤ k → new k ≡ old k
+  pub following : (k : ℕ) → off + len ≤ k → new k ≡ old k
 
 -- so they do where they are written over the bytes, and only there
 pub over_zeroed : (old new : ℕ → ℕ) (off len : ℕ)
@@ -102,7 +102,7 @@ pub over_zeroed : (old new : ℕ → ℕ) (off len : ℕ)
 over_zeroed old new off len over = record {
   zeros = λ k from to. over k ∙ zeros_in off len old k from to;
   before = λ k less. over k ∙ over_before off (replicate len 0) old k less;
-  behind = λ k more. over k ∙ zeros_after off len old k more;
+  following = λ k more. over k ∙ zeros_after off len old k more;
 }
 
 pub zeroed_over : (old new : ℕ → ℕ) (off len : ℕ) → IsZeroed old new off len
@@ -112,7 +112,7 @@ zeroed_over old new off len zeroed k =
     (λ (less : k < off). zeroed.before k less ∙ sym (over_before off (replicate len 0) old k less))
     (λ (from : off ≤ k).
     ⊎_elim (λ (to : k < off + len). zeroed.zeros k from to ∙ sym (zeros_in off len old k from to))
-    (λ (more : off + len ≤ k). zeroed.behind k more ∙ sym (zeros_after off len old k more))
+    (λ (more : off + len ≤ k). zeroed.following k more ∙ sym (zeros_after off len old k more))
     (cases_lt k (off + len)))
     (cases_lt k off)
 
@@ -125,8 +125,8 @@ zeroed_more old mid new off len at count all begins sum one two = record {
       (λ (more : at ≤ k). two.zeros k more (omega (arith, begins, sum, to)))
       (cases_lt k at);
   before = λ k less. two.before k (omega (arith, begins, less)) ∙ one.before k less;
-  behind = λ k more.
-      two.behind k (omega (arith, begins, sum, more)) ∙ one.behind k (omega (arith, sum, more));
+  following = λ k more.
+      two.following k (omega (arith, begins, sum, more)) ∙ one.following k (omega (arith, sum, more));
 }
 
 module _ (old cut : ℕ → ℕ) (off len first : ℕ) (begins : first ≡ div_ceil off 4096)
@@ -140,7 +140,7 @@ module _ (old cut : ℕ → ℕ) (off len first : ℕ) (begins : first ≡ div_c
   zeroed_within new none over = record {
     zeros = λ k from to. over k ∙ zeros_in off len cut k from to;
     before = λ k less. over k ∙ over_before off (replicate len 0) cut k less ∙ same k;
-    behind = λ k more. over k ∙ zeros_after off len cut k more ∙ same k;
+    following = λ k more. over k ∙ zeros_after off len cut k more ∙ same k;
   }
     where
       same : (k : ℕ) → cut k ≡ old k
@@ -148,7 +148,7 @@ module _ (old cut : ℕ → ℕ) (off len first : ℕ) (begins : first ≡ div_c
           stays k
           (⊎_elim
           (λ (before : k / 4096 < first). outside_before first ((off + len) / 4096) (k / 4096) before)
-          (λ (behind : first ≤ k / 4096).
+          (λ (following : first ≤ k / 4096).
           outside_after first ((off + len) / 4096) (k / 4096) (omega arith))
           (cases_lt (k / 4096) first))
 
@@ -177,7 +177,7 @@ module _ (old cut : ℕ → ℕ) (off len first : ℕ) (begins : first ≡ div_c
         ahead k (omega arith) ∙ fore k
         ∙ over_before off (replicate (first * 4096 - off) 0) cut k less
         ∙ stays k (outside_before first ((off + len) / 4096) (k / 4096) (omega arith));
-    behind = λ k more.
+    following = λ k more.
         aft k
         ∙ zeros_after ((off + len) / 4096 * 4096) ((off + len) % 4096) front k (omega arith)
         ∙ fore k ∙ zeros_after off (first * 4096 - off) cut k (omega arith)
@@ -198,7 +198,7 @@ zeroed_after old new size off len zeroed zero k past =
     ⊎_elim (λ (before : k < off). zeroed.before k before ∙ zero k past)
     (λ (from : off ≤ k).
     ⊎_elim (λ (to : k < off + len). zeroed.zeros k from to)
-    (λ (behind : off + len ≤ k). zeroed.behind k behind ∙ zero k past) (cases_lt k (off + len)))
+    (λ (following : off + len ≤ k). zeroed.following k following ∙ zero k past) (cases_lt k (off + len)))
     (cases_lt k off)
 
 bytes_punched : (old new : Pages) (size off len : ℕ) → IsZeroed (byte_at old) (byte_at new) off len
@@ -232,8 +232,8 @@ bytes_punched old new size off len zeroed =
     (omega arith) from
     ∙ get_or_append_left (replicate n 0) (drop (off + len) bytes) 0 (i - off) (omega arith)
     ∙ zeros_at (replicate n 0) n (i - off) refl))
-    (λ (behind : off + len ≤ i).
-    zeroed.behind i behind
+    (λ (following : off + len ≤ i).
+    zeroed.following i following
     ∙ sym (get_or-append_right (take off bytes) (replicate n 0 ++ drop (off + len) bytes) off i 0
     (omega arith) from
     ∙ get_or-append_right (replicate n 0) (drop (off + len) bytes) n (i - off) 0 zeros (omega arith)

@@ -8,7 +8,7 @@ use Rattle.std.proofs.lemmas.List.FromFn.{length-map-range_with_len, get_or-map-
 use Rattle.fuse_views.specs.Segments.{with_bytes_at}
 use Rattle.fs_trait.specs.Bytes.{lengthened}
 use Rattle.fs_contents.specs.Pages.{Pages, byte_at, byte_over, with_pages}
-use Rattle.fs_contents.specs.Contents.{Contents, AreZeroBehind, bytes_of, contents_of, resized, allocated, written, pages_over}
+use Rattle.fs_contents.specs.Contents.{Contents, AreZeroAfter, bytes_of, contents_of, resized, allocated, written, pages_over}
 use Rattle.fs_contents.proofs.Held.{zeros_at, over_in, over_before, over_after, list_over}
 
 pub length-bytes_of : (pages : Pages) (size : ℕ) → length (bytes_of pages size) ≡ size
@@ -19,7 +19,7 @@ shown pages size i within =
     get_or-map-range_with_len (byte_at pages) 0 size i i 0 within (omega arith)
 
 -- with zeros after the end too
-shown_after : (pages : Pages) (size k i : ℕ) → AreZeroBehind pages size
+shown_after : (pages : Pages) (size k i : ℕ) → AreZeroAfter pages size
     → get_or (bytes_of pages size ++ replicate k 0) i 0 ≡ byte_at pages i
 shown_after pages size k i zero =
     let size_is = length-bytes_of pages size in
@@ -27,9 +27,9 @@ shown_after pages size k i zero =
     (λ (within : i < size).
     get_or_append_left (bytes_of pages size) (replicate k 0) 0 i (omega arith)
     ∙ shown pages size i within)
-    (λ (behind : size ≤ i).
-    get_or-append_right (bytes_of pages size) (replicate k 0) size i 0 size_is behind
-    ∙ zeros_at (replicate k 0) k (i - size) refl ∙ sym (zero i behind))
+    (λ (following : size ≤ i).
+    get_or-append_right (bytes_of pages size) (replicate k 0) size i 0 size_is following
+    ∙ zeros_at (replicate k 0) k (i - size) refl ∙ sym (zero i following))
     (cases_lt i size)
 
 pub both : (a b h k : List ℕ) → a ≡ b → h ≡ k
@@ -40,7 +40,7 @@ both a b h k same held =
 
 -- ---- another size
 
-bytes_resized : (old new : Pages) (was size : ℕ) → AreZeroBehind old was
+bytes_resized : (old new : Pages) (was size : ℕ) → AreZeroAfter old was
     → ((place : ℕ) → place < size → byte_at new place ≡ byte_at old place)
     → bytes_of new size
     ≡ take size (bytes_of old was) ++ replicate (size - length (bytes_of old was)) 0
@@ -59,13 +59,13 @@ bytes_resized old new was size zero same =
     (λ (below : i < was).
     sym (get_or_append_left (take size (bytes_of old was)) (replicate fill 0) 0 i (omega arith)
     ∙ get_or-take size (bytes_of old was) i 0 within ∙ shown old was i below))
-    (λ (behind : was ≤ i).
-    zero i behind
-    ∙ sym (get_or-append_right (take size (bytes_of old was)) (replicate fill 0) was i 0 (omega arith) behind
+    (λ (following : was ≤ i).
+    zero i following
+    ∙ sym (get_or-append_right (take size (bytes_of old was)) (replicate fill 0) was i 0 (omega arith) following
     ∙ zeros_at (replicate fill 0) fill (i - was) refl))
     (cases_lt i was))
 
-pub resized_longer : (pages : Pages) (was size : ℕ) → was < size → AreZeroBehind pages was
+pub resized_longer : (pages : Pages) (was size : ℕ) → was < size → AreZeroAfter pages was
     → contents_of pages size ≡ resized (contents_of pages was) size
 resized_longer pages was size more zero =
     let long = length-bytes_of pages was in
@@ -74,7 +74,7 @@ resized_longer pages was size more zero =
     (filter (λ n. nat_lt n (div_ceil size 4096)) (keys_of pages))
     (lt-ltb (length (bytes_of pages was)) size (omega arith))))
 
-pub resized_shorter : (old cut new : Pages) (was size : ℕ) → size ≤ was → AreZeroBehind old was
+pub resized_shorter : (old cut new : Pages) (was size : ℕ) → size ≤ was → AreZeroAfter old was
     → keys_of cut ≡ filter (λ n. nat_lt n (div_ceil size 4096)) (keys_of old)
     → ((place : ℕ) → byte_at cut place
     ≡ cond (nat_lt (place / 4096) (div_ceil size 4096)) (byte_at old place) 0)
@@ -141,12 +141,12 @@ over_same at w f g i same =
     (λ (from : at ≤ i).
     ⊎_elim
     (λ (to : i < at + length w). over_in at w f i from to ∙ sym (over_in at w g i from to))
-    (λ (behind : at + length w ≤ i).
-    over_after at w f i behind ∙ same ∙ sym (over_after at w g i behind))
+    (λ (following : at + length w ≤ i).
+    over_after at w f i following ∙ same ∙ sym (over_after at w g i following))
     (cases_lt i (at + length w)))
     (cases_lt i at)
 
-bytes_written : (old new : Pages) (was off : ℕ) (bs : List ℕ) → AreZeroBehind old was
+bytes_written : (old new : Pages) (was off : ℕ) (bs : List ℕ) → AreZeroAfter old was
     → ((place : ℕ) → byte_at new place ≡ byte_over off bs (byte_at old) place)
     → bytes_of new (max was (off + length bs))
     ≡ with_bytes_at off bs (lengthened (bytes_of old was) (off + length bs))
@@ -167,7 +167,7 @@ bytes_written old new was off bs zero over =
     ∙ over_same off bs (λ i. get_or xs i 0) (byte_at old) i (shown_after old was k i zero)))
 
 pub contents_written : (old held new : Pages) (was off : ℕ) (bs : List ℕ) → 0 < length bs
-    → AreZeroBehind old was
+    → AreZeroAfter old was
     → keys_of held ≡ with_pages (keys_of old) (off / 4096) (pages_over off (length bs))
     → ((place : ℕ) → byte_at held place ≡ byte_at old place)
     → keys_of new ≡ keys_of held
@@ -182,7 +182,7 @@ contents_written old held new was off (b ∷ bs) some zero kept same keys over =
 
 -- ---- zeros after them
 
-pub contents_allocated : (old new : Pages) (was off len least : ℕ) → AreZeroBehind old was
+pub contents_allocated : (old new : Pages) (was off len least : ℕ) → AreZeroAfter old was
     → keys_of new ≡ with_pages (keys_of old) (off / 4096) (pages_over off len)
     → ((place : ℕ) → byte_at new place ≡ byte_at old place)
     → contents_of new (max was least) ≡ allocated (contents_of old was) off len least

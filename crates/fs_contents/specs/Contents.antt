@@ -108,5 +108,5 @@ abbrev pub contents_of : Pages → (size : ℕ) → Contents
 contents_of pages size = record { bytes = bytes_of pages size; held = keys_of pages }
 
 -- zeros come after the end
-abbrev pub AreZeroBehind : Pages → (size : ℕ) → Type 0
-AreZeroBehind pages size = (place : ℕ) → size ≤ place → byte_at pages place ≡ 0
+abbrev pub AreZeroAfter : Pages → (size : ℕ) → Type 0
+AreZeroAfter pages size = (place : ℕ) → size ≤ place → byte_at pages place ≡ 0

@@ -43,13 +43,13 @@ pub struct Contents {
 }
 
 impl Model for Contents {
-    ghost use Rattle.fs_contents.specs.Contents.{Contents, contents_of, AreZeroBehind};
+    ghost use Rattle.fs_contents.specs.Contents.{Contents, contents_of, AreZeroAfter};
 
     ghost Value = { Contents };
 
     ghost view = { λ contents. contents_of contents.pages contents.size };
 
-    ghost invariant = { λ contents. AreZeroBehind contents.pages contents.size };
+    ghost invariant = { λ contents. AreZeroAfter contents.pages contents.size };
 }
 
 impl Contents {

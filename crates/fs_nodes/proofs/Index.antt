@@ -10,7 +10,7 @@ use Rattle.std.proofs.lemmas.Bool.{cases_Bool, cond-true, cond-false, not_from_t
 use Rattle.std.proofs.lemmas.Option.{none-some, same_Some}
 use Rattle.fs_trait.proofs.Indexes.{same_name}
 use Rattle.fs_nodes.specs.Children.{Link, is_named, is_directory, directories_of, relinked}
-use Rattle.fs_nodes.specs.Index.{IsBehind, AreInOrder}
+use Rattle.fs_nodes.specs.Index.{IsAfter, AreInOrder}
 use Rattle.fs_nodes.specs.declared.children.Child.{Child}
 use Rattle.fs_nodes.proofs.Finds.{every_both, every_filter, every_map, every_weaker, every_found, found_here, found_later, none_passes, filter_all, map_all}
 use Rattle.fs_nodes.proofs.Places.{relinked_place, relinked_name}
@@ -27,10 +27,10 @@ module _ {X : Type 0} where
   -- what is put in before all others
   pub inserted_first : (es : List (ℕ × X)) (n : ℕ) (v : X)
       → AllByRecursion (λ (e : ℕ × X). n < e.0) es → insert_entry nat_cmp es n v ≡ (n, v) ∷ es
-  inserted_first [] n v behind = refl
-  inserted_first (e ∷ es) n v behind =
+  inserted_first [] n v following = refl
+  inserted_first (e ∷ es) n v following =
       ap (λ o. match_ordering o ((n, v) ∷ e ∷ es) ((e.0, v) ∷ es) (e ∷ insert_entry nat_cmp es n v))
-      (sym (nat_cmp_is n e.0 Less behind.0))
+      (sym (nat_cmp_is n e.0 Less following.0))
 
   -- and taken out again
   pub removed_first : (es : List (ℕ × X)) (n : ℕ) (v : X)
@@ -43,12 +43,12 @@ module _ {X : Type 0} where
 
 -- after a link no other has its name
 others_named : (link : ℕ × Link) (links : List (ℕ × Link)) (name : List ℕ)
-    → AllByRecursion (IsBehind link.0 link.1.name) links → is_named name link ≡ true
+    → AllByRecursion (IsAfter link.0 link.1.name) links → is_named name link ≡ true
     → AllByRecursion (λ other. is_named name other ≡ false) links
-others_named link links name behind passes =
-    every_weaker (IsBehind link.0 link.1.name) (λ other. is_named name other ≡ false)
+others_named link links name following passes =
+    every_weaker (IsAfter link.0 link.1.name) (λ other. is_named name other ≡ false)
     (λ other b. subst (λ (l : List ℕ). is_named l other ≡ false)
-    (same_name link.1.name name passes) b.1) links behind
+    (same_name link.1.name name passes) b.1) links following
 
 module _ (name : List ℕ) where
   pub found_by_place : (links : List (ℕ × Link)) (e : ℕ × Link) → AreInOrder links
@@ -63,9 +63,9 @@ module _ (name : List ℕ) where
       (at_itself x.0)))
       (λ fails.
       let later = found_later (is_named name) x xs (Some e) fails found in
-      let behind = every_found (IsBehind x.0 x.1.name) (is_named name) xs e order.0 later in
+      let following = every_found (IsAfter x.0 x.1.name) (is_named name) xs e order.0 later in
       cond-false (is_at (nat_cmp e.0) x.0) (Some x.1) (lookup (is_at (nat_cmp e.0)) xs)
-      (not_at e.0 x.0 behind.0)
+      (not_at e.0 x.0 following.0)
       ∙ found_by_place xs e order.1 later)
       (cases_Bool (is_named name x))
 
@@ -91,9 +91,9 @@ module _ (name : List ℕ) where
       (not_from_true (is_named name x) passes))))
       (λ fails.
       let later = found_later (is_named name) x xs (Some e) fails found in
-      let behind = every_found (IsBehind x.0 x.1.name) (is_named name) xs e order.0 later in
+      let following = every_found (IsAfter x.0 x.1.name) (is_named name) xs e order.0 later in
       cond-false (is_at (nat_cmp e.0) x.0) xs (x ∷ remove_entry (is_at (nat_cmp e.0)) xs)
-      (not_at e.0 x.0 behind.0)
+      (not_at e.0 x.0 following.0)
       ∙ ap (λ (l : List (ℕ × Link)). x ∷ l) (removed_by_place xs e order.1 later)
       ∙ sym (cond-true (not (is_named name x)) (x ∷ kept) kept
       (not_from_false (is_named name x) fails)))
@@ -126,10 +126,10 @@ module _ (name : List ℕ) where
       ∙ sym (ap (λ (y : ℕ × Link). y ∷ others) (cond-true (is_named name x) new x passes))))
       (λ fails.
       let later = found_later (is_named name) x xs (Some e) fails found in
-      let behind = every_found (IsBehind x.0 x.1.name) (is_named name) xs e order.0 later in
+      let following = every_found (IsAfter x.0 x.1.name) (is_named name) xs e order.0 later in
       cond-false (is_at (nat_cmp e.0) x.0) ((x.0, record e.1 { child = child }) ∷ xs)
       (x ∷ set_value (is_at (nat_cmp e.0)) xs (record e.1 { child = child }))
-      (not_at e.0 x.0 behind.0)
+      (not_at e.0 x.0 following.0)
       ∙ ap (λ (l : List (ℕ × Link)). x ∷ l) (set_by_place child xs e order.1 later)
       ∙ sym (ap (λ (y : ℕ × Link). y ∷ others)
       (cond-false (is_named name x) (x.0, record x.1 { child = child }) x fails)))
@@ -160,8 +160,8 @@ module _ (name : List ℕ) where
   pub order_added : (links : List (ℕ × Link)) (place : ℕ) (child : Child) → AreInOrder links
       → AllByRecursion (λ link. place < link.0) links → find (is_named name) links ≡ None
       → AreInOrder ((place, record { name = name; child = child }) ∷ links)
-  order_added links place child order behind none = (
-    every_both (λ link. place < link.0) (λ link. is_named name link ≡ false) links behind
+  order_added links place child order following none = (
+    every_both (λ link. place < link.0) (λ link. is_named name link ≡ false) links following
         (none_passes (is_named name) links none),
     order,
   )
@@ -173,7 +173,7 @@ order_filtered p (x ∷ xs) order =
     let rest = order_filtered p xs order.1 in
     ⊎_elim
     (λ passes. subst AreInOrder (sym (cond-true (p x) (x ∷ filter p xs) (filter p xs) passes))
-    (every_filter (IsBehind x.0 x.1.name) p xs order.0, rest))
+    (every_filter (IsAfter x.0 x.1.name) p xs order.0, rest))
     (λ fails. subst AreInOrder (sym (cond-false (p x) (x ∷ filter p xs) (filter p xs) fails)) rest)
     (cases_Bool (p x))
 
@@ -183,12 +183,12 @@ order_mapped : (f : (ℕ × Link) → (ℕ × Link)) → ((x : ℕ × Link) → 
     → AreInOrder (map f links)
 order_mapped f place name [] order = tt
 order_mapped f place name (x ∷ xs) order = (
-  every_map (IsBehind x.0 x.1.name) (IsBehind (f x).0 (f x).1.name) f
-      (λ y behind. (
+  every_map (IsAfter x.0 x.1.name) (IsAfter (f x).0 (f x).1.name) f
+      (λ y following. (
         subst (λ (n : ℕ). (f x).0 < n) (sym (place y))
-            (subst (λ (n : ℕ). n < y.0) (sym (place x)) behind.0),
+            (subst (λ (n : ℕ). n < y.0) (sym (place x)) following.0),
         ap (λ l. bytes_eq l (f x).1.name) (name y) ∙ ap (λ l. bytes_eq y.1.name l) (name x)
-            ∙ behind.1,
+            ∙ following.1,
       )) xs order.0,
   order_mapped f place name xs order.1,
 )
@@ -210,10 +210,10 @@ places_relinked P name child links all =
 pub after_added : (next : ℕ) (link : Link) (links : List (ℕ × Link)) → 0 < next
     → AllByRecursion (λ link. next < link.0) links
     → AllByRecursion (λ link. next - 1 < link.0) ((next, link) ∷ links)
-after_added next link links some behind = (
+after_added next link links some following = (
   omega (arith, some),
   every_weaker (λ other. next < other.0) (λ other. next - 1 < other.0)
-      (λ other b. omega (arith, b)) links behind,
+      (λ other b. omega (arith, b)) links following,
 )
 
 -- ---- how many there are, and how many directories
@@ -224,7 +224,7 @@ places_rise : (links : List (ℕ × Link)) (low next : ℕ) → low ≤ next →
 places_rise [] low next small order above before = omega arith
 places_rise (x ∷ xs) low next small order above before =
     let more = places_rise xs (x.0 + 1) next (omega (arith, before.0)) order.1
-    (every_weaker (IsBehind x.0 x.1.name) (λ link. x.0 + 1 ≤ link.0)
+    (every_weaker (IsAfter x.0 x.1.name) (λ link. x.0 + 1 ≤ link.0)
     (λ link b. omega (arith, b.0)) xs order.0) before.1 in
     omega (arith, more, above.0)
 

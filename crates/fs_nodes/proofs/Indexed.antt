@@ -35,7 +35,7 @@ module _ (links : List (ℕ × Link)) (places : BTreeMap (Vec ℕ Global) ℕ) (
       → AreIndexed links same next directories
   indexed_same same is = record {
     order = old.order;
-    behind = old.behind;
+    following = old.following;
     within = old.within;
     room = old.room;
     index = index_same places same (place_named links) old.index is;
@@ -93,8 +93,8 @@ module _ (links : List (ℕ × Link)) (places : BTreeMap (Vec ℕ Global) ℕ) (
           let less = ap directories_of is in
           subst (λ (l : List (ℕ × Link)). AreIndexed l changed next counted) same (record {
             order = order_filtered (λ link. not (is_named name link)) links old.order;
-            behind = every_filter (λ link. next < link.0) (λ link. not (is_named name link)) links
-                old.behind;
+            following = every_filter (λ link. next < link.0) (λ link. not (is_named name link)) links
+                old.following;
             within = every_filter (λ link. link.0 < 2 ^ 63) (λ link. not (is_named name link)) links
                 old.within;
             room = old.room;
@@ -133,7 +133,7 @@ module _ (links : List (ℕ × Link)) (places : BTreeMap (Vec ℕ Global) ℕ) (
           let now = ap directories_of is in
           subst (λ (l : List (ℕ × Link)). AreIndexed l places next counted) same (record {
             order = order_relinked name child links old.order;
-            behind = places_relinked (λ n. next < n) name child links old.behind;
+            following = places_relinked (λ n. next < n) name child links old.following;
             within = places_relinked (λ n. n < 2 ^ 63) name child links old.within;
             room = old.room;
             index = λ other. old.index other ∙ sym (place_relinked links name child other);
@@ -160,7 +160,7 @@ module _ (links : List (ℕ × Link)) (places : BTreeMap (Vec ℕ Global) ℕ) (
         → more ≡ insert_entry nat_cmp links next (record { name = name; child = child })
         → more ≡ (next, record { name = name; child = child }) ∷ links
     link_added child more is =
-        is ∙ inserted_first links next (record { name = name; child = child }) old.behind
+        is ∙ inserted_first links next (record { name = name; child = child }) old.following
 
     pub add_undone : (child : Child) (more back : List (ℕ × Link))
         → more ≡ insert_entry nat_cmp links next (record { name = name; child = child })
@@ -182,8 +182,8 @@ module _ (links : List (ℕ × Link)) (places : BTreeMap (Vec ℕ Global) ℕ) (
         let all = (next, link) ∷ links in
         let same : all ≡ more = sym (link_added child more is) in
         subst (λ (l : List (ℕ × Link)). AreIndexed l changed (next - 1) sum) same (record {
-          order = order_added name links next child old.order old.behind none;
-          behind = after_added next link links some old.behind;
+          order = order_added name links next child old.order old.following none;
+          following = after_added next link links some old.following;
           within = (old.room, old.within);
           room = omega (arith, old.room);
           index = index_changed places changed (place_named links) old.index name (Some next)

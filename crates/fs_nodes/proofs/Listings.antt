@@ -30,10 +30,10 @@ take_of_take (suc n) [] ys = refl
 take_of_take (suc n) (x ∷ xs) ys = ap (λ l. x ∷ l) (take_of_take n xs ys)
 
 -- the places after an offset
-behind_is : (off : ℕ) (links : List (ℕ × Link))
+following_is : (off : ℕ) (links : List (ℕ × Link))
     → entries_between nat_cmp (Excluded off) Unbounded links
     ≡ filter (λ link. nat_lt off link.0) links
-behind_is off links =
+following_is off links =
     filter_agree (λ link. is_lt (nat_cmp off link.0) && true) (λ link. nat_lt off link.0)
     (λ link. is_below off link.0) links
   where
@@ -66,7 +66,7 @@ module _ (n off most : ℕ) (directory : Node) where
       ap (λ l. take most (l ++ map link_item left)) dots
       ∙ take_of_take most first (map link_item left)
       ∙ ap (λ l. take most (first ++ l))
-      (ap (map link_item) (links ∙ behind_is off directory.children.links)
+      (ap (map link_item) (links ∙ following_is off directory.children.links)
       ∙ sym (filter_of_map p link_item directory.children.links))
       ∙ ap (take most) (sym (filter-append p (dot_items n directory.parent)
       (map link_item directory.children.links)))

@@ -16,13 +16,13 @@ abbrev pub place_of : BTreeMap (Vec ℕ Global) ℕ → (name : List ℕ) → Op
 place_of places name = get_by (λ key. slice_cmp nat_cmp name key.items) places
 
 -- a link that lies after a place and has another name
-abbrev pub IsBehind : (place : ℕ) → (name : List ℕ) → (ℕ × Link) → Type 0
-IsBehind place name link = (place < link.0) × (is_named name link ≡ false)
+abbrev pub IsAfter : (place : ℕ) → (name : List ℕ) → (ℕ × Link) → Type 0
+IsAfter place name link = (place < link.0) × (is_named name link ≡ false)
 
 -- links in order of their places, and no name twice
 abbrev pub AreInOrder : List (ℕ × Link) → Type 0
 AreInOrder [] = ⊤
-AreInOrder (link ∷ links) = AllByRecursion (IsBehind link.0 link.1.name) links × AreInOrder links
+AreInOrder (link ∷ links) = AllByRecursion (IsAfter link.0 link.1.name) links × AreInOrder links
 
 -- what holds of the links and the index of a directory: the places are in order, after that of the next
 -- name and below 2 ^ 63, the index has each name that is there and no other, and directories are counted
@@ -30,7 +30,7 @@ pub record AreIndexed
     (links : List (ℕ × Link)) (places : BTreeMap (Vec ℕ Global) ℕ) (next directories : ℕ)
     : Type 0 where
   pub order : AreInOrder links
-  pub behind : AllByRecursion (λ link. next < link.0) links
+  pub following : AllByRecursion (λ link. next < link.0) links
   pub within : AllByRecursion (λ link. link.0 < 2 ^ 63) links
   pub room : next < 2 ^ 63
   pub index : (name : List ℕ) → place_of places name ≡ place_named links name

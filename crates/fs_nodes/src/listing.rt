@@ -33,8 +33,8 @@ pub fn entries_after(
 {
     let most = size as usize / LEAST_RECORD + 1;
     let mut entries = dot_entries(alloc, number, directory.parent, offset, most)?;
-    let behind = (Bound::Excluded(offset), Bound::Unbounded);
-    for (place, link) in directory.children.links().range(behind) {
+    let following = (Bound::Excluded(offset), Bound::Unbounded);
+    for (place, link) in directory.children.links().range(following) {
         if entries.len() >= most {
             break;
         }

@@ -23,9 +23,9 @@ slice_get-file_items offset (f ∷ fs) (suc place) file is =
 pub slice_get-root_items : (files : List Stored) (place : ℕ) (file : Stored) → 2 ≤ place
     → slice_get files (place - 2) ≡ Some file
     → slice_get (root_items files) place ≡ Some (file_item (place + 1) file)
-slice_get-root_items files zero file behind is = absurd (omega arith)
-slice_get-root_items files (suc zero) file behind is = absurd (omega arith)
-slice_get-root_items files (suc (suc k)) file behind is =
+slice_get-root_items files zero file following is = absurd (omega arith)
+slice_get-root_items files (suc zero) file following is = absurd (omega arith)
+slice_get-root_items files (suc (suc k)) file following is =
     let from : suc (suc k) - 2 ≡ k = omega arith in
     let offset : 3 + k ≡ suc (suc k) + 1 = omega arith in
     slice_get-file_items 3 files k file (rw from at is) ∙ ap (λ o. Some (file_item o file)) offset

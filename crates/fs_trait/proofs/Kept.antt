@@ -85,8 +85,8 @@ module _ (names : List ℕ) (entries : List Kept) (given begin : ℕ)
             subst (λ b. b ≢ 0) (sym (get_or_append_left names text 0 k
             (ltb-true k (length names) front)))
             (old.no_nul k (ltb-true k (length names) front)))
-            (λ (behind : nat_lt k (length names) ≡ false).
-            let from = ltb-false k (length names) behind in
+            (λ (following : nat_lt k (length names) ≡ false).
+            let from = ltb-false k (length names) following in
             let long = length-append names text in
             subst (λ b. b ≢ 0) (sym (get_or-append_right names text (length names) k 0 refl from))
             (no_nul (k - length names) (omega (arith, from, long))))

@@ -26,9 +26,9 @@ module _ (count room off : ℕ) where
       let own = own_length (view_len (reads_of Reads) count room off moved) c.0 here r.there in
       let sum : count_moved (c ∷ cs) ≡ length c.0 + count_moved cs =
       sum_by-cons (λ (x : List ℕ × List ℕ). length x.0) c cs in
-      let behind : off + (moved + length c.0) ≡ off + moved + length c.0 = omega arith in
+      let following : off + (moved + length c.0) ≡ off + moved + length c.0 = omega arith in
       let next : drop (off + (moved + length c.0)) c.1 ≡ drop (length c.0) here =
-      ap (λ s. drop (off + (moved + length c.0)) s) r.same ∙ ap (λ k. drop k old) behind
+      ap (λ s. drop (off + (moved + length c.0)) s) r.same ∙ ap (λ k. drop k old) following
       ∙ sym (drop-drop (length c.0) (off + moved) old) in (
         rest.0 ∙ r.same,
         ap (λ s. c.0 ++ s) (rest.1 ∙ ap (take (count_moved cs)) next)

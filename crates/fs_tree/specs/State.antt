@@ -31,9 +31,9 @@ abbrev pub node_at : State → (number : ℕ) → Option Node
 node_at s n = lookup (is_at (nat_cmp n)) s.nodes
 
 -- the nodes of greater numbers; all of them where there is none to begin after
-abbrev pub behind : (number : Option ℕ) → List (ℕ × Node) → List (ℕ × Node)
-behind None nodes = nodes
-behind (Some n) nodes = filter (λ e. nat_lt n e.0) nodes
+abbrev pub following : (number : Option ℕ) → List (ℕ × Node) → List (ℕ × Node)
+following None nodes = nodes
+following (Some n) nodes = filter (λ e. nat_lt n e.0) nodes
 
 -- how many more bytes the nodes may take
 abbrev pub room_of : State → ℕ

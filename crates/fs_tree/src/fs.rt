@@ -16,7 +16,7 @@ ghost use Rattle.fs_tree.specs.Naming.{has_no_number, is_crowded, new_in, new_na
 ghost use Rattle.fs_tree.specs.Outcome.{Ends};
 ghost use Rattle.fs_nodes.specs.declared.node.Node.{Node};
 ghost use Rattle.fs_tree.specs.Holding.{first_held, rests};
-ghost use Rattle.fs_tree.specs.State.{behind, child_at, lead, node_at, room_of, with_new};
+ghost use Rattle.fs_tree.specs.State.{following, child_at, lead, node_at, room_of, with_new};
 ghost use Rattle.fs_tree.specs.Tree.{makes, makes_nameless, make_refusal, first_state, forgotten, all_forgotten, released};
 
 use crate::naming::add_name;
@@ -470,7 +470,7 @@ impl TreeFs {
     // The first node that is not idle of those with a greater number than this, or of all, and how many
     // lookups of it are held.
     fn held_after(&self, number: Option<u64>) -> Option<(u64, u64)>
-        ensures held { result ≡ first_held (behind number self.entry.now.nodes) }
+        ensures held { result ≡ first_held (following number self.entry.now.nodes) }
         ensures ordered { IsStrictlySortedBy nat_cmp (keys_of self.entry.now.nodes) }
     {
         match number {

@@ -142,5 +142,5 @@ extensions_of-block options r bytes b is =
 pub says-more : (options : ℕ) (r more : Received) (bytes rest : List ℕ) (b : Block) (all : Result ExtensionValues Error)
     → extensions_of options r (cut_of bytes) ≡ all → block_in bytes ≡ Ok b → rest ≡ drop (block_size bytes) bytes
     → receive options r b ≡ Ok more → extensions_of options more (cut_of rest) ≡ all
-says-more options r more bytes rest b all same is behind well =
-    rw behind (sym (rw well at (extensions_of-block options r bytes b is)) ∙ same)
+says-more options r more bytes rest b all same is following well =
+    rw following (sym (rw well at (extensions_of-block options r bytes b is)) ∙ same)

@@ -41,13 +41,13 @@ refused_or (Ok part) next = next part
 abbrev pub within : (above : Bool) → InHeader → (next : Ask) → Ask
 within above h next = if above then faulted enomem h else next
 
--- the tail of a request: of the bytes `behind` a record of `size` bytes, as many as the header's `len` has
+-- the tail of a request: of the bytes `following` a record of `size` bytes, as many as the header's `len` has
 -- beyond the header and the record. More bytes are ignored
-abbrev pub tail_of : InHeader → (size : ℕ) → (behind : List ℕ) → Result (List ℕ) Error
-tail_of h size behind =
+abbrev pub tail_of : InHeader → (size : ℕ) → (following : List ℕ) → Result (List ℕ) Error
+tail_of h size following =
     if nat_lt h.len (size_of in_header + size) then Err InvalidHeaderLength
-    else if nat_lt (length behind) (h.len - (size_of in_header + size)) then Err DecodeMessage
-    else Ok (take (h.len - (size_of in_header + size)) behind)
+    else if nat_lt (length following) (h.len - (size_of in_header + size)) then Err DecodeMessage
+    else Ok (take (h.len - (size_of in_header + size)) following)
 
 -- the two names that a tail is: the first ends at its first 0, and the second is the rest
 abbrev pub two_names_in : (tail : List ℕ) → Result (List ℕ × List ℕ) Error
@@ -99,11 +99,11 @@ space_after_header room_len =
 -- What INIT of this version asks: an older one is answered EPROTO, and a newer major one is told ours.
 -- The second word of flags is in a record of its own, where INIT_EXT in the first says that there is one, and
 -- else 0. The options offered are those bits of both words that are known.
-abbrev pub ask_init : InHeader → InitInCompat → (behind : List ℕ) → Ask
-ask_init h r behind =
+abbrev pub ask_init : InHeader → InitInCompat → (following : List ℕ) → Ask
+ask_init h r following =
     refused_or
     (if bit_and r.flags init_ext == 0 then Ok 0
-    else error_or (record_of init_in_ext behind) (λ more. Ok more.flags2)) (λ flags2.
+    else error_or (record_of init_in_ext following) (λ more. Ok more.flags2)) (λ flags2.
     if nat_lt r.major KERNEL_VERSION then faulted eproto h
     else if nat_lt KERNEL_VERSION r.major
     then Ends (Bytes (body_reply (bytes_of init_out version_out) h.unique))
@@ -207,10 +207,10 @@ module _ (h : InHeader) (rest : List ℕ) where
 -- ---- no more is of the promise: the rest is for proofs, and for contracts of parts
 
 -- the second word of INIT's flags
-abbrev pub second_flags : (flags : ℕ) → (behind : List ℕ) → Result ℕ Error
-second_flags flags behind =
+abbrev pub second_flags : (flags : ℕ) → (following : List ℕ) → Result ℕ Error
+second_flags flags following =
     if bit_and flags init_ext == 0 then Ok 0
-    else error_or (record_of init_in_ext behind) (λ r. Ok r.flags2)
+    else error_or (record_of init_in_ext following) (λ r. Ok r.flags2)
 
 -- what INIT of this version asks, by both words
 abbrev pub ask_version : InHeader → InitInCompat → (flags2 : ℕ) → Ask

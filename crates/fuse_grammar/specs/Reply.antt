@@ -22,7 +22,7 @@ pub data Reply : Type 0 where
   Refusal : (error : Error) → Reply
   NoReply : Reply
   Bytes : (reply : List ℕ) → Reply
-  OpenBehind : (reply : List ℕ) → Reply
+  OpenAfter : (reply : List ℕ) → Reply
 
 -- What is kept of a request after its call: what the reply repeats, which is the client's number
 -- and, of INIT alone, the read-ahead; and the caller, for whom an entry is given back.
@@ -109,5 +109,5 @@ reply_of limits echo options Agreements answer = Bytes (answer_reply
 reply_of limits echo options Quiet answer = NoReply
 reply_of limits echo options Untold Done = NoReply
 reply_of limits echo options (Data size) answer =
-    OpenBehind (answer_reply (body_of answer) echo.unique answer)
+    OpenAfter (answer_reply (body_of answer) echo.unique answer)
 reply_of limits echo options _ answer = Bytes (answer_reply (body_of answer) echo.unique answer)

@@ -1,6 +1,6 @@
 -- How a reply is put into a room. Begin with `IsReplied`.
 use Rattle.std.specs.Prelude.{◌≡◌, ℕ, List, ◌++◌, length, take, drop, nat_le, if◌then◌else◌, Bool, true, Option, None, Some, Result, Ok, Err}
-use Rattle.fuse_grammar.specs.Reply.{Reply, Refusal, NoReply, Bytes, OpenBehind}
+use Rattle.fuse_grammar.specs.Reply.{Reply, Refusal, NoReply, Bytes, OpenAfter}
 use Rattle.fuse_grammar.specs.declared.error.Error.{Error}
 use Rattle.fuse_grammar.specs.declared.error.Error.TheVariants.{EncodeMessage}
 
@@ -28,7 +28,7 @@ abbrev pub IsReplied : Reply → (room : List ℕ) → Result ℕ Error → (roo
 IsReplied (Refusal error) room outcome room_after = (outcome ≡ Err error) × (room_after ≡ room)
 IsReplied NoReply room outcome room_after = (outcome ≡ Ok 0) × (room_after ≡ room)
 IsReplied (Bytes reply) room outcome room_after = IsPut reply room outcome room_after
-IsReplied (OpenBehind reply) room outcome room_after = IsPutOpen reply room outcome room_after
+IsReplied (OpenAfter reply) room outcome room_after = IsPutOpen reply room outcome room_after
 
 -- whether what comes back fits into a room of this length: only `Bytes` may not, for `IsPutOpen`
 -- says that its reply does

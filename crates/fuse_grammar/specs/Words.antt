@@ -26,7 +26,7 @@ use Rattle.fuse_grammar.specs.Extensions.{error_or, Block, Cut, Received, has_op
 use Rattle.fuse_grammar.specs.Forms.{Ask, Ends, Layout, layout_size, ask_form, pairs_of, within}
 use Rattle.fuse_grammar.specs.Limits.{max_len}
 use Rattle.fuse_grammar.specs.Listing.{Listing, Line, Got, IsListing, IsDirectory, dot_out, entry_bytes, dirent_bytes, lookup_got}
-use Rattle.fuse_grammar.specs.Reply.{Reply, Refusal, NoReply, Bytes, OpenBehind, answer_reply, body_of}
+use Rattle.fuse_grammar.specs.Reply.{Reply, Refusal, NoReply, Bytes, OpenAfter, answer_reply, body_of}
 use Rattle.fuse_grammar.specs.Turn.{Turn, events_in}
 use Rattle.fuse_grammar.specs.declared.limits.Limits.{Limits}
 use Rattle.fuse_grammar.specs.declared.error.Error.{Error}
@@ -104,8 +104,8 @@ abbrev pub name_in : (tail : List ℕ) → Result (List ℕ) Error
 name_in tail = ok_or (name_of tail) InvalidCString
 
 -- what follows the record
-abbrev pub behind : {R : Type 0} → Layout R → (rest : List ℕ) → List ℕ
-behind layout rest = drop (layout_size layout) rest
+abbrev pub following : {R : Type 0} → Layout R → (rest : List ℕ) → List ℕ
+following layout rest = drop (layout_size layout) rest
 
 module _ (limits : Limits) (options room_len : ℕ) where
   -- what the bytes after a header ask, by its opcode
@@ -186,7 +186,7 @@ write_out_of count = record { size = count; padding = 0 }
 abbrev pub reply_to : (unique : ℕ) → Kind → Answer → Reply
 reply_to unique Quiet answer = NoReply
 reply_to unique Untold Done = NoReply
-reply_to unique (Data size) answer = OpenBehind (answer_reply (body_of answer) unique answer)
+reply_to unique (Data size) answer = OpenAfter (answer_reply (body_of answer) unique answer)
 reply_to unique _ answer = Bytes (answer_reply (body_of answer) unique answer)
 
 -- a node whose lookups are counted: any but 0

@@ -80,7 +80,7 @@ gives-after options skip bytes x h long gives =
     λ said. GivesValue (MayHoldContext options) extension_values_of x said in
     let all : take (length bytes - skip) (drop skip bytes) ≡ drop skip bytes =
     take_all (length bytes - skip) (drop skip bytes) (omega (arith, length-drop skip bytes)) in
-    subst P (ap (λ (behind : List ℕ). extensions_of options nothing_received (cut_of behind)) all
+    subst P (ap (λ (following : List ℕ). extensions_of options nothing_received (cut_of following)) all
     ∙ sym (extensions_after-read options skip bytes h long)) gives
 
 -- what is found where it is known what bytes say

@@ -1,6 +1,6 @@
 pub mod FirstNames
 pub mod Rooms
-pub mod Behind
+pub mod Following
 pub mod Pairs
 pub mod Refusing
 pub mod Blocks

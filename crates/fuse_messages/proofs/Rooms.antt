@@ -7,7 +7,7 @@ use Rattle.fuse_wire.specs.FieldLaws.{length-bytes_of}
 use Rattle.fuse_segments.specs.Written.{Written, whole, wrote, Leaves}
 use Rattle.fuse_segments.specs.WrittenLaws.{wrote_both}
 use Rattle.fuse_grammar.specs.Words.{put_outcome, put_room}
-use Rattle.fuse_grammar.specs.Reply.{Reply, Refusal, NoReply, Bytes, OpenBehind}
+use Rattle.fuse_grammar.specs.Reply.{Reply, Refusal, NoReply, Bytes, OpenAfter}
 use Rattle.fuse_grammar.proofs.Rooms.{put_outcome-fits, put_room-fits}
 use Rattle.fuse_grammar.specs.declared.error.Error.{Error}
 use Rattle.fuse_messages.specs.Rooms.{bytes_of_option, size_of_option, Replies, IsShortReply, with_after}
@@ -54,45 +54,45 @@ wrote_none w body e =
 -- ---- a room that goes on after what a writer has left
 
 -- where none is after
-pub with_none_after : (w : Written) (behind : List ℕ) → length behind ≡ 0 → with_after w behind ≡ w
-with_none_after w behind e = rw (nil_from_length behind e, append-nil w.left) refl
+pub with_none_after : (w : Written) (following : List ℕ) → length following ≡ 0 → with_after w following ≡ w
+with_none_after w following e = rw (nil_from_length following e, append-nil w.left) refl
 
 -- all bytes of the writer, and those after
-pub whole_after : (w : Written) (behind : List ℕ) → whole (with_after w behind) ≡ whole w ++ behind
-whole_after w behind = sym (append_assoc w.passed w.left behind)
+pub whole_after : (w : Written) (following : List ℕ) → whole (with_after w following) ≡ whole w ++ following
+whole_after w following = sym (append_assoc w.passed w.left following)
 
 -- a reply that fits before it
-fits_before : (reply : List ℕ) (old new : Written) (outcome : Result ℕ Error) (behind : List ℕ) → length reply ≤ length old.left
-    → Replies (Bytes reply) old outcome new → Replies (Bytes reply) (with_after old behind) outcome (with_after new behind)
-fits_before reply old new outcome behind fits w =
-    let more : length reply ≤ length (old.left ++ behind) = omega (arith, fits, length-append old.left behind) in
+fits_before : (reply : List ℕ) (old new : Written) (outcome : Result ℕ Error) (following : List ℕ) → length reply ≤ length old.left
+    → Replies (Bytes reply) old outcome new → Replies (Bytes reply) (with_after old following) outcome (with_after new following)
+fits_before reply old new outcome following fits w =
+    let more : length reply ≤ length (old.left ++ following) = omega (arith, fits, length-append old.left following) in
     let here = w.says.leaves ∙ put_room-fits reply old.left fits in
-    let there : w.room_after ++ behind ≡ put_room reply (old.left ++ behind) =
-    ap (λ (x : List ℕ). x ++ behind) here ∙ append_assoc reply (drop (length reply) old.left) behind
-    ∙ ap (λ (x : List ℕ). reply ++ x) (sym (drop-append-le (length reply) old.left behind fits))
-    ∙ sym (put_room-fits reply (old.left ++ behind) more) in
+    let there : w.room_after ++ following ≡ put_room reply (old.left ++ following) =
+    ap (λ (x : List ℕ). x ++ following) here ∙ append_assoc reply (drop (length reply) old.left) following
+    ∙ ap (λ (x : List ℕ). reply ++ x) (sym (drop-append-le (length reply) old.left following fits))
+    ∙ sym (put_room-fits reply (old.left ++ following) more) in
     record {
-      room_after = w.room_after ++ behind;
+      room_after = w.room_after ++ following;
       leaves = record {
-        kept = whole_after new behind ∙ ap (λ (x : List ℕ). x ++ behind) w.leaves.kept ∙ append_assoc old.passed w.room_after behind;
-        same_length = omega (arith, w.leaves.same_length, length-append w.room_after behind, length-append old.left behind);
+        kept = whole_after new following ∙ ap (λ (x : List ℕ). x ++ following) w.leaves.kept ∙ append_assoc old.passed w.room_after following;
+        same_length = omega (arith, w.leaves.same_length, length-append w.room_after following, length-append old.left following);
         same_segments = w.leaves.same_segments;
       };
       says = record {
-        says = w.says.says ∙ put_outcome-fits reply old.left fits ∙ sym (put_outcome-fits reply (old.left ++ behind) more);
+        says = w.says.says ∙ put_outcome-fits reply old.left fits ∙ sym (put_outcome-fits reply (old.left ++ following) more);
         leaves = there;
       };
       no_hold = w.no_hold;
     }
 
 -- a short reply, of which the room that is left is all there is, or enough
-pub replies_after : (most : ℕ) (reply : Reply) (old new : Written) (outcome : Result ℕ Error) (behind : List ℕ)
-    → (length behind ≡ 0) ⊎ (most ≤ length old.left) → IsShortReply most reply
-    → Replies reply old outcome new → Replies reply (with_after old behind) outcome (with_after new behind)
-replies_after most reply old new outcome behind (inl none) short w =
-    rw (with_none_after old behind none, with_none_after new behind none) w
-replies_after most (Refusal error) old new outcome behind (inr enough) short w = (w.0, ap (λ (x : Written). with_after x behind) w.1)
-replies_after most NoReply old new outcome behind (inr enough) short w = (w.0, ap (λ (x : Written). with_after x behind) w.1)
-replies_after most (Bytes reply) old new outcome behind (inr enough) short w =
-    fits_before reply old new outcome behind (omega (arith, enough, short)) w
-replies_after most (OpenBehind reply) old new outcome behind (inr enough) short w = absurd short
+pub replies_after : (most : ℕ) (reply : Reply) (old new : Written) (outcome : Result ℕ Error) (following : List ℕ)
+    → (length following ≡ 0) ⊎ (most ≤ length old.left) → IsShortReply most reply
+    → Replies reply old outcome new → Replies reply (with_after old following) outcome (with_after new following)
+replies_after most reply old new outcome following (inl none) short w =
+    rw (with_none_after old following none, with_none_after new following none) w
+replies_after most (Refusal error) old new outcome following (inr enough) short w = (w.0, ap (λ (x : Written). with_after x following) w.1)
+replies_after most NoReply old new outcome following (inr enough) short w = (w.0, ap (λ (x : Written). with_after x following) w.1)
+replies_after most (Bytes reply) old new outcome following (inr enough) short w =
+    fits_before reply old new outcome following (omega (arith, enough, short)) w
+replies_after most (OpenAfter reply) old new outcome following (inr enough) short w = absurd short

@@ -47,7 +47,7 @@ found_values found = record {
 abbrev pub GivesBlock : Result found.Block Error → (bytes : List ℕ) → Type 0
 GivesBlock (Ok block) bytes =
     (block_in bytes ≡ Ok (record { ext_type = block.ext_type; body = block.body.now }))
-    × (block.behind.now ≡ drop (block_size bytes) bytes)
+    × (block.following.now ≡ drop (block_size bytes) bytes)
 GivesBlock (Err error) bytes = block_in bytes ≡ Err error
 
 -- the lengths of the pieces in which the bytes after a record lie, of those from the record on

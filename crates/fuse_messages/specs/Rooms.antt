@@ -5,7 +5,7 @@ use Rattle.fuse_wire.specs.Records.{out_header}
 use Rattle.fuse_wire.specs.declared.headers.OutHeader.{OutHeader}
 use Rattle.fuse_segments.specs.Written.{Written, Leaves, Moves, held_over}
 use Rattle.fuse_grammar.specs.Records.{size_of}
-use Rattle.fuse_grammar.specs.Reply.{Reply, Refusal, NoReply, Bytes, OpenBehind}
+use Rattle.fuse_grammar.specs.Reply.{Reply, Refusal, NoReply, Bytes, OpenAfter}
 use Rattle.fuse_grammar.specs.Words.{fault_number}
 use Rattle.fuse_grammar.specs.declared.error.Error.{Error}
 use Rattle.fuse_grammar.specs.Room.{IsReplied}
@@ -37,8 +37,8 @@ data_header (Err fault) unique =
     }
 
 -- a writer whose room goes on after what it has left
-abbrev pub with_after : Written → (behind : List ℕ) → Written
-with_after w behind = record w { left = w.left ++ behind }
+abbrev pub with_after : Written → (following : List ℕ) → Written
+with_after w following = record w { left = w.left ++ following }
 
 -- bytes came back through a writer; it holds nothing if it held nothing
 pub record Writes (reply : Reply) (old : Written) (outcome : Result ℕ Error) (new : Written)
@@ -53,18 +53,18 @@ abbrev pub Replies : Reply → (old : Written) → Result ℕ Error → (new : W
 Replies (Refusal error) old outcome new = (outcome ≡ Err error) × (new ≡ old)
 Replies NoReply old outcome new = (outcome ≡ Ok 0) × (new ≡ old)
 Replies (Bytes reply) old outcome new = Writes (Bytes reply) old outcome new
-Replies (OpenBehind reply) old outcome new = Writes (OpenBehind reply) old outcome new
+Replies (OpenAfter reply) old outcome new = Writes (OpenAfter reply) old outcome new
 
 -- a reply of at most that many bytes, after which the room stays as it was
 abbrev pub IsShortReply : (most : ℕ) → Reply → Type 0
 IsShortReply most (Refusal error) = ⊤
 IsShortReply most NoReply = ⊤
 IsShortReply most (Bytes reply) = length reply ≤ most
-IsShortReply most (OpenBehind reply) = ⊥
+IsShortReply most (OpenAfter reply) = ⊥
 
 -- These bytes were put into a writer after the place of a reply's header, which it holds, and
 -- perhaps others beyond them, which don't count. What comes after them in the room isn't said.
-pub record PutsBehindHeader (old : Written) (bytes : List ℕ) (new : Written) : Type 0 where
+pub record PutsAfterHeader (old : Written) (bytes : List ℕ) (new : Written) : Type 0 where
   pub beyond : List ℕ
   pub enough : size_of out_header ≤ length old.left
   pub moves : Moves (held_over old (size_of out_header)) (bytes ++ beyond) new

@@ -122,7 +122,7 @@ pub fn parse_sup_groups(body: &[u8]) -> Result<GuestGid>
 struct Block<'a> {
     ext_type: u32,
     body: &'a [u8],
-    behind: &'a [u8],
+    following: &'a [u8],
 }
 
 /// The block that bytes begin with.
@@ -140,7 +140,7 @@ fn split_block(bytes: &[u8]) -> Result<Block<'_>>
     Ok(Block {
         ext_type: header.ext_type,
         body: &bytes[ExtHeader::SIZE..size],
-        behind: &bytes[size..],
+        following: &bytes[size..],
     })
 }
 
@@ -241,7 +241,7 @@ fn read_blocks(alloc: Global, options: FsOptions, bytes: &[u8]) -> Result<Extens
     while !left.is_empty() {
         let block = split_block(left)?;
         found = receive(alloc, options, found, block.ext_type, block.body)?;
-        left = block.behind;
+        left = block.following;
     }
     received(options, found)
 }

@@ -14,7 +14,7 @@ ghost use Rattle.fuse_segments.specs.Written.{Written, wrote, held_over, held_fi
 ghost use Rattle.std.specs.Option.{option_copied};
 ghost use Rattle.fs_trait.specs.Answers.{IsFault, IsAnswer, FitsText, KeepsTextShort, Counts, Data, Told, Untold, Entries, TimedAttributes, Openings, Creations, Capacities, Texts, TextsOrCounts, Offsets, Writes, Faults, Failed, done_answer, entry_answer, attr_answer, opened_answer, created_answer, statistics_answer, text_answer, getxattr_answer, listxattr_answer, offset_answer, written_answer, read_answer};
 ghost use Rattle.fuse_grammar.specs.Records.{size_of};
-ghost use Rattle.fuse_messages.specs.Rooms.{bytes_of_option, bytes_or_none, size_of_option, data_header, Replies, PutsBehindHeader};
+ghost use Rattle.fuse_messages.specs.Rooms.{bytes_of_option, bytes_or_none, size_of_option, data_header, Replies, PutsAfterHeader};
 ghost use Rattle.fuse_grammar.specs.Reply.{Bytes, fault_reply, body_reply, open_out_of};
 ghost use Rattle.fuse_grammar.specs.Words.{fault_number, reply_to, attr_out_of, getxattr_out_of};
 ghost use Rattle.fuse_grammar.specs.Forms.{space_after_header};
@@ -144,16 +144,16 @@ pub fn reply_record<T: ByteValued + Drop>(out: T, unique: u64, w: &mut Writer) -
 /// Replies a record and the bytes of another after it.
 fn reply_both<T: ByteValued + Drop>(
     out: T,
-    behind: &[u8],
+    following: &[u8],
     unique: u64,
     w: &mut Writer,
 ) -> Result<usize>
-    requires { length behind.now ≤ LARGEST_RECORD }
-    ensures replied { Replies (Bytes (body_reply (bytes_of T.table out ++ behind.now) unique))
+    requires { length following.now ≤ LARGEST_RECORD }
+    ensures replied { Replies (Bytes (body_reply (bytes_of T.table out ++ following.now) unique))
         w.old result w.new }
     ensures in_width { Fit T.table.widths (T.table.fields out) }
 {
-    reply_parts(Some(out), behind, unique, w)
+    reply_parts(Some(out), following, unique, w)
 }
 
 /// The header of a reply that says a fault: its negated number, or that of EIO where it has none.
@@ -264,7 +264,7 @@ pub fn reply_data(
     requires held { w.old.held ≡ size_of out_header }
     requires short { IfOk answer (λ count. count < 2 ^ 32 - 16) }
     ensures replied { (old : Written) (bytes : List ℕ) (size : ℕ) →
-        PutsBehindHeader old bytes w.old → Counts answer bytes size →
+        PutsAfterHeader old bytes w.old → Counts answer bytes size →
         Replies (reply_to unique (Data size) (read_answer answer bytes)) old result w.new }
     ensures kind { (bytes : List ℕ) (size : ℕ) → Counts answer bytes size →
         IsAnswer (Data size) (read_answer answer bytes) }

@@ -114,10 +114,10 @@ no_more (Some l) X Y at end order all = absurd (omega (arith, order, all.0))
 pub ended : (len : ℕ) (old text : List ℕ) → shown len old < length text
     → All IsPrintable (take (shown len old) text) → drop (shown len old) text ≡ drop (shown len old) old
     → IsLine len old (set text (shown len old) 0)
-ended len old text within printable behind =
+ended len old text within printable following =
     let end = shown len old in
     let tail : drop (end + 1) text ≡ drop (end + 1) old =
-    same_further text old end (end + 1) (omega arith) behind in
+    same_further text old end (end + 1) (omega arith) following in
     record {
       printable = All-same IsPrintable (take end (set text end 0)) (take end text) (take-set text end 0) printable;
       ends = drop-set text end 0 within ∙ ap (λ (l : List ℕ). 0 ∷ l) tail;

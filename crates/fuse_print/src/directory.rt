@@ -17,10 +17,10 @@ const ALIGNMENT: usize = 8;
 pub fn print_items<W: Write>(w: &mut W, bytes: &[u8]) -> Result<(), Stop> {
     let mut left = bytes;
     while !left.is_empty() {
-        let (item, name, behind) = take_item(left)?;
+        let (item, name, following) = take_item(left)?;
         write!(w, " (name={} node={}", Quoted(name), item.ino)?;
         write!(w, " offset={} type={})", item.off, item.type_)?;
-        left = behind;
+        left = following;
     }
     Ok(())
 }
@@ -33,11 +33,11 @@ pub fn print_entries<W: Write>(w: &mut W, bytes: &[u8]) -> Result<(), Stop> {
         let Ok((entry, rest)) = take_record::<EntryOut>(left) else {
             return Err(Stop::Refused(Error::DecodeMessage));
         };
-        let (item, name, behind) = take_item(rest)?;
+        let (item, name, following) = take_item(rest)?;
         write!(w, " (name={} node={}", Quoted(name), entry.nodeid)?;
         write!(w, " ino={} offset={}", item.ino, item.off)?;
         write!(w, " type={})", item.type_)?;
-        left = behind;
+        left = following;
     }
     Ok(())
 }
@@ -47,11 +47,11 @@ fn take_item(bytes: &[u8]) -> Result<(Dirent, &[u8], &[u8]), Error>
     ensures { IfOk result (λ parts. length parts.2.now < length bytes.now) }
 {
     let (item, rest) = take_record::<Dirent>(bytes)?;
-    let (name, behind) = take_bytes(rest, item.namelen as usize)?;
+    let (name, following) = take_bytes(rest, item.namelen as usize)?;
     let over = name.len() % ALIGNMENT;
     if over == 0 {
-        return Ok((item, name, behind));
+        return Ok((item, name, following));
     }
-    let (_, left) = take_bytes(behind, ALIGNMENT - over)?;
+    let (_, left) = take_bytes(following, ALIGNMENT - over)?;
     Ok((item, name, left))
 }

@@ -30,9 +30,9 @@ pub fn print_extensions<W: Write>(w: &mut W, options: FsOptions, bytes: &[u8]) -
     };
     let mut left = bytes;
     while !left.is_empty() {
-        let (header, body, behind) = take_block(left)?;
+        let (header, body, following) = take_block(left)?;
         seen = print_block(w, options, seen, header.ext_type, body)?;
-        left = behind;
+        left = following;
     }
     if with_contexts && !seen.contexts {
         return Err(Stop::Refused(Error::MissingExtension));
@@ -44,11 +44,11 @@ pub fn print_extensions<W: Write>(w: &mut W, options: FsOptions, bytes: &[u8]) -
 fn take_block(bytes: &[u8]) -> Result<(ExtHeader, &[u8], &[u8]), Error>
     ensures { IfOk result (λ parts. length parts.2.now < length bytes.now) }
 {
-    let (header, behind) = take_record::<ExtHeader>(bytes)?;
+    let (header, following) = take_record::<ExtHeader>(bytes)?;
     let Some(size) = (header.size as usize).checked_sub(ExtHeader::SIZE) else {
         return Err(Error::InvalidHeaderLength);
     };
-    let (body, rest) = take_bytes(behind, size)?;
+    let (body, rest) = take_bytes(following, size)?;
     Ok((header, body, rest))
 }
 
@@ -106,10 +106,10 @@ fn print_context<W: Write>(w: &mut W, body: &[u8]) -> Result<(), Stop> {
     if texts.is_empty() {
         return Err(Stop::Refused(Error::MissingParameter));
     }
-    let Some((name, behind)) = take_name(texts) else {
+    let Some((name, following)) = take_name(texts) else {
         return Err(Stop::Refused(Error::DecodeMessage));
     };
-    let (value, _) = take_bytes(behind, record.size as usize)?;
+    let (value, _) = take_bytes(following, record.size as usize)?;
     write!(w, " context={} value{}", Quoted(name), Data(value))?;
     Ok(())
 }

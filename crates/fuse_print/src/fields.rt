@@ -59,15 +59,15 @@ pub fn print_record<'a, T: Fields, W: Write>(
     w: &mut W,
     bytes: &'a [u8],
 ) -> Result<(T, &'a [u8]), Stop> {
-    let (record, behind) = take_record::<T>(bytes)?;
+    let (record, following) = take_record::<T>(bytes)?;
     record.print(w)?;
-    Ok((record, behind))
+    Ok((record, following))
 }
 
 /// Prints a record that nothing follows; what is left after it.
 pub fn print_alone<'a, T: Fields, W: Write>(w: &mut W, bytes: &'a [u8]) -> Result<&'a [u8], Stop> {
-    let (_, behind) = print_record::<T, W>(w, bytes)?;
-    Ok(behind)
+    let (_, following) = print_record::<T, W>(w, bytes)?;
+    Ok(following)
 }
 
 /// The same of a record that a server doesn't look at, if it is there.

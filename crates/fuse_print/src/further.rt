@@ -64,8 +64,8 @@ pub fn print_ioctl<'a, W: Write>(w: &mut W, bytes: &'a [u8]) -> Result<&'a [u8],
     if bytes.len() < IoctlIn::SIZE {
         return Ok(bytes);
     }
-    let (record, behind) = print_record::<IoctlIn, W>(w, bytes)?;
-    print_sized(w, record.in_size, behind)
+    let (record, following) = print_record::<IoctlIn, W>(w, bytes)?;
+    print_sized(w, record.in_size, following)
 }
 
 /// The record of NOTIFY_REPLY, and the `size` bytes after it, if they are there.
@@ -73,8 +73,8 @@ pub fn print_notify_reply<'a, W: Write>(w: &mut W, bytes: &'a [u8]) -> Result<&'
     if bytes.len() < NotifyRetrieveIn::SIZE {
         return Ok(bytes);
     }
-    let (record, behind) = print_record::<NotifyRetrieveIn, W>(w, bytes)?;
-    print_sized(w, record.size, behind)
+    let (record, following) = print_record::<NotifyRetrieveIn, W>(w, bytes)?;
+    print_sized(w, record.size, following)
 }
 
 /// So many bytes of data, if there are to be any, and all of them are there.
@@ -83,9 +83,9 @@ fn print_sized<'a, W: Write>(w: &mut W, size: u32, bytes: &'a [u8]) -> Result<&'
         return Ok(bytes);
     }
     match take_bytes(bytes, size as usize) {
-        Ok((data, behind)) => {
+        Ok((data, following)) => {
             print_data(w, "data", data)?;
-            Ok(behind)
+            Ok(following)
         }
         Err(_) => Ok(bytes),
     }
@@ -106,23 +106,23 @@ pub fn print_tmpfile<'a, W: Write>(
 
 /// The record of the reply to IOCTL, and what is handed out after it.
 pub fn print_handed_out<'a, W: Write>(w: &mut W, body: &'a [u8]) -> Result<&'a [u8], Stop> {
-    let behind = print_alone::<IoctlOut, W>(w, body)?;
-    if !behind.is_empty() {
-        print_data(w, "data", behind)?;
+    let following = print_alone::<IoctlOut, W>(w, body)?;
+    if !following.is_empty() {
+        print_data(w, "data", following)?;
     }
     Ok(&[])
 }
 
 /// The record of the reply to COPY_FILE_RANGE_64 (`struct fuse_copy_file_range_out`).
 fn print_copied<'a, W: Write>(w: &mut W, body: &'a [u8]) -> Result<&'a [u8], Stop> {
-    let (bytes_copied, behind) = take_record::<u64>(body)?;
+    let (bytes_copied, following) = take_record::<u64>(body)?;
     write!(w, " bytes_copied={bytes_copied}")?;
-    Ok(behind)
+    Ok(following)
 }
 
 /// The record of the reply to STATX (`struct fuse_statx_out`).
 fn print_statx<'a, W: Write>(w: &mut W, body: &'a [u8]) -> Result<&'a [u8], Stop> {
-    let (out, behind) = take_bytes(body, STATX_OUT_SIZE)?;
+    let (out, following) = take_bytes(body, STATX_OUT_SIZE)?;
     print_fields(
         w,
         &[
@@ -131,7 +131,7 @@ fn print_statx<'a, W: Write>(w: &mut W, body: &'a [u8]) -> Result<&'a [u8], Stop
         ],
     )?;
     print_stat(w, out)?;
-    Ok(behind)
+    Ok(following)
 }
 
 /// What `statx` tells (`struct fuse_statx`), at its place in that record.

@@ -55,7 +55,7 @@ fn print_error<W: Write>(w: &mut W, error: i32) -> fmt::Result {
 /// The number of a request's opcode, and what comes after its header. None if it has no whole header.
 fn number_of(request: &[u8]) -> Option<(u32, &[u8])> {
     match take_record::<InHeader>(request) {
-        Ok((header, behind)) => Some((header.opcode, behind)),
+        Ok((header, following)) => Some((header.opcode, following)),
         Err(_) => None,
     }
 }
@@ -63,9 +63,9 @@ fn number_of(request: &[u8]) -> Option<(u32, &[u8])> {
 /// The opcode of a request, and what comes after its header. None if it has no whole header, or a
 /// number that is no opcode.
 fn opcode_of(request: &[u8]) -> Option<(Opcode, &[u8])> {
-    let (number, behind) = number_of(request)?;
+    let (number, following) = number_of(request)?;
     match Opcode::try_from(number) {
-        Ok(opcode) => Some((opcode, behind)),
+        Ok(opcode) => Some((opcode, following)),
         Err(()) => None,
     }
 }
@@ -83,8 +83,8 @@ fn print_body<'a, W: Write>(w: &mut W, request: &[u8], body: &'a [u8]) -> Result
 
 /// Prints the two records of the reply to CREATE.
 pub fn print_created<'a, W: Write>(w: &mut W, body: &'a [u8]) -> Result<&'a [u8], Stop> {
-    let behind = print_alone::<EntryOut, W>(w, body)?;
-    print_alone::<OpenOut, W>(w, behind)
+    let following = print_alone::<EntryOut, W>(w, body)?;
+    print_alone::<OpenOut, W>(w, following)
 }
 
 /// Whether a GETXATTR or a LISTXATTR asks for the length alone.

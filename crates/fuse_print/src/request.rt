@@ -32,7 +32,7 @@ pub fn print_request<W: Write>(w: &mut W, bytes: &[u8], options: FsOptions) -> f
     ensures no_header { length bytes.now < 40 → OnOk result
         (W.write_str_gives w.old (codes "refused=DecodeMessage") w.new) }
 {
-    let Ok((header, behind)) = take_record::<InHeader>(bytes) else {
+    let Ok((header, following)) = take_record::<InHeader>(bytes) else {
         return w.write_str("refused=DecodeMessage");
     };
     let opcode = Opcode::try_from(header.opcode).ok();
@@ -42,8 +42,8 @@ pub fn print_request<W: Write>(w: &mut W, bytes: &[u8], options: FsOptions) -> f
     }
     print_header(w, &header, bytes.len())?;
     let outcome = match opcode {
-        Some(opcode) => print_parts(w, opcode, &header, options, behind),
-        None => print_further_parts(w, header.opcode, behind),
+        Some(opcode) => print_parts(w, opcode, &header, options, following),
+        None => print_further_parts(w, header.opcode, following),
     };
     print_end(w, outcome)
 }
@@ -94,10 +94,10 @@ pub fn print_name<'a, W: Write>(
 ) -> Result<&'a [u8], Stop>
     requires { size ≤ 152 }
 {
-    let (tail, behind) = take_tail(header, size, bytes)?;
+    let (tail, following) = take_tail(header, size, bytes)?;
     let name = whole_name(tail)?;
     write!(w, " name={}", Quoted(name))?;
-    Ok(behind)
+    Ok(following)
 }
 
 /// A record and a name.
@@ -106,8 +106,8 @@ pub fn print_record_and_name<'a, T: Fields, W: Write>(
     header: &InHeader,
     bytes: &'a [u8],
 ) -> Result<&'a [u8], Stop> {
-    let (_, behind) = print_record::<T, W>(w, bytes)?;
-    print_name(w, header, T::SIZE, behind)
+    let (_, following) = print_record::<T, W>(w, bytes)?;
+    print_name(w, header, T::SIZE, following)
 }
 
 /// A record and two names: the first ends at its first 0, and the second is the rest of the tail.
@@ -116,8 +116,8 @@ pub fn print_two_names<'a, T: Fields, W: Write>(
     header: &InHeader,
     bytes: &'a [u8],
 ) -> Result<&'a [u8], Stop> {
-    let (_, behind) = print_record::<T, W>(w, bytes)?;
-    let (tail, left) = take_tail(header, T::SIZE, behind)?;
+    let (_, following) = print_record::<T, W>(w, bytes)?;
+    let (tail, left) = take_tail(header, T::SIZE, following)?;
     let Some((name, rest)) = take_name(tail) else {
         return Err(Stop::Refused(Error::MissingParameter));
     };
@@ -134,8 +134,8 @@ pub fn print_named<'a, T: Fields, W: Write>(
     options: FsOptions,
     bytes: &'a [u8],
 ) -> Result<&'a [u8], Stop> {
-    let (_, behind) = print_record::<T, W>(w, bytes)?;
-    let (tail, left) = take_tail(header, T::SIZE, behind)?;
+    let (_, following) = print_record::<T, W>(w, bytes)?;
+    let (tail, left) = take_tail(header, T::SIZE, following)?;
     print_extended(w, " name=", options, tail)?;
     Ok(left)
 }
@@ -194,13 +194,13 @@ pub fn print_setxattr<'a, W: Write>(
     bytes: &'a [u8],
 ) -> Result<&'a [u8], Stop> {
     if options.contains(FsOptions::SETXATTR_EXT) {
-        let (record, behind) = print_record::<SetxattrIn, W>(w, bytes)?;
-        let (tail, left) = take_tail(header, SetxattrIn::SIZE, behind)?;
+        let (record, following) = print_record::<SetxattrIn, W>(w, bytes)?;
+        let (tail, left) = take_tail(header, SetxattrIn::SIZE, following)?;
         print_value(w, record.size, tail)?;
         return Ok(left);
     }
-    let (record, behind) = print_record::<SetxattrInCompat, W>(w, bytes)?;
-    let (tail, left) = take_tail(header, SetxattrInCompat::SIZE, behind)?;
+    let (record, following) = print_record::<SetxattrInCompat, W>(w, bytes)?;
+    let (tail, left) = take_tail(header, SetxattrInCompat::SIZE, following)?;
     print_value(w, record.size, tail)?;
     Ok(left)
 }
@@ -219,7 +219,7 @@ fn print_value<W: Write>(w: &mut W, size: u32, tail: &[u8]) -> Result<(), Stop> 
 
 /// The records of INIT: the second one is there if the first one's flags say so.
 pub fn print_init<'a, W: Write>(w: &mut W, bytes: &'a [u8]) -> Result<&'a [u8], Stop> {
-    let (first, behind) = take_record::<InitInCompat>(bytes)?;
+    let (first, following) = take_record::<InitInCompat>(bytes)?;
     print_fields(
         w,
         &[
@@ -228,7 +228,7 @@ pub fn print_init<'a, W: Write>(w: &mut W, bytes: &'a [u8]) -> Result<&'a [u8], 
             ("max_readahead", Small(first.max_readahead)),
         ],
     )?;
-    let (options, left) = take_offered(&first, behind);
+    let (options, left) = take_offered(&first, following);
     write!(w, " flags={}", Set(options, &[]))?;
     let Some(left) = left else {
         return Err(Stop::Refused(Error::DecodeMessage));
@@ -239,12 +239,12 @@ pub fn print_init<'a, W: Write>(w: &mut W, bytes: &'a [u8]) -> Result<&'a [u8], 
 
 /// The options that an INIT of this first record offers, and what comes after its records. None if the
 /// second one is to be there and isn't whole: then the options are those of the first.
-fn take_offered<'a>(first: &InitInCompat, behind: &'a [u8]) -> (FsOptions, Option<&'a [u8]>) {
+fn take_offered<'a>(first: &InitInCompat, following: &'a [u8]) -> (FsOptions, Option<&'a [u8]>) {
     let options = FsOptions::from_bits_retain(u64::from(first.flags));
     if !options.contains(FsOptions::INIT_EXT) {
-        return (options, Some(behind));
+        return (options, Some(following));
     }
-    let Ok((second, left)) = take_record::<InitInExt>(behind) else {
+    let Ok((second, left)) = take_record::<InitInExt>(following) else {
         return (options, None);
     };
     let bits = u64::from(first.flags) | (u64::from(second.flags2) << 32);
@@ -262,8 +262,8 @@ fn judge_version(record: &InitInCompat) -> Result<(), Stop> {
 
 /// The record of BATCH_FORGET, and as many pairs as it says.
 pub fn print_pairs<'a, W: Write>(w: &mut W, bytes: &'a [u8]) -> Result<&'a [u8], Stop> {
-    let (record, behind) = print_record::<BatchForgetIn, W>(w, bytes)?;
-    let mut left = behind;
+    let (record, following) = print_record::<BatchForgetIn, W>(w, bytes)?;
+    let mut left = following;
     for _ in 0..record.count {
         let (_, rest) = print_record::<ForgetOne, W>(w, left)?;
         left = rest;

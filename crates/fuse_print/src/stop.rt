@@ -33,8 +33,8 @@ impl From<Error> for Stop {
 /// refused for.
 pub fn print_end<W: Write>(w: &mut W, outcome: Result<&[u8], Stop>) -> fmt::Result {
     match outcome {
-        Ok(behind) if behind.is_empty() => Ok(()),
-        Ok(behind) => write!(w, " ignored={}", behind.len()),
+        Ok(following) if following.is_empty() => Ok(()),
+        Ok(following) => write!(w, " ignored={}", following.len()),
         Err(Stop::Writer) => Err(fmt::Error),
         Err(Stop::Refused(error)) => write!(w, " refused={error:?}"),
         Err(Stop::NotServed) => write!(w, " refused={}", Errno::ENOSYS),

@@ -19,7 +19,7 @@ pub fn take_record<T: ByteValued>(bytes: &[u8]) -> Result<(T, &[u8]), Error>
 /// The first `count` bytes, and what comes after them. `DecodeMessage` if there are fewer.
 pub fn take_bytes(bytes: &[u8], count: usize) -> Result<(&[u8], &[u8]), Error>
     ensures front { IfOk result (λ parts. length parts.0.now ≡ count) }
-    ensures behind { IfOk result (λ parts. count + length parts.1.now ≡ length bytes.now) }
+    ensures following { IfOk result (λ parts. count + length parts.1.now ≡ length bytes.now) }
 {
     if bytes.len() < count {
         return Err(Error::DecodeMessage);

@@ -23,8 +23,8 @@ module _ (xs : List (List ℕ)) (at n first skip last inside : ℕ) (found : IsF
   last_is : first + count - 1 ≡ last
   last_is = omega (arith, found.order)
 
-  behind : first + count ≡ last + 1
-  behind = omega (arith, found.order)
+  following : first + count ≡ last + 1
+  following = omega (arith, found.order)
 
   within : first + count ≤ length xs
   within = omega (arith, found.last_in, found.order)
@@ -46,7 +46,7 @@ module _ (xs : List (List ℕ)) (at n first skip last inside : ℕ) (found : IsF
       let rest : length r.rest ≡ length (get_or xs last []) - (inside + 1) =
       length-drop (inside + 1) (get_or xs (first + count - 1) [])
       ∙ ap (λ k. length (get_or xs k []) - (inside + 1)) last_is in
-      let after : length r.after ≡ length (concat (drop (last + 1) xs)) = ap (λ k. length (concat (drop k xs))) behind in
+      let after : length r.after ≡ length (concat (drop (last + 1) xs)) = ap (λ k. length (concat (drop k xs))) following in
       omega (arith, all, length-append r.before (concat r.pieces ++ (r.rest ++ r.after)), length-append (concat r.pieces) (r.rest ++ r.after), length-append r.rest r.after, place_is, rest, after, length-concat-split xs last, length-concat-drop_more xs last found.last_in, found.some, found.ends, found.inside_in)
 
   -- they are a span

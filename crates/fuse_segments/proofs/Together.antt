@@ -81,11 +81,11 @@ from-before n (suc k) (m ∷ ms) h =
     ∙ sym
     (ap (lengths_before (suc k - n)) (lengths_from-inside n m ms inside)
     ∙ lengths_before-past (suc k - n) (m - n) ms (omega arith)))
-    (λ (behind : m ≤ n).
+    (λ (following : m ≤ n).
     let same : suc k - m - (n - m) ≡ suc k - n = omega arith in
-    lengths_from-past n m (lengths_before (suc k - m) ms) behind ∙ from-before (n - m) (suc k - m) ms (omega arith)
+    lengths_from-past n m (lengths_before (suc k - m) ms) following ∙ from-before (n - m) (suc k - m) ms (omega arith)
     ∙ ap (λ j. lengths_before j (lengths_from (n - m) ms)) same
-    ∙ sym (ap (lengths_before (suc k - n)) (lengths_from-past n m ms behind)))
+    ∙ sym (ap (lengths_before (suc k - n)) (lengths_from-past n m ms following)))
     (cases_lt n m))
     (cases_lt (suc k) m)
 
@@ -120,9 +120,9 @@ before-before n (suc k) (m ∷ ms) h =
     ap (lengths_before n) (lengths_before-past (suc k) m ms past)
     ∙ ⊎_elim
     (λ (inside : n < m). let front : nat_lt n m ≡ true = grind (arith, nat_tests) in rw front refl)
-    (λ (behind : m ≤ n).
-    lengths_before-past n m (lengths_before (suc k - m) ms) behind
-    ∙ ap (λ l. m ∷ l) (before-before (n - m) (suc k - m) ms (omega arith)) ∙ sym (lengths_before-past n m ms behind))
+    (λ (following : m ≤ n).
+    lengths_before-past n m (lengths_before (suc k - m) ms) following
+    ∙ ap (λ l. m ∷ l) (before-before (n - m) (suc k - m) ms (omega arith)) ∙ sym (lengths_before-past n m ms following))
     (cases_lt n m))
     (cases_lt (suc k) m)
 
@@ -223,9 +223,9 @@ together-before at n (suc k) (m ∷ ms) h =
     ap (lie_together at n) (lengths_before-past (suc k) m ms past)
     ∙ ⊎_elim
     (λ (inside : at < m). let front : nat_lt at m ≡ true = grind (arith, nat_tests) in rw front refl)
-    (λ (behind : m ≤ at).
-    together-past at n m (lengths_before (suc k - m) ms) behind
-    ∙ together-before (at - m) n (suc k - m) ms (omega arith) ∙ sym (together-past at n m ms behind))
+    (λ (following : m ≤ at).
+    together-past at n m (lengths_before (suc k - m) ms) following
+    ∙ together-before (at - m) n (suc k - m) ms (omega arith) ∙ sym (together-past at n m ms following))
     (cases_lt at m))
     (cases_lt (suc k) m)
 
@@ -264,14 +264,14 @@ together-cut (k ∷ before) after at n h over =
 -- ---- the lengths of segments
 
 -- bytes after the first i segments
-behind : (xs : List (List ℕ)) (i skip at n : ℕ) → length (concat (take i xs)) + skip ≡ at →
+following : (xs : List (List ℕ)) (i skip at n : ℕ) → length (concat (take i xs)) + skip ≡ at →
     lie_together at n (map length xs) ≡ lie_together skip n (map length (drop i xs))
-behind xs zero skip at n e = let same : at ≡ skip = omega arith in rw same refl
-behind [] (suc i) skip at n e = refl
-behind (x ∷ xs) (suc i) skip at n e =
+following xs zero skip at n e = let same : at ≡ skip = omega arith in rw same refl
+following [] (suc i) skip at n e = refl
+following (x ∷ xs) (suc i) skip at n e =
     let size = length-append x (concat (take i xs)) in
     together-past at n (length x) (map length xs) (omega arith)
-    ∙ behind xs i skip (at - length x) n (omega arith)
+    ∙ following xs i skip (at - length x) n (omega arith)
 
 -- bytes that begin in segment i, of which it has enough or not
 pub together-at : (xs : List (List ℕ)) (i skip at n : ℕ) → length (concat (take i xs)) + skip ≡ at →
@@ -279,7 +279,7 @@ pub together-at : (xs : List (List ℕ)) (i skip at n : ℕ) → length (concat 
     lie_together at n (map length xs) ≡ nat_le (skip + n) (length (get_or xs i []))
 together-at xs i skip at n e h inside =
     let below : nat_lt skip (length (get_or xs i [])) ≡ true = grind (arith, nat_tests) in
-    behind xs i skip at n e
+    following xs i skip at n e
     ∙ ap (λ (l : List (List ℕ)). lie_together skip n (map length l)) (drop_more xs i [] h) ∙ rw below refl
 
 -- no bytes

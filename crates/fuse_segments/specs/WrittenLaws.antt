@@ -17,16 +17,16 @@ pub wrote-wrote : (w : Written) (x y : List ℕ) → wrote (wrote w x) y ≡ wro
 wrote-wrote w x y = rw (append_assoc w.passed x y, length-append x y, drop-drop (length y) (length x) w.left) refl
 
 -- the room after a part of which as much was written as there was room for
-pub room_behind : (old mid : Written) (a : List ℕ) → mid ≡ wrote old (take (length old.left) a) →
+pub room_following : (old mid : Written) (a : List ℕ) → mid ≡ wrote old (take (length old.left) a) →
     length mid.left ≡ length old.left - length a
-room_behind old mid a m =
+room_following old mid a m =
     omega (arith, ap (λ (w : Written). length w.left) m, length-drop (length (take (length old.left) a)) old.left, length-take (length old.left) a)
 
 -- as much of two parts as there is room for, written one after the other
 pub wrote_both : (old mid new : Written) (a b : List ℕ) → mid ≡ wrote old (take (length old.left) a) →
     new ≡ wrote mid (take (length mid.left) b) → new ≡ wrote old (take (length old.left) (a ++ b))
 wrote_both old mid new a b m n =
-    n ∙ ap (λ (k : ℕ). wrote mid (take k b)) (room_behind old mid a m)
+    n ∙ ap (λ (k : ℕ). wrote mid (take k b)) (room_following old mid a m)
     ∙ ap (λ (w : Written). wrote w (take (length old.left - length a) b)) m
     ∙ wrote-wrote old (take (length old.left) a) (take (length old.left - length a) b)
     ∙ ap (wrote old) (sym (take-append (length old.left) a b))

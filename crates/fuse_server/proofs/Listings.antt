@@ -12,13 +12,13 @@ use Rattle.fuse_listings.specs.Reading.{Puts}
 use Rattle.fuse_listings.proofs.Filling.{moves_of, counts_of_listing}
 use Rattle.fuse_grammar.specs.Ask.{lists_too_much}
 use Rattle.fuse_grammar.specs.Listing.{Listing}
-use Rattle.fuse_messages.specs.Rooms.{PutsBehindHeader}
+use Rattle.fuse_messages.specs.Rooms.{PutsAfterHeader}
 use Rattle.fuse_grammar.specs.Words.{IsRead}
 use Rattle.fuse_grammar.specs.declared.limits.Limits.{Limits}
 
 -- data were put, and nothing beyond them
 pub data_after : (old held new : Written) (bytes : List ℕ) → held ≡ held_over old 16 → 16 ≤ length old.left → Moves held bytes new
-    → PutsBehindHeader old bytes new
+    → PutsAfterHeader old bytes new
 data_after old held new bytes e enough moves = record {
   beyond = [];
   enough = enough;
@@ -27,7 +27,7 @@ data_after old held new bytes e enough moves = record {
 
 -- records were put, and perhaps the beginning of one more
 pub records_after : (old held new : Written) (records beyond : List ℕ) → held ≡ held_over old 16 → 16 ≤ length old.left → Puts held (records ++ beyond) new
-    → PutsBehindHeader old records new
+    → PutsAfterHeader old records new
 records_after old held new records beyond e enough puts = record {
   beyond = beyond;
   enough = enough;

@@ -13,8 +13,8 @@ use Rattle.fuse_grammar.specs.Forms.{Layout, Without, Record, layout_size, Form,
 use Rattle.fuse_messages.specs.Parts.{TailIsCut, pieces_after, MayHoldContext}
 use Rattle.fuse_grammar.specs.Records.{size_of}
 use Rattle.fuse_grammar.specs.declared.limits.Limits.{Limits}
-use Rattle.fuse_server.specs.MemoryByPieces.{MayWantFor, MayWantBehind}
-use Rattle.fuse_server.specs.Memory.{TailIsTogether, WantsNone, WantsNoneBehind}
+use Rattle.fuse_server.specs.MemoryByPieces.{MayWantFor, MayWantAfter}
+use Rattle.fuse_server.specs.Memory.{TailIsTogether, WantsNone, WantsNoneAfter}
 
 -- both of two tests
 second : (a b : Bool) → IsTrue (a && b) → IsTrue b
@@ -25,16 +25,16 @@ apart : (b : Bool) → IsTrue b → IsFalse b → ⊥
 apart true t f = absurd (let e = f in cc)
 apart false t f = absurd (let e = t in cc)
 
-module _ (behind : (lengths : List ℕ) (k at n : ℕ) → lie_together at n (lengths_from k lengths) ≡ lie_together (k + at) n lengths) (u : Unread) where
+module _ (following : (lengths : List ℕ) (k at n : ℕ) → lie_together at n (lengths_from k lengths) ≡ lie_together (k + at) n lengths) (u : Unread) where
   -- of what lies together after header and record, as it is seen from there
   from_record : {R : Type 0} (layout : Layout R) (n : ℕ) →
       lie_together 0 n (pieces_after layout (lengths_from (size_of in_header) u.pieces))
       ≡ lie_together (size_of in_header + layout_size layout) n u.pieces
-  from_record (Without r) n = behind u.pieces (size_of in_header) 0 n
+  from_record (Without r) n = following u.pieces (size_of in_header) 0 n
   from_record (Record t) n =
       let none : size_of in_header + (size_of t + 0) ≡ size_of in_header + size_of t = omega arith in
-      behind (lengths_from (size_of in_header) u.pieces) (size_of t) 0 n
-      ∙ behind u.pieces (size_of in_header) (size_of t + 0) n
+      following (lengths_from (size_of in_header) u.pieces) (size_of t) 0 n
+      ∙ following u.pieces (size_of in_header) (size_of t + 0) n
       ∙ ap (λ k. lie_together k n u.pieces) none
 
   whole : {R : Type 0} (h : InHeader) (layout : Layout R) → TailIsTogether h u layout
@@ -66,6 +66,6 @@ module _ (behind : (lengths : List ℕ) (k at n : ℕ) → lie_together at n (le
   none_by_form h NotServed n w = w
 
   pub none_wanted : (limits : Limits) (options room : ℕ) (opcode : Option Opcode) (h : InHeader)
-      → WantsNoneBehind limits options room opcode h u → MayWantBehind limits options room opcode h (lengths_from (size_of in_header) u.pieces) → ⊥
+      → WantsNoneAfter limits options room opcode h u → MayWantAfter limits options room opcode h (lengths_from (size_of in_header) u.pieces) → ⊥
   none_wanted limits options room None h n w = w
   none_wanted limits options room (Some opcode) h n w = none_by_form h (form_of limits options room h opcode) n w

@@ -15,7 +15,7 @@ use Rattle.fuse_grammar.specs.Words.{refused, ask_header}
 use Rattle.fuse_grammar.specs.Ask.{ask}
 use Rattle.fuse_grammar.specs.Memory.{header_of}
 use Rattle.fuse_grammar.specs.Directories.{StopsForACause, ComesWhole, TakesFew}
-use Rattle.fuse_grammar.specs.Reply.{Echo, Reply, Refusal, NoReply, Bytes, OpenBehind, reply_of}
+use Rattle.fuse_grammar.specs.Reply.{Echo, Reply, Refusal, NoReply, Bytes, OpenAfter, reply_of}
 use Rattle.fuse_grammar.specs.Room.{IsReplied, unseen}
 use Rattle.fuse_messages.specs.Rooms.{Replies}
 use Rattle.fuse_server.specs.Delivery.{CallsAndGivesBack}
@@ -24,7 +24,7 @@ use Rattle.fuse_grammar.specs.Witnesses.{Witness, IsTurnWithMemory, turn_tells, 
 use Rattle.fuse_grammar.specs.declared.limits.Limits.{Limits}
 use Rattle.fuse_grammar.specs.declared.error.Error.{Error}
 use Rattle.fuse_grammar.specs.declared.error.Error.TheVariants.{DecodeMessage, OutOfMemory}
-use Rattle.fuse_server.specs.MemoryByPieces.{MayWantBehind}
+use Rattle.fuse_server.specs.MemoryByPieces.{MayWantAfter}
 use Rattle.fuse_server.specs.State.{ServerState}
 use Rattle.fuse_server.specs.Handling.{Handles, server_tells}
 use Rattle.fuse_server.specs.Step.{IsStep, ReadsDirectories, turn_over}
@@ -43,7 +43,7 @@ pub came : (reply : Reply) (old new : Written) (outcome : Result ℕ Error) → 
 came (Refusal error) old new outcome h = record { room_after = old.left; leaves = stays old new h.1; says = (h.0, refl); no_hold = λ z. ap (λ (w : Written). w.held) h.1 ∙ z }
 came NoReply old new outcome h = record { room_after = old.left; leaves = stays old new h.1; says = (h.0, refl); no_hold = λ z. ap (λ (w : Written). w.held) h.1 ∙ z }
 came (Bytes reply) old new outcome h = record { room_after = h.room_after; leaves = h.leaves; says = h.says; no_hold = h.no_hold }
-came (OpenBehind reply) old new outcome h = record { room_after = h.room_after; leaves = h.leaves; says = h.says; no_hold = h.no_hold }
+came (OpenAfter reply) old new outcome h = record { room_after = h.room_after; leaves = h.leaves; says = h.says; no_hold = h.no_hold }
 
 -- the header that a request begins with, where it is whole
 header_is : (short : Bool) (v h : InHeader) → (if short then Err DecodeMessage else Ok v) ≡ Ok h → h ≡ v
@@ -139,12 +139,12 @@ module _ {S I : Type 0} (allows : S → Call → Handed I → S → Type 0) (giv
 
   -- which wants no memory
   pub enough_of_header : (h : InHeader) → record_of in_header request ≡ Ok h → (pieces : List ℕ)
-      → Handles allows gives (MayWantBehind old.limits old.options (length writer.left) (opcode_of h.opcode) h pieces)
+      → Handles allows gives (MayWantAfter old.limits old.options (length writer.left) (opcode_of h.opcode) h pieces)
       (ask_header old.limits old.options (length writer.left) h (drop (size_of in_header) request)) old writer outcome writer_after new
       → ((limits : Limits) (options after : ℕ) (t : Turn) → IsTurnWithMemory limits options t after → t.outcome ≢ Err OutOfMemory)
-      → ¬ (MayWantBehind old.limits old.options (length writer.left) (opcode_of (header_of request).opcode) (header_of request) pieces) → outcome ≢ Err OutOfMemory
+      → ¬ (MayWantAfter old.limits old.options (length writer.left) (opcode_of (header_of request).opcode) (header_of request) pieces) → outcome ≢ Err OutOfMemory
   enough_of_header h e pieces d enough none =
-      let W : InHeader → Type 0 = λ k. MayWantBehind old.limits old.options (length writer.left) (opcode_of k.opcode) k pieces in
+      let W : InHeader → Type 0 = λ k. MayWantAfter old.limits old.options (length writer.left) (opcode_of k.opcode) k pieces in
       let same : h ≡ header_of request = header_is (nat_lt (length request) (size_of in_header)) (header_of request) h e in
       enough_of (W h) (ask_header old.limits old.options (length writer.left) h (drop (size_of in_header) request))
       (ap (λ part. refused_or part (λ k. ask_header old.limits old.options (length writer.left) k (drop (size_of in_header) request))) e)

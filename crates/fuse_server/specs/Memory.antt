@@ -14,7 +14,7 @@ use Rattle.fuse_grammar.specs.Extensions.{has_option}
 use Rattle.fuse_grammar.specs.Forms.{Form, Layout, layout_size}
 use Rattle.fuse_grammar.specs.Records.{size_of}
 use Rattle.fuse_grammar.specs.declared.limits.Limits.{Limits}
-use Rattle.fuse_server.specs.MemoryByPieces.{MayWantBehind}
+use Rattle.fuse_server.specs.MemoryByPieces.{MayWantAfter}
 
 -- of a request that a reader has left: the tail after a record of this layout is all there, and
 -- lies in one segment
@@ -32,21 +32,21 @@ WantsNone h u form =
     (λ R layout above count. ⊥) form
 
 -- the same by the opcode; a number that is none is answered without memory
-abbrev pub WantsNoneBehind : Limits → (options room_len : ℕ) → Option Opcode → InHeader → Unread
+abbrev pub WantsNoneAfter : Limits → (options room_len : ℕ) → Option Opcode → InHeader → Unread
     → Type 0
-WantsNoneBehind limits options room_len None h u = Unit {0}
-WantsNoneBehind limits options room_len (Some opcode) h u =
+WantsNoneAfter limits options room_len None h u = Unit {0}
+WantsNoneAfter limits options room_len (Some opcode) h u =
     WantsNone h u (form_of limits options room_len h opcode)
 
 -- no memory is wanted for the request that a reader has left
 abbrev pub WantsNoMemory : Limits → (options room_len : ℕ) → Unread → Type 0
 WantsNoMemory limits options room_len u =
-    WantsNoneBehind limits options room_len (opcode_of (header_of u.left).opcode) (header_of u.left) u
+    WantsNoneAfter limits options room_len (opcode_of (header_of u.left).opcode) (header_of u.left) u
 
 -- ---- no more is of the promise: the rest is for proofs, and for contracts of parts
 
 -- memory may be wanted for the request that a reader has left
 abbrev pub MayWant : Limits → (options room_len : ℕ) → Unread → Type 0
 MayWant limits options room_len u =
-    MayWantBehind limits options room_len (opcode_of (header_of u.left).opcode) (header_of u.left)
+    MayWantAfter limits options room_len (opcode_of (header_of u.left).opcode) (header_of u.left)
     (lengths_from (size_of in_header) u.pieces)

@@ -19,8 +19,8 @@ MayWantFor h pieces form =
     (λ R layout above count. Unit {0}) form
 
 -- the same by the opcode
-abbrev pub MayWantBehind : Limits → (options room_len : ℕ) → Option Opcode → InHeader
+abbrev pub MayWantAfter : Limits → (options room_len : ℕ) → Option Opcode → InHeader
     → (pieces : List ℕ) → Type 0
-MayWantBehind limits options room_len None h pieces = ⊥
-MayWantBehind limits options room_len (Some opcode) h pieces =
+MayWantAfter limits options room_len None h pieces = ⊥
+MayWantAfter limits options room_len (Some opcode) h pieces =
     MayWantFor h pieces (form_of limits options room_len h opcode)

@@ -24,11 +24,11 @@ cut-concat skip end (suc j) (s ∷ []) e h = absurd (omega arith)
 cut-concat skip end zero (s ∷ (t ∷ ts)) e h = absurd (omega arith)
 cut-concat skip end (suc j) (s ∷ (t ∷ ts)) e h =
     let others = concat (cut 0 end (t ∷ ts)) in
-    let behind = drop end (get_or (t ∷ ts) j []) in
+    let following = drop end (get_or (t ∷ ts) j []) in
     ap (λ l. s ++ l) (cut-concat 0 end j (t ∷ ts) (omega arith) (λ _. omega arith))
-    ∙ ap (λ l. l ++ (others ++ behind)) (sym (take-append-drop skip s))
-    ∙ append_assoc (take skip s) (drop skip s) (others ++ behind)
-    ∙ ap (λ l. take skip s ++ l) (sym (append_assoc (drop skip s) others behind))
+    ∙ ap (λ l. l ++ (others ++ following)) (sym (take-append-drop skip s))
+    ∙ append_assoc (take skip s) (drop skip s) (others ++ following)
+    ∙ ap (λ l. take skip s ++ l) (sym (append_assoc (drop skip s) others following))
 
 -- the room and what is around it are all the segments
 pub whole-room : (first count skip end : ℕ) (xs : List (List ℕ)) → 0 < count →
@@ -76,11 +76,11 @@ pub concat-pieces_of : (span : Span) (xs : List (List ℕ)) → IsSpan span xs �
     take span.total (drop (length (room_of span xs).before) (concat xs))
 concat-pieces_of span xs ok =
     let r = room_of span xs in
-    let behind = r.rest ++ r.after in
+    let following = r.rest ++ r.after in
     sym
     (ap (λ l. take span.total (drop (length r.before) l)) (sym (whole-room_of span xs ok))
-    ∙ ap (take span.total) (drop_at r.before (concat r.pieces ++ behind) (length r.before) refl)
-    ∙ take_at (concat r.pieces) behind span.total (sym ok.total))
+    ∙ ap (take span.total) (drop_at r.before (concat r.pieces ++ following) (length r.before) refl)
+    ∙ take_at (concat r.pieces) following span.total (sym ok.total))
 
 -- where the pieces of a room end with other bytes, as many as they were, those are in place of
 -- them, and all else stays

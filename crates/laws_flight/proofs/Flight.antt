@@ -29,12 +29,12 @@ abbrev AllUnder : (options : ℕ) → List Waiting → Type 0
 AllUnder options [] = Unit {0}
 AllUnder options (w ∷ ws) = (w.options ≡ options) × AllUnder options ws
 
-under_parts : (options : ℕ) (before : List Waiting) (w : Waiting) (behind : List Waiting)
-    → AllUnder options (before ++ w ∷ behind)
-    → (w.options ≡ options) × AllUnder options (before ++ behind)
-under_parts options [] w behind all = all
-under_parts options (x ∷ before) w behind all =
-    let rest = under_parts options before w behind all.1 in (rest.0, (all.0, rest.1))
+under_parts : (options : ℕ) (before : List Waiting) (w : Waiting) (following : List Waiting)
+    → AllUnder options (before ++ w ∷ following)
+    → (w.options ≡ options) × AllUnder options (before ++ following)
+under_parts options [] w following all = all
+under_parts options (x ∷ before) w following all =
+    let rest = under_parts options before w following all.1 in (rest.0, (all.0, rest.1))
 
 -- the options stay, or no other request waits
 stays_or_alone : (limits : Limits) (options after : ℕ) (t : Turn) (others : List Waiting)

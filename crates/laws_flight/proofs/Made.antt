@@ -15,19 +15,19 @@ use Rattle.laws_flight.specs.Made.{Going, Point, Asked, Seen, Answered, IsUnderW
 
 -- ---- a part of what was seen is under way
 
-under_parts : (limits : Limits) (before : List Going) (g : Going) (behind : List Going)
-    → AreUnderWay limits (before ++ g ∷ behind)
-    → IsUnderWay limits g × AreUnderWay limits (before ++ behind)
-under_parts limits [] g behind all = all
-under_parts limits (x ∷ before) g behind all =
-    let rest = under_parts limits before g behind all.1 in (rest.0, (all.0, rest.1))
+under_parts : (limits : Limits) (before : List Going) (g : Going) (following : List Going)
+    → AreUnderWay limits (before ++ g ∷ following)
+    → IsUnderWay limits g × AreUnderWay limits (before ++ following)
+under_parts limits [] g following all = all
+under_parts limits (x ∷ before) g following all =
+    let rest = under_parts limits before g following all.1 in (rest.0, (all.0, rest.1))
 
-under_joined : (limits : Limits) (before : List Going) (g : Going) (behind : List Going)
-    → IsUnderWay limits g → AreUnderWay limits (before ++ behind)
-    → AreUnderWay limits (before ++ g ∷ behind)
-under_joined limits [] g behind one all = (one, all)
-under_joined limits (x ∷ before) g behind one all =
-    (all.0, under_joined limits before g behind one all.1)
+under_joined : (limits : Limits) (before : List Going) (g : Going) (following : List Going)
+    → IsUnderWay limits g → AreUnderWay limits (before ++ following)
+    → AreUnderWay limits (before ++ g ∷ following)
+under_joined limits [] g following one all = (one, all)
+under_joined limits (x ∷ before) g following one all =
+    (all.0, under_joined limits before g following one all.1)
 
 append_one : (xs : List Event) (y : Event) (ys : List Event) → (xs ++ y ∷ []) ++ ys ≡ xs ++ y ∷ ys
 append_one [] y ys = refl
@@ -38,9 +38,9 @@ under_way : (limits : Limits) (going : List Going) (points : List Point)
 under_way limits going [] seen = seen
 under_way limits going (Asked w ∷ points) seen =
     (under_way limits (record { waiting = w; events = [] } ∷ going) points seen).1
-under_way limits going (Seen event ∷ points) (before, behind, g, is, seen) =
+under_way limits going (Seen event ∷ points) (before, following, g, is, seen) =
     let later : Going = record g { events = g.events ++ event ∷ [] } in
-    let parts = under_parts limits before later behind (under_way limits (before ++ later ∷ behind) points seen) in
+    let parts = under_parts limits before later following (under_way limits (before ++ later ∷ following) points seen) in
     let one : IsUnderWay limits g = (
       parts.0.0,
       parts.0.1,
@@ -48,11 +48,11 @@ under_way limits going (Seen event ∷ points) (before, behind, g, is, seen) =
       parts.0.3,
       parts.0.4 ∙ append_one g.events event parts.0.2,
     ) in
-    subst (AreUnderWay limits) (sym is) (under_joined limits before g behind one parts.1)
-under_way limits going (Answered t after ∷ points) (before, behind, g, is, turn, same, seen) =
+    subst (AreUnderWay limits) (sym is) (under_joined limits before g following one parts.1)
+under_way limits going (Answered t after ∷ points) (before, following, g, is, turn, same, seen) =
     let one : IsUnderWay limits g = (t, after, [], turn, same ∙ sym (append-nil g.events)) in
     subst (AreUnderWay limits) (sym is)
-    (under_joined limits before g behind one (under_way limits (before ++ behind) points seen))
+    (under_joined limits before g following one (under_way limits (before ++ following) points seen))
 
 -- the first points
 first_points : (limits : Limits) (going : List Going) (points : List Point) (k : ℕ)
@@ -61,15 +61,15 @@ first_points limits going points zero seen = under_way limits going points seen
 first_points limits going [] (suc k) seen = seen
 first_points limits going (Asked w ∷ points) (suc k) seen =
     first_points limits (record { waiting = w; events = [] } ∷ going) points k seen
-first_points limits going (Seen event ∷ points) (suc k) (before, behind, g, is, seen) = (
+first_points limits going (Seen event ∷ points) (suc k) (before, following, g, is, seen) = (
   before,
-  behind,
+  following,
   g,
   is,
-  first_points limits (before ++ record g { events = g.events ++ event ∷ [] } ∷ behind) points k seen,
+  first_points limits (before ++ record g { events = g.events ++ event ∷ [] } ∷ following) points k seen,
 )
-first_points limits going (Answered t after ∷ points) (suc k) (before, behind, g, is, turn, same, seen) =
-    (before, behind, g, is, turn, same, first_points limits (before ++ behind) points k seen)
+first_points limits going (Answered t after ∷ points) (suc k) (before, following, g, is, turn, same, seen) =
+    (before, following, g, is, turn, same, first_points limits (before ++ following) points k seen)
 
 -- ---- one turn
 
@@ -137,12 +137,12 @@ module _ (n : ℕ) (some : n ≢ 0) (limits : Limits) where
       omega (arith, one, rest, s, a, b)
 
   -- a sum over what is going, with one of it apart
-  apart : (f : Going → ℕ) (before : List Going) (g : Going) (behind : List Going)
-      → sum_by f (before ++ g ∷ behind) ≡ f g + sum_by f (before ++ behind)
-  apart f before g behind =
-      let x = sum_by-append f before (g ∷ behind) in
-      let y = sum_by-cons f g behind in
-      let z = sum_by-append f before behind in
+  apart : (f : Going → ℕ) (before : List Going) (g : Going) (following : List Going)
+      → sum_by f (before ++ g ∷ following) ≡ f g + sum_by f (before ++ following)
+  apart f before g following =
+      let x = sum_by-append f before (g ∷ following) in
+      let y = sum_by-cons f g following in
+      let z = sum_by-append f before following in
       omega (arith, x, y, z)
 
   -- what was sent, and what was delivered, are within what was answered and what the client gave back
@@ -159,26 +159,26 @@ module _ (n : ℕ) (some : n ≢ 0) (limits : Limits) where
       let a = sum_by-cons answered_for g going in
       let b = sum_by-cons back_for g going in
       omega (arith, rest, s, a, b)
-  within going (Seen event ∷ points) (before, behind, g, is, seen) =
+  within going (Seen event ∷ points) (before, following, g, is, seen) =
       let later : Going = record g { events = g.events ++ event ∷ [] } in
-      let rest = within (before ++ later ∷ behind) points seen in
-      let s = ap (sum_by sent_for) is ∙ apart sent_for before g behind in
-      let a = ap (sum_by answered_for) is ∙ apart answered_for before g behind in
-      let b = ap (sum_by back_for) is ∙ apart back_for before g behind in
-      let s' = apart sent_for before later behind in
-      let a' = apart answered_for before later behind in
-      let b' = apart back_for before later behind in
+      let rest = within (before ++ later ∷ following) points seen in
+      let s = ap (sum_by sent_for) is ∙ apart sent_for before g following in
+      let a = ap (sum_by answered_for) is ∙ apart answered_for before g following in
+      let b = ap (sum_by back_for) is ∙ apart back_for before g following in
+      let s' = apart sent_for before later following in
+      let a' = apart answered_for before later following in
+      let b' = apart back_for before later following in
       let s'' : sent n (g.events ++ event ∷ []) ≡ sent n g.events + sent_by n event = sum_by_push (sent_by n) g.events event in
       let a'' : answered n (g.events ++ event ∷ []) ≡ answered n g.events + answered_by n event =
       sum_by_push (answered_by n) g.events event in
       let s''' = sum_by-cons (sent_by n) event (events_seen points) in
       let a''' = sum_by-cons (answered_by n) event (events_seen points) in
       omega (arith, rest, s, a, b, s', a', b', s'', a'', s''', a''')
-  within going (Answered t after ∷ points) (before, behind, g, is, turn, same, seen) =
-      let rest = within (before ++ behind) points seen in
-      let s = ap (sum_by sent_for) is ∙ apart sent_for before g behind in
-      let a = ap (sum_by answered_for) is ∙ apart answered_for before g behind in
-      let b = ap (sum_by back_for) is ∙ apart back_for before g behind in
+  within going (Answered t after ∷ points) (before, following, g, is, turn, same, seen) =
+      let rest = within (before ++ following) points seen in
+      let s = ap (sum_by sent_for) is ∙ apart sent_for before g following in
+      let a = ap (sum_by answered_for) is ∙ apart answered_for before g following in
+      let b = ap (sum_by back_for) is ∙ apart back_for before g following in
       let books = turn_books n limits g.waiting.options t after some turn.turn in
       let st : sent n t.events ≡ sent n g.events = ap (sent n) same in
       let at : answered n t.events ≡ answered n g.events = ap (answered n) same in

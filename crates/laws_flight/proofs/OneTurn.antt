@@ -8,7 +8,7 @@ use Rattle.fuse_messages.specs.Rooms.{Replies, with_after}
 use Rattle.fuse_grammar.specs.Ask.{ask}
 use Rattle.fuse_grammar.specs.Forms.{Ask, Ends, Asks, Lists, WithMemory}
 use Rattle.fuse_grammar.specs.Listing.{Listing, given_back}
-use Rattle.fuse_grammar.specs.Reply.{Echo, Reply, Refusal, NoReply, Bytes, OpenBehind, reply_of}
+use Rattle.fuse_grammar.specs.Reply.{Echo, Reply, Refusal, NoReply, Bytes, OpenAfter, reply_of}
 use Rattle.fuse_grammar.specs.Room.{IsReplied, unseen}
 use Rattle.fuse_grammar.specs.Turn.{Turn, Follows, node_answered}
 use Rattle.fuse_grammar.specs.declared.limits.Limits.{Limits}
@@ -43,7 +43,7 @@ came_back NoReply old new outcome h =
     record { room_after = old.left; leaves = stays old new h.1; says = (h.0, refl) }
 came_back (Bytes reply) old new outcome h =
     record { room_after = h.room_after; leaves = h.leaves; says = h.says }
-came_back (OpenBehind reply) old new outcome h =
+came_back (OpenAfter reply) old new outcome h =
     record { room_after = h.room_after; leaves = h.leaves; says = h.says }
 
 module _ (limits : Limits) (options : ℕ) (request : List ℕ) (a : AnswerData) (text : List ℕ)
@@ -135,25 +135,25 @@ listing_of options space echo l all =
 
 module _ (limits : Limits) (options interrupts : ℕ) (request : List ℕ) (asked_in after : Written)
     (told : CallData) (a : AnswerData) (text : List ℕ) (items : List ItemData) (old : Written)
-    (behind : List ℕ) (came : Answered) (new : Written)
-    (same : length (old.left ++ behind) ≡ length asked_in.left)
+    (following : List ℕ) (came : Answered) (new : Written)
+    (same : length (old.left ++ following) ≡ length asked_in.left)
     (calls : AnswersEachCall limits told a text old (Some came) new)
-    (listings : AnswersEachListing limits told a items (with_after old behind) (Some came) (with_after new behind)) where
+    (listings : AnswersEachListing limits told a items (with_after old following) (Some came) (with_after new following)) where
   turned : (asks : Ask) → IsUsual (length asked_in.left) asks
       → Tells ⊤ request options interrupts (length asked_in.left) asks asked_in asked.Call after told
-      → Turned limits options request a text items (with_after old behind) came (with_after new behind) asks
+      → Turned limits options request a text items (with_after old following) came (with_after new following) asks
   turned (Ends reply) usual t = absurd t
   turned (Asks echo call) usual t =
       let is : IsTold request options (length asked_in.left) echo call told = t.1 in
       let room : told.room ≡ length asked_in.left = ap (λ (c : CallData). c.room) is.numbers in
       let under : told.options ≡ options = ap (λ (c : CallData). c.options) is.numbers in
-      let long : length old.left + length behind ≡ told.room =
-      sym (length-append old.left behind) ∙ same ∙ sym room in
-      let c = calls echo call behind (tells_echo request options (length asked_in.left) echo call told is)
+      let long : length old.left + length following ≡ told.room =
+      sym (length-append old.left following) ∙ same ∙ sym room in
+      let c = calls echo call following (tells_echo request options (length asked_in.left) echo call told is)
       (tells_call request options (length asked_in.left) echo call told is) usual long in
-      turned_call limits options request a text items (with_after old behind) came (with_after new behind)
+      turned_call limits options request a text items (with_after old following) came (with_after new following)
       echo call
-      (subst (λ (o : ℕ). CallIsAnswered limits echo call o a text (with_after old behind) came (with_after new behind))
+      (subst (λ (o : ℕ). CallIsAnswered limits echo call o a text (with_after old following) came (with_after new following))
       under c)
   turned (Lists echo l) usual t =
       let room : told.room ≡ length asked_in.left = ap (λ (c : CallData). c.room) t.1 in
@@ -165,28 +165,28 @@ module _ (limits : Limits) (options interrupts : ℕ) (request : List ℕ) (aske
         listing_is = ap listing_told t.1 ∙ listing_of options (length asked_in.left) echo l usual.1;
       })
       (same ∙ sym room) in
-      turned_listing limits options request a text items (with_after old behind) came (with_after new behind)
+      turned_listing limits options request a text items (with_after old following) came (with_after new following)
       echo l
-      (subst (λ (o : ℕ). ListingIsAnswered limits echo l o a items (with_after old behind) came (with_after new behind))
+      (subst (λ (o : ℕ). ListingIsAnswered limits echo l o a items (with_after old following) came (with_after new following))
       under c)
   turned (WithMemory rest) usual (inl t) =
-      with_memory limits options request a text items (with_after old behind) came (with_after new behind) rest
+      with_memory limits options request a text items (with_after old following) came (with_after new following) rest
       (turned rest usual t)
   turned (WithMemory rest) usual (inr t) = absurd t.1
 
 pub are_one_turn : AreOneTurn
-are_one_turn limits options request asked_in after told a text items old behind came new is =
+are_one_turn limits options request asked_in after told a text items old following came new is =
     let space = length asked_in.left in
-    let t = turned limits options _ request asked_in after told a text items old behind came new is.same_room
+    let t = turned limits options _ request asked_in after told a text items old following came new is.same_room
     is.call is.listing (ask limits options space request) (is_usual limits options space request) is.is_asked in
-    let asks : ask limits options space request ≡ ask limits options (length (old.left ++ behind)) request =
+    let asks : ask limits options space request ≡ ask limits options (length (old.left ++ following)) request =
     ap (λ (n : ℕ). ask limits options n request) (sym is.same_room) in
     record {
       events = t.events;
       room_after = t.room_after;
-      happened = subst (λ q. HappenedBetween limits q a text items (old.left ++ behind) came t.events) asks t.happened;
+      happened = subst (λ q. HappenedBetween limits q a text items (old.left ++ following) came t.events) asks t.happened;
       leaves = t.leaves;
-      turn = subst (λ q. Follows (turn_of limits options request a text items (with_after old behind) came (with_after new behind) t.events t.room_after) limits options q came.options) asks t.follows;
+      turn = subst (λ q. Follows (turn_of limits options request a text items (with_after old following) came (with_after new following) t.events t.room_after) limits options q came.options) asks t.follows;
     }
 
 none_after : (w : Written) → w ≡ with_after w []

@@ -19,29 +19,29 @@ module _ {S I : Type 0} (allows : S → Call → Handed I → S → Type 0) (giv
     seen running old new [] made = made.0
     seen running old new (Asked w ∷ points) made =
         seen (record { going = record { waiting = w; events = [] }; iterator = None } ∷ running) old new points made
-    seen running old new (Seen event ∷ points) (before, behind, r, is, it, next, leads, made) =
+    seen running old new (Seen event ∷ points) (before, following, r, is, it, next, leads, made) =
         let later : Running I = record {
           going = record r.going { events = r.going.events ++ event ∷ [] };
           iterator = it;
         } in (
           goings before,
-          goings behind,
+          goings following,
           r.going,
-          ap goings is ∙ map-append (λ (x : Running I). x.going) before (r ∷ behind),
+          ap goings is ∙ map-append (λ (x : Running I). x.going) before (r ∷ following),
           subst (λ (gs : List Going). AreSeen limits gs points)
-              (map-append (λ (x : Running I). x.going) before (later ∷ behind))
-              (seen (before ++ later ∷ behind) next new points made),
+              (map-append (λ (x : Running I). x.going) before (later ∷ following))
+              (seen (before ++ later ∷ following) next new points made),
         )
-    seen running old new (Answered t after ∷ points) (before, behind, r, is, turn, same, made) = (
+    seen running old new (Answered t after ∷ points) (before, following, r, is, turn, same, made) = (
       goings before,
-      goings behind,
+      goings following,
       r.going,
-      ap goings is ∙ map-append (λ (x : Running I). x.going) before (r ∷ behind),
+      ap goings is ∙ map-append (λ (x : Running I). x.going) before (r ∷ following),
       turn,
       same,
       subst (λ (gs : List Going). AreSeen limits gs points)
-          (map-append (λ (x : Running I). x.going) before behind)
-          (seen (before ++ behind) old new points made),
+          (map-append (λ (x : Running I). x.going) before following)
+          (seen (before ++ following) old new points made),
     )
 
     -- takings apart, they are a run
@@ -51,38 +51,38 @@ module _ {S I : Type 0} (allows : S → Call → Handed I → S → Type 0) (giv
     run it running old new [] made = made.1
     run it running old new (Asked w ∷ points) made =
         run it (record { going = record { waiting = w; events = [] }; iterator = None } ∷ running) old new points made
-    run it running old new (Seen (Called call answer) ∷ points) (before, behind, r, is, at, next, leads, made) = (
+    run it running old new (Seen (Called call answer) ∷ points) (before, following, r, is, at, next, leads, made) = (
       next,
       leads.0,
       run it (before ++ record {
         going = record r.going { events = r.going.events ++ Called call answer ∷ [] };
         iterator = at;
-      } ∷ behind) next new points made,
+      } ∷ following) next new points made,
     )
-    run it running old new (Seen (OpenedDirectory call) ∷ points) (before, behind, r, is, at, next, leads, made) = (
+    run it running old new (Seen (OpenedDirectory call) ∷ points) (before, following, r, is, at, next, leads, made) = (
       next,
       leads.0,
       leads.1,
       run (Some leads.0) (before ++ record {
         going = record r.going { events = r.going.events ++ OpenedDirectory call ∷ [] };
         iterator = at;
-      } ∷ behind) next new points made,
+      } ∷ following) next new points made,
     )
-    run it running old new (Seen (Taken item) ∷ points) (before, behind, r, is, at, next, leads, made) =
+    run it running old new (Seen (Taken item) ∷ points) (before, following, r, is, at, next, leads, made) =
         let goes_on = run it (before ++ record {
           going = record r.going { events = r.going.events ++ Taken item ∷ [] };
           iterator = at;
-        } ∷ behind) next new points made in
+        } ∷ following) next new points made in
         subst (λ (s : S). IsRun allows gives it s (calls_in (events_seen points)) new) leads.5 goes_on
-    run it running old new (Answered t after ∷ points) (before, behind, r, is, turn, same, made) =
-        run it (before ++ behind) old new points made
+    run it running old new (Answered t after ∷ points) (before, following, r, is, turn, same, made) =
+        run it (before ++ following) old new points made
 
     -- the one that waits alone
-    the_one : (r : Running I) (before : List (Running I)) (x : Running I) (behind : List (Running I))
-        → r ∷ [] ≡ before ++ x ∷ behind → (before ≡ []) × (x ≡ r) × (behind ≡ [])
-    the_one r [] x behind is = (refl, cc, cc)
-    the_one r (y ∷ []) x behind is = absurd (cc is)
-    the_one r (y ∷ z ∷ before) x behind is = absurd (cc is)
+    the_one : (r : Running I) (before : List (Running I)) (x : Running I) (following : List (Running I))
+        → r ∷ [] ≡ before ++ x ∷ following → (before ≡ []) × (x ≡ r) × (following ≡ [])
+    the_one r [] x following is = (refl, cc, cc)
+    the_one r (y ∷ []) x following is = absurd (cc is)
+    the_one r (y ∷ z ∷ before) x following is = absurd (cc is)
 
     -- what is left of the directory at hand is what is left of the request's, if it has one
     abbrev AtHand : (at it : Option I) → Type 0
@@ -101,16 +101,16 @@ module _ {S I : Type 0} (allows : S → Call → Handed I → S → Type 0) (giv
         → Leads allows gives limits at old event later next
         → ((now : Option I) → AtHand later now → IsRun allows gives now next events new)
         → IsRun allows gives it old (event ∷ events) new
-    led_on it at later old next new (Called call answer) events has led behind =
-        (next, led.0, behind it (same_hand later at it led.1 has))
-    led_on it at later old next new (OpenedDirectory call) events has led behind =
-        (next, led.0, led.1, behind (Some led.0) (inl led.2))
-    led_on it at later old next new (Taken item) events has led behind = (
+    led_on it at later old next new (Called call answer) events has led following =
+        (next, led.0, following it (same_hand later at it led.1 has))
+    led_on it at later old next new (OpenedDirectory call) events has led following =
+        (next, led.0, led.1, following (Some led.0) (inl led.2))
+    led_on it at later old next new (Taken item) events has led following = (
       led.0,
       led.1,
       of_hand at it led.0 has led.2,
       led.3,
-      subst (λ (s : S). IsRun allows gives (Some led.1) s events new) led.5 (behind (Some led.1) (inl led.4)),
+      subst (λ (s : S). IsRun allows gives (Some led.1) s events new) led.5 (following (Some led.1) (inl led.4)),
     )
 
     abbrev waiting : Bool → Running I → List (Running I)
@@ -125,25 +125,25 @@ module _ {S I : Type 0} (allows : S → Call → Handed I → S → Type 0) (giv
         alone it true (record { going = record { waiting = w; events = [] }; iterator = None }) old new points (inr refl) made by
     alone it true r old new (Asked w ∷ points) has made by = absurd by
     alone it false r old new (Seen event ∷ points) has made by = absurd by
-    alone it true r old new (Seen event ∷ points) has (before, behind, x, is, at, next, leads, made) by =
-        let one = the_one r before x behind is in
+    alone it true r old new (Seen event ∷ points) has (before, following, x, is, at, next, leads, made) by =
+        let one = the_one r before x following is in
         let later : Running I = record {
           going = record x.going { events = x.going.events ++ event ∷ [] };
           iterator = at;
         } in
         let here : AreMade allows gives limits (later ∷ []) next points new =
         subst (λ (ys : List (Running I)). AreMade allows gives limits (later ∷ ys) next points new) one.2
-        (subst (λ (xs : List (Running I)). AreMade allows gives limits (xs ++ later ∷ behind) next points new) one.0 made) in
+        (subst (λ (xs : List (Running I)). AreMade allows gives limits (xs ++ later ∷ following) next points new) one.0 made) in
         let led : Leads allows gives limits r.iterator old event at next =
         subst (λ (y : Running I). Leads allows gives limits y.iterator old event at next) one.1 leads in
         led_on it r.iterator at old next new event (events_seen points) has led
         (λ now h. alone now true later next new points h here by)
     alone it false r old new (Answered t after ∷ points) has made by = absurd by
-    alone it true r old new (Answered t after ∷ points) has (before, behind, x, is, turn, same, made) by =
-        let one = the_one r before x behind is in
+    alone it true r old new (Answered t after ∷ points) has (before, following, x, is, turn, same, made) by =
+        let one = the_one r before x following is in
         let here : AreMade allows gives limits [] old points new =
         subst (λ (ys : List (Running I)). AreMade allows gives limits ys old points new) one.2
-        (subst (λ (xs : List (Running I)). AreMade allows gives limits (xs ++ behind) old points new) one.0 made) in
+        (subst (λ (xs : List (Running I)). AreMade allows gives limits (xs ++ following) old points new) one.0 made) in
         alone it false r old new points has here by
 
   pub flights_run : FlightsRun allows gives

@@ -36,9 +36,9 @@ abbrev pub AreInFlight : Limits → (waiting : List Waiting) → List Moment →
 AreInFlight limits waiting [] = Unit {0}
 AreInFlight limits waiting (Asked w ∷ moments) = AreInFlight limits (w ∷ waiting) moments
 AreInFlight limits waiting (Answered w t after ∷ moments) =
-    (before behind : List Waiting) × (waiting ≡ before ++ w ∷ behind)
+    (before following : List Waiting) × (waiting ≡ before ++ w ∷ following)
     × IsTurnOf limits w t after
-    × AreInFlight limits (before ++ behind) moments
+    × AreInFlight limits (before ++ following) moments
 
 -- an INIT that was answered, or a DESTROY, had none beside it that waits
 pub record IsAlone (t : Turn) (others : List Waiting) : Type 0 where
@@ -52,7 +52,7 @@ AreAskedInTime limits options waiting [] = Unit {0}
 AreAskedInTime limits options waiting (Asked w ∷ moments) =
     (w.options ≡ options) × AreAskedInTime limits options (w ∷ waiting) moments
 AreAskedInTime limits options waiting (Answered w t after ∷ moments) =
-    (before behind : List Waiting) × (waiting ≡ before ++ w ∷ behind)
+    (before following : List Waiting) × (waiting ≡ before ++ w ∷ following)
     × IsTurnOf limits w t after
-    × IsAlone t (before ++ behind)
-    × AreAskedInTime limits after (before ++ behind) moments
+    × IsAlone t (before ++ following)
+    × AreAskedInTime limits after (before ++ following) moments

@@ -35,12 +35,12 @@ AreSeen limits going [] = AreUnderWay limits going
 AreSeen limits going (Asked w ∷ points) =
     AreSeen limits (record { waiting = w; events = [] } ∷ going) points
 AreSeen limits going (Seen event ∷ points) =
-    (before behind : List Going) × (g : Going) × (going ≡ before ++ g ∷ behind)
-    × AreSeen limits (before ++ record g { events = g.events ++ event ∷ [] } ∷ behind) points
+    (before following : List Going) × (g : Going) × (going ≡ before ++ g ∷ following)
+    × AreSeen limits (before ++ record g { events = g.events ++ event ∷ [] } ∷ following) points
 AreSeen limits going (Answered t after ∷ points) =
-    (before behind : List Going) × (g : Going) × (going ≡ before ++ g ∷ behind)
+    (before following : List Going) × (g : Going) × (going ≡ before ++ g ∷ following)
     × IsTurnOf limits g.waiting t after × (t.events ≡ g.events)
-    × AreSeen limits (before ++ behind) points
+    × AreSeen limits (before ++ following) points
 
 -- what was seen of the file system, in order
 abbrev pub events_seen : List Point → List Event

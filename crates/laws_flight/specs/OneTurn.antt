@@ -69,21 +69,21 @@ pub record IsAnsweredTurn (limits : Limits) (options : ℕ) (request : List ℕ)
 -- perhaps without the bytes after the first ones.
 pub record IsAskedAndAnswered (limits : Limits) (options : ℕ) (request : List ℕ) (asked_in after : Written)
     (told : CallData) (a : AnswerData) (text : List ℕ) (items : List ItemData) (old : Written)
-    (behind : List ℕ) (came : Answered) (new : Written) : Type 0 where
+    (following : List ℕ) (came : Answered) (new : Written) : Type 0 where
   pub is_asked : IsAsked limits options request asked_in asked.Call after told
-  pub same_room : length (old.left ++ behind) ≡ length asked_in.left
+  pub same_room : length (old.left ++ following) ≡ length asked_in.left
   pub call : AnswersEachCall limits told a text old (Some came) new
-  pub listing : AnswersEachListing limits told a items (with_after old behind) (Some came) (with_after new behind)
+  pub listing : AnswersEachListing limits told a items (with_after old following) (Some came) (with_after new following)
 
 -- each such request is one turn
 abbrev pub AreOneTurn : Type 0
 AreOneTurn =
     (limits : Limits) (options : ℕ) (request : List ℕ) (asked_in after : Written) (told : CallData)
-    (a : AnswerData) (text : List ℕ) (items : List ItemData) (old : Written) (behind : List ℕ)
+    (a : AnswerData) (text : List ℕ) (items : List ItemData) (old : Written) (following : List ℕ)
     (came : Answered) (new : Written)
-    → IsAskedAndAnswered limits options request asked_in after told a text items old behind came new
-    → IsAnsweredTurn limits options request a text items (with_after old behind) came
-    (with_after new behind)
+    → IsAskedAndAnswered limits options request asked_in after told a text items old following came new
+    → IsAnsweredTurn limits options request a text items (with_after old following) came
+    (with_after new following)
 
 -- A turn of the grammar without a call, of these bytes and this room, which leaves the options as they were.
 pub record IsFinishedTurn (limits : Limits) (options : ℕ) (request : List ℕ) (old : Written)

@@ -37,16 +37,16 @@ module _ {S I : Type 0} (allows : S → Call → Handed I → S → Type 0) (giv
   AreMade running old (Asked w ∷ points) new =
       AreMade (record { going = record { waiting = w; events = [] }; iterator = None } ∷ running) old points new
   AreMade running old (Seen event ∷ points) new =
-      (before behind : List (Running I)) × (r : Running I) × (running ≡ before ++ r ∷ behind)
+      (before following : List (Running I)) × (r : Running I) × (running ≡ before ++ r ∷ following)
       × (it : Option I) × (next : S) × Leads r.iterator old event it next
       × AreMade (before ++ record {
         going = record r.going { events = r.going.events ++ event ∷ [] };
         iterator = it;
-      } ∷ behind) next points new
+      } ∷ following) next points new
   AreMade running old (Answered t after ∷ points) new =
-      (before behind : List (Running I)) × (r : Running I) × (running ≡ before ++ r ∷ behind)
+      (before following : List (Running I)) × (r : Running I) × (running ≡ before ++ r ∷ following)
       × IsTurnOf limits r.going.waiting t after × (t.events ≡ r.going.events)
-      × AreMade (before ++ behind) old points new
+      × AreMade (before ++ following) old points new
 
 -- Calls that are made so for requests in flight are a run of the file system, in the order in which they are made, as
 -- those of one caller are; takings aside, of which each reading has its own.

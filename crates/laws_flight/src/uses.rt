@@ -78,9 +78,9 @@ fn ask_alone(
 ) -> Option<Result<usize>>
     requires limits { AreLimits limits }
     requires enough { IsEnough (length w.old.left) room }
-    ensures { (behind : List ℕ) → length w.old.left + length behind ≡ room → IfSome result (λ outcome.
-        IsFinishedTurn limits (fs_options_bits options) r.entry.left (with_after w.old behind) outcome
-        (with_after w.new behind)) }
+    ensures { (following : List ℕ) → length w.old.left + length following ≡ room → IfSome result (λ outcome.
+        IsFinishedTurn limits (fs_options_bits options) r.entry.left (with_after w.old following) outcome
+        (with_after w.new following)) }
 {
     a_finished_request_is_one_turn();
     match ask(alloc, limits, options, r, room, w, told) {

@@ -191,9 +191,9 @@ module _ {S I : Type 0} (allows : S → Call → Handed I → S → Type 0)
         record { asked = f; room = refl; came = refl; leaves = y.leaves },
         record {
           run = runs s0 s2 (Handled a ∷ Handled b ∷ []) all tt;
-          never_below = λ behind whole reply done.
+          never_below = λ following whole reply done.
               never_below_over (a ∷ b ∷ []) (keep s0 s2 (Handled a ∷ Handled b ∷ []) all) 5 (is_some 5 4 refl)
-              (gives_back 5 a b (delivered-lookup a behind e whole reply)
+              (gives_back 5 a b (delivered-lookup a following e whole reply)
               (accepted-replied 5 a whole) (accepted-forget b f done));
         },
       )

@@ -33,18 +33,18 @@ is_some n m is = λ none. omega (arith, none, is)
 
 -- ---- node 5
 
-delivered-reply : (behind : List ℕ)
-    → delivered_by 5 (opcode_in lookup_of_a) (Ok 144) (reply_of_node_5 ++ behind) ≡ 1
+delivered-reply : (following : List ℕ)
+    → delivered_by 5 (opcode_in lookup_of_a) (Ok 144) (reply_of_node_5 ++ following) ≡ 1
 unfolding number opcode_of
-delivered-reply behind = refl
+delivered-reply following = refl
 
-pub delivered-lookup : (t : Turn) (behind : List ℕ) → t.request ≡ lookup_of_a
-    → t.outcome ≡ Ok 144 → t.room_after ≡ reply_of_node_5 ++ behind → delivered 5 t ≡ 1
-delivered-lookup t behind asked whole room =
+pub delivered-lookup : (t : Turn) (following : List ℕ) → t.request ≡ lookup_of_a
+    → t.outcome ≡ Ok 144 → t.room_after ≡ reply_of_node_5 ++ following → delivered 5 t ≡ 1
+delivered-lookup t following asked whole room =
     ap (λ (q : List ℕ). delivered_by 5 (opcode_in q) t.outcome t.room_after) asked
     ∙ ap (λ (r : Result ℕ Error). delivered_by 5 (opcode_in lookup_of_a) r t.room_after) whole
     ∙ ap (λ (bytes : List ℕ). delivered_by 5 (opcode_in lookup_of_a) (Ok 144) bytes) room
-    ∙ delivered-reply behind
+    ∙ delivered-reply following
 
 accepted-bytes : accepted_by 5 forget_of_5 (Ok 0) ≡ 1
 unfolding number opcode_of

@@ -76,6 +76,6 @@ pub record GivesBack {S I : Type 0} (allows : S → Call → Handed I → S → 
     (new : ServerState S) : Type 0 where
   pub run : IsRun allows gives None old.fs (events_in (lookup ∷ forget ∷ [])) new.fs
   pub never_below :
-      (behind : List ℕ) → lookup.outcome ≡ Ok 144
-      → lookup.room_after ≡ reply_of_node_5 ++ behind
+      (following : List ℕ) → lookup.outcome ≡ Ok 144
+      → lookup.room_after ≡ reply_of_node_5 ++ following
       → forget.outcome ≡ Ok 0 → NeverBelow 5 (events_in (lookup ∷ forget ∷ []))

@@ -94,7 +94,7 @@ record Holds (n from : ℕ) (es : List (ℕ × Node)) : Type 0 where
   node : Node
   is : lookup (is_at (nat_cmp directory)) es ≡ Some node
   some : 0 < names_in n node.children.links
-  behind : from ≤ directory
+  following : from ≤ directory
 
 some_holds : (n from to : ℕ) (es : List (ℕ × Node)) → Ascend from es to
     → 0 < sum_by (λ node. names_in n node.children.links) (values_of es) → Holds n from es
@@ -106,7 +106,7 @@ some_holds n from to (e ∷ es) a some =
       node = e.1;
       is = lookup_head (is_at (nat_cmp e.0)) e es (ap is_eq (tied_itself nat_cmp_total e.0));
       some = here;
-      behind = a.0;
+      following = a.0;
     })
     (λ none.
     let step = sum_by-cons (λ (node : Node). names_in n node.children.links) e.1 (values_of es) in
@@ -115,9 +115,9 @@ some_holds n from to (e ∷ es) a some =
       directory = more.directory;
       node = more.node;
       is = lookup_tail (is_at (nat_cmp more.directory)) e es
-          (is_at_other more.directory e.0 (omega (arith, more.behind))) ∙ more.is;
+          (is_at_other more.directory e.0 (omega (arith, more.following))) ∙ more.is;
       some = more.some;
-      behind = omega (arith, a.0, more.behind);
+      following = omega (arith, a.0, more.following);
     })
     (cases_lt 0 (names_in n e.1.children.links))
 

@@ -22,20 +22,20 @@ error_or-pass true b c r e f g make h i j = absurd cc
 error_or-pass false b c r e f g make h i j = rw (i, j) refl
 
 -- the header of a block is read from the bytes that begin with it
-head_is-read : (bytes : List ℕ) (b : Block) (behind : List ℕ) (is : IsBlock bytes b behind)
+head_is-read : (bytes : List ℕ) (b : Block) (following : List ℕ) (is : IsBlock bytes b following)
     → value_of ext_header bytes ≡ record { size = 8 + length b.body; ext_type = b.ext_type }
-head_is-read bytes b behind is =
-    ap (value_of ext_header) is.parts ∙ sym (value_of-take ext_header 8 (is.head ++ (b.body ++ behind)) (omega arith))
-    ∙ ap (value_of ext_header) (take_at is.head (b.body ++ behind) 8 is.whole_head) ∙ is.says
+head_is-read bytes b following is =
+    ap (value_of ext_header) is.parts ∙ sym (value_of-take ext_header 8 (is.head ++ (b.body ++ following)) (omega arith))
+    ∙ ap (value_of ext_header) (take_at is.head (b.body ++ following) 8 is.whole_head) ∙ is.says
 
 -- what comes after a block
-pub after_block : (bytes : List ℕ) (b : Block) (behind : List ℕ) → IsBlock bytes b behind
-    → drop (block_size bytes) bytes ≡ behind
-after_block bytes b behind is =
-    let size : block_size bytes ≡ 8 + length b.body = ap (λ (r : ExtHeader). r.size) (head_is-read bytes b behind is) in
-    let parts : bytes ≡ (is.head ++ b.body) ++ behind = is.parts ∙ sym (append_assoc is.head b.body behind) in
+pub after_block : (bytes : List ℕ) (b : Block) (following : List ℕ) → IsBlock bytes b following
+    → drop (block_size bytes) bytes ≡ following
+after_block bytes b following is =
+    let size : block_size bytes ≡ 8 + length b.body = ap (λ (r : ExtHeader). r.size) (head_is-read bytes b following is) in
+    let parts : bytes ≡ (is.head ++ b.body) ++ following = is.parts ∙ sym (append_assoc is.head b.body following) in
     ap (λ (n : ℕ). drop n bytes) size ∙ ap (drop (8 + length b.body)) parts
-    ∙ drop_at (is.head ++ b.body) behind (8 + length b.body)
+    ∙ drop_at (is.head ++ b.body) following (8 + length b.body)
     (omega (arith, length-append is.head b.body, is.whole_head))
 
 -- a block that is found
@@ -48,18 +48,18 @@ same_block : (t u : ℕ) (b d : List ℕ) → t ≡ u → b ≡ d
 same_block t u b d e f = cc
 
 -- a block is found
-pub block_in-is : (bytes : List ℕ) (b : Block) (behind : List ℕ) → IsBlock bytes b behind → block_in bytes ≡ Ok b
-block_in-is bytes b behind is =
-    let size : block_size bytes ≡ 8 + length b.body = ap (λ (r : ExtHeader). r.size) (head_is-read bytes b behind is) in
+pub block_in-is : (bytes : List ℕ) (b : Block) (following : List ℕ) → IsBlock bytes b following → block_in bytes ≡ Ok b
+block_in-is bytes b following is =
+    let size : block_size bytes ≡ 8 + length b.body = ap (λ (r : ExtHeader). r.size) (head_is-read bytes b following is) in
     let kind : (value_of ext_header bytes).ext_type ≡ b.ext_type =
-    ap (λ (r : ExtHeader). r.ext_type) (head_is-read bytes b behind is) in
-    let long : length bytes ≡ 8 + (length b.body + length behind) =
+    ap (λ (r : ExtHeader). r.ext_type) (head_is-read bytes b following is) in
+    let long : length bytes ≡ 8 + (length b.body + length following) =
     ap (λ (l : List ℕ). length l) is.parts
-    ∙ omega (arith, length-append is.head (b.body ++ behind), length-append b.body behind, is.whole_head) in
+    ∙ omega (arith, length-append is.head (b.body ++ following), length-append b.body following, is.whole_head) in
     let body : take (block_size bytes - 8) (drop 8 bytes) ≡ b.body =
     ap (λ (l : List ℕ). take (block_size bytes - 8) (drop 8 l)) is.parts
-    ∙ ap (take (block_size bytes - 8)) (drop_at is.head (b.body ++ behind) 8 is.whole_head)
-    ∙ take_at b.body behind (block_size bytes - 8) (omega (arith, size)) in
+    ∙ ap (take (block_size bytes - 8)) (drop_at is.head (b.body ++ following) 8 is.whole_head)
+    ∙ take_at b.body following (block_size bytes - 8) (omega (arith, size)) in
     error_or-pass (nat_lt (length bytes) 8) (λ r. nat_lt r.size 8) (λ r. nat_lt (length bytes) r.size)
     (value_of ext_header bytes) DecodeMessage InvalidHeaderLength DecodeMessage
     (λ r. record { ext_type = r.ext_type; body = take (r.size - 8) (drop 8 bytes) })
@@ -68,14 +68,14 @@ block_in-is bytes b behind is =
     ∙ same_block _ _ _ _ kind body
 
 -- a block as it is written
-pub block_bytes-is : (ext_type : ℕ) (body behind : List ℕ) → ext_type < 2 ^ 32 → 8 + length body < 2 ^ 32
-    → IsBlock (block_bytes ext_type body ++ behind) (record { ext_type = ext_type; body = body }) behind
-block_bytes-is ext_type body behind small short =
+pub block_bytes-is : (ext_type : ℕ) (body following : List ℕ) → ext_type < 2 ^ 32 → 8 + length body < 2 ^ 32
+    → IsBlock (block_bytes ext_type body ++ following) (record { ext_type = ext_type; body = body }) following
+block_bytes-is ext_type body following small short =
     let h : ExtHeader = record { size = 8 + length body; ext_type = ext_type } in
     record {
       head = bytes_of ext_header h;
       whole_head = length-bytes_of ext_header h (short, (small, tt));
       says = ap (value_of ext_header) (sym (append-nil (bytes_of ext_header h)))
           ∙ value_of-bytes_of-then ext_header h [] (short, (small, tt)) refl;
-      parts = append_assoc (bytes_of ext_header h) body behind;
+      parts = append_assoc (bytes_of ext_header h) body following;
     }

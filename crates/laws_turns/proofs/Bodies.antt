@@ -11,7 +11,7 @@ use Rattle.fuse_wire.specs.declared.init.InitOut.{InitOut}
 use Rattle.fs_trait.specs.Answers.{Kind, Quiet, Told, Untold, Data, Agreements, Entries, TimedAttributes, Openings, Creations, Capacities, Texts, TextsOrCounts, Offsets, Writes, Iterators, Faults, IsAnswer, Answer, Done, Failed, Options, Found, Put, Attributes, Opened, Created, Statistics, Text, Count, Offset, Wrote}
 use Rattle.fs_trait.specs.Values.{entry_out_of}
 use Rattle.fs_trait.specs.declared.entry.Entry.{Entry}
-use Rattle.fuse_grammar.specs.Reply.{Reply, NoReply, Bytes, OpenBehind, Echo, body_of, answer_reply, reply_of, fault_reply, body_reply, init_out_of, open_out_of}
+use Rattle.fuse_grammar.specs.Reply.{Reply, NoReply, Bytes, OpenAfter, Echo, body_of, answer_reply, reply_of, fault_reply, body_reply, init_out_of, open_out_of}
 use Rattle.fuse_grammar.specs.Words.{fault_number, attr_out_of, getxattr_out_of, write_out_of}
 use Rattle.fuse_grammar.specs.Records.{size_of}
 use Rattle.fuse_grammar.specs.declared.limits.Limits.{Limits}
@@ -103,7 +103,7 @@ IsReply-answer body unique _ short = IsReply-body body unique short
 -- a call.
 pub replies_hold : (P : Reply → Type 0) (limits : Limits) (echo : Echo) (options : ℕ) (kind : Kind) (answer : Answer)
     → IsAnswer kind answer → P NoReply → ((reply : List ℕ) → IsReply echo.unique reply → P (Bytes reply))
-    → ((reply : List ℕ) → IsReply echo.unique reply → P (OpenBehind reply)) → P (reply_of limits echo options kind answer)
+    → ((reply : List ℕ) → IsReply echo.unique reply → P (OpenAfter reply)) → P (reply_of limits echo options kind answer)
 replies_hold P limits echo options Quiet answer a none bytes open_after = none
 replies_hold P limits echo options Untold Done a none bytes open_after = none
 replies_hold P limits echo options (Data size) answer a none bytes open_after =

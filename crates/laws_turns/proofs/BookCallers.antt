@@ -33,22 +33,22 @@ delivers_once t call entry books called counted none five whole =
     omega (arith, books, a, s, g)
 
 -- what a reply with an entry of node 5 delivers, by the opcode of its request
-reply_delivers : (opcode : Option Opcode) (behind : List ℕ)
+reply_delivers : (opcode : Option Opcode) (following : List ℕ)
     → ((reply : List ℕ) → nodes_after opcode reply ≡ u64_at 16 reply ∷ [])
-    → delivered_by 5 opcode (Ok 144) (reply_of_node_5 ++ behind) ≡ 1
+    → delivered_by 5 opcode (Ok 144) (reply_of_node_5 ++ following) ≡ 1
 unfolding number
-reply_delivers opcode behind has = ap (times 5) (has (take 144 (reply_of_node_5 ++ behind)))
+reply_delivers opcode following has = ap (times 5) (has (take 144 (reply_of_node_5 ++ following)))
 
 -- such a reply was answered by the file system
-pub reply_was_answered : (t : Turn) (opcode : Opcode) (behind : List ℕ) → Balances 5 t
+pub reply_was_answered : (t : Turn) (opcode : Opcode) (following : List ℕ) → Balances 5 t
     → opcode_in t.request ≡ Some opcode → ((reply : List ℕ) → nodes_after (Some opcode) reply ≡ u64_at 16 reply ∷ [])
-    → t.outcome ≡ Ok 144 → t.room_after ≡ reply_of_node_5 ++ behind → 1 ≤ answered 5 t.events
-reply_was_answered t opcode behind books asked has whole room =
+    → t.outcome ≡ Ok 144 → t.room_after ≡ reply_of_node_5 ++ following → 1 ≤ answered 5 t.events
+reply_was_answered t opcode following books asked has whole room =
     let d : delivered 5 t ≡ 1 =
     ap (λ (o : Option Opcode). delivered_by 5 o t.outcome t.room_after) asked
     ∙ ap (λ (r : Result ℕ Error). delivered_by 5 (Some opcode) r t.room_after) whole
     ∙ ap (λ (bytes : List ℕ). delivered_by 5 (Some opcode) (Ok 144) bytes) room
-    ∙ reply_delivers (Some opcode) behind has in
+    ∙ reply_delivers (Some opcode) following has in
     let g = accepted_of_whole 5 t whole in
     omega (arith, books, d, g)
 

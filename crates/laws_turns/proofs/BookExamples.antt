@@ -47,8 +47,8 @@ node n = record {
 }
 
 -- a reply without an error, of this length, that begins with node n
-abbrev reply_of_node : (n len behind : ℕ) → List ℕ
-reply_of_node n len behind = (((four len ++ zeros 4) ++ eight 9) ++ eight n) ++ zeros behind
+abbrev reply_of_node : (n len following : ℕ) → List ℕ
+reply_of_node n len following = (((four len ++ zeros 4) ++ eight 9) ++ eight n) ++ zeros following
 
 -- ---- LOOKUP of `a` in node 1, answered by node n, and a node that is given back
 
@@ -195,13 +195,13 @@ abbrev record_of : (node ino offset type_ : ℕ) (name : List ℕ) (padding : �
 record_of node ino offset type_ name padding =
     (eight node ++ zeros 120) ++ (((eight ino ++ eight offset) ++ (four (length name) ++ four type_)) ++ (name ++ zeros padding))
 
-abbrev readdirplus : List Event → (behind : List ℕ) → Turn
-readdirplus events behind = record {
+abbrev readdirplus : List Event → (following : List ℕ) → Turn
+readdirplus events following = record {
   request = header 80 44 9 1 ++ (zeros 16 ++ (four 479 ++ zeros 20));
   room = zeros 495;
   events = events;
-  outcome = Ok (16 + length behind);
-  room_after = ((four (16 + length behind) ++ zeros 4) ++ eight 9) ++ (behind ++ zeros (479 - length behind));
+  outcome = Ok (16 + length following);
+  room_after = ((four (16 + length following) ++ zeros 4) ++ eight 9) ++ (following ++ zeros (479 - length following));
 }
 
 -- `.`, which has node 0, then `a` of node 5, and then `file` of node 5 too

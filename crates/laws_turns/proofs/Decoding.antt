@@ -33,8 +33,8 @@ error_at h rest small =
 error-body : (body : List ℕ) (unique : ℕ) → u32_at 4 (body_reply body unique) ≡ 0
 error-body body unique = error_at (record { len = 16 + length body; error = pos 0; unique = unique }) body (omega arith)
 
-pub behind-body : (body : List ℕ) (unique : ℕ) → drop 16 (body_reply body unique) ≡ body
-behind-body body unique =
+pub following-body : (body : List ℕ) (unique : ℕ) → drop 16 (body_reply body unique) ≡ body
+following-body body unique =
     let h : OutHeader = record { len = 16 + length body; error = pos 0; unique = unique } in
     drop_at (bytes_of out_header h) body 16 (length-header h)
 
@@ -77,7 +77,7 @@ delivered_nodes-body opcode body unique = rw (error-body body unique) refl
 
 -- the number that a body begins with
 pub u64_at-body : (body : List ℕ) (unique : ℕ) → u64_at 16 (body_reply body unique) ≡ number 8 body
-u64_at-body body unique = ap (number 8) (behind-body body unique)
+u64_at-body body unique = ap (number 8) (following-body body unique)
 
 -- ---- forgets
 

@@ -19,10 +19,10 @@ use Rattle.fuse_grammar.specs.Limits.{max_len}
 use Rattle.fuse_grammar.specs.Records.{size_of}
 use Rattle.fuse_grammar.specs.Ask.{form_of, ask, ask_number}
 use Rattle.fuse_grammar.specs.Forms.{Ask, Ends, Asks, Lists, WithMemory, Form, NoTail, NameTail, TwoNames, NameAndValue, NameAndExtensions, LinkAndExtensions, Pairs, WithRest, IntoRoom, Directories, Versions, Silent, NotServed, Layout, refused_or, layout_record, layout_size, tail_of, ask_form}
-use Rattle.fuse_grammar.specs.Words.{behind, refused, IsRead}
-use Rattle.laws_turns.specs.Turns.{TailIsWhole, HasWhole, unique_of, BeginsWithHeader, WantsMemory, WantsMemoryBehind}
+use Rattle.fuse_grammar.specs.Words.{following, refused, IsRead}
+use Rattle.laws_turns.specs.Turns.{TailIsWhole, HasWhole, unique_of, BeginsWithHeader, WantsMemory, WantsMemoryAfter}
 use Rattle.fuse_grammar.specs.Options.{AreAgreed, agreed, options_after}
-use Rattle.fuse_grammar.specs.Reply.{Reply, Echo, echo_of, Refusal, NoReply, Bytes, OpenBehind, fault_reply, body_reply, reply_of, version_out}
+use Rattle.fuse_grammar.specs.Reply.{Reply, Echo, echo_of, Refusal, NoReply, Bytes, OpenAfter, fault_reply, body_reply, reply_of, version_out}
 use Rattle.fuse_grammar.specs.Room.{IsReplied, unseen}
 use Rattle.fuse_grammar.specs.Turn.{Turn, Follows, IsTurn, node_answered}
 use Rattle.fuse_grammar.specs.Witnesses.{IsTurnWithMemory, turn_with_memory_tells, FollowsFor}
@@ -57,7 +57,7 @@ ended_so : (reply : Reply) (room : List ℕ) (outcome : Result ℕ Error) (left 
 ended_so (Refusal error) room outcome left e h o n = h.1
 ended_so NoReply room outcome left e h o n = h.1
 ended_so (Bytes bytes) room outcome left e h o n = absurd (n (bytes_error bytes room outcome left e h o))
-ended_so (OpenBehind bytes) room outcome left e h o n = absurd (let a = sym h.says ∙ o in cc)
+ended_so (OpenAfter bytes) room outcome left e h o n = absurd (let a = sym h.says ∙ o in cc)
 
 nothing_follows : (limits : Limits) (options : ℕ) (a : Ask) (t : Turn) (after : ℕ) (e : Error) → Follows t limits options a after → t.outcome ≡ Err e → e ≢ EncodeMessage → (t.events ≡ []) × (t.room_after ≡ t.room) × (after ≡ options)
 nothing_follows limits options (Ends reply) t after e f o n = (f.0, ended_so reply t.room t.outcome t.room_after e f.1 o n, f.2)
@@ -140,7 +140,7 @@ module _ (limits : Limits) (options after : ℕ) (t : Turn) (lacks : t.outcome �
   -- where memory may be wanted by the form, it is; after a request of another form it isn't
   memory_tail : {R : Type 0} (h : InHeader) (rest : List ℕ) (l : Layout R) (next : R → List ℕ → Ask)
       → Gives (TailIsWhole h rest l)
-      (refused_or (layout_record l rest) (λ r. refused_or (tail_of h (layout_size l) (behind l rest)) (λ tail. WithMemory (next r tail))))
+      (refused_or (layout_record l rest) (λ r. refused_or (tail_of h (layout_size l) (following l rest)) (λ tail. WithMemory (next r tail))))
   unfolding Gives
   memory_tail h rest l next =
       let Q = TailIsWhole h rest l in
@@ -191,8 +191,8 @@ module _ (limits : Limits) (options after : ℕ) (t : Turn) (lacks : t.outcome �
   memory_form h rest Silent = (each (HasWhole h rest Silent) h.unique).nothing
   memory_form h rest NotServed = (each (HasWhole h rest NotServed) h.unique).fault (Some enosys)
 
-  memory_number : (room : ℕ) (opcode : Option Opcode) (h : InHeader) (rest : List ℕ) → Gives (WantsMemoryBehind limits options room opcode h rest) (ask_number limits options room opcode h rest)
-  memory_number room None h rest = (each (WantsMemoryBehind limits options room None h rest) h.unique).fault (Some enosys)
+  memory_number : (room : ℕ) (opcode : Option Opcode) (h : InHeader) (rest : List ℕ) → Gives (WantsMemoryAfter limits options room opcode h rest) (ask_number limits options room opcode h rest)
+  memory_number room None h rest = (each (WantsMemoryAfter limits options room None h rest) h.unique).fault (Some enosys)
   memory_number room (Some opcode) h rest = memory_form h rest (form_of limits options room h opcode)
 
   memory_header : (room : ℕ) (request : List ℕ) (short over : Bool) → nat_lt (length request) (size_of in_header) ≡ short → nat_lt (max_len limits) (value_of in_header request).len ≡ over
@@ -249,7 +249,7 @@ bytes_begin reply room outcome room_after n unique h o r =
     subst (BeginsWithHeader n unique) (sym h.leaves) (put_begins (nat_le (length reply) (length room)) reply room n unique (sym h.says ∙ o) r)
 
 open_begin : (reply : List ℕ) (room : List ℕ) (outcome : Result ℕ Error) (room_after : List ℕ) (n unique : ℕ)
-    → IsReplied (OpenBehind reply) room outcome room_after → outcome ≡ Ok n → IsReply unique reply → BeginsWithHeader n unique room_after
+    → IsReplied (OpenAfter reply) room outcome room_after → outcome ≡ Ok n → IsReply unique reply → BeginsWithHeader n unique room_after
 open_begin reply room outcome room_after n unique h o r =
     let e = sym h.says ∙ o in
     let same : length reply ≡ n = cc in

@@ -17,7 +17,7 @@ use Rattle.fuse_grammar.specs.Words.{refused, silent, put_outcome, put_room}
 use Rattle.fuse_grammar.specs.declared.limits.Limits.{Limits}
 use Rattle.fuse_grammar.specs.Limits.{default_limits}
 use Rattle.fuse_grammar.specs.Options.{agreed, options_after}
-use Rattle.fuse_grammar.specs.Reply.{Bytes, OpenBehind, NoReply, Echo, reply_of}
+use Rattle.fuse_grammar.specs.Reply.{Bytes, OpenAfter, NoReply, Echo, reply_of}
 use Rattle.fuse_grammar.specs.Room.{unseen}
 use Rattle.fuse_grammar.specs.Turn.{node_answered}
 use Rattle.fuse_grammar.specs.declared.error.Error.TheVariants.{DecodeMessage, EncodeMessage, InvalidCString, InvalidHeaderLength, InvalidXattrSize, MissingExtension, MissingParameter}
@@ -630,11 +630,11 @@ unfolding number little
 reply_of_bytes_written = refl
 
 -- READ's data `he`, and a READ that failed: the room after the reply is open
-reply_of_data : reply_of usual (echo 9) 0 (Data 2) (Put (0x68 ∷ 0x65 ∷ [])) ≡ OpenBehind (((four 18 ++ zeros 4) ++ eight 9) ++ (0x68 ∷ 0x65 ∷ []))
+reply_of_data : reply_of usual (echo 9) 0 (Data 2) (Put (0x68 ∷ 0x65 ∷ [])) ≡ OpenAfter (((four 18 ++ zeros 4) ++ eight 9) ++ (0x68 ∷ 0x65 ∷ []))
 unfolding number little
 reply_of_data = refl
 
-reply_of_no_data : reply_of usual (echo 9) 0 (Data 2) (Failed (Some 2)) ≡ OpenBehind ((four 16 ++ (0xfe ∷ 0xff ∷ 0xff ∷ 0xff ∷ [])) ++ eight 9)
+reply_of_no_data : reply_of usual (echo 9) 0 (Data 2) (Failed (Some 2)) ≡ OpenAfter ((four 16 ++ (0xfe ∷ 0xff ∷ 0xff ∷ 0xff ∷ [])) ++ eight 9)
 unfolding number little
 reply_of_no_data = refl
 

@@ -10,7 +10,7 @@ use Rattle.fuse_wire.specs.declared.headers.InHeader.{InHeader}
 use Rattle.fuse_grammar.specs.Ask.{form_of}
 use Rattle.fuse_grammar.specs.Memory.{header_of}
 use Rattle.fuse_grammar.specs.Forms.{Layout, Without, Record, tail_of, pairs_of, Form, NoTail, NameTail, TwoNames, NameAndValue, NameAndExtensions, LinkAndExtensions, Pairs, WithRest, IntoRoom, Directories, Versions, Silent, NotServed}
-use Rattle.laws_turns.specs.Turns.{TailIsWhole, PairsAreWhole, HasWhole, after_header, count_of_pairs, WantsMemory, WantsMemoryBehind}
+use Rattle.laws_turns.specs.Turns.{TailIsWhole, PairsAreWhole, HasWhole, after_header, count_of_pairs, WantsMemory, WantsMemoryAfter}
 use Rattle.fuse_grammar.specs.Books.{opcode_in}
 use Rattle.fuse_grammar.specs.Records.{size_of, record_of}
 use Rattle.fuse_grammar.specs.declared.limits.Limits.{Limits}
@@ -72,7 +72,7 @@ module _ (limits : Limits) (options room : ℕ) where
   pairs_alone h _ other p = p
 
   by_number : (h : InHeader) (rest : List ℕ) (opcode : Option Opcode) → opcode ≢ Some BatchForget
-      → WantsMemoryBehind limits options room opcode h rest → h.len ≤ 40 + length rest
+      → WantsMemoryAfter limits options room opcode h rest → h.len ≤ 40 + length rest
   by_number h rest None other w = absurd w
   by_number h rest (Some opcode) other w =
       by_form h rest (form_of limits options room h opcode) w (pairs_alone h opcode (λ e. other (ap Some e)))
@@ -88,7 +88,7 @@ module _ (limits : Limits) (options room : ℕ) where
     ThePairs = PairsAreWhole (after_header request) (Record batch_forget_in) (λ r. nat_lt limits.max_buffer (r.count * 16)) (λ r. r.count)
 
     the_pairs : opcode_in request ≡ Some BatchForget → WantsMemory limits options room request → ThePairs
-    the_pairs is w = subst (λ (o : Option Opcode). WantsMemoryBehind limits options room o (header_of request) (after_header request)) is w.form
+    the_pairs is w = subst (λ (o : Option Opcode). WantsMemoryAfter limits options room o (header_of request) (after_header request)) is w.form
 
     the_count : (p : ThePairs) → (8 ≤ length (after_header request)) × (p.counts.count ≡ count_of_pairs request)
     the_count p =

@@ -21,7 +21,7 @@ use Rattle.fuse_grammar.specs.Room.{IsReplied}
 use Rattle.fuse_grammar.specs.Turn.{Turn}
 use Rattle.fuse_grammar.proofs.Rooms.{length-fault_reply, length-body_reply}
 use Rattle.fuse_grammar.specs.Books.{times, opcode_in, nodes_after, delivered_nodes, sent_by, answered, sent}
-use Rattle.laws_turns.proofs.Decoding.{delivered_nodes-fault, delivered_nodes-body, behind-body}
+use Rattle.laws_turns.proofs.Decoding.{delivered_nodes-fault, delivered_nodes-body, following-body}
 use Rattle.laws_turns.proofs.Replying.{Balances, LastOnly, whole_books}
 use Rattle.laws_turns.proofs.Saying.{said_as, FaultFits}
 use Rattle.laws_turns.proofs.Sums.{answered-append, sent-append}
@@ -229,7 +229,7 @@ module _ (n : ℕ) (some : n ≢ 0) (t : Turn) (plus : Bool) (ctx : Context) (pa
       let b = listing_balances ctx parent n some size room o.0 body (Ok count) plus o.2 in
       let reply = body_reply body unique in
       let d : delivered_nodes (opcode_in t.request) reply ≡ body_nodes plus body =
-      delivered_nodes-body (opcode_in t.request) body unique ∙ lists.nodes reply ∙ ap (body_nodes plus) (behind-body body unique) in
+      delivered_nodes-body (opcode_in t.request) body unique ∙ lists.nodes reply ∙ ap (body_nodes plus) (following-body body unique) in
       whole_books n t reply p.says p.begins (omega (arith, length-body_reply body unique)) (omega (arith, a, s, b, ap (times n) d))
   opened_books unique body (Err fault) lists o small p =
       let a : answered n t.events ≡ answered n o.0 = ap (answered n) o.1 in

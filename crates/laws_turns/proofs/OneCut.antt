@@ -54,14 +54,14 @@ made_block-is bytes has =
     let kind : ℕ = (value_of ext_header bytes).ext_type in
     let size : block_size bytes ≡ 8 + length body =
     omega (arith, has.header, has.whole, length-take (block_size bytes - 8) (drop 8 bytes), length-drop 8 bytes) in
-    let behind : drop (block_size bytes - 8) (drop 8 bytes) ≡ drop (block_size bytes) bytes =
+    let following : drop (block_size bytes - 8) (drop 8 bytes) ≡ drop (block_size bytes) bytes =
     drop-drop (block_size bytes - 8) 8 bytes ∙ ap (λ (n : ℕ). drop n bytes) (omega (arith, has.header)) in
     record {
       head = take 8 bytes;
       whole_head = omega (arith, has.header, has.whole, length-take 8 bytes);
       says = value_of-take ext_header 8 bytes (omega arith) ∙ ap (λ (n : ℕ). header n kind) size;
       parts = sym (ap (λ (l : List ℕ). take 8 bytes ++ l)
-          (ap (λ (l : List ℕ). body ++ l) (sym behind) ∙ take-append-drop (block_size bytes - 8) (drop 8 bytes))
+          (ap (λ (l : List ℕ). body ++ l) (sym following) ∙ take-append-drop (block_size bytes - 8) (drop 8 bytes))
           ∙ take-append-drop 8 bytes);
     }
 
@@ -83,7 +83,7 @@ nothing_is-well = (
   [],
   (
     refl,
-    λ b behind is. let has : HasBlock [] = block_in-has [] b (block_in-is [] b behind is) in
+    λ b following is. let has : HasBlock [] = block_in-has [] b (block_in-is [] b following is) in
         absurd (omega arith),
   ),
   refl,
@@ -97,7 +97,7 @@ cut_on-is b bytes next (Err e) is well = (
   b ∷ bytes,
   (
     refl,
-    λ block behind one. let found = block_in-is (b ∷ bytes) block behind one in
+    λ block following one. let found = block_in-is (b ∷ bytes) block following one in
         absurd cc,
   ),
   sym (ap error_of is),
@@ -127,11 +127,11 @@ cut_of-is bytes = cut_of_most-is (length bytes) bytes (omega arith)
 -- ---- in no other way
 
 -- where no block begins there is none
-no_block : (bytes rest behind : List ℕ) (b : Block) → bytes ≡ rest
-    → ((block : Block) (more : List ℕ) → ¬ (IsBlock rest block more)) → ¬ (IsBlock bytes b behind)
-no_block bytes rest behind b same none is =
-    let P : List ℕ → Type 0 = λ l. IsBlock l b behind in
-    none b behind (subst P same is)
+no_block : (bytes rest following : List ℕ) (b : Block) → bytes ≡ rest
+    → ((block : Block) (more : List ℕ) → ¬ (IsBlock rest block more)) → ¬ (IsBlock bytes b following)
+no_block bytes rest following b same none is =
+    let P : List ℕ → Type 0 = λ l. IsBlock l b following in
+    none b following (subst P same is)
 
 -- and in no other way
 pub cut-only : (bytes rest other_rest : List ℕ) (blocks others : List Block) → IsCut bytes blocks rest
@@ -142,9 +142,9 @@ cut-only bytes rest other_rest [] (o ∷ others) cut other = absurd (no_block by
 cut-only bytes rest other_rest (b ∷ blocks) [] cut other =
     absurd (no_block bytes other_rest cut.0 b other.0 other.1 cut.1)
 cut-only bytes rest other_rest (b ∷ blocks) (o ∷ others) cut other =
-    let behind : other.0 ≡ cut.0 = sym (after_block bytes o other.0 other.1) ∙ after_block bytes b cut.0 cut.1 in
+    let following : other.0 ≡ cut.0 = sym (after_block bytes o other.0 other.1) ∙ after_block bytes b cut.0 cut.1 in
     let P : List ℕ → Type 0 = λ l. IsCut l others other_rest in
-    let rests = cut-only cut.0 rest other_rest blocks others cut.2 (subst P behind other.2) in
+    let rests = cut-only cut.0 rest other_rest blocks others cut.2 (subst P following other.2) in
     let first : b ≡ o = let e : block_in bytes ≡ Ok b = block_in-is bytes b cut.0 cut.1 in
     let f : block_in bytes ≡ Ok o = block_in-is bytes o other.0 other.1 in cc in
     (ap (λ (block : Block). block ∷ blocks) first ∙ ap (λ (l : List Block). o ∷ l) rests.0, rests.1)

@@ -8,7 +8,7 @@ use Rattle.fs_trait.specs.declared.entry.Context.{Context}
 use Rattle.fuse_grammar.specs.Listing.{given_back}
 use Rattle.fuse_grammar.specs.Ask.{ask}
 use Rattle.fuse_grammar.specs.Forms.{Ask, Ends, Asks, Lists, WithMemory}
-use Rattle.fuse_grammar.specs.Reply.{Reply, Refusal, NoReply, Bytes, OpenBehind, Echo, reply_of, fault_reply, body_reply}
+use Rattle.fuse_grammar.specs.Reply.{Reply, Refusal, NoReply, Bytes, OpenAfter, Echo, reply_of, fault_reply, body_reply}
 use Rattle.fuse_grammar.specs.Room.{IsReplied, unseen}
 use Rattle.fuse_grammar.specs.Turn.{Turn, Follows, IsTurn, node_answered}
 use Rattle.fuse_grammar.specs.declared.limits.Limits.{Limits}
@@ -63,7 +63,7 @@ module _ (n : ℕ) (t : Turn) where
   end_books (Bytes reply) fits none p =
       reply_books n t reply (put_back reply t.room t.outcome t.room_after p) fits.0 (ap (answered n) none ∙ ap (times n) (sym fits.1))
       (record { whole = λ m o. ap (sent n) none; unfit = λ o. ap (sent n) none ∙ sym (ap (answered n) none) })
-  end_books (OpenBehind reply) fits none p = absurd fits
+  end_books (OpenAfter reply) fits none p = absurd fits
 
   module _ (c : Call) (answer : Answer) (ctx : Context) (given : Option ℕ) (called : t.events ≡ Called c answer ∷ given_back ctx given)
       (fits : CallFits (opcode_in t.request) t.request c) where

@@ -24,7 +24,7 @@ use Rattle.fuse_grammar.specs.Listing.{Listing}
 use Rattle.laws_turns.specs.Turns.{AnswersWhole, body_in}
 use Rattle.fuse_grammar.specs.Limits.{AreLimits, max_pages}
 use Rattle.fuse_grammar.specs.Options.{agreed, options_after}
-use Rattle.fuse_grammar.specs.Reply.{Bytes, OpenBehind, Echo, reply_of, body_of, body_reply, init_out_of, open_out_of}
+use Rattle.fuse_grammar.specs.Reply.{Bytes, OpenAfter, Echo, reply_of, body_of, body_reply, init_out_of, open_out_of}
 use Rattle.fuse_grammar.specs.Words.{attr_out_of, getxattr_out_of, write_out_of, IsRead}
 use Rattle.fuse_grammar.specs.Room.{IsReplied}
 use Rattle.fuse_grammar.specs.Turn.{Turn, Follows}
@@ -93,15 +93,15 @@ answered_says limits options answer t after a = says limits options (ask limits 
 -- ---- by the answer
 
 -- the room after the header begins with the body
-behind : (body room_after : List ℕ) (unique : ℕ) → (b : Begins (body_reply body unique) room_after) → body_in room_after ≡ body ++ b.rest
-behind body room_after unique b =
+following : (body room_after : List ℕ) (unique : ℕ) → (b : Begins (body_reply body unique) room_after) → body_in room_after ≡ body ++ b.rest
+following body room_after unique b =
     let h : OutHeader = record { len = 16 + length body; error = pos 0; unique = unique } in
     ap (drop 16) (b.is ∙ append_assoc (bytes_of out_header h) body b.rest) ∙ drop_at (bytes_of out_header h) (body ++ b.rest) 16 (length-header h)
 
 decoded : {R : Type 0} (table : Table R) (x : R) (room_after : List ℕ) (unique : ℕ) → Fit table.widths (table.fields x) → table.made (table.fields x) ≡ x
     → Begins (body_reply (bytes_of table x) unique) room_after → value_of table (body_in room_after) ≡ x
 decoded table x room_after unique fit again b =
-    ap (value_of table) (behind (bytes_of table x) room_after unique b) ∙ value_of-bytes_of-then table x b.rest fit again
+    ap (value_of table) (following (bytes_of table x) room_after unique b) ∙ value_of-bytes_of-then table x b.rest fit again
 
 -- the k-th number of a row is read from its place, where it is in its width
 number_in_row : (k i : ℕ) (ws xs bytes rest : List ℕ) → drop i bytes ≡ row ws xs ++ rest → length xs ≡ length ws → k < length ws
@@ -126,7 +126,7 @@ module _ (limits : Limits) (echo : Echo) (after : ℕ) (t : Turn) (len : ℕ) (f
   said body p =
       put_begins (nat_le (length (body_reply body echo.unique)) (length t.room)) (body_reply body echo.unique) t.room t.room_after len (sym p.says ∙ fits) p.leaves
 
-  said_openly : (body : List ℕ) → IsReplied (OpenBehind (body_reply body echo.unique)) t.room t.outcome t.room_after
+  said_openly : (body : List ℕ) → IsReplied (OpenAfter (body_reply body echo.unique)) t.room t.outcome t.room_after
       → Begins (body_reply body echo.unique) t.room_after
   said_openly body p =
       let size = length (body_reply body echo.unique) in
@@ -160,7 +160,7 @@ module _ (limits : Limits) (echo : Echo) (after : ℕ) (t : Turn) (len : ℕ) (f
       let first = bytes_of entry_out (entry_out_of entry) in
       let second = bytes_of open_out (open_out_of handle how) in
       let b = said (first ++ second) p in
-      let parts : body_in t.room_after ≡ first ++ (second ++ b.rest) = behind (first ++ second) t.room_after echo.unique b ∙ append_assoc first second b.rest in
+      let parts : body_in t.room_after ≡ first ++ (second ++ b.rest) = following (first ++ second) t.room_after echo.unique b ∙ append_assoc first second b.rest in
       let size : length first ≡ 128 = length-bytes_of entry_out (entry_out_of entry) a.0 in (
         ap (value_of entry_out) parts ∙ value_of-bytes_of-then entry_out (entry_out_of entry) (second ++ b.rest) a.0 refl,
         ap (λ (l : List ℕ). value_of open_out (drop 128 l)) parts ∙ ap (value_of open_out) (drop_at first (second ++ b.rest) 128 size)
@@ -181,7 +181,7 @@ module _ (limits : Limits) (echo : Echo) (after : ℕ) (t : Turn) (len : ℕ) (f
   written_by _ count a b = absurd a
 
   bytes_by : (bytes : List ℕ) → Begins (body_reply bytes echo.unique) t.room_after → take (length bytes) (body_in t.room_after) ≡ bytes
-  bytes_by bytes b = ap (take (length bytes)) (behind bytes t.room_after echo.unique b) ∙ take_at bytes b.rest (length bytes) refl
+  bytes_by bytes b = ap (take (length bytes)) (following bytes t.room_after echo.unique b) ∙ take_at bytes b.rest (length bytes) refl
 
   -- the body of an answer, by its kind; no other kind has a body
   body_by : (kind : Kind) (answer : Answer) → IsAnswer kind answer → SaidBy kind answer
@@ -209,7 +209,7 @@ module _ (limits : Limits) (echo : Echo) (after : ℕ) (t : Turn) (len : ℕ) (f
   max_write_by Agreements want a p small =
       let out = init_out_of limits echo.max_readahead after in
       let b = said (bytes_of init_out out) p in
-      number_in_row 6 0 init_out.widths (init_out.fields out) (body_in t.room_after) b.rest (behind (bytes_of init_out out) t.room_after echo.unique b) refl (lit< tt) small
+      number_in_row 6 0 init_out.widths (init_out.fields out) (body_in t.room_after) b.rest (following (bytes_of init_out out) t.room_after echo.unique b) refl (lit< tt) small
   max_write_by _ want a b small = absurd a
 
   max_pages_by : (kind : Kind) (want : ℕ) → IsAnswer kind (Options want) → SaidBy kind (Options want) → max_pages limits < 256 ^ 2
@@ -218,7 +218,7 @@ module _ (limits : Limits) (echo : Echo) (after : ℕ) (t : Turn) (len : ℕ) (f
   max_pages_by Agreements want a p small =
       let out = init_out_of limits echo.max_readahead after in
       let b = said (bytes_of init_out out) p in
-      number_in_row 8 0 init_out.widths (init_out.fields out) (body_in t.room_after) b.rest (behind (bytes_of init_out out) t.room_after echo.unique b) refl (lit< tt) small
+      number_in_row 8 0 init_out.widths (init_out.fields out) (body_in t.room_after) b.rest (following (bytes_of init_out out) t.room_after echo.unique b) refl (lit< tt) small
   max_pages_by _ want a b small = absurd a
 
   -- the two words of flags in INIT's reply are the options together
@@ -228,7 +228,7 @@ module _ (limits : Limits) (echo : Echo) (after : ℕ) (t : Turn) (len : ℕ) (f
   flags_by Agreements want a p small =
       let out = init_out_of limits echo.max_readahead after in
       let b = said (bytes_of init_out out) p in
-      let begins = behind (bytes_of init_out out) t.room_after echo.unique b in
+      let begins = following (bytes_of init_out out) t.room_after echo.unique b in
       let low : (value_of init_out (body_in t.room_after)).flags ≡ after % 2 ^ 32 =
       number_in_row 3 0 init_out.widths (init_out.fields out) (body_in t.room_after) b.rest begins refl (lit< tt) (omega arith) in
       let high : (value_of init_out (body_in t.room_after)).flags2 ≡ after / 2 ^ 32 =

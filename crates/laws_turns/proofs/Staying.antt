@@ -7,7 +7,7 @@ use Rattle.fs_trait.specs.Calls.{Kind, Answer, IsAnswer, Data, kind_of, read_ans
 use Rattle.fuse_grammar.specs.Ask.{ask}
 use Rattle.fuse_grammar.specs.Forms.{Ask, Ends, Asks, Lists, WithMemory}
 use Rattle.laws_turns.specs.Turns.{unique_of}
-use Rattle.fuse_grammar.specs.Reply.{Reply, Refusal, NoReply, Bytes, OpenBehind, Echo, reply_of, fault_reply, body_reply, version_out}
+use Rattle.fuse_grammar.specs.Reply.{Reply, Refusal, NoReply, Bytes, OpenAfter, Echo, reply_of, fault_reply, body_reply, version_out}
 use Rattle.fuse_grammar.specs.Room.{IsReplied}
 use Rattle.fuse_grammar.specs.Turn.{Turn, Follows, IsTurn}
 use Rattle.fuse_grammar.specs.declared.limits.Limits.{Limits}
@@ -31,7 +31,7 @@ replied_length : (reply : Reply) (room : List ℕ) (outcome : Result ℕ Error) 
 replied_length (Refusal error) room outcome room_after h = ap length h.1
 replied_length NoReply room outcome room_after h = ap length h.1
 replied_length (Bytes reply) room outcome room_after h = ap length h.leaves ∙ put_length (nat_le (length reply) (length room)) reply room refl
-replied_length (OpenBehind reply) room outcome room_after h = h.same_length
+replied_length (OpenAfter reply) room outcome room_after h = h.same_length
 
 length_follows : (limits : Limits) (options : ℕ) (a : Ask) (t : Turn) (after : ℕ) → Follows t limits options a after → length t.room_after ≡ length t.room
 length_follows limits options (Ends reply) t after f = replied_length reply t.room t.outcome t.room_after f.1

@@ -17,11 +17,11 @@ use Rattle.fs_trait.specs.Calls.{Call}
 use Rattle.fs_trait.specs.Calls as call
 use Rattle.fs_trait.specs.Values.{ExtensionValues}
 use Rattle.fuse_grammar.specs.Ask.{form_of, ask_number, ask}
-use Rattle.fuse_grammar.specs.Words.{ask_header, refused, silent, name_in, u32_at, u64_at, pairs_at, behind}
+use Rattle.fuse_grammar.specs.Words.{ask_header, refused, silent, name_in, u32_at, u64_at, pairs_at, following}
 use Rattle.fuse_grammar.specs.Forms.{Ask, Ends, Asks, Lists, WithMemory, faulted, refused_or, within, tail_of, two_names_in, value_in, extended_in, link_in_tail, pairs_of, pairs_in, space_after_header, second_flags, ask_version, Layout, layout_size, layout_record, Form, NoTail, NameTail, TwoNames, NameAndValue, NameAndExtensions, LinkAndExtensions, Pairs, WithRest, IntoRoom, Directories, Versions, Silent, NotServed, ask_form}
 use Rattle.fuse_grammar.specs.Limits.{max_len}
 use Rattle.fuse_grammar.specs.Records.{size_of, record_of}
-use Rattle.fuse_grammar.specs.Reply.{Reply, Refusal, NoReply, Bytes, OpenBehind, Echo, echo_of, body_reply, version_out}
+use Rattle.fuse_grammar.specs.Reply.{Reply, Refusal, NoReply, Bytes, OpenAfter, Echo, echo_of, body_reply, version_out}
 use Rattle.fuse_grammar.specs.declared.limits.Limits.{Limits}
 use Rattle.fuse_grammar.specs.declared.error.Error.{Error}
 use Rattle.fuse_grammar.specs.declared.error.Error.TheVariants.{DecodeMessage}
@@ -51,7 +51,7 @@ module _ (P : Ask → Type 0) (h : InHeader) (rest : List ℕ) where
   Shows (LinkAndExtensions {R} layout options call) =
       (x : R × List ℕ × List ℕ × ExtensionValues) → layout_record layout rest ≡ Ok x.0 → P (Asks (echo_of h) (call x.0 x.1 x.2 x.3))
   Shows (Pairs {R} layout above count call) =
-      (x : R × List (ℕ × ℕ)) → (layout_record layout rest ≡ Ok x.0) × (pairs_in (count x.0) (behind layout rest) ≡ Ok x.1)
+      (x : R × List (ℕ × ℕ)) → (layout_record layout rest ≡ Ok x.0) × (pairs_in (count x.0) (following layout rest) ≡ Ok x.1)
       → P (Asks (echo_of h) (call x.0 x.1))
   Shows (WithRest {R} layout call) =
       (x : R × List ℕ) → layout_record layout rest ≡ Ok x.0 → P (Asks (echo_of h) (call x.0 x.1))
@@ -80,10 +80,10 @@ module _ (P : Ask → Type 0) (h : InHeader) (rest : List ℕ) where
     tail_shown : {R : Type 0} (layout : Layout R) (next : R → List ℕ → Ask)
         → ((r : R) (tail : List ℕ) → layout_record layout rest ≡ Ok r → P (next r tail))
         → P (refused_or (layout_record layout rest) (λ r.
-        refused_or (tail_of h (layout_size layout) (behind layout rest)) (λ tail. WithMemory (next r tail))))
+        refused_or (tail_of h (layout_size layout) (following layout rest)) (λ tail. WithMemory (next r tail))))
     tail_shown layout next p =
         part_shown (layout_record layout rest) _ (λ r is.
-        part_shown (tail_of h (layout_size layout) (behind layout rest)) _ (λ tail whole.
+        part_shown (tail_of h (layout_size layout) (following layout rest)) _ (λ tail whole.
         copies (next r tail) (p r tail is)))
 
     version_shown : (r : InitInCompat) (flags2 : ℕ) → Shows Versions → P (ask_version h r flags2)
@@ -107,8 +107,8 @@ module _ (P : Ask → Type 0) (h : InHeader) (rest : List ℕ) where
         tail_shown layout _ (λ r tail is. part_shown (link_in_tail options tail) _ (λ part found. s (r, part.0, part.1, part.2) is))
     form_shown (Pairs layout above count call) s =
         part_shown (layout_record layout rest) _ (λ r is. limit_shown (above r) _
-        (part_shown (pairs_in (count r) (behind layout rest)) _ (λ pairs whole. copies _ (s (r, pairs) (is, whole)))))
-    form_shown (WithRest layout call) s = part_shown (layout_record layout rest) _ (λ r is. s (r, behind layout rest) is)
+        (part_shown (pairs_in (count r) (following layout rest)) _ (λ pairs whole. copies _ (s (r, pairs) (is, whole)))))
+    form_shown (WithRest layout call) s = part_shown (layout_record layout rest) _ (λ r is. s (r, following layout rest) is)
     form_shown (IntoRoom layout room call) s =
         part_shown (layout_record layout rest) _ (λ r is. part_shown (space_after_header room) _ (λ n fits. s (r, n) is))
     form_shown (Directories layout above room listing) s =
@@ -132,7 +132,7 @@ abbrev pub ReplyFits : Option Opcode → (request : List ℕ) → Reply → Type
 ReplyFits opcode request (Refusal error) = Unit {0}
 ReplyFits opcode request NoReply = forgets_in opcode request ≡ []
 ReplyFits opcode request (Bytes reply) = (0 < length reply) × (delivered_nodes opcode reply ≡ [])
-ReplyFits opcode request (OpenBehind reply) = ⊥
+ReplyFits opcode request (OpenAfter reply) = ⊥
 
 -- what a request asks, by its opcode and its bytes
 abbrev pub AskFits : Option Opcode → (request : List ℕ) → Ask → Type 0

@@ -1,6 +1,6 @@
 -- Which entry a client doesn't get to see, by what came of its reply.
 use Rattle.std.proofs.Common.{◌≡◌, ℕ, Bool, true, false, List, length, nat_le, if◌then◌else◌, Option, Some, None, Result, Ok, Err, refl, sym, ◌∙◌}
-use Rattle.fuse_grammar.specs.Reply.{Reply, Refusal, NoReply, Bytes, OpenBehind, Echo, reply_of}
+use Rattle.fuse_grammar.specs.Reply.{Reply, Refusal, NoReply, Bytes, OpenAfter, Echo, reply_of}
 use Rattle.fuse_grammar.specs.Room.{IsReplied, unseen}
 use Rattle.fs_trait.specs.Calls.{Kind, Answer, IsAnswer}
 use Rattle.fuse_grammar.specs.declared.limits.Limits.{Limits}
@@ -26,7 +26,7 @@ unseen-whole (Refusal error) room outcome room_after n (Some node) r o = refl
 unseen-whole NoReply room outcome room_after n (Some node) r o = refl
 unseen-whole (Bytes reply) room outcome room_after n (Some node) r o =
     by_whole (nat_le (length reply) (length room)) (length reply) n node (sym r.says ∙ o)
-unseen-whole (OpenBehind reply) room outcome room_after n (Some node) r o = refl
+unseen-whole (OpenAfter reply) room outcome room_after n (Some node) r o = refl
 
 bytes_unfit : (reply room : List ℕ) (outcome : Result ℕ Error) (room_after : List ℕ) (back : Option ℕ) {e : Error}
     → IsReplied (Bytes reply) room outcome room_after → outcome ≡ Err e → unseen (length room) (Bytes reply) back ≡ back

@@ -63,10 +63,10 @@ first_name-written : (name rest : List ℕ) → ((k : ℕ) → k < length name �
 first_name-written name rest h =
     let at = first_nul_after name rest h in
     let here : position (λ b. b == 0) (name ++ 0 ∷ rest) ≡ Some (length name) = grind (arith, common_steps) in
-    let behind : drop (length name + 1) (name ++ 0 ∷ rest) ≡ rest =
+    let following : drop (length name + 1) (name ++ 0 ∷ rest) ≡ rest =
     ap (drop (length name + 1)) (sym (append_assoc name (0 ∷ []) rest))
     ∙ drop_at (name ++ 0 ∷ []) rest (length name + 1) (omega (arith, length-append name (0 ∷ []))) in
-    ap (cut_at (name ++ 0 ∷ rest)) here ∙ rw (take_at name (0 ∷ rest) (length name) refl, behind) refl
+    ap (cut_at (name ++ 0 ∷ rest)) here ∙ rw (take_at name (0 ∷ rest) (length name) refl, following) refl
 
 -- bytes that are there have a name
 name_and_value-some : (size : ℕ) (bytes : List ℕ) → 0 < length bytes
@@ -93,12 +93,12 @@ context_in-written context fits =
     let size : length context.1 < 2 ^ 32 = omega (arith, fits.in_size) in
     let next : Secctx → Result (List ℕ × List ℕ) Error =
     λ r. if r.size == 0 then Err DecodeMessage else name_and_value r.size (drop 8 (context_bytes context)) in
-    let behind : drop 8 (context_bytes context) ≡ texts =
+    let following : drop 8 (context_bytes context) ≡ texts =
     drop_at (bytes_of secctx h) texts 8 (length-bytes_of secctx h (size, (lit< tt, tt))) in
     let some : (length context.1 == 0) ≡ false = let has = fits.has_value in grind (arith, nat_tests) in
     ap (λ (r : Result Secctx Error). error_or r next) (record_of-written secctx h texts (size, (lit< tt, tt)) refl)
     ∙ unless (length context.1 == 0) _ _ some
-    ∙ ap (name_and_value (length context.1)) behind ∙ name_and_value-written context fits
+    ∙ ap (name_and_value (length context.1)) following ∙ name_and_value-written context fits
 
 -- and so in the body of a block of one
 security_context_in-written : (context : List ℕ × List ℕ) → FitsContext context
@@ -114,10 +114,10 @@ group_in-written group small =
     let one : List ℕ = bytes_of (lone_number 4) group in
     let next : SuppGroups → Result ℕ Error =
     λ r. if r.nr_groups == 1 then record_of (lone_number 4) (drop 4 (group_bytes group)) else Err DecodeMessage in
-    let behind : drop 4 (group_bytes group) ≡ one =
+    let following : drop 4 (group_bytes group) ≡ one =
     drop_at (bytes_of supp_groups h) one 4 (length-bytes_of supp_groups h (lit< tt, tt)) in
     ap (λ (r : Result SuppGroups Error). error_or r next) (record_of-written supp_groups h one (lit< tt, tt) refl)
-    ∙ ap (record_of (lone_number 4)) (behind ∙ sym (append-nil one))
+    ∙ ap (record_of (lone_number 4)) (following ∙ sym (append-nil one))
     ∙ record_of-written (lone_number 4) group [] (small, tt) refl
 
 -- ---- blocks
@@ -151,41 +151,41 @@ group_is_short group small =
     )
 
 -- after a block that is well
-extensions_of-written : (options : ℕ) (r more : Received) (bytes : List ℕ) (b : Block) (behind : List ℕ)
-    → IsBlock bytes b behind → receive options r b ≡ Ok more
-    → extensions_of options r (cut_of bytes) ≡ extensions_of options more (cut_of behind)
-extensions_of-written options r more bytes b behind is well =
-    sym (says-more options r more bytes behind b _ refl (block_in-is bytes b behind is)
-    (sym (after_block bytes b behind is)) well)
+extensions_of-written : (options : ℕ) (r more : Received) (bytes : List ℕ) (b : Block) (following : List ℕ)
+    → IsBlock bytes b following → receive options r b ≡ Ok more
+    → extensions_of options r (cut_of bytes) ≡ extensions_of options more (cut_of following)
+extensions_of-written options r more bytes b following is well =
+    sym (says-more options r more bytes following b _ refl (block_in-is bytes b following is)
+    (sym (after_block bytes b following is)) well)
 
 -- after the block of contexts
-extensions_of-context : (options : ℕ) (context : Option (List ℕ × List ℕ)) (behind : List ℕ)
+extensions_of-context : (options : ℕ) (context : Option (List ℕ × List ℕ)) (following : List ℕ)
     → has_option options security_ctx ≡ true → MayFitContext context
-    → extensions_of options nothing_received (cut_of (context_block context ++ behind))
-    ≡ extensions_of options (with_context nothing_received context) (cut_of behind)
-extensions_of-context options None behind agreed fits =
+    → extensions_of options nothing_received (cut_of (context_block context ++ following))
+    ≡ extensions_of options (with_context nothing_received context) (cut_of following)
+extensions_of-context options None following agreed fits =
     extensions_of-written options nothing_received (with_context nothing_received None) _
-    (record { ext_type = 0; body = [] }) behind
-    (block_bytes-is 0 [] behind (lit< tt) (lit< tt))
+    (record { ext_type = 0; body = [] }) following
+    (block_bytes-is 0 [] following (lit< tt) (lit< tt))
     (unless (not (has_option options security_ctx) || false) _ _
     (not_refused (has_option options security_ctx) false agreed refl))
-extensions_of-context options (Some context) behind agreed fits =
+extensions_of-context options (Some context) following agreed fits =
     extensions_of-written options nothing_received (with_context nothing_received (Some context)) _
-    (record { ext_type = 1; body = context_bytes context }) behind
-    (block_bytes-is 1 (context_bytes context) behind (lit< tt) (context_is_short context fits))
+    (record { ext_type = 1; body = context_bytes context }) following
+    (block_bytes-is 1 (context_bytes context) following (lit< tt) (context_is_short context fits))
     (unless (not (has_option options security_ctx) || false) _ _
     (not_refused (has_option options security_ctx) false agreed refl)
     ∙ ap (λ (r : Result (Option (List ℕ × List ℕ)) Error). error_or r
     (λ c. received_ok (with_context nothing_received c))) (security_context_in-written context fits))
 
 -- after the block of groups
-extensions_of-group : (options : ℕ) (r : Received) (group : ℕ) (behind : List ℕ)
+extensions_of-group : (options : ℕ) (r : Received) (group : ℕ) (following : List ℕ)
     → has_option options create_supp_group ≡ true → is_some r.values.group ≡ false → group < 2 ^ 32
-    → extensions_of options r (cut_of (group_block (Some group) ++ behind))
-    ≡ extensions_of options (with_group r group) (cut_of behind)
-extensions_of-group options r group behind agreed none small =
-    extensions_of-written options r (with_group r group) _ (record { ext_type = 32; body = group_bytes group }) behind
-    (block_bytes-is 32 (group_bytes group) behind (lit< tt) (group_is_short group small))
+    → extensions_of options r (cut_of (group_block (Some group) ++ following))
+    ≡ extensions_of options (with_group r group) (cut_of following)
+extensions_of-group options r group following agreed none small =
+    extensions_of-written options r (with_group r group) _ (record { ext_type = 32; body = group_bytes group }) following
+    (block_bytes-is 32 (group_bytes group) following (lit< tt) (group_is_short group small))
     (unless (not (has_option options create_supp_group) || is_some r.values.group) _ _
     (not_refused (has_option options create_supp_group) (is_some r.values.group) agreed none)
     ∙ ap (λ (g : Result ℕ Error). error_or g (λ n. received_ok (with_group r n))) (group_in-written group small))

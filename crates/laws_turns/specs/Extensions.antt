@@ -66,19 +66,19 @@ pub record FitExtensions (values : ExtensionValues) : Type 0 where
 
 -- bytes begin with this block: a header that says its type and how long it is, then its body, and
 -- these bytes after it
-pub record IsBlock (bytes : List ℕ) (block : Block) (behind : List ℕ) : Type 0 where
+pub record IsBlock (bytes : List ℕ) (block : Block) (following : List ℕ) : Type 0 where
   pub head : List ℕ
   pub whole_head : length head ≡ size_of ext_header
   pub says :
       value_of ext_header head
       ≡ record { size = size_of ext_header + length block.body; ext_type = block.ext_type }
-  pub parts : bytes ≡ head ++ (block.body ++ behind)
+  pub parts : bytes ≡ head ++ (block.body ++ following)
 
 -- bytes are these blocks, one after the other, and a rest that begins with none
 abbrev pub IsCut : (bytes : List ℕ) → (blocks : List Block) → (rest : List ℕ) → Type 0
-IsCut bytes [] rest = (bytes ≡ rest) × ((b : Block) (behind : List ℕ) → ¬ (IsBlock rest b behind))
+IsCut bytes [] rest = (bytes ≡ rest) × ((b : Block) (following : List ℕ) → ¬ (IsBlock rest b following))
 IsCut bytes (block ∷ blocks) rest =
-    (behind : List ℕ) × IsBlock bytes block behind × IsCut behind blocks rest
+    (following : List ℕ) × IsBlock bytes block following × IsCut following blocks rest
 
 -- the error of what isn't there
 abbrev pub error_of : {A : Type 0} → Result A Error → Option Error

@@ -12,7 +12,7 @@ use Rattle.fuse_grammar.specs.Records.{size_of}
 use Rattle.fuse_grammar.specs.Ask.{form_of}
 use Rattle.fuse_grammar.specs.Memory.{header_of, by_memory}
 use Rattle.fuse_grammar.specs.Forms.{tail_of, pairs_in, Layout, layout_size, layout_record, Form}
-use Rattle.fuse_grammar.specs.Words.{behind}
+use Rattle.fuse_grammar.specs.Words.{following}
 use Rattle.fuse_grammar.specs.Books.{opcode_in}
 use Rattle.fuse_grammar.specs.Limits.{max_len}
 use Rattle.fuse_grammar.specs.Reply.{Reply, Bytes}
@@ -38,7 +38,7 @@ pub record BeginsWithHeader (len unique : ℕ) (bytes : List ℕ) : Type 0 where
 pub record TailIsWhole {R : Type 0} (h : InHeader) (rest : List ℕ) (layout : Layout R)
     : Type 0 where
   pub whole_record : IsOk (layout_record layout rest)
-  pub whole_tail : IsOk (tail_of h (layout_size layout) (behind layout rest))
+  pub whole_tail : IsOk (tail_of h (layout_size layout) (following layout rest))
 
 -- pairs that are whole and no more than the limits allow, after a record that is whole
 pub record PairsAreWhole {R : Type 0} (rest : List ℕ) (layout : Layout R) (above : R → Bool)
@@ -46,7 +46,7 @@ pub record PairsAreWhole {R : Type 0} (rest : List ℕ) (layout : Layout R) (abo
   pub counts : R
   pub whole_record : layout_record layout rest ≡ Ok counts
   pub in_limit : above counts ≡ false
-  pub whole_pairs : IsOk (pairs_in (count counts) (behind layout rest))
+  pub whole_pairs : IsOk (pairs_in (count counts) (following layout rest))
 
 -- a request of this form has whole what memory may be wanted for: its tail, or its pairs
 abbrev pub HasWhole : InHeader → (rest : List ℕ) → Form → Type 0
@@ -56,9 +56,9 @@ HasWhole h rest form =
     (λ R layout above count. PairsAreWhole rest layout above count) form
 
 -- memory is wanted after this header, by the form of its opcode
-abbrev pub WantsMemoryBehind : Limits → (options room_len : ℕ) → Option Opcode → InHeader → List ℕ → Type 0
-WantsMemoryBehind limits options room_len None h rest = ⊥
-WantsMemoryBehind limits options room_len (Some opcode) h rest =
+abbrev pub WantsMemoryAfter : Limits → (options room_len : ℕ) → Option Opcode → InHeader → List ℕ → Type 0
+WantsMemoryAfter limits options room_len None h rest = ⊥
+WantsMemoryAfter limits options room_len (Some opcode) h rest =
     HasWhole h rest (form_of limits options room_len h opcode)
 
 -- a request for which memory may be wanted: its header is whole, its `len` in the limit, and it
@@ -67,7 +67,7 @@ pub record WantsMemory (limits : Limits) (options room_len : ℕ) (request : Lis
   pub header : size_of in_header ≤ length request
   pub in_limit : (header_of request).len ≤ max_len limits
   pub form :
-      WantsMemoryBehind limits options room_len (opcode_of (header_of request).opcode) (header_of request)
+      WantsMemoryAfter limits options room_len (opcode_of (header_of request).opcode) (header_of request)
       (drop (size_of in_header) request)
 
 -- what comes after the header of a request

@@ -5,7 +5,7 @@ use Rattle.std.specs.Prelude.{⊤}
 use Rattle.fuse_segments.specs.Written.{Written, whole}
 use Rattle.fs_trait.specs.Answers.{Kind, Quiet, Untold, Data, Agreements, Iterators, Answer, Done, read_answer}
 use Rattle.fuse_messages.specs.Rooms.{Replies, with_after}
-use Rattle.fuse_grammar.specs.Reply.{Echo, Reply, Refusal, NoReply, Bytes, OpenBehind, reply_of}
+use Rattle.fuse_grammar.specs.Reply.{Echo, Reply, Refusal, NoReply, Bytes, OpenAfter, reply_of}
 use Rattle.fuse_grammar.specs.Words.{reply_to}
 use Rattle.fuse_grammar.specs.declared.error.Error.{Error}
 use Rattle.fuse_grammar.specs.declared.error.Error.TheVariants.{EncodeMessage, OutOfMemory}
@@ -38,7 +38,7 @@ abbrev NoRefusal : Reply → Type 0
 NoRefusal (Refusal error) = ⊥
 NoRefusal NoReply = ⊤
 NoRefusal (Bytes reply) = ⊤
-NoRefusal (OpenBehind reply) = ⊤
+NoRefusal (OpenAfter reply) = ⊤
 
 -- of an answer none does
 no_refusal : (limits : Limits) (echo : Echo) (options : ℕ) (kind : Kind) (answer : Answer)
@@ -60,7 +60,7 @@ replied_wants_none : (reply : Reply) (old new : Written) (outcome : Result ℕ E
 replied_wants_none (Refusal error) old new outcome none h = absurd none
 replied_wants_none NoReply old new outcome none h = λ e. let a = h.0 in cc
 replied_wants_none (Bytes reply) old new outcome none h = λ e. put_or_not _ _ (sym h.says.says ∙ e)
-replied_wants_none (OpenBehind reply) old new outcome none h = λ e. let a = h.says.says in cc
+replied_wants_none (OpenAfter reply) old new outcome none h = λ e. let a = h.says.says in cc
 
 module _ (limits : Limits) (call : CallData) (a : AnswerData) (text : List ℕ) (items : List ItemData)
     (before after : Written) (came : Answered) where
@@ -68,14 +68,14 @@ module _ (limits : Limits) (call : CallData) (a : AnswerData) (text : List ℕ) 
       → Keeps before after
   call_keeps kind h =
       let more = call.room - length before.left in
-      let behind : List ℕ = replicate more 0 in
-      let n : length behind ≡ more = length-replicate more 0 in
+      let following : List ℕ = replicate more 0 in
+      let n : length following ≡ more = length-replicate more 0 in
       let fits = within kind call (length before.left) h.0 in
-      let all : length before.left + length behind ≡ call.room = omega (arith, n, fits) in
-      let is = h.1 behind all in
+      let all : length before.left + length following ≡ call.room = omega (arith, n, fits) in
+      let is = h.1 following all in
       let reply = reply_of limits (echo_told call) came.options kind is.answer in
-      shorter before after behind (replied_keeps reply
-      (with_after before behind) (with_after after behind) came.outcome is.comes.1)
+      shorter before after following (replied_keeps reply
+      (with_after before following) (with_after after following) came.outcome is.comes.1)
 
   -- a writer through which a call was answered keeps what it had passed
   answered_keeps : (kind : Option Kind) → Answers limits kind call a text items before (Some came) after
@@ -90,13 +90,13 @@ module _ (limits : Limits) (call : CallData) (a : AnswerData) (text : List ℕ) 
       → came.outcome ≢ Err OutOfMemory
   call_wants_none kind h =
       let more = call.room - length before.left in
-      let behind : List ℕ = replicate more 0 in
-      let n : length behind ≡ more = length-replicate more 0 in
+      let following : List ℕ = replicate more 0 in
+      let n : length following ≡ more = length-replicate more 0 in
       let fits = within kind call (length before.left) h.0 in
-      let all : length before.left + length behind ≡ call.room = omega (arith, n, fits) in
-      let is = h.1 behind all in
+      let all : length before.left + length following ≡ call.room = omega (arith, n, fits) in
+      let is = h.1 following all in
       replied_wants_none (reply_of limits (echo_told call) came.options kind is.answer)
-      (with_after before behind) (with_after after behind) came.outcome
+      (with_after before following) (with_after after following) came.outcome
       (no_refusal limits (echo_told call) came.options kind is.answer) is.comes.1
 
   -- a call that was answered wanted no memory

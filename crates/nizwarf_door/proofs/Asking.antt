@@ -136,21 +136,21 @@ length_within (Ok len) space h = h
 length_within (Err error) space h = omega arith
 
 -- what of a room is shown lies in the beginning that a writer had
-first_of_room : (count space start : ℕ) (before after : Written) (behind bytes : List ℕ) → length before.left ≡ space → count ≤ space
+first_of_room : (count space start : ℕ) (before after : Written) (following bytes : List ℕ) → length before.left ≡ space → count ≤ space
     → Keeps before after → AreFirst count before after bytes
-    → AreFirst count (with_after before behind) (with_after after behind) bytes
-first_of_room count space start before after behind bytes long within keeps first =
+    → AreFirst count (with_after before following) (with_after after following) bytes
+first_of_room count space start before after following bytes long within keeps first =
     let n : length first.room ≡ length before.left = omega (arith, ap length (sym first.kept ∙ keeps.leaves.kept), keeps.leaves.same_length, length-append before.passed first.room, length-append before.passed keeps.room_after) in
     record {
-      room = first.room ++ behind;
-      kept = whole_after after behind ∙ ap (λ (x : List ℕ). x ++ behind) first.kept ∙ append_assoc before.passed first.room behind;
-      first = first.first ∙ sym (take-append-le count first.room behind (omega (arith, n, long, within)));
+      room = first.room ++ following;
+      kept = whole_after after following ∙ ap (λ (x : List ℕ). x ++ following) first.kept ∙ append_assoc before.passed first.room following;
+      first = first.first ∙ sym (take-append-le count first.room following (omega (arith, n, long, within)));
     }
 
 module _ (limits : Limits) (options : ℕ) (request : List ℕ) (room : ℕ) (call_after : CallData)
     (told : ToldData) (before after : Written) (result : Asked)
-    (is : (behind : List ℕ) → length before.left + length behind ≡ room
-    → IsAsked limits options request (with_after before behind) result (with_after after behind) call_after)
+    (is : (following : List ℕ) → length before.left + length following ≡ room
+    → IsAsked limits options request (with_after before following) result (with_after after following) call_after)
     (within : LiesWithin (length before.left) result) (enough : length before.left ≤ room) where
   -- zeros stand for the room that the writer hasn't
   abbrev zeros : List ℕ

@@ -35,26 +35,26 @@ module _ (limits : Limits) (options : ℕ) (request : List ℕ) (room : ℕ) (as
       → IsTurnInC limits options request room a text items code told_after
   both t s =
       let n : ℕ = c.room - length s.room in
-      let behind : List ℕ = replicate n 0 in
+      let following : List ℕ = replicate n 0 in
       let within : put_of c c.room ≤ c.room = put_within c c.room (c.answer == kind.DATA) refl in
-      let some : length behind ≡ n = length-replicate n 0 in
-      let sum : length (s.room ++ behind) ≡ length s.room + length behind = length-append s.room behind in
-      let all : length (s.room ++ behind) ≡ c.room = omega (arith, some, sum, within, s.length_is) in
-      let it = s.turn request behind t.is_of all in
+      let some : length following ≡ n = length-replicate n 0 in
+      let sum : length (s.room ++ following) ≡ length s.room + length following = length-append s.room following in
+      let all : length (s.room ++ following) ≡ c.room = omega (arith, some, sum, within, s.length_is) in
+      let it = s.turn request following t.is_of all in
       let turn : Turn = record {
         request = request;
-        room = s.room ++ behind;
+        room = s.room ++ following;
         events = it.0;
         outcome = s.outcome;
-        room_after = s.room_after ++ behind;
+        room_after = s.room_after ++ following;
       } in
       record {
         turn = turn;
         of_request = refl;
         in_room = all ∙ t.same_room;
         happened =
-            subst (λ (n : ℕ). Happened a text items (ask limits options n request) (s.room ++ behind) told_after it.0) t.same_room
-            (subst (λ (o : ℕ). Happened a text items (ask limits o c.room request) (s.room ++ behind) told_after it.0) t.same_options
+            subst (λ (n : ℕ). Happened a text items (ask limits options n request) (s.room ++ following) told_after it.0) t.same_room
+            (subst (λ (o : ℕ). Happened a text items (ask limits o c.room request) (s.room ++ following) told_after it.0) t.same_options
             it.1);
         is_turn = subst (λ (o : ℕ). IsTurn limits o turn told_after.options) t.same_options it.2;
         code_is = sym same ∙ s.code_is;

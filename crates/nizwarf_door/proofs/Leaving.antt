@@ -4,7 +4,7 @@ use Rattle.std.proofs.lemmas.List.{drop_at, length-take-le, take_at}
 use Rattle.std.proofs.Math.Seq.{take-append-add}
 use Rattle.fuse_segments.specs.Written.{Written, whole, Leaves}
 use Rattle.fuse_messages.specs.Rooms.{Replies, with_after}
-use Rattle.fuse_grammar.specs.Reply.{Reply, Refusal, NoReply, Bytes, OpenBehind}
+use Rattle.fuse_grammar.specs.Reply.{Reply, Refusal, NoReply, Bytes, OpenAfter}
 use Rattle.fuse_grammar.specs.declared.error.Error.{Error}
 use Rattle.door_calls.specs.declared.call.CallData.{CallData}
 use Rattle.nizwarf_door.specs.Kept.{Holds, HoldsAnswer, TellsOrNot, put_of}
@@ -31,27 +31,27 @@ replied_keeps (Refusal error) old new outcome h = same_keeps old new h.1
 replied_keeps NoReply old new outcome h = same_keeps old new h.1
 replied_keeps (Bytes reply) old new outcome h =
     record { room_after = h.room_after; leaves = h.leaves }
-replied_keeps (OpenBehind reply) old new outcome h =
+replied_keeps (OpenAfter reply) old new outcome h =
     record { room_after = h.room_after; leaves = h.leaves }
 
 -- what holds with more room after a writer's own holds of that alone
-pub shorter : (old new : Written) (behind : List ℕ) → Keeps (with_after old behind) (with_after new behind)
+pub shorter : (old new : Written) (following : List ℕ) → Keeps (with_after old following) (with_after new following)
     → Keeps old new
-shorter old new behind k =
+shorter old new following k =
     let n = length old.left in
-    let all : whole new ++ behind ≡ old.passed ++ k.room_after =
-    append_assoc new.passed new.left behind ∙ k.leaves.kept in
-    let e1 = sym (length-append (whole new) behind) ∙ ap length all
+    let all : whole new ++ following ≡ old.passed ++ k.room_after =
+    append_assoc new.passed new.left following ∙ k.leaves.kept in
+    let e1 = sym (length-append (whole new) following) ∙ ap length all
     ∙ length-append old.passed k.room_after in
-    let e2 : length k.room_after ≡ n + length behind =
-    k.leaves.same_length ∙ length-append old.left behind in
+    let e2 : length k.room_after ≡ n + length following =
+    k.leaves.same_length ∙ length-append old.left following in
     let long : length (whole new) ≡ length old.passed + n = omega (arith, e1, e2) in
     let enough : n ≤ length k.room_after = omega (arith, e2) in
     record {
       room_after = take n k.room_after;
       leaves = record {
         kept =
-            sym (take_at (whole new) behind (length old.passed + n) long)
+            sym (take_at (whole new) following (length old.passed + n) long)
             ∙ ap (take (length old.passed + n)) all
             ∙ take-append-add old.passed k.room_after n;
         same_length = length-take-le n k.room_after enough;
@@ -71,12 +71,12 @@ pub are_first : (count start : ℕ) (before after : Written) → Keeps before af
     → AreFirst count before after (shown_of after.lengths (whole after) start count)
 are_first count start before after keeps at one =
     let same : length after.lengths ≡ 1 = ap length keeps.leaves.same_segments ∙ one in
-    let behind : drop start (whole after) ≡ keeps.room_after =
+    let following : drop start (whole after) ≡ keeps.room_after =
     ap (drop start) keeps.leaves.kept ∙ drop_at before.passed keeps.room_after start (sym at) in
     record {
       room = keeps.room_after;
       kept = keeps.leaves.kept;
-      first = one_segment after.lengths (whole after) start count same ∙ ap (take count) behind;
+      first = one_segment after.lengths (whole after) start count same ∙ ap (take count) following;
     }
 
 -- nothing is shown of no byte

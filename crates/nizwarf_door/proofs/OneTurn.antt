@@ -60,19 +60,19 @@ room_told q o n room (WithMemory rest) before after call (inr t) = absurd t.1
 
 -- a directory has all its room
 pub listing_after : (limits : Limits) (call : CallData) (a : AnswerData) (items : List ItemData)
-    (old new : Written) (came : Answered) (behind : List ℕ) (only : Bool) → (call.answer == 3) ≡ only
+    (old new : Written) (came : Answered) (following : List ℕ) (only : Bool) → (call.answer == 3) ≡ only
     → length old.left ≡ (if only then min call.room 16 else call.room)
-    → length old.left + length behind ≡ call.room
+    → length old.left + length following ≡ call.room
     → AnswersEachListing limits call a items old (Some came) new
-    → AnswersEachListing limits call a items (with_after old behind) (Some came) (with_after new behind)
-listing_after limits call a items old new came behind true is space all h = λ echo l te tl same.
+    → AnswersEachListing limits call a items (with_after old following) (Some came) (with_after new following)
+listing_after limits call a items old new came following true is space all h = λ echo l te tl same.
     let no = tl.kind in absurd (grind (arith, nat_tests, no, is))
-listing_after limits call a items old new came behind false is space all h =
-    let none : length behind ≡ 0 = omega (arith, space, all) in
-    subst (λ (w : Written). AnswersEachListing limits call a items w (Some came) (with_after new behind))
-    (sym (with_none_after old behind none))
+listing_after limits call a items old new came following false is space all h =
+    let none : length following ≡ 0 = omega (arith, space, all) in
+    subst (λ (w : Written). AnswersEachListing limits call a items w (Some came) (with_after new following))
+    (sym (with_none_after old following none))
     (subst (λ (w : Written). AnswersEachListing limits call a items old (Some came) w)
-    (sym (with_none_after new behind none)) h)
+    (sym (with_none_after new following none)) h)
 
 module _ (law : AreOneTurn) (limits : Limits) (options : ℕ) (request : List ℕ) (room : ℕ)
     (call : CallData) (a : AnswerData) (text : List ℕ) (items : List ItemData) where
@@ -91,12 +91,12 @@ module _ (law : AreOneTurn) (limits : Limits) (options : ℕ) (request : List �
         before = old;
         came = came;
         after = new;
-        turn = λ behind all. law limits options request asked_in asked_after call a text items old behind
+        turn = λ following all. law limits options request asked_in asked_after call a text items old following
             came new (record {
               is_asked = is;
-              same_room = length-append old.left behind ∙ all ∙ sym space;
+              same_room = length-append old.left following ∙ all ∙ sym space;
               call = calls;
-              listing = listing_after limits call a items old new came behind (call.answer == 3) refl put
+              listing = listing_after limits call a items old new came following (call.answer == 3) refl put
                   (all ∙ sym space ∙ sym told) listings;
             });
         passed_on = on;

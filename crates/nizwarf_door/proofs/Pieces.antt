@@ -24,12 +24,12 @@ after_40 n m false long is b =
     let all : n - 0 ≡ n = omega arith in
     rw (first, all, b, none) refl
 
-pub one_behind : (xs : List (Bor (List ℕ))) (d : Bor (List ℕ)) (m : ℕ) → length xs ≡ 1 → 40 ≤ length (get_or xs 0 d).now
+pub one_following : (xs : List (Bor (List ℕ))) (d : Bor (List ℕ)) (m : ℕ) → length xs ≡ 1 → 40 ≤ length (get_or xs 0 d).now
     → m ≡ length (get_or xs 0 d).now - 40
     → lengths_from 40 (lengths_from 0 (lengths_of (segments_of xs))) ≡ lengths_from 0 (m ∷ [])
-one_behind [] d m e long is = absurd (let a = e in cc)
-one_behind (a ∷ []) d m e long is = after_40 (length a.now) m (nat_lt 40 (length a.now)) long is refl
-one_behind (a ∷ b ∷ xs) d m e long is = absurd (let f = e in cc)
+one_following [] d m e long is = absurd (let a = e in cc)
+one_following (a ∷ []) d m e long is = after_40 (length a.now) m (nat_lt 40 (length a.now)) long is refl
+one_following (a ∷ b ∷ xs) d m e long is = absurd (let f = e in cc)
 
 pub second_after : (xs : List (Bor (List ℕ))) (d : Bor (List ℕ)) → length xs ≡ 2 → length (get_or xs 0 d).now ≡ 40
     → lengths_from 40 (lengths_from 0 (lengths_of (segments_of xs))) ≡ lengths_from 0 (length (get_or xs 1 d).now ∷ [])

@@ -139,11 +139,11 @@ none_offered a items l events records answer (inr opened) taken some offered = a
 module _ (limits : Limits) (call : CallData) (a : AnswerData) (text : List ℕ) (items : List ItemData) (code : ℤ)
     (told told_after : ToldData) (shown request : List ℕ) (echo : Echo) (some : a.error ≢ pos 0)
     (are : AreOf limits request call) where
-  -- whatever stood behind the bytes of the room that are put
-  abbrev behind : List ℕ → List ℕ
-  behind room = replicate (call.room - length room) 0
+  -- whatever stood after the bytes of the room that are put
+  abbrev following : List ℕ → List ℕ
+  following room = replicate (call.room - length room) 0
 
-  whole : (room : List ℕ) → length room ≡ put_of call call.room → length (room ++ behind room) ≡ call.room
+  whole : (room : List ℕ) → length room ≡ put_of call call.room → length (room ++ following room) ≡ call.room
   whole room long =
       let n : ℕ = call.room - length room in
       let rest : List ℕ = replicate n 0 in
@@ -165,15 +165,15 @@ module _ (limits : Limits) (call : CallData) (a : AnswerData) (text : List ℕ) 
       → IsAnsweredOrNot limits call a text items code told told_after shown → code ≢ no_memory → code ≢ not_asked
       → IsErrorsTurn ctx inode handle
   error_answered ctx inode handle asks (inl s) lacks unasked =
-      let it = s.turn request (behind s.room) are (whole s.room s.length_is) in
-      let h = subst (λ (q : Ask). Happened a text items q (s.room ++ behind s.room) told_after it.0) asks it.1 in
-      let e = said_error a text (s.room ++ behind s.room) some h.0 h.1 in (
+      let it = s.turn request (following s.room) are (whole s.room s.length_is) in
+      let h = subst (λ (q : Ask). Happened a text items q (s.room ++ following s.room) told_after it.0) asks it.1 in
+      let e = said_error a text (s.room ++ following s.room) some h.0 h.1 in (
         record {
           request = request;
-          room = s.room ++ behind s.room;
+          room = s.room ++ following s.room;
           events = it.0;
           outcome = s.outcome;
-          room_after = s.room_after ++ behind s.room;
+          room_after = s.room_after ++ following s.room;
         },
         e.0,
         it.2,
@@ -190,8 +190,8 @@ module _ (limits : Limits) (call : CallData) (a : AnswerData) (text : List ℕ) 
       → IsAnsweredOrNot limits call a text items code told told_after shown → code ≢ no_memory → code ≢ not_asked
       → (told_after.taken ≡ 0) × (told_after.give_back ≡ 0)
   error_listed l lists (inl s) lacks unasked =
-      let it = s.turn request (behind s.room) are (whole s.room s.length_is) in
-      let h = subst (λ (q : Ask). Happened a text items q (s.room ++ behind s.room) told_after it.0) lists it.1 in
+      let it = s.turn request (following s.room) are (whole s.room s.length_is) in
+      let h = subst (λ (q : Ask). Happened a text items q (s.room ++ following s.room) told_after it.0) lists it.1 in
       (none_offered a items l it.0 h.0 h.1 h.2 told_after.taken some h.3, h.4)
   error_listed l lists (inr u) lacks unasked =
       absurd (none_of _ _ u.why (λ n. lacks n.0) (λ n. unasked n.0))

@@ -138,29 +138,29 @@ listing_is request told echo l space t = (
 )
 
 module _ (limits : Limits) (request : List ℕ) (c : CallData) (a : AnswerData) (text : List ℕ) (items : List ItemData)
-    (old new : Written) (came : Answered) (told : ToldData) (behind room_after : List ℕ)
-    (kept : whole new ≡ old.passed ++ room_after) (all : length old.left + length behind ≡ c.room)
+    (old new : Written) (came : Answered) (told : ToldData) (following room_after : List ℕ)
+    (kept : whole new ≡ old.passed ++ room_after) (all : length old.left + length following ≡ c.room)
     (calls : AnswersEachCall limits c a text old (Some came) new)
-    (listings : AnswersEachListing limits c a items (with_after old behind) (Some came) (with_after new behind))
+    (listings : AnswersEachListing limits c a items (with_after old following) (Some came) (with_after new following))
     (gives : told.give_back ≡ came.given) (takes : told.taken ≡ came.taken) (leaves : told.options ≡ came.options) where
   abbrev turn_of : List Event → Turn
   turn_of events = record {
     request = request;
-    room = old.left ++ behind;
+    room = old.left ++ following;
     events = events;
     outcome = came.outcome;
-    room_after = room_after ++ behind;
+    room_after = room_after ++ following;
   }
 
   abbrev Turned : Ask → Type 0
   Turned asks =
-      (events : List Event) × Happened a text items asks (old.left ++ behind) told events
+      (events : List Event) × Happened a text items asks (old.left ++ following) told events
       × Follows (turn_of events) limits c.options asks told.options
 
-  after_is : (r : List ℕ) → whole (with_after new behind) ≡ old.passed ++ r → r ≡ room_after ++ behind
+  after_is : (r : List ℕ) → whole (with_after new following) ≡ old.passed ++ r → r ≡ room_after ++ following
   after_is r h =
-      append_cancel_left old.passed r (room_after ++ behind)
-      (sym h ∙ whole_after new behind ∙ ap (λ (x : List ℕ). x ++ behind) kept ∙ append_assoc old.passed room_after behind)
+      append_cancel_left old.passed r (room_after ++ following)
+      (sym h ∙ whole_after new following ∙ ap (λ (x : List ℕ). x ++ following) kept ∙ append_assoc old.passed room_after following)
 
   under : (asks : Ask) (events : List Event) → Follows (turn_of events) limits c.options asks came.options
       → Follows (turn_of events) limits c.options asks told.options
@@ -170,19 +170,19 @@ module _ (limits : Limits) (request : List ℕ) (c : CallData) (a : AnswerData) 
   turned (Ends reply) usual t = absurd t
   turned (asks_call echo asked) usual t =
       let says = tells_call request echo c asked t in
-      let came_so = calls echo asked behind says.0 says.1 usual.0 all in
+      let came_so = calls echo asked following says.0 says.1 usual.0 all in
       let reply = reply_of limits echo came.options (kind_of asked) came_so.answer in
-      let back = unseen (length (old.left ++ behind)) reply (node_answered (kind_of asked) came_so.answer) in
-      let b = came_back reply (with_after old behind) (with_after new behind) came.outcome came_so.replied in
+      let back = unseen (length (old.left ++ following)) reply (node_answered (kind_of asked) came_so.answer) in
+      let b = came_back reply (with_after old following) (with_after new following) came.outcome came_so.replied in
       let back_is : back ≡ counted told.give_back =
       sym (ap counted (gives ∙ came_so.given_is)
-      ∙ back_told (length (old.left ++ behind)) reply (kind_of asked) came_so.answer) in
+      ∙ back_told (length (old.left ++ following)) reply (kind_of asked) came_so.answer) in
       let events : List Event = Called asked came_so.answer ∷ given_back echo.ctx back in
       let follows : Follows (turn_of events) limits c.options (asks_call echo asked) came.options = (
         came_so.answer,
         refl,
         came_so.fits,
-        subst (λ (r : List ℕ). IsReplied reply (old.left ++ behind) came.outcome r) (after_is b.room_after b.leaves.kept) b.says,
+        subst (λ (r : List ℕ). IsReplied reply (old.left ++ following) came.outcome r) (after_is b.room_after b.leaves.kept) b.says,
         came_so.options_are,
       ) in (
         events,
@@ -196,15 +196,15 @@ module _ (limits : Limits) (request : List ℕ) (c : CallData) (a : AnswerData) 
       )
   turned (Lists echo l) usual t =
       let says = listing_is request c echo l usual.1 t in
-      let came_so = listings echo l says.0 says.1 (length-append old.left behind ∙ all) in
+      let came_so = listings echo l says.0 says.1 (length-append old.left following ∙ all) in
       let reply = reply_of limits echo came.options (Data l.size) (read_answer came_so.answer came_so.records) in
-      let b = came_back reply (with_after old behind) (with_after new behind) came.outcome came_so.replied in
+      let b = came_back reply (with_after old following) (with_after new following) came.outcome came_so.replied in
       let follows : Follows (turn_of came_so.events) limits c.options (Lists echo l) came.options = (
         came_so.records,
         came_so.answer,
         came_so.read,
         came_so.fits,
-        subst (λ (r : List ℕ). IsReplied reply (old.left ++ behind) came.outcome r) (after_is b.room_after b.leaves.kept) b.says,
+        subst (λ (r : List ℕ). IsReplied reply (old.left ++ following) came.outcome r) (after_is b.room_after b.leaves.kept) b.says,
         came_so.same_options,
       ) in (
         came_so.events,
@@ -221,15 +221,15 @@ module _ (limits : Limits) (request : List ℕ) (c : CallData) (a : AnswerData) 
   turned (WithMemory rest) usual t = let r = turned rest usual t in (r.0, r.1, inl r.2)
 
 -- a room that is told is not too short for the answer to a call that the grammar asks for
-not_short : (c : Call) (answer room space behind : ℕ) (only : Bool) → (answer == 3) ≡ only
+not_short : (c : Call) (answer room space following : ℕ) (only : Bool) → (answer == 3) ≡ only
     → answer ≡ (shape_of c).answer → HasHeader room (kind_of c) → space ≡ (if only then min room 16 else room)
-    → behind ≡ room - space → IsShort (kind_of c) space behind → ⊥
-not_short (call.Read ctx inode handle space_for size offset owner flags) answer room space behind true is same head at b short =
+    → following ≡ room - space → IsShort (kind_of c) space following → ⊥
+not_short (call.Read ctx inode handle space_for size offset owner flags) answer room space following true is same head at b short =
     omega (arith, head, at, short)
-not_short (call.Read ctx inode handle space_for size offset owner flags) answer room space behind false is same head at b short =
+not_short (call.Read ctx inode handle space_for size offset owner flags) answer room space following false is same head at b short =
     omega (arith, head, at, short)
-not_short c answer room space behind true is same head at b short = grind (arith, nat_tests, is, same)
-not_short c answer room space behind false is same head at b short = omega (arith, at, b, short)
+not_short c answer room space following true is same head at b short = grind (arith, nat_tests, is, same)
+not_short c answer room space following false is same head at b short = omega (arith, at, b, short)
 
 put_within : (only : Bool) (room space : ℕ) → space ≡ (if only then min room 16 else room) → space + (room - space) ≡ room
 put_within true room space at = omega (arith, at)
@@ -288,10 +288,10 @@ module _ (limits : Limits) (are : AreLimits limits) (c : CallData) (a : AnswerDa
           outcome = came.outcome;
           room_after = first.room;
           length_is = space;
-          turn = λ request behind is all.
-              let sum = sym (length-append old.left behind) ∙ all in
-              let r = turned limits request c a text items old new came told_after behind first.room first.kept sum calls
-              (listing_after limits c a items old new came behind (c.answer == 3) refl space sum listings)
+          turn = λ request following is all.
+              let sum = sym (length-append old.left following) ∙ all in
+              let r = turned limits request c a text items old new came told_after following first.room first.kept sum calls
+              (listing_after limits c a items old new came following (c.answer == 3) refl space sum listings)
               (ap (λ (t : ToldData). t.give_back) on.1) (ap (λ (t : ToldData). t.taken) on.1)
               (ap (λ (t : ToldData). t.options) on.1) (ask limits c.options c.room request)
               (is_servable limits c.options c.room request) is in (
@@ -299,10 +299,10 @@ module _ (limits : Limits) (are : AreLimits limits) (c : CallData) (a : AnswerDa
                 r.1,
                 subst (λ (n : ℕ). Follows (record {
                   request = request;
-                  room = old.left ++ behind;
+                  room = old.left ++ following;
                   events = r.0;
                   outcome = came.outcome;
-                  room_after = first.room ++ behind;
+                  room_after = first.room ++ following;
                 }) limits c.options (ask limits c.options n request) told_after.options) (sym all) r.2,
               );
           code_is = on.0;

@@ -80,15 +80,15 @@ module _ (limits : Limits) (call : CallData) (a : AnswerData) (text : List ℕ) 
     pub outcome : Result ℕ Error
     pub room_after : List ℕ
     pub length_is : length room ≡ put_of call call.room
-    pub turn : (request behind : List ℕ) → AreOf limits request call → length (room ++ behind) ≡ call.room
+    pub turn : (request following : List ℕ) → AreOf limits request call → length (room ++ following) ≡ call.room
         → (events : List Event)
-        × Happened a text items (ask limits call.options call.room request) (room ++ behind) told_after events
+        × Happened a text items (ask limits call.options call.room request) (room ++ following) told_after events
         × IsTurn limits call.options (record {
           request = request;
-          room = room ++ behind;
+          room = room ++ following;
           events = events;
           outcome = outcome;
-          room_after = room_after ++ behind;
+          room_after = room_after ++ following;
         }) told_after.options
     pub code_is : code ≡ outcome_code outcome
     pub len : told_after.len ≡ length_of outcome

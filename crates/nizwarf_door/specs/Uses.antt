@@ -59,7 +59,7 @@ pub record IsOneTurn (limits : Limits) (options : ℕ) (request : List ℕ) (roo
   pub before : Written
   pub came : Answered
   pub after : Written
-  pub turn : (behind : List ℕ) → length before.left + length behind ≡ room
-      → IsAnsweredTurn limits options request a text items (with_after before behind) came
-      (with_after after behind)
+  pub turn : (following : List ℕ) → length before.left + length following ≡ room
+      → IsAnsweredTurn limits options request a text items (with_after before following) came
+      (with_after after following)
   pub passed_on : IsPassedOn (Some came) call before after code told told_after shown

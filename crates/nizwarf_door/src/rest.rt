@@ -5,7 +5,7 @@ ghost use Rattle.fuse_flags.specs.Flags.{fs_options_bits};
 ghost use Rattle.fuse_segments.specs.Lengths.{lengths_from};
 ghost use Rattle.fuse_grammar.specs.Ask.{ask as ask_of};
 ghost use Rattle.fuse_grammar.specs.Limits.{AreLimits};
-ghost use Rattle.door_ask.specs.Memory.{MayWantBehindHeader};
+ghost use Rattle.door_ask.specs.Memory.{MayWantAfterHeader};
 ghost use Rattle.c_rooms.specs.Codes.{is_asked, no_memory};
 ghost use Rattle.nizwarf_door.specs.Asking.{AsksOrNot};
 ghost use Rattle.nizwarf_door.specs.Kept.{HasFor, put_of};
@@ -43,7 +43,7 @@ pub fn ask_pieces(
     ensures memory { HasRoomFor (min room 80) memory.old.asked →
         HasFor room (ask_of limits (fs_options_bits options) room (head.now ++ rest.now))
         memory.old.answers →
-        ¬ (MayWantBehindHeader limits (fs_options_bits options) room (head.now ++ rest.now)
+        ¬ (MayWantAfterHeader limits (fs_options_bits options) room (head.now ++ rest.now)
         (lengths_from 0 (length rest.now ∷ []))) → result ≢ no_memory }
     ensures kept { result ≡ is_asked → HasRoomFor (put_of call.new call.new.room) memory.new.answers }
     ensures keeps { (n : ℕ) → HasRoomFor n memory.old.answers → HasRoomFor n memory.new.answers }

@@ -6,7 +6,7 @@ use Rattle.fuse_flags.specs.Numbers.{eio}
 use Rattle.fuse_segments.specs.Written.{Written, whole}
 use Rattle.fs_trait.specs.Calls.{Answer, Failed, Text, Texts}
 use Rattle.fuse_messages.specs.Rooms.{Replies, with_after}
-use Rattle.fuse_grammar.specs.Reply.{Reply, Refusal, NoReply, Bytes, OpenBehind, reply_of}
+use Rattle.fuse_grammar.specs.Reply.{Reply, Refusal, NoReply, Bytes, OpenAfter, reply_of}
 use Rattle.fuse_grammar.specs.declared.error.Error.{Error}
 use Rattle.fuse_grammar.specs.declared.error.Error.TheVariants.{DecodeMessage}
 use Rattle.fuse_grammar.specs.declared.limits.Limits.{Limits}
@@ -98,7 +98,7 @@ replied_lengths : (reply : Reply) (old new : Written) (outcome : Result ℕ Erro
 replied_lengths (Refusal error) old new outcome h = ap (λ (w : Written). w.lengths) h.1
 replied_lengths NoReply old new outcome h = ap (λ (w : Written). w.lengths) h.1
 replied_lengths (Bytes reply) old new outcome h = h.leaves.same_segments
-replied_lengths (OpenBehind reply) old new outcome h = h.leaves.same_segments
+replied_lengths (OpenAfter reply) old new outcome h = h.leaves.same_segments
 
 -- those of a reply with a text are as they were
 pub same_lengths : (limits : Limits) (call : CallData) (a : AnswerData) (text : List ℕ) (old new : Written)
@@ -122,7 +122,7 @@ replied_whole : (reply : Reply) (old new : Written) (outcome : Result ℕ Error)
 replied_whole (Refusal error) old new outcome h = ap (λ (w : Written). length (whole w)) h.1
 replied_whole NoReply old new outcome h = ap (λ (w : Written). length (whole w)) h.1
 replied_whole (Bytes reply) old new outcome h = whole_stays old new h.room_after h.leaves
-replied_whole (OpenBehind reply) old new outcome h = whole_stays old new h.room_after h.leaves
+replied_whole (OpenAfter reply) old new outcome h = whole_stays old new h.room_after h.leaves
 
 none_more : (w : Written) → length (whole (with_after w [])) ≡ length (whole w)
 none_more w = ap (λ (left : List ℕ). length (w.passed ++ left)) (append-nil w.left)

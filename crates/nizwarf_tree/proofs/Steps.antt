@@ -20,13 +20,13 @@ pub room_is : (passed room_after all room : List ℕ) (total : ℕ)
 room_is passed room_after all room total kept long is =
     let n : length all ≡ length passed + length room_after = ap length kept ∙ length-append passed room_after in
     let at : length passed ≡ length all - total = omega (arith, n, long) in
-    let behind : drop (length all - total) (passed ++ room_after) ≡ room_after = drop_at passed room_after (length all - total) at in
-    is ∙ ap (λ (bs : List ℕ). drop (length all - total) bs) kept ∙ behind
+    let following : drop (length all - total) (passed ++ room_after) ≡ room_after = drop_at passed room_after (length all - total) at in
+    is ∙ ap (λ (bs : List ℕ). drop (length all - total) bs) kept ∙ following
 
-room_behind : (passed room_after all room : List ℕ) (total : ℕ)
+room_following : (passed room_after all room : List ℕ) (total : ℕ)
     → all ≡ passed ++ room_after → length room_after ≡ total → room ≡ drop (length all - total) all
     → all ≡ passed ++ room
-room_behind passed room_after all room total kept long is =
+room_following passed room_after all room total kept long is =
     kept ∙ ap (λ (bs : List ℕ). passed ++ bs) (sym (room_is passed room_after all room total kept long is))
 
 -- a step, of which these are the number, the length, and the end of the bytes that came back
@@ -52,7 +52,7 @@ stepped old middle answered new request total number len bytes room shown before
           (subst (λ (s : ServerState State). ReadsDirectories Allows Gives middle request before outcome after s) (sym kept) dirs);
       numbered = numbered;
       counted = counted;
-      left = room_behind before.passed step.room_after (whole after) room total step.leaves.kept (step.leaves.same_length ∙ space)
+      left = room_following before.passed step.room_after (whole after) room total step.leaves.kept (step.leaves.same_length ∙ space)
           (end ∙ ap (λ (bs : List ℕ). drop (length bs - total) bs) is);
       copied = copied;
     })

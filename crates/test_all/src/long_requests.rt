@@ -58,29 +58,29 @@ fn line_with(
     alloc: Global,
     before: &str,
     bytes: &[u8],
-    behind: &str,
+    following: &str,
 ) -> Result<String, AllocError> {
     let mut line = String::from_str(alloc, before)?;
     for byte in bytes {
         write!(line, "{byte:02x}")?;
     }
-    line.push_str(behind)?;
+    line.push_str(following)?;
     Ok(line)
 }
 
 /// Whether a SETXATTR of opcode 21 arrives with a value of that many bytes.
 fn sets_a_value(alloc: Global, count: u32) -> Result<bool, Fail> {
     let value = rising(alloc, count)?;
-    let mut behind = Vec::from_slice(alloc, &count.to_le_bytes())?;
-    behind.extend_from_slice(b"\0\0\0\0user.x\0")?;
-    behind.extend_from_slice(&value)?;
+    let mut following = Vec::from_slice(alloc, &count.to_le_bytes())?;
+    following.extend_from_slice(b"\0\0\0\0user.x\0")?;
+    following.extend_from_slice(&value)?;
     let call = line_with(
         alloc,
         "  call setxattr ctx=0,0,0 inode=1 name=757365722e78 value=",
         &value,
         " flags=0 extra=0\n",
     )?;
-    let request = request(alloc, 21, 1, &behind)?;
+    let request = request(alloc, 21, 1, &following)?;
     makes_its_call(alloc, "", &request, 16, call.as_str())
 }
 
@@ -98,17 +98,17 @@ fn a_long_value_arrives(rt: HostRuntime) -> Result<(), Fail> {
 /// Whether a BATCH_FORGET of opcode 42 arrives with as many pairs as the largest payload by default
 /// has place for: one lookup each of the nodes from 1 on.
 fn forgets_each(alloc: Global) -> Result<bool, Fail> {
-    let mut behind = Vec::from_slice(alloc, b"\0\0\x01\0\0\0\0\0")?;
+    let mut following = Vec::from_slice(alloc, b"\0\0\x01\0\0\0\0\0")?;
     let mut call = String::from_str(alloc, "  call batch_forget ctx=0,0,0 requests=")?;
     let mut between = "";
     for node in 1..=65_536u64 {
-        behind.extend_from_slice(&node.to_le_bytes())?;
-        behind.extend_from_slice(b"\x01\0\0\0\0\0\0\0")?;
+        following.extend_from_slice(&node.to_le_bytes())?;
+        following.extend_from_slice(b"\x01\0\0\0\0\0\0\0")?;
         write!(call, "{between}{node}:1")?;
         between = ",";
     }
     call.push('\n')?;
-    let request = request(alloc, 42, 0, &behind)?;
+    let request = request(alloc, 42, 0, &following)?;
     makes_its_call(alloc, "", &request, 0, call.as_str())
 }
 
@@ -130,13 +130,13 @@ static AGREED: &str = concat!(
 /// What comes after the header of a CREATE of `n` with a context of the name `s` and this value:
 /// its record, the name, and the context with its two headers.
 fn create_with(alloc: Global, value: &[u8], count: u32) -> Result<Vec<u8>, AllocError> {
-    let mut behind = Vec::from_slice(alloc, b"\x02\0\0\0\xa4\x81\0\0\x12\0\0\0\0\0\0\0n\0")?;
-    behind.extend_from_slice(&count.saturating_add(18).to_le_bytes())?;
-    behind.extend_from_slice(b"\x01\0\0\0")?;
-    behind.extend_from_slice(&count.to_le_bytes())?;
-    behind.extend_from_slice(b"\0\0\0\0s\0")?;
-    behind.extend_from_slice(value)?;
-    Ok(behind)
+    let mut following = Vec::from_slice(alloc, b"\x02\0\0\0\xa4\x81\0\0\x12\0\0\0\0\0\0\0n\0")?;
+    following.extend_from_slice(&count.saturating_add(18).to_le_bytes())?;
+    following.extend_from_slice(b"\x01\0\0\0")?;
+    following.extend_from_slice(&count.to_le_bytes())?;
+    following.extend_from_slice(b"\0\0\0\0s\0")?;
+    following.extend_from_slice(value)?;
+    Ok(following)
 }
 
 /// Whether a CREATE of opcode 35 arrives with a context of that many bytes.

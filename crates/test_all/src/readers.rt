@@ -29,9 +29,9 @@ fn cut<'a>(alloc: Global, bytes: &'a [u8], lengths: &[usize]) -> Result<Vec<&'a 
     let mut segments = Vec::new(alloc);
     let mut rest = bytes;
     for n in lengths {
-        let (segment, behind) = rest.split_at((*n).min(rest.len()));
+        let (segment, following) = rest.split_at((*n).min(rest.len()));
         segments.push(segment)?;
-        rest = behind;
+        rest = following;
     }
     Ok(segments)
 }

@@ -309,7 +309,7 @@ fn is_not_split(writer: &mut Writer) -> bool {
 }
 
 /// The room of the rest of a writer that is split here.
-fn room_behind(writer: &mut Writer, at: usize) -> Result<(usize, usize, usize), Error> {
+fn room_following(writer: &mut Writer, at: usize) -> Result<(usize, usize, usize), Error> {
     Ok(write_state(&split(writer, at)?))
 }
 
@@ -321,7 +321,7 @@ fn is_writer_split(
     let mut writer = writer_over(alloc, &[16, 16, 96])?;
     Ok(
         is_not_split(&mut writer)
-            && room_behind(&mut writer, at)? == (second, 0, 0)
+            && room_following(&mut writer, at)? == (second, 0, 0)
             && write_state(&writer) == (first, 0, 0),
     )
 }
@@ -434,10 +434,10 @@ fn clone_reads_all(reader: &Reader<'_>, buf: &mut [u8]) -> Result<bool, Error> {
 /// Whether a reader that is split inside a segment reads all bytes into a buffer of as many.
 fn parts_read_all(reader: &mut Reader<'_>, buf: &mut [u8]) -> Result<bool, Error> {
     let mut rest = reader.split_at(MIDDLE)?;
-    let behind = LARGEST_WRITE - MIDDLE;
+    let following = LARGEST_WRITE - MIDDLE;
     Ok(
         read(reader, 0, cleared(buf, LARGEST_WRITE)) == Ok(MIDDLE)
-            && read_exact(&mut rest, MIDDLE, cleared(buf, behind)) == Ok(behind),
+            && read_exact(&mut rest, MIDDLE, cleared(buf, following)) == Ok(following),
     )
 }
 

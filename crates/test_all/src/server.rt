@@ -75,10 +75,10 @@ fn a_server_lends_its_file_system(rt: HostRuntime) -> Result<(), Fail> {
 }
 
 /// A request of a caller that holds bytes of its room.
-struct BehindHeld {
+struct AfterHeld {
     node: u8,
     /// The bytes after the header.
-    behind: &'static [u8],
+    following: &'static [u8],
     /// The lengths of the room's segments.
     room: &'static [usize],
     /// The bytes of the room afterwards.
@@ -87,17 +87,17 @@ struct BehindHeld {
 
 /// Requests of opcode 7, which is none, by a caller that holds the first 16 bytes of the room for
 /// itself: they stay, and the reply that says ENOSYS comes after them.
-static BEHIND_HELD: [BehindHeld; 2] = [
-    BehindHeld {
+static AFTER_HELD: [AfterHeld; 2] = [
+    AfterHeld {
         node: 0,
-        behind: b"",
+        following: b"",
         room: &[32],
         after: b"\xaa\xaa\xaa\xaa\xaa\xaa\xaa\xaa\xaa\xaa\xaa\xaa\xaa\xaa\xaa\xaa\
             \x10\0\0\0\xda\xff\xff\xff\x09\0\0\0\0\0\0\0",
     },
-    BehindHeld {
+    AfterHeld {
         node: 1,
-        behind: &[0; 16],
+        following: &[0; 16],
         room: &[17, 17],
         after: b"\xaa\xaa\xaa\xaa\xaa\xaa\xaa\xaa\xaa\xaa\xaa\xaa\xaa\xaa\xaa\xaa\
             \x10\0\0\0\xda\xff\xff\xff\x09\0\0\0\0\0\0\0\xaa\xaa",
@@ -108,22 +108,22 @@ static BEHIND_HELD: [BehindHeld; 2] = [
 fn replies_after_held(
     alloc: Global,
     server: &mut ScriptServer,
-    row: &BehindHeld,
+    row: &AfterHeld,
 ) -> Result<bool, Fail> {
-    let message = (7, row.node, row.behind);
+    let message = (7, row.node, row.following);
     let (replied, room) = handle_by_script(alloc, server, message, row.room, 16)?;
     Ok(replied == 16 && room.as_slice() == row.after)
 }
 
 /// The same of a new server.
-fn replies_so(alloc: Global, row: &BehindHeld) -> Result<bool, Fail> {
+fn replies_so(alloc: Global, row: &AfterHeld) -> Result<bool, Fail> {
     let mut server = server(alloc, FsOptions::empty())?;
     replies_after_held(alloc, &mut server, row)
 }
 
 #[test]
 fn a_reply_goes_after_held_bytes(rt: HostRuntime) -> Result<(), Fail> {
-    for row in &BEHIND_HELD {
+    for row in &AFTER_HELD {
         holds(replies_so(rt.alloc(), row))?;
     }
     Ok(())

@@ -42,7 +42,7 @@ struct Ending {
     lines: &'static str,
     answers: &'static str,
     /// What comes after them, and what is answered to it.
-    behind: &'static str,
+    following: &'static str,
     answered: &'static str,
     end: Result<(), RunError>,
     /// The program's status then.
@@ -53,7 +53,7 @@ static ENDS: [Ending; 5] = [
     Ending {
         lines: FORGET,
         answers: FORGOTTEN,
-        behind: "",
+        following: "",
         answered: "",
         end: Ok(()),
         status: 0,
@@ -61,7 +61,7 @@ static ENDS: [Ending; 5] = [
     Ending {
         lines: FORGET,
         answers: FORGOTTEN,
-        behind: "16\n",
+        following: "16\n",
         answered: "bad line 2\n",
         end: Err(RunError::BadLine(2)),
         status: 2,
@@ -69,7 +69,7 @@ static ENDS: [Ending; 5] = [
     Ending {
         lines: FORGET,
         answers: FORGOTTEN,
-        behind: "16",
+        following: "16",
         answered: "bad line 2\n",
         end: Err(RunError::BadLine(2)),
         status: 2,
@@ -77,7 +77,7 @@ static ENDS: [Ending; 5] = [
     Ending {
         lines: FORGET,
         answers: FORGOTTEN,
-        behind: "\n16 00\n",
+        following: "\n16 00\n",
         answered: "bad line 2\n",
         end: Err(RunError::BadLine(2)),
         status: 2,
@@ -85,7 +85,7 @@ static ENDS: [Ending; 5] = [
     Ending {
         lines: BEGINNING,
         answers: BEGUN,
-        behind: "16\n",
+        following: "16\n",
         answered: "bad line 6\n",
         end: Err(RunError::BadLine(6)),
         status: 2,
@@ -207,14 +207,14 @@ fn ran(
 /// Whether bytes are the one text and the other after it.
 fn are_both(bytes: &[u8], first: &str, last: &str) -> bool {
     match bytes.strip_prefix(first.as_bytes()) {
-        Some(behind) => behind == last.as_bytes(),
+        Some(following) => following == last.as_bytes(),
         None => false,
     }
 }
 
 /// Whether a run ends so.
 fn ends_so(alloc: Global, row: &Ending) -> Result<bool, AllocError> {
-    let (ended, written) = ran(alloc, row.lines, row.behind)?;
+    let (ended, written) = ran(alloc, row.lines, row.following)?;
     Ok(
         ended == row.end
             && exit_status(&ended) == row.status
@@ -226,7 +226,7 @@ fn ends_so(alloc: Global, row: &Ending) -> Result<bool, AllocError> {
 fn wrong_end(alloc: Global) -> Result<Option<&'static str>, AllocError> {
     for row in &ENDS {
         if !ends_so(alloc, row)? {
-            return Ok(Some(row.behind));
+            return Ok(Some(row.following));
         }
     }
     Ok(None)

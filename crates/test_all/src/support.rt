@@ -14,14 +14,19 @@ pub type Outcome = (usize, Vec<u8>);
 
 /// A request with this opcode and node, and these bytes after its header. Its `len` counts all of
 /// them, its `unique` is 9, and all else in the header is 0.
-pub fn request(alloc: Global, opcode: u8, node: u8, behind: &[u8]) -> Result<Vec<u8>, AllocError> {
+pub fn request(
+    alloc: Global,
+    opcode: u8,
+    node: u8,
+    following: &[u8],
+) -> Result<Vec<u8>, AllocError> {
     let mut header = [0; 40];
-    header[..8].copy_from_slice(&(40 + behind.len()).to_le_bytes());
+    header[..8].copy_from_slice(&(40 + following.len()).to_le_bytes());
     header[4] = opcode;
     header[8] = 9;
     header[16] = node;
     let mut all = Vec::from_slice(alloc, &header)?;
-    all.extend_from_slice(behind)?;
+    all.extend_from_slice(following)?;
     Ok(all)
 }
 
@@ -101,11 +106,11 @@ pub type Message<'a> = (u8, u8, &'a [u8]);
 pub fn handle<F: FileSystem>(
     alloc: Global,
     server: &mut Server<F>,
-    (opcode, node, behind): Message<'_>,
+    (opcode, node, following): Message<'_>,
     room: &[usize],
     held: usize,
 ) -> Result<Outcome, Fail> {
-    let request = request(alloc, opcode, node, behind)?;
+    let request = request(alloc, opcode, node, following)?;
     handle_request(alloc, server, &request, room, held)
 }
 

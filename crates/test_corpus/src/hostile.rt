@@ -196,10 +196,10 @@ fn is_like(uncut: &Served, outcome: &fuse_server::Result<usize>, room: &[u8], op
 fn repeats(text: &str, part: &str, times: usize) -> bool {
     let mut rest = text;
     for _ in 0..times {
-        let Some(behind) = rest.strip_prefix(part) else {
+        let Some(following) = rest.strip_prefix(part) else {
             return false;
         };
-        rest = behind;
+        rest = following;
     }
     rest.is_empty()
 }

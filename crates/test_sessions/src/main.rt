@@ -40,7 +40,7 @@ const PROGRAM: Program = Program {
     more_lines: "  answer ANSWER   What the next call is answered: N, fault N, fault none, items ITEM ..
                   or endless ITEM .., where an ITEM is INO,OFFSET,TYPE,NAME.
   corpus          The corpus of hostile messages, cut, shortened and changed.
-  refusals        Calls that ask for memory; the lines behind it are requests of such calls.
+  refusals        Calls that ask for memory; the lines following it are requests of such calls.
   # ..            Nothing.
 ",
 };

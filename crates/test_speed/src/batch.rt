@@ -56,9 +56,9 @@ pub fn parse<'a>(alloc: Global, bytes: &'a [u8]) -> Option<Batch<'a>> {
         if rest.is_empty() {
             break;
         }
-        let (next, behind) = first_ask(rest)?;
+        let (next, following) = first_ask(rest)?;
         asks.push(next).ok()?;
-        rest = behind;
+        rest = following;
     }
     Some(Batch { files, setup, asks })
 }

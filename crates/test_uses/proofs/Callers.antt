@@ -26,7 +26,7 @@ use Rattle.fuse_grammar.specs.declared.error.Error.{Error}
 use Rattle.fuse_grammar.specs.declared.error.Error.TheVariants.{EncodeMessage}
 use Rattle.fuse_grammar.proofs.Rooms.{length-fault_reply, put_outcome-fits, put_room-fits}
 use Rattle.fuse_server.specs.Step.{ServerState, IsStep, turn_over}
-use Rattle.fuse_server.specs.Memory.{WantsNoneBehind}
+use Rattle.fuse_server.specs.Memory.{WantsNoneAfter}
 use Rattle.test_uses.specs.Requests.{statfs_reply, no_memory_reply, IsWithoutTail}
 use Rattle.test_uses.specs.declared.server.TheConstants.{LONG_STATFS, READ, STATFS, UNKNOWN}
 
@@ -99,12 +99,12 @@ module _ {S I : Type 0} (allows : S → Call → Handed I → S → Type 0) (giv
       let reply : List ℕ = fault_reply (Some number) h.unique in
       let size : length reply ≡ 16 = length-fault_reply (Some number) h.unique in
       let fits : length reply ≤ length writer.left = omega (arith, size, room) in
-      let behind : drop (length reply) writer.left ≡ drop 16 writer.left = ap (λ (n : ℕ). drop n writer.left) size in
+      let following : drop (length reply) writer.left ≡ drop 16 writer.left = ap (λ (n : ℕ). drop n writer.left) size in
       record {
         outcome_is = f.1.says ∙ put_outcome-fits reply writer.left fits ∙ ap (λ (n : ℕ). Ok n) size;
         bytes =
             s.leaves.kept
-            ∙ ap (λ (l : List ℕ). writer.passed ++ l) (f.1.leaves ∙ put_room-fits reply writer.left fits ∙ ap (λ (l : List ℕ). reply ++ l) behind);
+            ∙ ap (λ (l : List ℕ). writer.passed ++ l) (f.1.leaves ∙ put_room-fits reply writer.left fits ∙ ap (λ (l : List ℕ). reply ++ l) following);
         state = same_server old new (IsRun-no_events old.fs new.fs s.events s.is_run f.0) f.2 s.same_limits;
       }
 
@@ -187,7 +187,7 @@ module _ {S I : Type 0} (allows : S → Call → Handed I → S → Type 0) (giv
       s.leaves.kept ∙ (ap (λ (l : List ℕ). l ++ s.room_after) passed ∙ seen.room_is)
 
 -- a request without a tail and without pairs wants no memory
-pub without_tail : (limits : Limits) (options room : ℕ) (opcode : Option Opcode) (h : InHeader) (u : Unread) → IsWithoutTail opcode → WantsNoneBehind limits options room opcode h u
+pub without_tail : (limits : Limits) (options room : ℕ) (opcode : Option Opcode) (h : InHeader) (u : Unread) → IsWithoutTail opcode → WantsNoneAfter limits options room opcode h u
 without_tail limits options room opcode h u (inl e) = rw e tt
 without_tail limits options room opcode h u (inr (inl e)) = rw e tt
 without_tail limits options room opcode h u (inr (inr (inl e))) = rw e tt

@@ -246,10 +246,10 @@ module _ (old new : ServerState Stock) (writer after : Written) (outcome : Resul
 -- ---- the books of both
 
 -- the node that the reply delivers
-delivered-bytes : (n : ℕ) (behind : List ℕ)
-    → delivered_by n (opcode_in LOOKUP) (Ok 144) (file_reply ++ behind) ≡ times n (2 ∷ [])
+delivered-bytes : (n : ℕ) (following : List ℕ)
+    → delivered_by n (opcode_in LOOKUP) (Ok 144) (file_reply ++ following) ≡ times n (2 ∷ [])
 unfolding number opcode_of
-delivered-bytes n behind = refl
+delivered-bytes n following = refl
 
 -- the node that the FORGET gives back
 accepted-bytes : (n : ℕ) → accepted_by n FORGET (Ok 0) ≡ forgotten n ((2, 1) ∷ [])

@@ -51,17 +51,17 @@ fn parse_reply(alloc: Global, text: &[u8]) -> Result<Option<Vec<u8>>, RunError> 
 
 /// A refusal: the name of an error, and what may come after it.
 fn parse_refusal<'a>(alloc: Global, text: &'a [u8]) -> Result<Option<Answer<'a>>, RunError> {
-    let (name, behind) = cut_word(text);
+    let (name, following) = cut_word(text);
     if name.is_empty() || !name.iter().all(u8::is_ascii_alphanumeric) {
         return Ok(None);
     }
     match name {
-        b"InvalidXattrSize" => Ok(parse_sizes(behind)),
-        b"EncodeMessage" => match parse_hex(alloc, behind)? {
+        b"InvalidXattrSize" => Ok(parse_sizes(following)),
+        b"EncodeMessage" => match parse_hex(alloc, following)? {
             Some(_room) => Ok(Some(Answer::Refused(name))),
             None => Ok(None),
         },
-        _ if behind.is_empty() => Ok(Some(Answer::Refused(name))),
+        _ if following.is_empty() => Ok(Some(Answer::Refused(name))),
         _ => Ok(None),
     }
 }

@@ -95,8 +95,8 @@ It takes no arguments. The lines, a request and its answer in turn:
                   reply, SEGMENTS its bytes in hex; both are joined by `+`.
   ok 0            Its answer: no reply.
   ok N HEX        A reply of N bytes, in hex.
-  err NAME        A refusal; behind EncodeMessage the room's bytes in hex may follow,
-                  behind InvalidXattrSize two sizes do.
+  err NAME        A refusal; following EncodeMessage the room's bytes in hex may follow,
+                  following InvalidXattrSize two sizes do.
 "
     )
 }

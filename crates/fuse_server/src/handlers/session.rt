@@ -6,7 +6,7 @@ ghost use Rattle.fs_trait.specs.Calls.{Destroy};
 ghost use Rattle.fs_trait.specs.Answers.{Plain, Done};
 ghost use Rattle.fuse_grammar.specs.Words.{ask_header};
 ghost use Rattle.fuse_server.specs.Handling.{Handles, Serves};
-ghost use Rattle.fuse_server.specs.MemoryByPieces.{MayWantBehind};
+ghost use Rattle.fuse_server.specs.MemoryByPieces.{MayWantAfter};
 
 use bitflags::Flags;
 use fs_trait::FileSystem;
@@ -65,7 +65,7 @@ impl<F: FileSystem> Session<F> {
         ensures { let header = q.entry.header.now in
             let reader = q.entry.r.now in
             Handles F.allows F.DirIter.gives
-            (MayWantBehind self.old.limits self.old.options (length w.old.left)
+            (MayWantAfter self.old.limits self.old.options (length w.old.left)
             (opcode_of header.opcode) header reader.pieces)
             (ask_header self.old.limits self.old.options (length w.old.left) header reader.left)
             self.old w.old result w.new self.new }

@@ -32,18 +32,18 @@ fn a_whole_reply_delivers_its_entry()
 /// A reply of 144 bytes to a SYMLINK, MKNOD, MKDIR or LINK that has an entry of node 5 was answered
 /// by the file system: it counted the node.
 fn a_replied_entry_was_answered()
-    ensures symlink { (limits : Limits) (options after : ℕ) (t : Turn) (behind : List ℕ) →
+    ensures symlink { (limits : Limits) (options after : ℕ) (t : Turn) (following : List ℕ) →
         IsTurn limits options t after → opcode_in t.request ≡ Some Opcode.Symlink → t.outcome ≡ Ok 144 →
-        t.room_after ≡ reply_of_node_5 ++ behind → 1 ≤ answered 5 t.events }
-    ensures mknod { (limits : Limits) (options after : ℕ) (t : Turn) (behind : List ℕ) →
+        t.room_after ≡ reply_of_node_5 ++ following → 1 ≤ answered 5 t.events }
+    ensures mknod { (limits : Limits) (options after : ℕ) (t : Turn) (following : List ℕ) →
         IsTurn limits options t after → opcode_in t.request ≡ Some Opcode.Mknod → t.outcome ≡ Ok 144 →
-        t.room_after ≡ reply_of_node_5 ++ behind → 1 ≤ answered 5 t.events }
-    ensures mkdir { (limits : Limits) (options after : ℕ) (t : Turn) (behind : List ℕ) →
+        t.room_after ≡ reply_of_node_5 ++ following → 1 ≤ answered 5 t.events }
+    ensures mkdir { (limits : Limits) (options after : ℕ) (t : Turn) (following : List ℕ) →
         IsTurn limits options t after → opcode_in t.request ≡ Some Opcode.Mkdir → t.outcome ≡ Ok 144 →
-        t.room_after ≡ reply_of_node_5 ++ behind → 1 ≤ answered 5 t.events }
-    ensures link { (limits : Limits) (options after : ℕ) (t : Turn) (behind : List ℕ) →
+        t.room_after ≡ reply_of_node_5 ++ following → 1 ≤ answered 5 t.events }
+    ensures link { (limits : Limits) (options after : ℕ) (t : Turn) (following : List ℕ) →
         IsTurn limits options t after → opcode_in t.request ≡ Some Opcode.Link → t.outcome ≡ Ok 144 →
-        t.room_after ≡ reply_of_node_5 ++ behind → 1 ≤ answered 5 t.events }
+        t.room_after ≡ reply_of_node_5 ++ following → 1 ≤ answered 5 t.events }
 {
     each_turn_balances();
 }
@@ -98,8 +98,8 @@ fn no_session_begins_with_a_forget()
 /// Nor does the part of a session that begins anywhere, as with an INIT after a DESTROY, if the client
 /// gives back no more than was delivered to it from there on.
 fn no_part_of_a_session_begins_with_a_forget()
-    ensures { (limits : Limits) (options after : ℕ) (before part behind : List Turn) (ctx : Context)
-        (events : List Event) → AreTurns limits options (before ++ (part ++ behind)) after →
+    ensures { (limits : Limits) (options after : ℕ) (before part following : List Turn) (ctx : Context)
+        (events : List Event) → AreTurns limits options (before ++ (part ++ following)) after →
         GivesBackWithin 5 part → events_in part ≢ Called (Forget ctx 5 1) Done ∷ events }
 {
     turns_keep_books();

@@ -9,7 +9,7 @@ use Rattle.door_ask.proofs.Short.{told_in_room, lies_within}
 use Rattle.door_ask.proofs.asked.ask.Goals as goal
 
 pub returns-clause-asked : goal.returns-clause-asked
-returns-clause-asked c = λ behind sum.
+returns-clause-asked c = λ following sum.
     let q = c.args.r.left in
     let options = fs_options_bits c.args.options in
     let by = interrupted_by c.args.limits q in
@@ -17,8 +17,8 @@ returns-clause-asked c = λ behind sum.
     c.ask_request.result c.ask_request.new.w c.ask_request.new.call =
     tells_less (MayWant c.args.limits options c.args.room c.args.r) ⊤ (λ w. tt) q options by c.args.room
     (ask c.args.limits options c.args.room q) c.args.w.now _ _ _ c.ask_request.ensures.told in
-    let all : length (c.args.w.now.left ++ behind) ≡ c.args.room = omega (arith, sum, length-append c.args.w.now.left behind) in
-    rw all (told_in_room ⊤ q c.args.limits options by c.args.room c.args.w.now _ _ behind _ sum c.requires.enough less)
+    let all : length (c.args.w.now.left ++ following) ≡ c.args.room = omega (arith, sum, length-append c.args.w.now.left following) in
+    rw all (told_in_room ⊤ q c.args.limits options by c.args.room c.args.w.now _ _ following _ sum c.requires.enough less)
 
 pub returns-clause-within : goal.returns-clause-within
 returns-clause-within c =

@@ -2,7 +2,7 @@ use Rattle.std.proofs.Common.{rules}
 use Rattle.fuse_flags.specs.Flags.{fs_options_bits}
 use Rattle.fuse_flags.specs.Numbers.{opcode_of}
 use Rattle.fuse_grammar.specs.Ask.{ask}
-use Rattle.fuse_server.specs.MemoryByPieces.{MayWantBehind}
+use Rattle.fuse_server.specs.MemoryByPieces.{MayWantAfter}
 use Rattle.door_ask.specs.Asked.{Tells, interrupted_by}
 use Rattle.door_ask.specs.Memory.{MayWant}
 use Rattle.door_ask.proofs.Memory.{read_header_is, tells_less}
@@ -14,7 +14,7 @@ returns-in-Ok-clause-told c =
     let options = fs_options_bits c.args.options in
     let by = interrupted_by c.args.limits q in
     let h = c.in-Ok.header in
-    let wanted = MayWantBehind c.args.limits options c.args.room (opcode_of h.opcode) h c.read_record-header.new.reader.pieces in
+    let wanted = MayWantAfter c.args.limits options c.args.room (opcode_of h.opcode) h c.read_record-header.new.reader.pieces in
     let told : Tells wanted q options by c.args.room (ask c.args.limits options c.args.room q) c.args.w.now
     c.ask_after.result c.ask_after.new.w c.ask_after.new.call = search rules in
     tells_less wanted (MayWant c.args.limits options c.args.room c.args.r)

@@ -2,7 +2,7 @@ use Rattle.std.proofs.Common.{rules}
 use Rattle.fuse_flags.specs.Flags.{fs_options_bits}
 use Rattle.fuse_flags.specs.Numbers.{opcode_of}
 use Rattle.fuse_grammar.specs.Ask.{ask}
-use Rattle.fuse_server.specs.MemoryByPieces.{MayWantBehind}
+use Rattle.fuse_server.specs.MemoryByPieces.{MayWantAfter}
 use Rattle.door_ask.specs.Asked.{interrupted_by}
 use Rattle.door_ask.specs.Checked.{Judges}
 use Rattle.door_ask.specs.Memory.{MayWant}
@@ -16,7 +16,7 @@ returns-in-Ok c =
     let options = fs_options_bits c.args.options in
     let by = interrupted_by c.args.limits q in
     let h = c.in-Ok.header in
-    let wanted = MayWantBehind c.args.limits options c.args.room (opcode_of h.opcode) h c.read_record-header.new.reader.pieces in
+    let wanted = MayWantAfter c.args.limits options c.args.room (opcode_of h.opcode) h c.read_record-header.new.reader.pieces in
     let said : Judges wanted q options by c.args.room (ask c.args.limits options c.args.room q) c.check_after.result
     c.check_after.new.call = search rules in
     judges_less (MayWant c.args.limits options c.args.room c.args.r) wanted

@@ -4,7 +4,7 @@ use Rattle.fuse_flags.specs.Numbers.{opcode_of}
 use Rattle.fuse_wire.specs.declared.headers.InHeader.{InHeader}
 use Rattle.fuse_segments.specs.Lengths.{lengths_from}
 use Rattle.fuse_grammar.specs.Ask.{ask}
-use Rattle.fuse_server.specs.MemoryByPieces.{MayWantBehind}
+use Rattle.fuse_server.specs.MemoryByPieces.{MayWantAfter}
 use Rattle.door_ask.specs.Asked.{interrupted_by}
 use Rattle.door_ask.specs.Checked.{Judges}
 use Rattle.door_ask.specs.Memory.{MayWant}
@@ -31,12 +31,12 @@ returns-in-Ok c =
     let moved : left.left ≡ drop 40 q = search rules in
     let rest : drop 40 named ≡ left.left = same_rest n c.ranges.opcode.fits q eight ∙ sym moved in
     let long : length q ≡ c.available_bytes-len.result = search rules in
-    let wanted = MayWantBehind limits options room (opcode_of n) h left.pieces in
-    let behind = c.check_after.ensures named (same_length n c.ranges.opcode.fits q eight ∙ long) is rest in
+    let wanted = MayWantAfter limits options room (opcode_of n) h left.pieces in
+    let following = c.check_after.ensures named (same_length n c.ranges.opcode.fits q eight ∙ long) is rest in
     let said : Judges wanted named options by room (ask limits options room named) c.check_after.result
-    c.check_after.new.call = rw (is, rest) behind in
+    c.check_after.new.call = rw (is, rest) following in
     judges_less (MayWant limits options room (unread_with_opcode n c.args.r)) wanted
-    (λ w. subst (λ (g : InHeader). MayWantBehind limits options room (opcode_of g.opcode) g (lengths_from 40 c.args.r.pieces))
+    (λ w. subst (λ (g : InHeader). MayWantAfter limits options room (opcode_of g.opcode) g (lengths_from 40 c.args.r.pieces))
     (read_header_is named h is) (rw c.in-Ok.ensures.pieces at w))
     named options by room (ask limits options room named) _ _ said
 

@@ -7,9 +7,9 @@ use Rattle.fuse_wire.specs.declared.headers.InHeader.{InHeader}
 use Rattle.fuse_grammar.specs.Ask.{ask}
 use Rattle.fuse_grammar.specs.Records.{record_of}
 use Rattle.fuse_grammar.specs.declared.error.Error.{Error}
-use Rattle.fuse_server.specs.MemoryByPieces.{MayWantBehind}
+use Rattle.fuse_server.specs.MemoryByPieces.{MayWantAfter}
 use Rattle.door_ask.specs.Asked.{Tells, interrupted_by}
-use Rattle.door_ask.specs.Memory.{MayWantBehindHeader}
+use Rattle.door_ask.specs.Memory.{MayWantAfterHeader}
 use Rattle.door_ask.proofs.AtOnce.{front_header, front_rest}
 use Rattle.door_ask.proofs.Memory.{read_header_is, tells_less}
 use Rattle.door_ask.proofs.rest.ask_request_rest.Goals as goal
@@ -25,13 +25,13 @@ returns-clause-told c =
     let by = interrupted_by limits q in
     let h = c.in-Ok.header in
     let first = front_header head rest h c.requires.head (sym c.in-Ok.ensures) in
-    let behind = front_rest head rest c.requires.head in
+    let following = front_rest head rest c.requires.head in
     let long : length q ≡ 40 + length rest = length-append head rest ∙ ap (λ (n : ℕ). n + length rest) c.requires.head in
-    let wanted = MayWantBehind limits options room (opcode_of h.opcode) h c.args.r.pieces in
+    let wanted = MayWantAfter limits options room (opcode_of h.opcode) h c.args.r.pieces in
     let told : Tells wanted q options by room (ask limits options room q) c.args.w.now c.ask_after.result
-    c.ask_after.new.w c.ask_after.new.call = rw (first, behind) (c.ask_after.ensures.told q (search (rules, long)) first behind) in
-    tells_less wanted (MayWantBehindHeader limits options room q c.args.r.pieces)
-    (λ w. subst (λ (g : InHeader). MayWantBehind limits options room (opcode_of g.opcode) g c.args.r.pieces)
+    c.ask_after.new.w c.ask_after.new.call = rw (first, following) (c.ask_after.ensures.told q (search (rules, long)) first following) in
+    tells_less wanted (MayWantAfterHeader limits options room q c.args.r.pieces)
+    (λ w. subst (λ (g : InHeader). MayWantAfter limits options room (opcode_of g.opcode) g c.args.r.pieces)
     (read_header_is q h first) w)
     q options by room (ask limits options room q) c.args.w.now _ _ _ told
 

@@ -4,7 +4,7 @@ use Rattle.fuse_flags.specs.Numbers.{opcode_of}
 use Rattle.fuse_wire.specs.declared.headers.InHeader.{InHeader}
 use Rattle.fuse_segments.specs.Lengths.{lengths_from}
 use Rattle.fuse_grammar.specs.Ask.{ask}
-use Rattle.fuse_server.specs.MemoryByPieces.{MayWantBehind}
+use Rattle.fuse_server.specs.MemoryByPieces.{MayWantAfter}
 use Rattle.door_ask.specs.Asked.{Tells, interrupted_by}
 use Rattle.door_ask.specs.Memory.{MayWant}
 use Rattle.door_ask.specs.WithOpcode.{unread_with_opcode, with_opcode}
@@ -29,12 +29,12 @@ returns-in-Ok-clause-told c =
     let moved : left.left ≡ drop 40 q = search rules in
     let rest : drop 40 named ≡ left.left = same_rest n c.ranges.opcode.fits q eight ∙ sym moved in
     let long : length q ≡ c.available_bytes-len.result = search rules in
-    let wanted = MayWantBehind limits options room (opcode_of n) h left.pieces in
-    let behind = c.ask_after.ensures.told named (same_length n c.ranges.opcode.fits q eight ∙ long) is rest in
+    let wanted = MayWantAfter limits options room (opcode_of n) h left.pieces in
+    let following = c.ask_after.ensures.told named (same_length n c.ranges.opcode.fits q eight ∙ long) is rest in
     let told : Tells wanted named options by room (ask limits options room named) c.args.w.now c.ask_after.result
-    c.ask_after.new.w c.ask_after.new.call = rw (is, rest) behind in
+    c.ask_after.new.w c.ask_after.new.call = rw (is, rest) following in
     tells_less wanted (MayWant limits options room (unread_with_opcode n c.args.r))
-    (λ w. subst (λ (g : InHeader). MayWantBehind limits options room (opcode_of g.opcode) g (lengths_from 40 c.args.r.pieces))
+    (λ w. subst (λ (g : InHeader). MayWantAfter limits options room (opcode_of g.opcode) g (lengths_from 40 c.args.r.pieces))
     (read_header_is named h is) (rw c.in-Ok.ensures.pieces at w))
     named options by room (ask limits options room named) c.args.w.now _ _ _ told
 

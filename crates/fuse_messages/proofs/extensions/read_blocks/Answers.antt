@@ -26,7 +26,7 @@ returns-in_err-found c =
 pub loop-left-preserved : goal.loop-left-preserved
 loop-left-preserved c =
     says-more (fs_options_bits c.args.options) (found_values c.loop-left.found)
-    (found_values c.in_ok-found.found) c.loop-left.left.now c.in_ok-block.block.behind.now _ _
+    (found_values c.in_ok-found.found) c.loop-left.left.now c.in_ok-block.block.following.now _ _
     c.loop-left.invariant c.in_ok-block.ensures.0 c.in_ok-block.ensures.1 c.in_ok-found.ensures
 
 pub returns : goal.returns

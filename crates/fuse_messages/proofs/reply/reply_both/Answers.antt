@@ -8,7 +8,7 @@ returns-clause-replied g c =
     c.reply_parts.ensures.replied
     (omega (
       arith,
-      length-append (bytes_of g.T.ByteValued.table c.args.out) c.args.behind.now,
+      length-append (bytes_of g.T.ByteValued.table c.args.out) c.args.following.now,
       length-bytes_of g.T.ByteValued.table c.args.out c.reply_parts.ensures.in_width,
       c.requires,
       g.met.T.ByteValued.size_is,

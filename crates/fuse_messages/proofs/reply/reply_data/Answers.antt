@@ -1,5 +1,5 @@
 use Rattle.std.proofs.Common.{◌<◌, ◌^◌, ◌-◌, Ok, Err}
-use Rattle.fuse_messages.proofs.Behind.{data_replied}
+use Rattle.fuse_messages.proofs.Following.{data_replied}
 use Rattle.fuse_messages.proofs.reply.reply_data.Goals as goal
 
 pub returns-in-Ok-clause-replied : goal.returns-in-Ok-clause-replied

@@ -6,7 +6,7 @@ use Rattle.door_ask.specs.declared.asked.Asked.{Asked}
 use Rattle.laws_flight.proofs.uses.ask_alone.Goals as goal
 
 pub returns-in-Finished : goal.returns-in-Finished
-returns-in-Finished c behind all =
-    c.a_finished_request_is_one_turn.ensures _ _ _ (with_after c.args.w.now behind) (with_after c.ask.new.w behind) _ _ _
-    (subst (λ (r : Asked). IsAsked c.args.limits (fs_options_bits c.args.options) c.args.r.left (with_after c.args.w.now behind) r
-    (with_after c.ask.new.w behind) c.ask.new.call) c.in-Finished.is (c.ask.ensures.asked behind all))
+returns-in-Finished c following all =
+    c.a_finished_request_is_one_turn.ensures _ _ _ (with_after c.args.w.now following) (with_after c.ask.new.w following) _ _ _
+    (subst (λ (r : Asked). IsAsked c.args.limits (fs_options_bits c.args.options) c.args.r.left (with_after c.args.w.now following) r
+    (with_after c.ask.new.w following) c.ask.new.call) c.in-Finished.is (c.ask.ensures.asked following all))

@@ -1,6 +1,6 @@
 use Rattle.std.proofs.Common.{◌≡◌, ◌-◌, ◌++◌, ◌∙◌, ℕ, List, length, take, drop, slice_index_or, [], ap, arith, sym, length-drop}
 use Rattle.std.proofs.lemmas.List.{length-take, take-append-drop, take_all}
-use Rattle.nizwarf_door.proofs.Pieces.{one_behind, one_piece}
+use Rattle.nizwarf_door.proofs.Pieces.{one_following, one_piece}
 use Rattle.nizwarf_door.proofs.ask.header_and_rest.Goals as goal
 
 pub returns-then-request-ge-SIZE : goal.returns-then-request-ge-SIZE
@@ -11,6 +11,6 @@ returns-then-request-ge-SIZE c =
       omega (arith, length-take 40 all, c.if-request-ge-SIZE.true),
       one_piece c.args.request.now _ c.if-request-eq1.true
           ∙ sym (ap (λ (x : List ℕ). take 40 all ++ x) rest ∙ take-append-drop 40 all),
-      one_behind c.args.request.now _ _ c.if-request-eq1.true (omega (arith, c.if-request-ge-SIZE.true))
+      one_following c.args.request.now _ _ c.if-request-eq1.true (omega (arith, c.if-request-ge-SIZE.true))
           (ap length rest ∙ length-drop 40 all),
     )

@@ -2,7 +2,7 @@ use Rattle.std.proofs.Common.{◌≡◌, ◌≤◌, ◌+◌, ◌++◌, ◌∙◌
 use Rattle.fuse_segments.specs.Lengths.{lengths_from}
 use Rattle.fuse_messages.specs.Rooms.{with_after}
 use Rattle.door_ask.specs.Asked.{IsAsked}
-use Rattle.door_ask.specs.Memory.{MayWantBehindHeader}
+use Rattle.door_ask.specs.Memory.{MayWantAfterHeader}
 use Rattle.fuse_flags.specs.Flags.{fs_options_bits}
 use Rattle.c_rooms.specs.Codes.{is_asked, no_memory, outcome_code}
 use Rattle.nizwarf_door.proofs.Asking.{finished_room, kept_for, no_call, other_number, told_call, told_finished, told_has, told_or_not}
@@ -14,9 +14,9 @@ returns-in-Call-clause-asked c =
     let begun : c.begin_ask.result ≡ true = search rules in
     let enough : length c.begin_ask.new.self.asked.writer.left ≤ c.args.room = search rules in
     let left : c.reader_of-reader.result.left ≡ c.args.rest.now = c.reader_of-reader.ensures.left ∙ append-nil c.args.rest.now in
-    let asked = subst (λ (b : List ℕ). (behind : List ℕ) → length c.begin_ask.new.self.asked.writer.left + length behind ≡ c.args.room →
-    IsAsked c.args.limits (fs_options_bits c.args.options) (c.args.head.now ++ b) (with_after c.begin_ask.new.self.asked.writer behind)
-    c.ask_rest-asked.result (with_after c.ask_rest-asked.new.w behind) c.ask_rest-asked.new.call) left c.ask_rest-asked.ensures.asked in
+    let asked = subst (λ (b : List ℕ). (following : List ℕ) → length c.begin_ask.new.self.asked.writer.left + length following ≡ c.args.room →
+    IsAsked c.args.limits (fs_options_bits c.args.options) (c.args.head.now ++ b) (with_after c.begin_ask.new.self.asked.writer following)
+    c.ask_rest-asked.result (with_after c.ask_rest-asked.new.w following) c.ask_rest-asked.new.call) left c.ask_rest-asked.ensures.asked in
     told_or_not _ _ _ _ c.tell_call.result _ c.ask_rest-asked.new.call _ _ _ _ (search rules)
     (told_call _ _ _ _ _ c.args.told.now c.begin_ask.new.self.asked.writer c.ask_rest-asked.new.w c.ask_rest-asked.result
     asked c.ask_rest-asked.ensures.within enough (search rules))
@@ -27,9 +27,9 @@ returns-in-Call-clause-memory c reply answer none code =
     let begun : c.begin_ask.result ≡ true = search rules in
     let enough : length c.begin_ask.new.self.asked.writer.left ≤ c.args.room = search rules in
     let left : c.reader_of-reader.result.left ≡ c.args.rest.now = c.reader_of-reader.ensures.left ∙ append-nil c.args.rest.now in
-    let asked = subst (λ (b : List ℕ). (behind : List ℕ) → length c.begin_ask.new.self.asked.writer.left + length behind ≡ c.args.room →
-    IsAsked c.args.limits (fs_options_bits c.args.options) (c.args.head.now ++ b) (with_after c.begin_ask.new.self.asked.writer behind)
-    c.ask_rest-asked.result (with_after c.ask_rest-asked.new.w behind) c.ask_rest-asked.new.call) left c.ask_rest-asked.ensures.asked in
+    let asked = subst (λ (b : List ℕ). (following : List ℕ) → length c.begin_ask.new.self.asked.writer.left + length following ≡ c.args.room →
+    IsAsked c.args.limits (fs_options_bits c.args.options) (c.args.head.now ++ b) (with_after c.begin_ask.new.self.asked.writer following)
+    c.ask_rest-asked.result (with_after c.ask_rest-asked.new.w following) c.ask_rest-asked.new.call) left c.ask_rest-asked.ensures.asked in
     let has = told_has c.args.limits (fs_options_bits c.args.options) (c.args.head.now ++ c.args.rest.now) c.args.room c.ask_rest-asked.new.call c.args.told.now
     c.begin_ask.new.self.asked.writer c.ask_rest-asked.new.w c.ask_rest-asked.result
     asked c.ask_rest-asked.ensures.within enough c.args.memory.now.answers (search rules) answer in
@@ -50,9 +50,9 @@ returns-in-Finished-clause-asked c =
     let begun : c.begin_ask.result ≡ true = search rules in
     let enough : length c.begin_ask.new.self.asked.writer.left ≤ c.args.room = search rules in
     let left : c.reader_of-reader.result.left ≡ c.args.rest.now = c.reader_of-reader.ensures.left ∙ append-nil c.args.rest.now in
-    let asked = subst (λ (b : List ℕ). (behind : List ℕ) → length c.begin_ask.new.self.asked.writer.left + length behind ≡ c.args.room →
-    IsAsked c.args.limits (fs_options_bits c.args.options) (c.args.head.now ++ b) (with_after c.begin_ask.new.self.asked.writer behind)
-    c.ask_rest-asked.result (with_after c.ask_rest-asked.new.w behind) c.ask_rest-asked.new.call) left c.ask_rest-asked.ensures.asked in
+    let asked = subst (λ (b : List ℕ). (following : List ℕ) → length c.begin_ask.new.self.asked.writer.left + length following ≡ c.args.room →
+    IsAsked c.args.limits (fs_options_bits c.args.options) (c.args.head.now ++ b) (with_after c.begin_ask.new.self.asked.writer following)
+    c.ask_rest-asked.result (with_after c.ask_rest-asked.new.w following) c.ask_rest-asked.new.call) left c.ask_rest-asked.ensures.asked in
     let was = c.begin_ask.ensures.was_asked in
     rw was (told_finished _ _ _ _ _ _ c.begin_ask.new.self.asked.writer c.ask_rest-asked.new.w c.ask_rest-asked.result
     asked c.ask_rest-asked.ensures.within enough _ _ _ c.in-Finished.outcome _
@@ -64,7 +64,7 @@ returns-in-Finished-clause-memory c reply answer none code =
     let number = c.number_and_length-code.ensures.number in
     let is : outcome_code c.in-Finished.outcome ≡ no_memory = search (rules, code, number) in
     let r = c.reader_of-reader.result in
-    let wanted = λ (b p : List ℕ). MayWantBehindHeader c.args.limits (fs_options_bits c.args.options) c.args.room (c.args.head.now ++ b) p in
+    let wanted = λ (b p : List ℕ). MayWantAfterHeader c.args.limits (fs_options_bits c.args.options) c.args.room (c.args.head.now ++ b) p in
     let left : r.left ≡ c.args.rest.now = c.reader_of-reader.ensures.left ∙ append-nil c.args.rest.now in
     let pieces : r.pieces ≡ lengths_from 0 (length c.args.rest.now ∷ []) =
     c.reader_of-reader.ensures.one_piece ∙ ap (λ (b : List ℕ). lengths_from 0 (length b ∷ [])) (append-nil c.args.rest.now) in
@@ -82,9 +82,9 @@ invariant_of-memory-in-Finished c =
     let begun : c.begin_ask.result ≡ true = search rules in
     let enough : length c.begin_ask.new.self.asked.writer.left ≤ c.args.room = search rules in
     let left : c.reader_of-reader.result.left ≡ c.args.rest.now = c.reader_of-reader.ensures.left ∙ append-nil c.args.rest.now in
-    let asked = subst (λ (b : List ℕ). (behind : List ℕ) → length c.begin_ask.new.self.asked.writer.left + length behind ≡ c.args.room →
-    IsAsked c.args.limits (fs_options_bits c.args.options) (c.args.head.now ++ b) (with_after c.begin_ask.new.self.asked.writer behind)
-    c.ask_rest-asked.result (with_after c.ask_rest-asked.new.w behind) c.ask_rest-asked.new.call) left c.ask_rest-asked.ensures.asked in
+    let asked = subst (λ (b : List ℕ). (following : List ℕ) → length c.begin_ask.new.self.asked.writer.left + length following ≡ c.args.room →
+    IsAsked c.args.limits (fs_options_bits c.args.options) (c.args.head.now ++ b) (with_after c.begin_ask.new.self.asked.writer following)
+    c.ask_rest-asked.result (with_after c.ask_rest-asked.new.w following) c.ask_rest-asked.new.call) left c.ask_rest-asked.ensures.asked in
     let keeps = finished_room c.args.limits (fs_options_bits c.args.options) (c.args.head.now ++ c.args.rest.now) c.args.room c.ask_rest-asked.new.call c.args.told.now
     c.begin_ask.new.self.asked.writer c.ask_rest-asked.new.w c.ask_rest-asked.result
     asked c.ask_rest-asked.ensures.within enough c.in-Finished.outcome c.in-Finished.interrupts (search rules) in

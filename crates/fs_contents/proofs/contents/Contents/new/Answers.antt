@@ -5,4 +5,4 @@ use Rattle.fs_contents.proofs.contents.Contents.new.Goals as goal
 
 pub invariant_of-result : goal.invariant_of-result
 invariant_of-result c =
-    λ place behind. ap (λ (p : Pages). byte_at p place) c.new.ensures ∙ no_bytes place
+    λ place following. ap (λ (p : Pages). byte_at p place) c.new.ensures ∙ no_bytes place

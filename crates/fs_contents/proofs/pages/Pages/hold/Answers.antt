@@ -34,7 +34,7 @@ hold-preserved c =
       undo = c.add_noted.ensures.noted ∙ c.hold.invariant.undo;
       held = held_more now (keys_of c.add_noted.new.self) n _ (omega arith) (new ∙ page_new now n free)
           ∙ c.hold.invariant.held;
-      free = λ none q behind.
+      free = λ none q following.
           ap (λ ks. holds ks q) new ∙ holds_inserted now n q (omega arith)
           ∙ c.hold.invariant.free none q (omega arith);
       same = λ place. c.add_noted.ensures.same place ∙ c.hold.invariant.same place;

@@ -26,6 +26,6 @@ returns-else-holds-clause-bytes c =
     ∙ part_zero pages at i (lookup_free pages (at / 4096) free) (omega arith)
     ∙ sym (over_in at zeros (byte_at pages) place from to ∙ zeros_at zeros count (place - at) refl)
     )
-    (λ (behind : at + length zeros ≤ place). sym (over_after at zeros (byte_at pages) place behind))
+    (λ (following : at + length zeros ≤ place). sym (over_after at zeros (byte_at pages) place following))
     (cases_lt place (at + length zeros)))
     (cases_lt place at)

@@ -9,7 +9,7 @@ write-init c = record {
   zeroed = record {
     zeros = λ k from to. absurd (omega arith);
     before = λ k less. refl;
-    behind = λ k more. refl;
+    following = λ k more. refl;
   };
 }
 

@@ -6,7 +6,7 @@ use Rattle.fs_small.proofs.memfs.entries.entry_at.Goals as goal
 pub returns-in_default : goal.returns-in_default
 returns-in_default c =
     let files = c.args.files.now in
-    let behind : 2 ≤ c.args.place = omega arith in
+    let following : 2 ≤ c.args.place = omega arith in
     let is =
     slice_get_read files (length files) _ _ refl (omega arith) c.index-files-place.is in
-    slice_get-root_items files c.args.place _ behind is ∙ ap (λ i. Some i) (sym c.file_entry.ensures)
+    slice_get-root_items files c.args.place _ following is ∙ ap (λ i. Some i) (sym c.file_entry.ensures)

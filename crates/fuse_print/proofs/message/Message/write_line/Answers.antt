@@ -37,8 +37,8 @@ returns-clause-line c = λ some.
     let is : end ≡ shown len old = search rules in
     let done : at ≡ end = omega (arith, so_far.0, c.loop-at-test.false) in
     let within : c.copy_to-at.result ≤ length old = search rules in
-    let behind : drop end first ≡ drop end old =
+    let following : drop end first ≡ drop end old =
     same_further first old c.copy_to-at.result end (omega (arith, e.next))
     (copied_after old c.part-part.result.bytes first 0 c.copy_to-at.result (omega arith) within e.enough e.copied) in
-    let all : drop end text ≡ drop end old = (rw done at so_far.3) ∙ behind in
+    let all : drop end text ≡ drop end old = (rw done at so_far.3) ∙ following in
     rw is (ended len old text (search rules) (rw (done, is) at so_far.2) (rw is at all))

@@ -4,8 +4,8 @@ use Rattle.fuse_grammar.specs.Books.{answered, sent}
 use Rattle.laws_turns.proofs.uses.books.no_part_of_a_session_begins_with_a_forget.Goals as goal
 
 pub returns : goal.returns
-returns c = λ limits options after before part behind ctx events are within begins.
-    let books = c.turns_keep_books.ensures limits options after (before ++ (part ++ behind)) are in
-    let below = books.never_below before part behind refl 5 (λ e. omega arith) within 1 in
+returns c = λ limits options after before part following ctx events are within begins.
+    let books = c.turns_keep_books.ensures limits options after (before ++ (part ++ following)) are in
+    let below = books.never_below before part following refl 5 (λ e. omega arith) within 1 in
     let first = subst (λ (es : List Event). sent 5 (take 1 es) ≤ answered 5 (take 1 es)) begins below in
     omega (arith, first)

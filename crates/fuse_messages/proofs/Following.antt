@@ -7,39 +7,39 @@ use Rattle.fuse_wire.specs.declared.headers.OutHeader.{OutHeader}
 use Rattle.fuse_segments.specs.SegmentLaws.{with_bytes_at-append}
 use Rattle.fuse_segments.specs.Written.{Written, whole, held_filled}
 use Rattle.fs_trait.specs.Answers.{IsFault, IsAnswer, Counts, Data, read_answer}
-use Rattle.fuse_grammar.specs.Reply.{OpenBehind, body_reply, fault_reply}
+use Rattle.fuse_grammar.specs.Reply.{OpenAfter, body_reply, fault_reply}
 use Rattle.fuse_grammar.specs.Words.{reply_to}
-use Rattle.fuse_messages.specs.Rooms.{data_header, Replies, PutsBehindHeader}
+use Rattle.fuse_messages.specs.Rooms.{data_header, Replies, PutsAfterHeader}
 use Rattle.fuse_grammar.proofs.Rooms.{length-header, length-body_reply, length-fault_reply}
 
 -- all bytes of a writer whose held place was filled
 whole-filled : (old mid : Written) (bytes head : List ℕ) → length head ≡ 16
-    → (h : PutsBehindHeader old bytes mid) → whole (held_filled mid head) ≡ old.passed ++ (head ++ (bytes ++ (h.beyond ++ mid.left)))
+    → (h : PutsAfterHeader old bytes mid) → whole (held_filled mid head) ≡ old.passed ++ (head ++ (bytes ++ (h.beyond ++ mid.left)))
 whole-filled old mid bytes head n h =
     let place = take 16 old.left in
     let same : length head ≡ length place = omega (arith, n, h.enough, length-take 16 old.left) in
     rw (h.moves.passed, h.moves.held_at, with_bytes_at-append old.passed place (bytes ++ h.beyond) head same) (simp append_assoc)
 
 -- a reply that the header begins, with the bytes or without them, and what comes after it
-replied_by : (old mid new : Written) (bytes head reply behind : List ℕ) (len : ℕ) → length head ≡ 16
-    → (h : PutsBehindHeader old bytes mid) → new ≡ held_filled mid head
-    → head ++ (bytes ++ (h.beyond ++ mid.left)) ≡ reply ++ behind → len ≡ length reply → Replies (OpenBehind reply) old (Ok len) new
-replied_by old mid new bytes head reply behind len n h e same l =
-    let long : length (reply ++ behind) ≡ length old.left =
+replied_by : (old mid new : Written) (bytes head reply following : List ℕ) (len : ℕ) → length head ≡ 16
+    → (h : PutsAfterHeader old bytes mid) → new ≡ held_filled mid head
+    → head ++ (bytes ++ (h.beyond ++ mid.left)) ≡ reply ++ following → len ≡ length reply → Replies (OpenAfter reply) old (Ok len) new
+replied_by old mid new bytes head reply following len n h e same l =
+    let long : length (reply ++ following) ≡ length old.left =
     ap length (sym same) ∙ omega (arith, n, length-append head (bytes ++ (h.beyond ++ mid.left)), length-append bytes (h.beyond ++ mid.left), length-append h.beyond mid.left, length-append bytes h.beyond, h.enough, h.moves.left, length-drop 16 old.left) in
     record {
-      room_after = reply ++ behind;
+      room_after = reply ++ following;
       leaves = record {
         kept = ap whole e ∙ whole-filled old mid bytes head n h ∙ ap (λ (x : List ℕ). old.passed ++ x) same;
         same_length = long;
         same_segments = ap (λ (w : Written). w.lengths) e ∙ h.moves.lengths;
       };
-      says = record { says = ap (λ (k : ℕ). Ok k) l; begins = take_at reply behind (length reply) refl; same_length = long };
+      says = record { says = ap (λ (k : ℕ). Ok k) l; begins = take_at reply following (length reply) refl; same_length = long };
       no_hold = λ z. ap (λ (w : Written). w.held) e;
     }
 
 -- the data are replied, or the fault, where their header is filled in
-pub data_replied : (old mid new : Written) (bytes : List ℕ) (answer : Result ℕ (Option ℕ)) (unique size : ℕ) → PutsBehindHeader old bytes mid
+pub data_replied : (old mid new : Written) (bytes : List ℕ) (answer : Result ℕ (Option ℕ)) (unique size : ℕ) → PutsAfterHeader old bytes mid
     → Counts answer bytes size → new ≡ held_filled mid (bytes_of out_header (data_header answer unique))
     → Replies (reply_to unique (Data size) (read_answer answer bytes)) old (Ok (data_header answer unique).len) new
 data_replied old mid new bytes (Ok count) unique size h counts e =
