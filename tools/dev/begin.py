@@ -249,13 +249,13 @@ def begin():
                                             (BOOKS, ["KeepsBooks"]))]
     return f"""# To begin with
 
-The five definitions of [the promise](PROMISE.md), and a turn for each case of `Follows`, byte by byte; [key](PROMISE.md#key). At the left are fields of `Turn` and names in `Follows`.
+The five definitions of [the promise](PROMISE.md), and a turn for each case of `Follows`; [key](PROMISE.md#key). At the left are fields of `Turn` and names in `Follows`.
 
 `Server::handle_session` ensures `IsSession`:
 
 {quotes[0]}
 
-A request's bytes `ask` one of `Ends`, `Asks`, `Lists`, maybe in `WithMemory`:
+A request's bytes `ask` one of `Ends`, `Asks`, `Lists`, maybe in `WithMemory`. `echo`: kept of them for the reply; `reply_of`: that; `IsReplied`: put into the room; `unseen`: not fitting.
 
 {quotes[1]}
 

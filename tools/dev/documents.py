@@ -150,17 +150,20 @@ def check_below(fault, line):
 
 
 def check_order(fault, items):
-    """Items of files of the grammar in reading order, each with its number."""
-    item_of = {file: number for number, files in items for file in files}
-    for file, own in item_of.items():
-        folder = "specs" if file.endswith(".antt") else "src"
-        text = sources.get(f"crates/fuse_grammar/{folder}/{file}", "")
-        if not text:
-            fault(f"there is no {file} in fuse_grammar")
-        for name in re.findall(r"Rattle\.fuse_grammar\.specs\.(?:declared\.)?(\w+)", text):
-            used = f"{name}.antt" if name[0].isupper() else f"{name}.rt"
-            if item_of.get(used, own) < own:
-                fault(f"{file}, of item {own}, names a word of {used}, of item {item_of[used]}")
+    """The files of the reading order, as PROMISE.md names them: no definitions name a word of a later one."""
+    files, folder = [], ""
+    for code in CODE.findall(items):
+        if re.search(r"\.(?:antt|rt)$", code):
+            folder = f"crates/{os.path.dirname(code)}" if "/" in code else folder
+            files.append(f"{folder}/{os.path.basename(code)}")
+    for at, file in enumerate(files):
+        if file not in sources:
+            fault(f"there is no {file}")
+        text = sources.get(file, "") if file.endswith(".antt") else ""
+        for crate, declared, name in re.findall(r"Rattle\.(\w+)\.specs\.(declared\.)?(\w+)", text):
+            used = f"crates/{crate}/" + (f"src/{name}.rt" if declared else f"specs/{name}.antt")
+            if used in files[at + 1:]:
+                fault(f"{file} names a word of {used}, which comes later")
 
 
 def check_line(fault, document, crates, line):
@@ -250,12 +253,11 @@ promise = "\n".join(re.findall(r"^> ?(.*)", read("docs/PROMISE.md"), re.M))
 for said in re.findall(r"^\| (?!Words )(\w[^|`]*) \|", read("docs/PROMISE.md"), re.M):
     if said.lower() not in promise.lower():
         faults.append(f"docs/PROMISE.md: the promise does not say '{said}'")
-items = [(int(number), re.findall(r"(\w+\.(?:antt|rt))`", files))
-         for number, files in re.findall(r"^([3-7])\. (.*)", read("docs/PROMISE.md"), re.M)]
-check_order(lambda text: faults.append(f"docs/PROMISE.md: {text}"), items)
+order = read("docs/PROMISE.md").split("## Reading order")[1].split("\n## ")[0]
+# The last item is the trait's contract, a premise.
+check_order(lambda text: faults.append(f"docs/PROMISE.md: {text}"), "\n".join(re.findall(r"^\d\. .*", order, re.M)[:-1]))
 *reached, counted, decoded = subprocess.run(["tools/measure/statement.sh", "--files"], capture_output=True, text=True,
                                             check=True).stdout.splitlines()
-order = read("docs/PROMISE.md").split("## Reading order")[1].split("\n## ")[0]
 COUNTS = re.compile(r"(\d+) definitions,? (?:of )?([\d,]+) lines")
 # What is told as so much more than the session, and begins with these.
 BESIDE = {"the clause `memory`": ["fuse_server/Sparing.IsSparing"],

@@ -41,10 +41,6 @@ supported_fs_options =
 abbrev pub known_setattr_valid : ℕ
 known_setattr_valid = 0xdbf
 
--- the bits of all the properties of an open file
-abbrev pub known_open_options : ℕ
-known_open_options = 0x7f
-
 -- the bits of all the further flags of a SETXATTR
 abbrev pub known_setxattr_flags : ℕ
 known_setxattr_flags = 1
@@ -68,6 +64,10 @@ abbrev pub setxattr_flags_bits : SetxattrFlags → ℕ
 setxattr_flags_bits flags = flags.0
 
 -- ---- no more is of the promise: the rest is for proofs, and for contracts of parts
+
+-- the bits of all the properties of an open file
+abbrev pub known_open_options : ℕ
+known_open_options = 0x7f
 
 -- a set of the flags of an IOCTL, as a number
 abbrev pub ioctl_flags_bits : IoctlFlags → ℕ

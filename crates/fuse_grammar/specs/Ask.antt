@@ -1,6 +1,5 @@
--- What a request asks, by its bytes alone: the table of the protocol. Begin with `ask`, the last
--- definition, and `form_of`; then `Form` and `ask_form` of Forms. `call` is Calls, and the opcodes have
--- their names in `fuse.h`.
+-- What a request asks, by its bytes alone: the table of the protocol, `form_of`, which leads to `ask`, the
+-- last definition. `call` is Calls, and the opcodes have their names in `fuse.h`.
 use Rattle.std.specs.Prelude.{ℕ, [], ◌∷◌, slice_index, ◌+◌, ◌*◌, ◌==◌, ◌||◌, true, false, bit_and, bit_or, Bool, List, drop, nat_lt, not, if◌then◌else◌, Option, Some, None}
 use Rattle.fuse_flags.specs.Numbers.{enosys, opcode_of}
 use Rattle.fuse_flags.specs.Flags.{known_setattr_valid, known_setxattr_flags, setxattr_ext}
@@ -22,11 +21,11 @@ use Rattle.fuse_grammar.specs.declared.limits.Limits.{Limits}
 use Rattle.fs_trait.specs.Calls.{Call}
 use Rattle.fs_trait.specs.Calls as call
 
--- whether a word of flags has one of these flags
+-- whether a word of flags has one of these flags: one bit at least, where `has_option` of Extensions asks for all
 abbrev pub has_flag : (flags flag : ℕ) → Bool
 has_flag flags flag = not (bit_and flags flag == 0)
 
--- a number is passed where a word of flags has one of these flags
+-- a number is passed where a word of flags has one of these flags, as `has_flag` says
 abbrev pub if_set : (flags flag n : ℕ) → Option ℕ
 if_set flags flag n = if bit_and flags flag == 0 then None else Some n
 

@@ -1,6 +1,6 @@
 -- The books of lookups and forgets. A file system counts how often it answered an entry of a node,
 -- and a client gives these counts back by forgets. Four sums are kept of a node: two of the events
--- that happened, and two of the bytes that came and went. Begin with `KeepsBooks`.
+-- that happened, and two of the bytes that came and went. It leads to `KeepsBooks`.
 use Rattle.std.specs.Prelude.{ℕ, ◌==◌, if◌then◌else◌, List, [], ◌∷◌, take, drop, sum_by, count_by, Option, Some, Result, Ok, Err, ◌≡◌, ◌≢◌, ◌≤◌, ◌+◌, ◌++◌}
 use Rattle.fuse_flags.specs.Numbers.{opcode_of}
 use Rattle.fuse_flags.specs.declared.opcode.Opcode.{Opcode}
@@ -25,7 +25,7 @@ forgotten n pairs = sum_by (λ pair. if pair.0 == n then pair.1 else 0) pairs
 
 -- ---- events
 
--- the node of an answer's entry, where it has one
+-- the node of an answer's entry, where it has one: 0 too, which `node_answered` of Turn leaves out
 abbrev pub entry_node : Answer → List ℕ
 entry_node (Found entry) = entry.inode ∷ []
 entry_node (Created entry handle opening) = entry.inode ∷ []

@@ -1,5 +1,5 @@
--- The extensions of a SYMLINK, MKNOD, MKDIR or CREATE: blocks, one after the other, and what they say. Begin
--- with `extensions_in`.
+-- The extensions of a SYMLINK, MKNOD, MKDIR or CREATE: blocks, one after the other, and what they say. It leads
+-- to `extensions_in`.
 use Rattle.std.specs.Prelude.{◌-◌, ◌==◌, ◌||◌, ◌&&◌, not, ℕ, zero, suc, bit_and, Bool, true, false, List, [], ◌∷◌, length, take, drop, is_some, nat_lt, if◌then◌else◌, Option, Some, None, Result, Ok, Err, ok_or}
 use Rattle.fuse_flags.specs.Numbers.{ext_type_of}
 use Rattle.fuse_flags.specs.Flags.{security_ctx, create_supp_group}
@@ -12,7 +12,7 @@ use Rattle.fuse_grammar.specs.Records.{size_of, record_of}
 use Rattle.fuse_grammar.specs.declared.error.Error.{Error}
 use Rattle.fuse_grammar.specs.declared.error.Error.TheVariants.{DecodeMessage, InvalidHeaderLength, MissingExtension, MissingParameter}
 
--- a part that is at fault says its error; otherwise what is made of the part
+-- Rust's `and_then`: the error of a part that is at fault, and otherwise what is made of the part
 abbrev pub error_or : {A B : Type 0} → Result A Error → (A → Result B Error) → Result B Error
 error_or (Err error) next = Err error
 error_or (Ok part) next = next part
@@ -66,7 +66,7 @@ block_in bytes = error_or (record_of ext_header bytes) (λ r.
 
 -- ---- what blocks say
 
--- these options have this one
+-- whether these options have this one, with all of its bits. (`has_flag` of Ask asks for one bit at least)
 abbrev pub has_option : (options option : ℕ) → Bool
 has_option options option = bit_and options option == option
 

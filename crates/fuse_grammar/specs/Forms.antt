@@ -1,5 +1,5 @@
--- The forms of requests: what comes after the header, and in which order it is refused. Begin with `Ask`,
--- `Form`, and `ask_form`.
+-- The forms of requests: what comes after the header, and in which order it is refused. It leads from `Ask`
+-- to `Form`, and to `ask_form`.
 use Rattle.std.specs.Prelude.{ℕ, zero, suc, ◌+◌, ◌*◌, ◌-◌, ◌^◌, ◌==◌, bit_and, [], ◌∷◌, Bool, false, List, length, take, drop, nat_lt, if◌then◌else◌, Some, Result, Ok, Err, ok_or, option_map, unwrap_or}
 use Rattle.fuse_flags.specs.Numbers.{enomem, enosys, eproto}
 use Rattle.fuse_flags.specs.Flags.{init_ext, known_fs_options}
@@ -31,8 +31,8 @@ pub data Ask : Type 0 where
 abbrev pub faulted : (number : ℕ) → InHeader → Ask
 faulted number h = Ends (Bytes (fault_reply (Some number) h.unique))
 
--- a part of a request that is at fault refuses it; otherwise the next part says what it asks (`error_or`
--- of Extensions is the same within a part)
+-- a part of a request that is at fault refuses the whole of it; otherwise the next part says what it asks.
+-- (`error_or` is for what is within a part: it gives an error or a value, and this an `Ask`)
 abbrev pub refused_or : {A : Type 0} → Result A Error → (next : A → Ask) → Ask
 refused_or (Err error) next = Ends (Refusal error)
 refused_or (Ok part) next = next part

@@ -1,5 +1,5 @@
 -- The reading of a directory as a whole: the items that were taken and what each got, what stopped
--- it, and what is answered. Begin with `IsListing` and `IsDirectory`. Nothing here knows a
+-- it, and what is answered. It leads to `IsListing`, and to `IsDirectory`. Nothing here knows a
 -- file system's state or its iterators.
 use Rattle.std.specs.Prelude.{◌≡◌, ◌≢◌, ⊤, ◌+◌, ◌-◌, ◌*◌, ◌%◌, ◌^◌, ◌⊎◌, ◌&&◌, ◌||◌, nat_lt, if◌then◌else◌, ℕ, Bool, true, false, List, [], ◌∷◌, ◌++◌, codes, Option, Some, None, Result, Ok, Err, sum_by, length, replicate}
 use Rattle.std.specs.List.{flat_map}
@@ -18,8 +18,9 @@ use Rattle.fs_trait.specs.Answers.{FitsEntry}
 use Rattle.fuse_grammar.specs.Records.{size_of}
 
 -- A directory that is to be read for this caller from this offset on, where `plus` with an
--- `EntryOut` in front of each record; at most `size` bytes of records, into this space: here and in
--- READ, space is the room less the header of a reply.
+-- `EntryOut` in front of each record. Two numbers bound the bytes of its records: `size` is what the
+-- request asks for at most, and `space` what the room has for them; here and in READ, that is the
+-- room less the header of a reply.
 pub record Listing : Type 0 where
   pub plus : Bool
   pub ctx : Context
@@ -103,7 +104,8 @@ Gets true true i _ = ⊥
 Gets true false i (Ok None) = ⊥
 Gets true false i _ = Unit {0}
 
--- each number of the entry that was got, if one was, is within its width in the record
+-- each number of the entry that was got, if one was, is within its width in the record: of an item that is
+-- written
 abbrev pub FitsGot : Got → Type 0
 FitsGot (Ok (Some entry)) = FitsEntry entry
 FitsGot _ = Unit {0}
@@ -171,7 +173,8 @@ AreWritten plus size space written (l ∷ ls) =
     × Gets plus (is_dot l.item.name) l.item l.got × FitsGot l.got
     × AreWritten plus size space (written + line_len l) ls
 
--- the stop applies after that many bytes of records
+-- the stop applies after that many bytes of records: the item at it has what it gets, and is not written.
+-- Its numbers need no `FitsGot`, since no record has them
 abbrev pub Stops : (plus : Bool) (size space written : ℕ) → Stop → Type 0
 Stops plus size space written End = ⊤
 Stops plus size space written (At l) =

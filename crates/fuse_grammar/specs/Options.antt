@@ -1,4 +1,4 @@
--- What the client and the server agree on at INIT, as sets of bits. Begin with `options_after`.
+-- What the client and the server agree on at INIT, as sets of bits: `options_after`.
 use Rattle.std.specs.Prelude.{◌≡◌, ℕ, ◌+◌, ◌*◌, ◌^◌, bit_and, bit_or}
 use Rattle.std.specs.Int.{bit_at}
 use Rattle.fuse_flags.specs.Flags.{known_fs_options, supported_fs_options}

@@ -1,4 +1,4 @@
--- What comes back to the client, and the bytes of replies. Begin with `Reply`, and `reply_of`, the last
+-- What comes back to the client, and the bytes of replies. It leads from `Reply` to `reply_of`, the last
 -- definition.
 use Rattle.std.specs.Prelude.{ℕ, pos, ◌+◌, ◌-◌, ◌-ℤ◌, ◌/◌, ◌%◌, ◌^◌, List, [], ◌++◌, length, Option, unwrap_or, replicate}
 use Rattle.fuse_flags.specs.Numbers.{eio}
@@ -17,7 +17,7 @@ use Rattle.fuse_grammar.specs.declared.limits.Limits.{Limits}
 use Rattle.fuse_grammar.specs.declared.error.Error.{Error}
 
 -- What comes back of a request: an error, with no byte put; nothing; these bytes, after which
--- the room stays as it was; or these bytes, after which the room is open.
+-- the room stays as it was; or these bytes, after which the room is open: any bytes may stand there.
 pub data Reply : Type 0 where
   Refusal : (error : Error) → Reply
   NoReply : Reply

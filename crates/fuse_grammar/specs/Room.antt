@@ -1,4 +1,4 @@
--- How a reply is put into a room. Begin with `IsReplied`.
+-- How a reply is put into a room. It leads to `IsReplied`, for every reply, and to `unseen`.
 use Rattle.std.specs.Prelude.{◌≡◌, ℕ, List, ◌++◌, length, take, drop, nat_le, if◌then◌else◌, Bool, true, Option, None, Some, Result, Ok, Err}
 use Rattle.fuse_grammar.specs.Reply.{Reply, Refusal, NoReply, Bytes, OpenAfter}
 use Rattle.fuse_grammar.specs.declared.error.Error.{Error}
@@ -15,7 +15,8 @@ pub record IsPut (reply room : List ℕ) (outcome : Result ℕ Error) (room_afte
       ≡ (if nat_le (length reply) (length room) then reply ++ drop (length reply) room
       else take (length room) reply)
 
--- the reply is at the beginning of the room, which it fits; the bytes after it are any
+-- The reply is put, and the room after it is open: the reply is at the beginning of the room, which it fits, and
+-- the bytes after it are any, where `IsPut` says that they are the old ones.
 pub record IsPutOpen (reply room : List ℕ) (outcome : Result ℕ Error) (room_after : List ℕ)
     : Type 0 where
   pub says : outcome ≡ Ok (length reply)

@@ -1,5 +1,5 @@
--- What follows from a request: the calls, what comes back, and the options afterwards. Begin with `Turn`,
--- `IsTurn` and `Follows`.
+-- What follows from a request: the calls, what comes back, and the options afterwards. It leads from `Turn`
+-- to `Follows`, and to `IsTurn`.
 use Rattle.std.specs.Prelude.{◌≡◌, ◌⊎◌, ◌==◌, if◌then◌else◌, length, ℕ, List, [], ◌∷◌, Option, Some, None, Result, ◌++◌}
 use Rattle.fs_trait.specs.Calls.{Answer, Found, Created, Kind, Entries, Creations, Data, kind_of, read_answer, IsAnswer}
 use Rattle.fs_trait.specs.Runs.{Event, Called}
@@ -33,9 +33,10 @@ pub record Turn : Type 0 where
 -- What follows in a turn from a request that asks this, with the options before and after it. One
 -- that is ended has no call. One that asks a call has this, with an answer of its kind; an entry in
 -- it whose reply doesn't fit is given back by a `forget` (`unseen` says which, and `given_back` how),
--- unless its node is 0. A directory's records are replied as the data of a READ are: `IsAnswer` bounds
--- how many they are. One that wants memory follows with it, or is refused for want of it, and has no
--- call. INIT's reply tells the options after it; no other reply does.
+-- unless its node is 0. `echo` is what is kept of the request: what its reply repeats, and the caller.
+-- A directory's records are replied as the data of a READ are: `IsAnswer` bounds how many they are. One
+-- that wants memory follows with it, or is refused for want of it, and has no call. INIT's reply tells
+-- the options after it; no other reply does.
 abbrev pub Follows : Turn → Limits → (options : ℕ) → Ask → (after : ℕ) → Type 0
 Follows t limits options (Ends reply) after =
     (t.events ≡ []) × IsReplied reply t.room t.outcome t.room_after × (after ≡ options)

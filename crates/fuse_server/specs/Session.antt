@@ -1,4 +1,4 @@
--- Requests in order, over one run of the file system. Begin with `IsSession`, the last definition.
+-- Requests in order, over one run of the file system. It leads to `IsSession`, the last definition.
 --
 -- A reader and a writer are made of segments by `Reader::new` and `Writer::new`, and `Writer::into_segments` gives
 -- the segments of a room back (`fuse_segments/src/reader.rt`, `writer.rt`).
@@ -6,7 +6,7 @@
 -- `declared` in an import is a type of the code: `fuse_wire.specs.declared.headers.InHeader` is the struct `InHeader`
 -- of `fuse_wire/src/headers.rt`, and `TheVariants` are those of an enum.
 --
--- Words of the toolchain's library, here and in the files that follow in the reading order of `docs/PROMISE.md`.
+-- Words of the toolchain's library, here and in the files before this in the reading order of `docs/PROMISE.md`.
 -- Of lists: `drop n xs` is what `take n xs` leaves; `slice_index xs i` is item i, from 0 on, and 0 where there is
 -- none; `position p xs` is the place of the first item of which the test p holds, if any; `sum xs`; `sum_by f xs` adds
 -- f of each item, and `count_by p xs` counts those of which p holds; `map f xs`, and `flat_map f xs`, whose lists are
