@@ -3,7 +3,7 @@ use Rattle.std.proofs.Common.{◌≡◌, ◌≢◌, ◌∙◌, ◌+◌, ◌-◌,
 use Rattle.std.proofs.lemmas.Bool.Decides.{nat_tests}
 use Rattle.std.proofs.lemmas.List.{drop-drop}
 use Rattle.fuse_flags.specs.Numbers.{ext_type_of}
-use Rattle.fuse_flags.specs.Flags.{security_ctx, create_supp_group}
+use Rattle.fuse_flags.specs.Flags.{security_ctx, create_supp_group, has_flag}
 use Rattle.fuse_flags.specs.declared.ext_type.ExtType.{ExtType}
 use Rattle.fuse_flags.specs.declared.ext_type.ExtType.TheVariants.{SecCtx, SupGroups}
 use Rattle.fuse_wire.specs.Records.{ext_header, secctx}
@@ -11,7 +11,7 @@ use Rattle.fuse_wire.specs.Fields.{value_of}
 use Rattle.fuse_wire.specs.declared.extensions.ExtHeader.{ExtHeader}
 use Rattle.fs_trait.specs.Values.{ExtensionValues}
 use Rattle.fs_trait.specs.Places.{cut_at}
-use Rattle.fuse_grammar.specs.Extensions.{error_or, name_and_value, context_in, security_context_in, group_in, Block, block_in, cut_on, cut_of_most, cut_of, has_option, no_extensions, Received, receive_kind, receive_all, received_at_end, extensions_in}
+use Rattle.fuse_grammar.specs.Extensions.{error_or, name_and_value, context_in, security_context_in, group_in, Block, block_in, cut_on, cut_of_most, cut_of, no_extensions, Received, receive_kind, receive_all, received_at_end, extensions_in}
 use Rattle.fuse_grammar.specs.Words.{block_size, reads_extensions, nothing_received, with_context, with_group, receive, extensions_of}
 use Rattle.fuse_grammar.specs.FormParts.{value_after}
 use Rattle.fuse_grammar.proofs.Blocks.{extensions_in-cut}
@@ -132,14 +132,14 @@ kept_to_end options None received ext h = sym (ap (λ (x : ExtensionValues). x.c
 kept_kind : (options : ℕ) (received more : Received) (kind : Option ExtType) (body : List ℕ) → received.has_contexts ≡ true
     → receive_kind options received kind body ≡ Ok more → (more.has_contexts ≡ true) × (more.values.context ≡ received.values.context)
 kept_kind options received more None body has h = absurd (let a = h in cc)
-kept_kind options received more (Some (SecCtx nr)) body has h = refused (not (has_option options security_ctx)) h
+kept_kind options received more (Some (SecCtx nr)) body has h = refused (not (has_flag options security_ctx)) h
   where
     refused : (b : Bool) → (if b || received.has_contexts then Err DecodeMessage else error_or (security_context_in nr body) (λ context. Ok (with_context received context))) ≡ Ok more
         → (more.has_contexts ≡ true) × (more.values.context ≡ received.values.context)
     refused true h = absurd (let a = h in cc)
     refused false h = absurd (let a = rw has at h in let b = a in cc)
 kept_kind options received more (Some SupGroups) body has h =
-    let o = or_ok (group_in body) (λ group. Ok (with_group received group)) more (else_ok (not (has_option options create_supp_group) || is_some received.values.group) _ _ more h) in
+    let o = or_ok (group_in body) (λ group. Ok (with_group received group)) more (else_ok (not (has_flag options create_supp_group) || is_some received.values.group) _ _ more h) in
     let same : with_group received o.0 ≡ more = same_ok _ more o.2 in
     (sym (ap (λ (r : Received). r.has_contexts) same) ∙ has, sym (ap (λ (r : Received). r.values.context) same))
 
@@ -234,7 +234,7 @@ record Says (body : List ℕ) (more : Received) : Type 0 where
 
 one_context : (options : ℕ) (received more : Received) (body : List ℕ) → receive_kind options received (Some (SecCtx 1)) body ≡ Ok more → Says body more
 one_context options received more body h =
-    let o = or_ok (security_context_in 1 body) (λ context. Ok (with_context received context)) more (else_ok (not (has_option options security_ctx) || received.has_contexts) _ _ more h) in
+    let o = or_ok (security_context_in 1 body) (λ context. Ok (with_context received context)) more (else_ok (not (has_flag options security_ctx) || received.has_contexts) _ _ more h) in
     let p = or_ok (context_in body) (λ context. Ok (Some context)) o.0 o.1 in
     let some : Some p.0 ≡ o.0 = same_ok _ o.0 p.2 in
     let same : with_context received o.0 ≡ more = same_ok _ more o.2 in
@@ -264,12 +264,12 @@ no_context : (options n : ℕ) (received more : Received) (kind : Option ExtType
     → receive_kind options received kind body ≡ Ok more → received.values.context ≡ None → more.values.context ≡ None
 no_context options n received more None body is other h none = absurd (let a = h in cc)
 no_context options n received more (Some (SecCtx nr)) body is other h none =
-    let o = or_ok (security_context_in nr body) (λ context. Ok (with_context received context)) more (else_ok (not (has_option options security_ctx) || received.has_contexts) _ _ more h) in
+    let o = or_ok (security_context_in nr body) (λ context. Ok (with_context received context)) more (else_ok (not (has_flag options security_ctx) || received.has_contexts) _ _ more h) in
     let number : n ≡ nr = kind_number n (nat_lt n 32) (n == 32) nr is in
     let same : with_context received o.0 ≡ more = same_ok _ more o.2 in
     sym (ap (λ (r : Received). r.values.context) same) ∙ none_of nr (nat_lt 1 nr) (nr == 0) body o.0 refl refl (λ e. other (number ∙ e)) o.1
 no_context options n received more (Some SupGroups) body is other h none =
-    let o = or_ok (group_in body) (λ group. Ok (with_group received group)) more (else_ok (not (has_option options create_supp_group) || is_some received.values.group) _ _ more h) in
+    let o = or_ok (group_in body) (λ group. Ok (with_group received group)) more (else_ok (not (has_flag options create_supp_group) || is_some received.values.group) _ _ more h) in
     let same : with_group received o.0 ≡ more = same_ok _ more o.2 in
     sym (ap (λ (r : Received). r.values.context) same) ∙ none
 
@@ -305,16 +305,16 @@ stands_here options q left at ext c is l s one =
 
 -- ---- where no context was agreed on
 
-none_kind : (options : ℕ) (received more : Received) (kind : Option ExtType) (body : List ℕ) → has_option options security_ctx ≡ false
+none_kind : (options : ℕ) (received more : Received) (kind : Option ExtType) (body : List ℕ) → has_flag options security_ctx ≡ false
     → receive_kind options received kind body ≡ Ok more → more.values.context ≡ received.values.context
 none_kind options received more None body lacks h = absurd (let a = h in cc)
 none_kind options received more (Some (SecCtx nr)) body lacks h = absurd (let a = rw lacks at h in let b = a in cc)
 none_kind options received more (Some SupGroups) body lacks h =
-    let o = or_ok (group_in body) (λ group. Ok (with_group received group)) more (else_ok (not (has_option options create_supp_group) || is_some received.values.group) _ _ more h) in
+    let o = or_ok (group_in body) (λ group. Ok (with_group received group)) more (else_ok (not (has_flag options create_supp_group) || is_some received.values.group) _ _ more h) in
     let same : with_group received o.0 ≡ more = same_ok _ more o.2 in
     sym (ap (λ (r : Received). r.values.context) same)
 
-none_agreed : (options : ℕ) (fault : Option Error) (blocks : List Block) (received : Received) (ext : ExtensionValues) → has_option options security_ctx ≡ false
+none_agreed : (options : ℕ) (fault : Option Error) (blocks : List Block) (received : Received) (ext : ExtensionValues) → has_flag options security_ctx ≡ false
     → error_or (receive_all options received blocks) (received_at_end options fault) ≡ Ok ext → ext.context ≡ received.values.context
 none_agreed options fault [] received ext lacks h = kept_to_end options fault received ext h
 none_agreed options fault (block ∷ blocks) received ext lacks h =
@@ -323,13 +323,13 @@ none_agreed options fault (block ∷ blocks) received ext lacks h =
     let again : error_or (receive_all options p.0 blocks) (received_at_end options fault) ≡ Ok ext = ap (λ r. error_or r (received_at_end options fault)) p.2 ∙ o.2 in
     none_agreed options fault blocks p.0 ext lacks again ∙ none_kind options received p.0 (ext_type_of block.ext_type) block.body lacks p.1
 
-none_either : (options : ℕ) (b : Bool) (blocks : List ℕ) (ext : ExtensionValues) → has_option options security_ctx ≡ false
+none_either : (options : ℕ) (b : Bool) (blocks : List ℕ) (ext : ExtensionValues) → has_flag options security_ctx ≡ false
     → (if b then extensions_of options nothing_received (cut_of_most (length blocks) blocks) else Ok no_extensions) ≡ Ok ext → ext.context ≡ None
 none_either options true blocks ext lacks e =
     none_agreed options (cut_of_most (length blocks) blocks).error (cut_of_most (length blocks) blocks).blocks nothing_received ext lacks e
 none_either options false blocks ext lacks e = sym (ap (λ (x : ExtensionValues). x.context) (same_ok no_extensions ext e))
 
-pub no_contexts : (options : ℕ) (blocks : List ℕ) (ext : ExtensionValues) → has_option options security_ctx ≡ false → extensions_in options blocks ≡ Ok ext → ext.context ≡ None
+pub no_contexts : (options : ℕ) (blocks : List ℕ) (ext : ExtensionValues) → has_flag options security_ctx ≡ false → extensions_in options blocks ≡ Ok ext → ext.context ≡ None
 unfolding cut_of
 no_contexts options blocks ext lacks e =
     none_either options (reads_extensions options) blocks ext lacks (sym (extensions_in-cut options blocks) ∙ e)

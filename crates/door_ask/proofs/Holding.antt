@@ -2,6 +2,7 @@
 use Rattle.std.proofs.Common.{◌≡◌, ◌∙◌, ◌+◌, ◌-◌, ◌^◌, ◌<◌, ◌≤◌, ◌==◌, ℕ, true, false, List, length, position, take, drop, Option, None, Some, Result, Ok, Err, refl, ap, sym, subst, inl, inr, arith, length-drop, length-take}
 use Rattle.std.proofs.lemmas.Bool.Decides.{nat_tests}
 use Rattle.std.proofs.lemmas.List.{drop-drop}
+use Rattle.fuse_flags.specs.Flags.{has_flag}
 use Rattle.fuse_flags.specs.declared.constants.TheConstants.{OPEN_KILL_SUIDGID}
 use Rattle.fuse_flags.specs.declared.opcode.Opcode.{Opcode}
 use Rattle.fuse_flags.specs.declared.opcode.Opcode.TheVariants as opcode
@@ -15,7 +16,7 @@ use Rattle.fuse_wire_more.specs.declared.names.MknodIn.{MknodIn}
 use Rattle.fs_trait.specs.Calls.{Call}
 use Rattle.fs_trait.specs.Calls as call
 use Rattle.fs_trait.specs.Values.{context_of, ExtensionValues}
-use Rattle.fuse_grammar.specs.Ask.{form_of, has_flag}
+use Rattle.fuse_grammar.specs.Ask.{form_of}
 use Rattle.fuse_grammar.specs.Words.{ask_opcode}
 use Rattle.fuse_grammar.specs.Extensions.{error_or, extensions_in}
 use Rattle.fuse_grammar.specs.Forms.{Ask, Ends, Asks, Lists, WithMemory, refused_or, tail_of}

@@ -4,6 +4,7 @@ use Rattle.std.proofs.Common.{◌≡◌, ◌≢◌, ◌∙◌, ◌+◌, ◌-◌,
 use Rattle.std.proofs.lemmas.Bool.Decides.{nat_tests}
 use Rattle.std.proofs.lemmas.List.{drop-drop, drop-take, take_all}
 use Rattle.std.proofs.lemmas.List.Quantifiers.{position-Some}
+use Rattle.fuse_flags.specs.Flags.{has_flag}
 use Rattle.fuse_flags.specs.declared.constants.TheConstants.{OPEN_KILL_SUIDGID, WRITE_CACHE, WRITE_KILL_PRIV, WRITE_LOCKOWNER}
 use Rattle.fuse_flags.specs.declared.opcode.Opcode.{Opcode}
 use Rattle.fuse_flags.specs.declared.opcode.Opcode.TheVariants as opcode
@@ -19,7 +20,7 @@ use Rattle.fuse_wire_more.specs.declared.names.MknodIn.{MknodIn}
 use Rattle.fs_trait.specs.Calls.{Call, Readdir}
 use Rattle.fs_trait.specs.Calls as call
 use Rattle.fs_trait.specs.Values.{context_of, ExtensionValues}
-use Rattle.fuse_grammar.specs.Ask.{form_of, has_flag, if_set}
+use Rattle.fuse_grammar.specs.Ask.{form_of, if_set}
 use Rattle.fuse_grammar.specs.Words.{ask_opcode, name_in, following}
 use Rattle.fuse_grammar.specs.Extensions.{extensions_in}
 use Rattle.fuse_grammar.specs.Forms.{Ask, Ends, Asks, Lists, WithMemory, Without, Record, refused_or, within, tail_of, two_names_in, value_in, extended_in, link_in_tail, pairs_in, pairs_of, space_after_header, Layout, layout_size, layout_record, Form, NoTail, NameTail, TwoNames, NameAndValue, NameAndExtensions, LinkAndExtensions, Pairs, WithRest, IntoRoom, Directories, Versions, Silent, NotServed, ask_form}

@@ -1,12 +1,12 @@
 -- Where a security context stands.
 use Rattle.std.specs.Prelude.{◌≡◌, ◌⊎◌, ◌<◌, ◌+◌, ◌-◌, ◌==◌, ◌^◌, min, ℕ, Bool, false, if◌then◌else◌, List, drop, length, Some, Ok, Err, Result}
-use Rattle.fuse_flags.specs.Flags.{security_ctx}
+use Rattle.fuse_flags.specs.Flags.{security_ctx, has_flag}
 use Rattle.fuse_flags.specs.declared.opcode.Opcode.{Opcode}
 use Rattle.fuse_flags.specs.declared.opcode.Opcode.TheVariants as opcode
 use Rattle.fs_trait.specs.Values.{ExtensionValues}
 use Rattle.fuse_wire.specs.declared.headers.InHeader.{InHeader}
 use Rattle.fuse_wire_more.specs.Records.{create_in, mkdir_in, mknod_in}
-use Rattle.fuse_grammar.specs.Extensions.{error_or, extensions_in, has_option}
+use Rattle.fuse_grammar.specs.Extensions.{error_or, extensions_in}
 use Rattle.fuse_grammar.specs.Forms.{tail_of}
 use Rattle.fuse_grammar.specs.Records.{record_of, size_of}
 use Rattle.fuse_grammar.specs.declared.error.Error.{Error}
@@ -30,10 +30,10 @@ StandsInBlocks blocks at =
 
 -- whether a request of this opcode may have a context, where these options are agreed on
 abbrev pub may_have_context : (options : ℕ) → Opcode → Bool
-may_have_context options opcode.Symlink = has_option options security_ctx
-may_have_context options opcode.Mknod = has_option options security_ctx
-may_have_context options opcode.Mkdir = has_option options security_ctx
-may_have_context options opcode.Create = has_option options security_ctx
+may_have_context options opcode.Symlink = has_flag options security_ctx
+may_have_context options opcode.Mknod = has_flag options security_ctx
+may_have_context options opcode.Mkdir = has_flag options security_ctx
+may_have_context options opcode.Create = has_flag options security_ctx
 may_have_context options opcode = false
 
 -- the tail of such a request

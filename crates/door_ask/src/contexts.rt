@@ -47,7 +47,7 @@ pub fn may_have_context(opcode: Opcode, options: FsOptions) -> bool
 {
     match opcode {
         Opcode::Symlink | Opcode::Mknod | Opcode::Mkdir | Opcode::Create => {
-            options.contains(FsOptions::SECURITY_CTX)
+            options.intersects(FsOptions::SECURITY_CTX)
         }
         _ => false,
     }

@@ -2,13 +2,14 @@
 //! nobody sees.
 
 ghost use Rattle.std.specs.Prelude.{◌≡◌, [], ℕ};
+ghost use Rattle.fuse_flags.specs.Flags.{has_flag};
 ghost use Rattle.fuse_flags.specs.declared.constants.TheConstants as flag;
 ghost use Rattle.fuse_segments.specs.Written.{Written};
 ghost use Rattle.fs_trait.specs.Calls as any;
 ghost use Rattle.fs_trait.specs.Values.{context_of, name_text};
 ghost use Rattle.fuse_messages.specs.Parts.{TailIsCut};
 ghost use Rattle.door_calls.specs.Shapes.{nothing, shape_of};
-ghost use Rattle.fuse_grammar.specs.Ask.{has_flag, if_set};
+ghost use Rattle.fuse_grammar.specs.Ask.{if_set};
 ghost use Rattle.fuse_grammar.specs.Words.{ask_opcode};
 ghost use Rattle.fuse_grammar.specs.declared.limits.Limits.{Limits as AnyLimits};
 ghost use Rattle.door_ask.specs.Noting.{IsNoted};

@@ -2,6 +2,7 @@
 -- request of no row that is offered asks what the table of virtiofsd says (fuse_grammar).
 use Rattle.std.specs.Prelude.{◌≡◌, ◌==◌, ◌&&◌, ◌+◌, if◌then◌else◌, nat_le, nat_lt, bit_and, Bool, ℕ, List, length, drop, Result, Ok, Err}
 use Rattle.std.specs.Int.{w32, cast_signed}
+use Rattle.fuse_flags.specs.Flags.{has_flag}
 use Rattle.fuse_flags.specs.declared.constants.TheConstants.{GETATTR_FH, LK_FLOCK}
 use Rattle.fuse_wire.specs.Fields.{Table}
 use Rattle.fuse_wire.specs.Records.{in_header}
@@ -17,7 +18,6 @@ use Rattle.fuse_wire_more.specs.declared.devices.PollIn.{PollIn}
 use Rattle.fuse_wire_more.specs.declared.devices.StatxIn.{StatxIn}
 use Rattle.fuse_wire_more.specs.declared.notifications.NotifyRetrieveIn.{NotifyRetrieveIn}
 use Rattle.fuse_wire_more.specs.declared.CopyfilerangeIn.{CopyfilerangeIn}
-use Rattle.fuse_grammar.specs.Ask.{has_flag}
 use Rattle.fuse_grammar.specs.Limits.{max_len}
 use Rattle.fuse_grammar.specs.Records.{record_of, size_of}
 use Rattle.fuse_grammar.specs.declared.error.Error.{Error}

@@ -1,6 +1,6 @@
 -- The flag sets as numbers: the bits of a set, and those that are known. Names are in FlagTables.
 -- `tests/c/kernel.py` compiles SETXATTR_EXT, INIT_EXT and SECURITY_CTX against the kernel's header.
-use Rattle.std.specs.Prelude.{ℕ, ◌+◌, ◌^◌}
+use Rattle.std.specs.Prelude.{ℕ, ◌+◌, ◌^◌, ◌==◌, Bool, bit_and, not}
 use Rattle.fuse_flags.specs.declared.fs_options.FsOptions.{FsOptions}
 use Rattle.fuse_flags.specs.declared.setattr_valid.SetattrValid.{SetattrValid}
 use Rattle.fuse_flags.specs.declared.open_options.OpenOptions.{OpenOptions}
@@ -8,6 +8,10 @@ use Rattle.fuse_flags.specs.declared.ioctl_flags.IoctlFlags.{IoctlFlags}
 use Rattle.fuse_flags.specs.declared.setxattr_flags.SetxattrFlags.{SetxattrFlags}
 use Rattle.fuse_flags.specs.declared.notify_inval_entry_out_flags.NotifyInvalEntryOutFlags.{NotifyInvalEntryOutFlags}
 use Rattle.fuse_flags.specs.declared.setupmapping_flags.SetupmappingFlags.{SetupmappingFlags}
+
+-- whether a word of flags, or a set of options, has one of these: the test of every flag and option
+abbrev pub has_flag : (flags flag : ℕ) → Bool
+has_flag flags flag = not (bit_and flags flag == 0)
 
 -- the option SETXATTR_EXT: SETXATTR has its longer record
 abbrev pub setxattr_ext : ℕ

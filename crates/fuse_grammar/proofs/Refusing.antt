@@ -2,13 +2,13 @@
 -- other.
 use Rattle.std.proofs.Common.{◌==◌, ◌||◌, ◌&&◌, ℕ, zero, suc, Bool, true, false, not, List, [], ◌∷◌, length, take, drop, is_some, nat_lt, if◌then◌else◌, Option, Some, None, Result, Ok, Err}
 use Rattle.fuse_flags.specs.Numbers.{ext_type_of}
-use Rattle.fuse_flags.specs.Flags.{security_ctx, create_supp_group}
+use Rattle.fuse_flags.specs.Flags.{security_ctx, create_supp_group, has_flag}
 use Rattle.fuse_flags.specs.declared.ext_type.ExtType.{ExtType}
 use Rattle.fuse_flags.specs.declared.ext_type.ExtType.TheVariants.{SecCtx, SupGroups}
 use Rattle.fuse_wire.specs.Fields.{Table, lone_number, value_of}
 use Rattle.fuse_wire.specs.Records.{ext_header, secctx, supp_groups}
 use Rattle.fs_trait.specs.Values.{ExtensionValues, first_name}
-use Rattle.fuse_grammar.specs.Extensions.{error_or, name_and_value, context_in, security_context_in, group_in, Block, block_in, Cut, cut_on, cut_of_most, cut_of, has_option, Received, receive_kind, receive_all, received_at_end, extensions_in}
+use Rattle.fuse_grammar.specs.Extensions.{error_or, name_and_value, context_in, security_context_in, group_in, Block, block_in, Cut, cut_on, cut_of_most, cut_of, Received, receive_kind, receive_all, received_at_end, extensions_in}
 use Rattle.fuse_grammar.specs.Words.{block_size, reads_extensions, nothing_received, with_context, with_group, receive}
 use Rattle.fuse_grammar.proofs.Blocks.{extensions_in-cut}
 use Rattle.fuse_grammar.specs.FormParts.{value_after, after_name, extended_or_refusal, link_or_refusal}
@@ -104,10 +104,10 @@ of_cut (suc most) (b ∷ bytes) =
 of_kind : (options : ℕ) (received : Received) (kind : Option ExtType) (body : List ℕ) → IsRefused (receive_kind options received kind body)
 of_kind options received None body = tt
 of_kind options received (Some (SecCtx nr)) body =
-    tested (not (has_option options security_ctx) || received.has_contexts) _ _ tt
+    tested (not (has_flag options security_ctx) || received.has_contexts) _ _ tt
     (onward (security_context_in nr body) (λ context. Ok (with_context received context)) (of_security_context nr body) (λ c. tt))
 of_kind options received (Some SupGroups) body =
-    tested (not (has_option options create_supp_group) || is_some received.values.group) _ _ tt
+    tested (not (has_flag options create_supp_group) || is_some received.values.group) _ _ tt
     (onward (group_in body) (λ group. Ok (with_group received group)) (of_group body) (λ g. tt))
 
 of_all : (options : ℕ) (received : Received) (blocks : List Block) → IsRefused (receive_all options received blocks)
@@ -118,7 +118,7 @@ of_all options received (block ∷ blocks) =
 of_end : (options : ℕ) (fault : Option Error) (received : Received) → IsLeft fault → IsRefused (received_at_end options fault received)
 unfolding IsLeft
 of_end options (Some e) received f = f
-of_end options None received f = tested (has_option options security_ctx && not received.has_contexts) _ _ tt tt
+of_end options None received f = tested (has_flag options security_ctx && not received.has_contexts) _ _ tt tt
 
 pub of_extensions : (options : ℕ) (bytes : List ℕ) → IsRefused (extensions_in options bytes)
 unfolding cut_of

@@ -1,8 +1,8 @@
 -- What a request asks, by its bytes alone: the table of the protocol, `form_of`, which leads to `ask`, the
 -- last definition. `call` is Calls, and the opcodes have their names in `fuse.h`.
-use Rattle.std.specs.Prelude.{ℕ, [], ◌∷◌, slice_index, ◌+◌, ◌*◌, ◌==◌, ◌||◌, true, false, bit_and, bit_or, Bool, List, drop, nat_lt, not, if◌then◌else◌, Option, Some, None}
+use Rattle.std.specs.Prelude.{ℕ, [], ◌∷◌, slice_index, ◌+◌, ◌*◌, ◌||◌, true, false, bit_and, bit_or, Bool, List, drop, nat_lt, if◌then◌else◌, Option, Some, None}
 use Rattle.fuse_flags.specs.Numbers.{enosys, opcode_of}
-use Rattle.fuse_flags.specs.Flags.{known_setattr_valid, known_setxattr_flags, setxattr_ext}
+use Rattle.fuse_flags.specs.Flags.{known_setattr_valid, known_setxattr_flags, setxattr_ext, has_flag}
 use Rattle.fuse_flags.specs.declared.constants.TheConstants.{FATTR_FH, GETATTR_FH, FSYNC_FDATASYNC, OPEN_KILL_SUIDGID, READ_LOCKOWNER, RELEASE_FLUSH, RELEASE_FLOCK_UNLOCK, WRITE_CACHE, WRITE_KILL_PRIV, WRITE_LOCKOWNER, RENAME_FLAGS}
 use Rattle.fuse_flags.specs.declared.opcode.Opcode.{Opcode}
 use Rattle.fuse_flags.specs.declared.opcode.Opcode.TheVariants.{Lookup, Forget, Getattr, Setattr, Readlink, Symlink, Mknod, Mkdir, Unlink, Rmdir, Rename, Link, Open, Read, Write, Statfs, Release, Fsync, Setxattr, Getxattr, Listxattr, Removexattr, Flush, Init, Opendir, Readdir, Releasedir, Fsyncdir, Getlk, Setlk, Setlkw, Access, Create, Interrupt, Bmap, Destroy, Ioctl, Poll, NotifyReply, BatchForget, Fallocate, Readdirplus, Rename2, Lseek, CopyFileRange, SetupMapping, RemoveMapping, Syncfs, TmpFile}
@@ -21,22 +21,17 @@ use Rattle.fuse_grammar.specs.declared.limits.Limits.{Limits}
 use Rattle.fs_trait.specs.Calls.{Call}
 use Rattle.fs_trait.specs.Calls as call
 
--- whether a word of flags has one of these flags: one bit at least, where `has_option` of Extensions asks for all
-abbrev pub has_flag : (flags flag : ℕ) → Bool
-has_flag flags flag = not (bit_and flags flag == 0)
-
--- a number is passed where a word of flags has one of these flags, as `has_flag` says
+-- a number is passed where a word of flags has one of these flags
 abbrev pub if_set : (flags flag n : ℕ) → Option ℕ
-if_set flags flag n = if bit_and flags flag == 0 then None else Some n
+if_set flags flag n = if has_flag flags flag then Some n else None
 
 -- SETXATTR's record by the agreed options: where SETXATTR_EXT isn't among them, 8 bytes without
 -- further flags
 abbrev pub setxattr_layout : (options : ℕ) → Layout SetxattrIn
 setxattr_layout options =
-    if bit_and options setxattr_ext == 0
-    then Record (table (4 ∷ 4 ∷ []) (λ r. r.size ∷ r.flags ∷ []) (λ xs.
+    if has_flag options setxattr_ext then Record setxattr_in
+    else Record (table (4 ∷ 4 ∷ []) (λ r. r.size ∷ r.flags ∷ []) (λ xs.
     record { size = slice_index xs 0; flags = slice_index xs 1; setxattr_flags = 0; padding = 0 }))
-    else Record setxattr_in
 
 -- whether a directory is asked for more bytes than the limit, or than the whole room has, its
 -- header counted

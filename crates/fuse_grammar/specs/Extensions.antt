@@ -1,8 +1,8 @@
 -- The extensions of a SYMLINK, MKNOD, MKDIR or CREATE: blocks, one after the other, and what they say. It leads
 -- to `extensions_in`.
-use Rattle.std.specs.Prelude.{◌-◌, ◌==◌, ◌||◌, ◌&&◌, not, ℕ, zero, suc, bit_and, Bool, true, false, List, [], ◌∷◌, length, take, drop, is_some, nat_lt, if◌then◌else◌, Option, Some, None, Result, Ok, Err, ok_or}
+use Rattle.std.specs.Prelude.{◌-◌, ◌==◌, ◌||◌, ◌&&◌, not, ℕ, zero, suc, Bool, true, false, List, [], ◌∷◌, length, take, drop, is_some, nat_lt, if◌then◌else◌, Option, Some, None, Result, Ok, Err, ok_or}
 use Rattle.fuse_flags.specs.Numbers.{ext_type_of}
-use Rattle.fuse_flags.specs.Flags.{security_ctx, create_supp_group}
+use Rattle.fuse_flags.specs.Flags.{security_ctx, create_supp_group, has_flag}
 use Rattle.fuse_flags.specs.declared.ext_type.ExtType.{ExtType}
 use Rattle.fuse_flags.specs.declared.ext_type.ExtType.TheVariants.{SecCtx, SupGroups}
 use Rattle.fuse_wire.specs.Fields.{lone_number, value_of}
@@ -66,10 +66,6 @@ block_in bytes = error_or (record_of ext_header bytes) (λ r.
 
 -- ---- what blocks say
 
--- whether these options have this one, with all of its bits. (`has_flag` of Ask asks for one bit at least)
-abbrev pub has_option : (options option : ℕ) → Bool
-has_option options option = bit_and options option == option
-
 -- no extension
 abbrev pub no_extensions : ExtensionValues
 no_extensions = record { context = None; group = None }
@@ -85,11 +81,11 @@ abbrev pub receive_kind :
     (options : ℕ) → Received → Option ExtType → (body : List ℕ) → Result Received Error
 receive_kind options received None body = Err DecodeMessage
 receive_kind options received (Some (SecCtx nr)) body =
-    if not (has_option options security_ctx) || received.has_contexts then Err DecodeMessage
+    if not (has_flag options security_ctx) || received.has_contexts then Err DecodeMessage
     else error_or (security_context_in nr body) (λ context.
     Ok (record { has_contexts = true; values = record received.values { context = context } }))
 receive_kind options received (Some SupGroups) body =
-    if not (has_option options create_supp_group) || is_some received.values.group
+    if not (has_flag options create_supp_group) || is_some received.values.group
     then Err DecodeMessage
     else error_or (group_in body) (λ group.
     Ok (record received { values = record received.values { group = Some group } }))
@@ -99,7 +95,7 @@ receive_kind options received (Some SupGroups) body =
 -- too, where contexts were agreed on. More blocks than bytes there are not.
 abbrev pub values_in : (options most : ℕ) → Received → (bytes : List ℕ) → Result ExtensionValues Error
 values_in options most received [] =
-    if has_option options security_ctx && not received.has_contexts then Err MissingExtension
+    if has_flag options security_ctx && not received.has_contexts then Err MissingExtension
     else Ok received.values
 values_in options zero received (b ∷ bytes) = Err DecodeMessage
 values_in options (suc most) received (b ∷ bytes) =
@@ -110,7 +106,7 @@ values_in options (suc most) received (b ∷ bytes) =
 -- The extensions that bytes are. Where neither kind is agreed on nothing is read.
 unfoldable pub extensions_in : (options : ℕ) → (bytes : List ℕ) → Result ExtensionValues Error
 extensions_in options bytes =
-    if has_option options security_ctx || has_option options create_supp_group
+    if has_flag options security_ctx || has_flag options create_supp_group
     then values_in options (length bytes) (record { has_contexts = false; values = no_extensions }) bytes
     else Ok no_extensions
 
@@ -152,5 +148,5 @@ receive_all options received (block ∷ blocks) =
 abbrev pub received_at_end : (options : ℕ) → Option Error → Received → Result ExtensionValues Error
 received_at_end options (Some error) received = Err error
 received_at_end options None received =
-    if has_option options security_ctx && not received.has_contexts then Err MissingExtension
+    if has_flag options security_ctx && not received.has_contexts then Err MissingExtension
     else Ok received.values

@@ -2,7 +2,7 @@
 -- to `Form`, and to `ask_form`.
 use Rattle.std.specs.Prelude.{ℕ, zero, suc, ◌+◌, ◌*◌, ◌-◌, ◌^◌, ◌==◌, bit_and, [], ◌∷◌, Bool, false, List, length, take, drop, nat_lt, if◌then◌else◌, Some, Result, Ok, Err, ok_or, option_map, unwrap_or}
 use Rattle.fuse_flags.specs.Numbers.{enomem, enosys, eproto}
-use Rattle.fuse_flags.specs.Flags.{init_ext, known_fs_options}
+use Rattle.fuse_flags.specs.Flags.{init_ext, known_fs_options, has_flag}
 use Rattle.fuse_flags.specs.declared.constants.TheConstants.{KERNEL_VERSION, MIN_KERNEL_MINOR_VERSION}
 use Rattle.fuse_wire.specs.Fields.{Table, bytes_of, value_of}
 use Rattle.fuse_wire.specs.Records.{in_header, out_header, init_in_compat, init_in_ext, init_out, forget_one}
@@ -102,8 +102,8 @@ space_after_header room_len =
 abbrev pub ask_init : InHeader → InitInCompat → (following : List ℕ) → Ask
 ask_init h r following =
     refused_or
-    (if bit_and r.flags init_ext == 0 then Ok 0
-    else error_or (record_of init_in_ext following) (λ more. Ok more.flags2)) (λ flags2.
+    (if has_flag r.flags init_ext then error_or (record_of init_in_ext following) (λ more. Ok more.flags2)
+    else Ok 0) (λ flags2.
     if nat_lt r.major KERNEL_VERSION then faulted eproto h
     else if nat_lt KERNEL_VERSION r.major
     then Ends (Bytes (body_reply (bytes_of init_out version_out) h.unique))
@@ -209,8 +209,7 @@ module _ (h : InHeader) (rest : List ℕ) where
 -- the second word of INIT's flags
 abbrev pub second_flags : (flags : ℕ) → (following : List ℕ) → Result ℕ Error
 second_flags flags following =
-    if bit_and flags init_ext == 0 then Ok 0
-    else error_or (record_of init_in_ext following) (λ r. Ok r.flags2)
+    if has_flag flags init_ext then error_or (record_of init_in_ext following) (λ r. Ok r.flags2) else Ok 0
 
 -- what INIT of this version asks, by both words
 abbrev pub ask_version : InHeader → InitInCompat → (flags2 : ℕ) → Ask

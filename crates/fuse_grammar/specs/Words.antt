@@ -3,7 +3,7 @@
 use Rattle.std.specs.Prelude.{◌≡◌, ◌≤◌, ◌+◌, ◌==◌, ◌||◌, ◌⊎◌, ℕ, List, [], ◌∷◌, ◌++◌, Bool, true, false, length, take, drop, nat_lt, nat_le, ◌&&◌, if◌then◌else◌, sum_by, Option, Some, None, Result, Ok, Err, ok_or, unwrap_or}
 use Rattle.std.specs.declared.time.Duration.{Duration}
 use Rattle.fuse_flags.specs.Numbers.{eio, ext_type_of, opcode_of}
-use Rattle.fuse_flags.specs.Flags.{security_ctx, create_supp_group}
+use Rattle.fuse_flags.specs.Flags.{security_ctx, create_supp_group, has_flag}
 use Rattle.fuse_flags.specs.declared.opcode.Opcode.{Opcode}
 use Rattle.fuse_wire.specs.Fields.{number, value_of}
 use Rattle.fuse_wire.specs.Records.{ext_header}
@@ -22,7 +22,7 @@ use Rattle.fs_trait.specs.declared.entry.Context.{Context}
 use Rattle.fs_trait.specs.declared.entry.Entry.{Entry}
 use Rattle.fuse_grammar.specs.Ask.{form_of, ask_number}
 use Rattle.fuse_grammar.specs.Books.{answered, sent, accepted, delivered}
-use Rattle.fuse_grammar.specs.Extensions.{error_or, Block, Cut, Received, has_option, no_extensions, receive_kind, receive_all, received_at_end, extensions_in}
+use Rattle.fuse_grammar.specs.Extensions.{error_or, Block, Cut, Received, no_extensions, receive_kind, receive_all, received_at_end, extensions_in}
 use Rattle.fuse_grammar.specs.Forms.{Ask, Ends, Layout, layout_size, ask_form, pairs_of, within}
 use Rattle.fuse_grammar.specs.Limits.{max_len}
 use Rattle.fuse_grammar.specs.Listing.{Listing, Line, Got, IsListing, IsDirectory, dot_out, entry_bytes, dirent_bytes, lookup_got}
@@ -126,7 +126,7 @@ block_size bytes = (value_of ext_header bytes).size
 
 -- extensions are read, since there is an option for one of them
 abbrev pub reads_extensions : (options : ℕ) → Bool
-reads_extensions options = has_option options security_ctx || has_option options create_supp_group
+reads_extensions options = has_flag options security_ctx || has_flag options create_supp_group
 
 -- nothing
 abbrev pub nothing_received : Received

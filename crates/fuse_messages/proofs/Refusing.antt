@@ -1,10 +1,9 @@
 -- For want of memory extensions are refused only where a context was agreed on.
 use Rattle.std.proofs.Common.{◌&&◌, ℕ, List, length, drop, nat_lt, Result, Ok, Err, ◌≡◌, ◌≢◌, ◌∙◌, sym, subst, inl, inr}
 use Rattle.std.specs.Prelude.{IsFalse}
-use Rattle.fuse_flags.specs.Flags.{security_ctx}
+use Rattle.fuse_flags.specs.Flags.{security_ctx, has_flag}
 use Rattle.fs_trait.specs.Values.{extension_values_of}
 use Rattle.fs_trait.specs.declared.extensions.Extensions.{Extensions}
-use Rattle.fuse_grammar.specs.Extensions.{has_option}
 use Rattle.fuse_grammar.specs.Words.{reads_extensions, extensions_after}
 use Rattle.fuse_grammar.specs.declared.error.Error.{Error}
 use Rattle.fuse_grammar.specs.declared.error.Error.TheVariants.{OutOfMemory}
@@ -22,7 +21,7 @@ gives_else wanted value (Err e) said m (inr g) o = g.0
 
 pub never_memory : (options skip : ℕ) (bytes : List ℕ) (result : Result Extensions Error)
     → GivesValue (MayHoldContext options) extension_values_of result (extensions_after options skip bytes)
-    → IsFalse (has_option options security_ctx) → result ≢ Err OutOfMemory
+    → IsFalse (has_flag options security_ctx) → result ≢ Err OutOfMemory
 never_memory options skip bytes result g unagreed o =
     let said : IsRefused (extensions_after options skip bytes) =
     tested (nat_lt (length bytes) skip && reads_extensions options) _ _ tt (of_extensions options (drop skip bytes)) in

@@ -2,7 +2,7 @@
 use Rattle.std.specs.Prelude.{◌≡◌, ◌⊎◌, ℕ, List, drop, option_map, IsTrue, IsOk, Result, Ok, Err, ◌==◌, ◌+◌, ◌-◌, [], map, position, take, Option, Some, None, IsFalse}
 use Rattle.std.specs.declared.vec.Vec.{Vec}
 use Rattle.std.specs.declared.alloc.Global.{Global}
-use Rattle.fuse_flags.specs.Flags.{security_ctx}
+use Rattle.fuse_flags.specs.Flags.{security_ctx, has_flag}
 use Rattle.fuse_wire.specs.Records.{in_header}
 use Rattle.fuse_wire.specs.declared.headers.InHeader.{InHeader}
 use Rattle.fuse_segments.specs.Lengths.{lengths_from, lie_together}
@@ -10,7 +10,7 @@ use Rattle.fs_trait.specs.Values.{context_values, ExtensionValues, extension_val
 use Rattle.fs_trait.specs.declared.extensions.Extensions.{Extensions}
 use Rattle.fuse_grammar.specs.declared.error.Error.{Error}
 use Rattle.fuse_grammar.specs.declared.error.Error.TheVariants.{OutOfMemory}
-use Rattle.fuse_grammar.specs.Extensions.{context_in, block_in, has_option, Received}
+use Rattle.fuse_grammar.specs.Extensions.{context_in, block_in, Received}
 use Rattle.fuse_grammar.specs.Words.{block_size}
 use Rattle.fuse_grammar.specs.Forms.{Layout, Without, Record, extended_in}
 use Rattle.fuse_grammar.specs.Records.{size_of}
@@ -34,7 +34,7 @@ HoldsContext nr body = (nr ≡ 1) × IsContext body
 
 -- among extensions, only where contexts were agreed on
 abbrev pub MayHoldContext : (options : ℕ) → Type 0
-MayHoldContext options = IsTrue (has_option options security_ctx)
+MayHoldContext options = IsTrue (has_flag options security_ctx)
 
 -- what was found so far, as values
 abbrev pub found_values : Found → Received

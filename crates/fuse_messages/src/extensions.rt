@@ -5,11 +5,11 @@
 //! for the name and the value of a security context, once each, and for nothing else.
 
 ghost use Rattle.std.specs.Prelude.{◌≡◌, ◌≢◌, ◌<◌, IsFalse, drop, option_map, MatchResult, Ok, Err, Some};
-ghost use Rattle.fuse_flags.specs.Flags.{fs_options_bits, security_ctx};
+ghost use Rattle.fuse_flags.specs.Flags.{fs_options_bits, security_ctx, has_flag};
 ghost use Rattle.fuse_flags.specs.Numbers.{ext_type_of};
 ghost use Rattle.fs_trait.specs.Values.{context_values, extension_values_of, name_text};
 ghost use Rattle.fuse_messages.specs.Parts.{GivesValue, GivesBlock, IsContext, HoldsContext, MayHoldContext, found_values};
-ghost use Rattle.fuse_grammar.specs.Extensions.{has_option, name_and_value, context_in, security_context_in, group_in, receive_kind, received_at_end, cut_of};
+ghost use Rattle.fuse_grammar.specs.Extensions.{name_and_value, context_in, security_context_in, group_in, receive_kind, received_at_end, cut_of};
 ghost use Rattle.fuse_grammar.specs.Words.{receive, nothing_received, reads_extensions, extensions_of, extensions_after};
 ghost use Rattle.fuse_grammar.specs.Records.{record_of, size_of};
 
@@ -165,7 +165,7 @@ fn receive_context(
         (receive_kind (fs_options_bits options) (found_values found)
         (Some (ExtType.SecCtx nr)) body.now) }
 {
-    if !options.contains(FsOptions::SECURITY_CTX) || found.has_contexts {
+    if !options.intersects(FsOptions::SECURITY_CTX) || found.has_contexts {
         return Err(Error::DecodeMessage);
     }
     let secctx = parse_security_context(alloc, nr, body)?;
@@ -182,7 +182,7 @@ fn receive_group(options: FsOptions, found: Found, body: &[u8]) -> Result<Found>
         (receive_kind (fs_options_bits options) (found_values found)
         (Some ExtType.SupGroups) body.now) }
 {
-    if !options.contains(FsOptions::CREATE_SUPP_GROUP) || found.sup_gid.is_some() {
+    if !options.intersects(FsOptions::CREATE_SUPP_GROUP) || found.sup_gid.is_some() {
         return Err(Error::DecodeMessage);
     }
     let group = parse_sup_groups(body)?;
@@ -218,7 +218,7 @@ fn received(options: FsOptions, found: Found) -> Result<Extensions>
     ensures { GivesValue (MayHoldContext (fs_options_bits options)) extension_values_of result
         (received_at_end (fs_options_bits options) None (found_values found)) }
 {
-    if options.contains(FsOptions::SECURITY_CTX) && !found.has_contexts {
+    if options.intersects(FsOptions::SECURITY_CTX) && !found.has_contexts {
         return Err(Error::MissingExtension);
     }
     Ok(Extensions {
@@ -250,7 +250,7 @@ fn read_blocks(alloc: Global, options: FsOptions, bytes: &[u8]) -> Result<Extens
 fn reads_extensions(options: FsOptions) -> bool
     ensures { result ≡ reads_extensions (fs_options_bits options) }
 {
-    options.contains(FsOptions::SECURITY_CTX) || options.contains(FsOptions::CREATE_SUPP_GROUP)
+    options.intersects(FsOptions::SECURITY_CTX) || options.intersects(FsOptions::CREATE_SUPP_GROUP)
 }
 
 /// The extensions in a tail, after the `skip` bytes of its names: blocks, one after the other, to
@@ -270,7 +270,7 @@ pub fn get_extensions(
 ) -> Result<Extensions>
     ensures gives { GivesValue (MayHoldContext (fs_options_bits options)) extension_values_of result
         (extensions_after (fs_options_bits options) skip bytes.now) }
-    ensures memory { IsFalse (has_option (fs_options_bits options) security_ctx) →
+    ensures memory { IsFalse (has_flag (fs_options_bits options) security_ctx) →
         result ≢ Err Error.OutOfMemory }
 {
     if !reads_extensions(options) {

@@ -1,12 +1,12 @@
 //! The parts of a request: records, tails, pairs of a node and a count.
 
 ghost use Rattle.std.specs.Prelude.{◌≡◌, ◌==◌, ◌≤◌, ◌+◌, ◌-◌, ◌*◌, length, drop, take, map, option_map, bit_and, position, ◌⊎◌, OnOk, IfOk, IfErr, IsErr, IsFalse, MatchResult, Ok, Err, Some};
-ghost use Rattle.fuse_flags.specs.Flags.{fs_options_bits, setattr_valid_bits, known_setattr_valid, setxattr_flags_bits, known_setxattr_flags, setxattr_ext};
+ghost use Rattle.fuse_flags.specs.Flags.{fs_options_bits, setattr_valid_bits, known_setattr_valid, setxattr_flags_bits, known_setxattr_flags, setxattr_ext, has_flag};
 ghost use Rattle.fs_trait.specs.Values.{name_text, name_of};
 ghost use Rattle.fuse_wire.specs.Records.{forget_one};
 ghost use Rattle.fuse_segments.specs.declared.record.TheConstants.{LARGEST_RECORD};
 ghost use Rattle.fuse_segments.specs.Lengths.{lengths_from, lie_together};
-ghost use Rattle.fuse_grammar.specs.Ask.{has_flag, if_set, setxattr_layout};
+ghost use Rattle.fuse_grammar.specs.Ask.{if_set, setxattr_layout};
 ghost use Rattle.fuse_messages.specs.Parts.{GivesValue, MayHoldContext, TailIsCut, pieces_after, GivesTail, GivesPart, GivesPartAs, GivesExtended, extended_values, link_values, GivesPairs};
 ghost use Rattle.fuse_grammar.specs.Forms.{tail_of, pairs_in, pairs_of, two_names_in, value_in, extended_in, link_in_tail, layout_record, layout_size};
 ghost use Rattle.fuse_grammar.specs.Words.{name_in};
@@ -383,11 +383,11 @@ pub(crate) fn link_of_tail<'a>(
     link_of(alloc, options, FirstName { tail, nul })
 }
 
-/// Whether SETXATTR has its shorter record: its longer one was not agreed on.
-fn has_short_setxattr(options: FsOptions) -> bool
-    ensures { result ≡ (bit_and (fs_options_bits options) setxattr_ext == 0) }
+/// Whether SETXATTR has its longer record, which was agreed on.
+fn has_long_setxattr(options: FsOptions) -> bool
+    ensures { result ≡ has_flag (fs_options_bits options) setxattr_ext }
 {
-    options.bits() & FsOptions::SETXATTR_EXT.bits() == 0
+    options.intersects(FsOptions::SETXATTR_EXT)
 }
 
 /// SETXATTR's record, by the agreed options.
@@ -399,7 +399,9 @@ pub(crate) fn read_setxattr(options: FsOptions, reader: &mut Reader<'_>) -> Resu
     ensures pieces { OnOk result (reader.new.pieces ≡
         pieces_after (setxattr_layout (fs_options_bits options)) reader.old.pieces) }
 {
-    if has_short_setxattr(options) {
+    if has_long_setxattr(options) {
+        read_record::<SetxattrIn>(reader)
+    } else {
         let short = read_record::<SetxattrInCompat>(reader)?;
         Ok(SetxattrIn {
             size: short.size,
@@ -407,8 +409,6 @@ pub(crate) fn read_setxattr(options: FsOptions, reader: &mut Reader<'_>) -> Resu
             setxattr_flags: 0,
             padding: 0,
         })
-    } else {
-        read_record::<SetxattrIn>(reader)
     }
 }
 
@@ -417,10 +417,10 @@ pub fn setxattr_size(options: FsOptions) -> usize
     ensures size { result ≡ layout_size (setxattr_layout (fs_options_bits options)) }
     ensures small { result ≤ LARGEST_RECORD }
 {
-    if has_short_setxattr(options) {
-        SetxattrInCompat::SIZE
-    } else {
+    if has_long_setxattr(options) {
         SetxattrIn::SIZE
+    } else {
+        SetxattrInCompat::SIZE
     }
 }
 
@@ -521,7 +521,7 @@ pub fn is_set(flags: u32, flag: u32) -> bool
 pub fn number_if(flags: u32, flag: u32, n: u64) -> Option<u64>
     ensures { result ≡ if_set flags flag n }
 {
-    if flags & flag == 0 { None } else { Some(n) }
+    if is_set(flags, flag) { Some(n) } else { None }
 }
 
 /// The known attributes among those that a SETATTR says are to be set.
@@ -536,9 +536,9 @@ pub fn known_valid(valid: u32) -> SetattrValid
 pub fn handle_if<H: Number>(flags: u32, flag: u32, fh: u64) -> Option<H>
     ensures { option_map H.value result ≡ if_set flags flag fh }
 {
-    if flags & flag == 0 {
-        None
-    } else {
+    if is_set(flags, flag) {
         Some(H::from_number(fh))
+    } else {
+        None
     }
 }

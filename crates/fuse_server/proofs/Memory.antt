@@ -1,14 +1,13 @@
 -- Of bytes that lie in one segment no tail is cut.
 use Rattle.std.proofs.Common.{◌≡◌, ◌∙◌, ℕ, ◌+◌, ◌-◌, ◌&&◌, Bool, true, false, List, Option, Some, None, ap, arith, inl, inr, ◌⊎◌}
 use Rattle.std.specs.Prelude.{IsTrue, IsFalse}
-use Rattle.fuse_flags.specs.Flags.{security_ctx}
+use Rattle.fuse_flags.specs.Flags.{security_ctx, has_flag}
 use Rattle.fuse_flags.specs.declared.opcode.Opcode.{Opcode}
 use Rattle.fuse_wire.specs.Records.{in_header}
 use Rattle.fuse_wire.specs.declared.headers.InHeader.{InHeader}
 use Rattle.fuse_segments.specs.Lengths.{lengths_from, lie_together}
 use Rattle.fuse_segments.specs.Unread.{Unread}
 use Rattle.fuse_grammar.specs.Ask.{form_of}
-use Rattle.fuse_grammar.specs.Extensions.{has_option}
 use Rattle.fuse_grammar.specs.Forms.{Layout, Without, Record, layout_size, Form, NoTail, NameTail, TwoNames, NameAndValue, NameAndExtensions, LinkAndExtensions, Pairs, WithRest, IntoRoom, Directories, Versions, Silent, NotServed}
 use Rattle.fuse_messages.specs.Parts.{TailIsCut, pieces_after, MayHoldContext}
 use Rattle.fuse_grammar.specs.Records.{size_of}
@@ -45,10 +44,10 @@ module _ (following : (lengths : List ℕ) (k at n : ℕ) → lie_together at n 
       apart (lie_together 0 n (pieces_after layout (lengths_from (size_of in_header) u.pieces))) (from_record layout n ∙ t) cut
 
   -- of a form with a tail, and of one in whose tail a context may stand
-  with_context : {R : Type 0} (h : InHeader) (l : Layout R) (options : ℕ) → TailIsTogether h u l × IsFalse (has_option options security_ctx)
+  with_context : {R : Type 0} (h : InHeader) (l : Layout R) (options : ℕ) → TailIsTogether h u l × IsFalse (has_flag options security_ctx)
       → TailIsCut h (layout_size l) (pieces_after l (lengths_from (size_of in_header) u.pieces)) ⊎ MayHoldContext options → ⊥
   with_context h l options n (inl w) = whole h l n.0 w
-  with_context h l options n (inr w) = apart (has_option options security_ctx) w n.1
+  with_context h l options n (inr w) = apart (has_flag options security_ctx) w n.1
 
   none_by_form : (h : InHeader) (form : Form) → WantsNone h u form → MayWantFor h (lengths_from (size_of in_header) u.pieces) form → ⊥
   none_by_form h (NoTail l above call) n w = w

@@ -1,7 +1,7 @@
 -- Which requests want memory, as a transport sees it: by the pieces of memory in which their bytes
 -- lie.
 use Rattle.std.specs.Prelude.{◌+◌, ◌-◌, ℕ, Option, Some, None, IsTrue, IsFalse}
-use Rattle.fuse_flags.specs.Flags.{security_ctx}
+use Rattle.fuse_flags.specs.Flags.{security_ctx, has_flag}
 use Rattle.fuse_flags.specs.Numbers.{opcode_of}
 use Rattle.fuse_flags.specs.declared.opcode.Opcode.{Opcode}
 use Rattle.fuse_wire.specs.Records.{in_header}
@@ -10,7 +10,6 @@ use Rattle.fuse_segments.specs.Lengths.{lengths_from}
 use Rattle.fuse_segments.specs.Unread.{Unread, are_together}
 use Rattle.fuse_grammar.specs.Ask.{form_of}
 use Rattle.fuse_grammar.specs.Memory.{header_of, by_memory}
-use Rattle.fuse_grammar.specs.Extensions.{has_option}
 use Rattle.fuse_grammar.specs.Forms.{Form, Layout, layout_size}
 use Rattle.fuse_grammar.specs.Records.{size_of}
 use Rattle.fuse_grammar.specs.declared.limits.Limits.{Limits}
@@ -28,7 +27,7 @@ TailIsTogether h u layout =
 abbrev pub WantsNone : InHeader → Unread → Form → Type 0
 WantsNone h u form =
     by_memory (Unit {0}) (λ R layout. TailIsTogether h u layout)
-    (λ R layout options. TailIsTogether h u layout × IsFalse (has_option options security_ctx))
+    (λ R layout options. TailIsTogether h u layout × IsFalse (has_flag options security_ctx))
     (λ R layout above count. ⊥) form
 
 -- the same by the opcode; a number that is none is answered without memory

@@ -2,12 +2,13 @@
 use Rattle.std.proofs.Common.{◌≡◌, ◌==◌, ◌∙◌, ◌+◌, ℕ, Bool, true, false, List, Option, None, Some, refl, ap, sym, arith}
 use Rattle.std.proofs.lemmas.Bool.Decides.{nat_tests}
 use Rattle.std.specs.Prelude.{bit_and, unwrap_or, if◌then◌else◌}
+use Rattle.fuse_flags.specs.Flags.{has_flag}
 use Rattle.fs_trait.specs.Calls.{Call}
 use Rattle.fs_trait.specs.Calls as call
 use Rattle.fs_trait.specs.Values.{ExtensionValues}
 use Rattle.fs_trait.specs.declared.entry.Context.{Context}
 use Rattle.fuse_wire.specs.declared.attributes.SetattrIn.{SetattrIn}
-use Rattle.fuse_grammar.specs.Ask.{if_set, has_flag}
+use Rattle.fuse_grammar.specs.Ask.{if_set}
 use Rattle.fuse_grammar.specs.Forms.{pairs_of}
 use Rattle.fuse_grammar.specs.Reply.{Echo}
 use Rattle.door_calls.specs.Shapes.{bit, bit_of, context_bit}

@@ -1,8 +1,8 @@
 -- Every case of what a request may ask, by its form.
-use Rattle.std.proofs.Common.{◌≡◌, ◌<◌, ◌+◌, ◌-◌, ◌*◌, ◌==◌, ℕ, Bool, true, false, bit_and, List, length, take, drop, nat_lt, if◌then◌else◌, Option, Some, None, Result, Ok, Err, refl, arith}
+use Rattle.std.proofs.Common.{◌≡◌, ◌<◌, ◌+◌, ◌-◌, ◌*◌, ◌==◌, ℕ, Bool, true, false, List, length, take, drop, nat_lt, if◌then◌else◌, Option, Some, None, Result, Ok, Err, refl, arith}
 use Rattle.std.proofs.lemmas.Bool.Decides.{nat_tests}
 use Rattle.fuse_flags.specs.Numbers.{enomem, enosys, eproto, opcode_of}
-use Rattle.fuse_flags.specs.Flags.{init_ext}
+use Rattle.fuse_flags.specs.Flags.{init_ext, has_flag}
 use Rattle.fuse_flags.specs.declared.constants.TheConstants.{KERNEL_VERSION, MIN_KERNEL_MINOR_VERSION}
 use Rattle.fuse_flags.specs.declared.opcode.Opcode.{Opcode}
 use Rattle.fuse_wire.specs.Fields.{Table, bytes_of, value_of}
@@ -135,9 +135,9 @@ module _ (P : Ask → Type 0) (unique : ℕ) (each : EachCase P unique) where
   second_cases : (flags : ℕ) (rest : List ℕ) (next : ℕ → Ask) → ((flags2 : ℕ) → P (next flags2))
       → P (refused_or (second_flags flags rest) next)
   second_cases flags rest next p =
-      either (λ r. P (refused_or r next)) (bit_and flags init_ext == 0) (Ok 0) (flags2_in (record_of init_in_ext rest)) (p 0)
+      either (λ r. P (refused_or r next)) (has_flag flags init_ext) (flags2_in (record_of init_in_ext rest)) (Ok 0)
       (either (λ r. P (refused_or (flags2_in r) next)) (nat_lt (length rest) (size_of init_in_ext)) (Err DecodeMessage)
-      (Ok (value_of init_in_ext rest)) (each.refusal DecodeMessage tt) (p _))
+      (Ok (value_of init_in_ext rest)) (each.refusal DecodeMessage tt) (p _)) (p 0)
 
   pub versions_cases : (h : InHeader) (rest : List ℕ) → h.unique ≡ unique → P (ask_form h rest Versions)
   versions_cases h rest e =

@@ -7,7 +7,7 @@ use Rattle.std.proofs.lemmas.Bool.Decides.{nat_tests}
 use Rattle.std.proofs.lemmas.Grind.{common_steps}
 use Rattle.std.proofs.lemmas.List.{drop_at, take_at, take_all, get_or_at, get_or_append_left}
 use Rattle.std.proofs.lemmas.List.Sums.{position_or_len_is}
-use Rattle.fuse_flags.specs.Flags.{security_ctx, create_supp_group}
+use Rattle.fuse_flags.specs.Flags.{security_ctx, create_supp_group, has_flag}
 use Rattle.fuse_wire.specs.Fields.{Table, Fit, bytes_of, lone_number}
 use Rattle.fuse_wire.specs.FieldLaws.{value_of-bytes_of-then, length-bytes_of}
 use Rattle.fuse_wire.specs.Records.{secctx, supp_groups}
@@ -16,7 +16,7 @@ use Rattle.fuse_wire.specs.declared.extensions.SuppGroups.{SuppGroups}
 use Rattle.fs_trait.specs.Values.{first_name, ExtensionValues}
 use Rattle.fs_trait.specs.Places.{cut_at}
 use Rattle.fuse_grammar.specs.Records.{size_of, record_of}
-use Rattle.fuse_grammar.specs.Extensions.{Block, Received, error_or, name_and_value, context_in, security_context_in, group_in, has_option, cut_of, extensions_in}
+use Rattle.fuse_grammar.specs.Extensions.{Block, Received, error_or, name_and_value, context_in, security_context_in, group_in, cut_of, extensions_in}
 use Rattle.fuse_grammar.specs.Words.{reads_extensions, nothing_received, with_context, with_group, receive, extensions_of, extensions_after}
 use Rattle.fuse_grammar.specs.FormParts.{value_after}
 use Rattle.laws_turns.specs.Extensions.{context_bytes, context_block, group_bytes, group_block, blocks_of, FitsContext, MayFitContext, MayFitGroup, FitExtensions, IsBlock}
@@ -160,34 +160,34 @@ extensions_of-written options r more bytes b following is well =
 
 -- after the block of contexts
 extensions_of-context : (options : ℕ) (context : Option (List ℕ × List ℕ)) (following : List ℕ)
-    → has_option options security_ctx ≡ true → MayFitContext context
+    → has_flag options security_ctx ≡ true → MayFitContext context
     → extensions_of options nothing_received (cut_of (context_block context ++ following))
     ≡ extensions_of options (with_context nothing_received context) (cut_of following)
 extensions_of-context options None following agreed fits =
     extensions_of-written options nothing_received (with_context nothing_received None) _
     (record { ext_type = 0; body = [] }) following
     (block_bytes-is 0 [] following (lit< tt) (lit< tt))
-    (unless (not (has_option options security_ctx) || false) _ _
-    (not_refused (has_option options security_ctx) false agreed refl))
+    (unless (not (has_flag options security_ctx) || false) _ _
+    (not_refused (has_flag options security_ctx) false agreed refl))
 extensions_of-context options (Some context) following agreed fits =
     extensions_of-written options nothing_received (with_context nothing_received (Some context)) _
     (record { ext_type = 1; body = context_bytes context }) following
     (block_bytes-is 1 (context_bytes context) following (lit< tt) (context_is_short context fits))
-    (unless (not (has_option options security_ctx) || false) _ _
-    (not_refused (has_option options security_ctx) false agreed refl)
+    (unless (not (has_flag options security_ctx) || false) _ _
+    (not_refused (has_flag options security_ctx) false agreed refl)
     ∙ ap (λ (r : Result (Option (List ℕ × List ℕ)) Error). error_or r
     (λ c. received_ok (with_context nothing_received c))) (security_context_in-written context fits))
 
 -- after the block of groups
 extensions_of-group : (options : ℕ) (r : Received) (group : ℕ) (following : List ℕ)
-    → has_option options create_supp_group ≡ true → is_some r.values.group ≡ false → group < 2 ^ 32
+    → has_flag options create_supp_group ≡ true → is_some r.values.group ≡ false → group < 2 ^ 32
     → extensions_of options r (cut_of (group_block (Some group) ++ following))
     ≡ extensions_of options (with_group r group) (cut_of following)
 extensions_of-group options r group following agreed none small =
     extensions_of-written options r (with_group r group) _ (record { ext_type = 32; body = group_bytes group }) following
     (block_bytes-is 32 (group_bytes group) following (lit< tt) (group_is_short group small))
-    (unless (not (has_option options create_supp_group) || is_some r.values.group) _ _
-    (not_refused (has_option options create_supp_group) (is_some r.values.group) agreed none)
+    (unless (not (has_flag options create_supp_group) || is_some r.values.group) _ _
+    (not_refused (has_flag options create_supp_group) (is_some r.values.group) agreed none)
     ∙ ap (λ (g : Result ℕ Error). error_or g (λ n. received_ok (with_group r n))) (group_in-written group small))
 
 -- ---- extensions
@@ -219,10 +219,10 @@ extensions_in-read options bytes h =
     extensions_in-cut options bytes ∙ reads (reads_extensions options) _ _ h
 
 -- what was received is found at the end
-extensions_of-received : (options : ℕ) (r : Received) → (has_option options security_ctx && not r.has_contexts) ≡ false
+extensions_of-received : (options : ℕ) (r : Received) → (has_flag options security_ctx && not r.has_contexts) ≡ false
     → extensions_of options r (cut_of []) ≡ Ok r.values
 extensions_of-received options r h =
-    extensions_of-end options r [] refl ∙ unless (has_option options security_ctx && not r.has_contexts) _ _ h
+    extensions_of-end options r [] refl ∙ unless (has_flag options security_ctx && not r.has_contexts) _ _ h
 
 -- both of two, where the second is false
 and_false : (a : Bool) → (a && false) ≡ false
@@ -236,16 +236,16 @@ not_and false b h = refl
 
 -- the group after the block of contexts
 extensions_of-may_group : (options : ℕ) (context : Option (List ℕ × List ℕ)) (group : Option ℕ)
-    → (is_some group ≡ true → has_option options create_supp_group ≡ true) → MayFitGroup group
+    → (is_some group ≡ true → has_flag options create_supp_group ≡ true) → MayFitGroup group
     → extensions_of options (with_context nothing_received context) (cut_of (group_block group))
     ≡ Ok (record { context = context; group = group })
 extensions_of-may_group options context None agreed fits =
-    extensions_of-received options (with_context nothing_received context) (and_false (has_option options security_ctx))
+    extensions_of-received options (with_context nothing_received context) (and_false (has_flag options security_ctx))
 extensions_of-may_group options context (Some group) agreed fits =
     let r : Received = with_context nothing_received context in
     ap (λ (bytes : List ℕ). extensions_of options r (cut_of bytes)) (sym (append-nil (group_block (Some group))))
     ∙ extensions_of-group options r group [] (agreed refl) refl fits
-    ∙ extensions_of-received options (with_group r group) (and_false (has_option options security_ctx))
+    ∙ extensions_of-received options (with_group r group) (and_false (has_flag options security_ctx))
 
 -- after names
 extensions_after-names : (options : ℕ) (names bytes : List ℕ)
@@ -257,39 +257,39 @@ extensions_after-names options names bytes =
     ∙ ap (extensions_in options) (drop_at names bytes (length names) refl)
 
 -- what is written is found
-extensions_in-written : (options : ℕ) (values : ExtensionValues) → has_option options security_ctx ≡ true
-    → (is_some values.group ≡ true → has_option options create_supp_group ≡ true) → FitExtensions values
+extensions_in-written : (options : ℕ) (values : ExtensionValues) → has_flag options security_ctx ≡ true
+    → (is_some values.group ≡ true → has_flag options create_supp_group ≡ true) → FitExtensions values
     → extensions_in options (blocks_of values) ≡ Ok values
 extensions_in-written options values agreed group fits =
     extensions_in-read options (blocks_of values)
-    (either (has_option options security_ctx) (has_option options create_supp_group) agreed)
+    (either (has_flag options security_ctx) (has_flag options create_supp_group) agreed)
     ∙ extensions_of-context options values.context (group_block values.group) agreed fits.context
     ∙ extensions_of-may_group options values.context values.group group fits.group
 
 -- and so is a group alone
-extensions_in-group : (options group : ℕ) → has_option options security_ctx ≡ false
-    → has_option options create_supp_group ≡ true → group < 2 ^ 32
+extensions_in-group : (options group : ℕ) → has_flag options security_ctx ≡ false
+    → has_flag options create_supp_group ≡ true → group < 2 ^ 32
     → extensions_in options (group_block (Some group)) ≡ Ok (record { context = None; group = Some group })
 extensions_in-group options group unagreed agreed small =
     extensions_in-read options (group_block (Some group))
-    (or_else (has_option options security_ctx) (has_option options create_supp_group) agreed)
+    (or_else (has_flag options security_ctx) (has_flag options create_supp_group) agreed)
     ∙ ap (λ (bytes : List ℕ). extensions_of options nothing_received (cut_of bytes))
     (sym (append-nil (group_block (Some group))))
     ∙ extensions_of-group options nothing_received group [] agreed refl small
     ∙ extensions_of-received options (with_group nothing_received group)
-    (not_and (has_option options security_ctx) true unagreed)
+    (not_and (has_flag options security_ctx) true unagreed)
 
 -- the same after names
 pub extensions_after-written : (options : ℕ) (names : List ℕ) (values : ExtensionValues)
-    → has_option options security_ctx ≡ true
-    → (is_some values.group ≡ true → has_option options create_supp_group ≡ true) → FitExtensions values
+    → has_flag options security_ctx ≡ true
+    → (is_some values.group ≡ true → has_flag options create_supp_group ≡ true) → FitExtensions values
     → extensions_after options (length names) (names ++ blocks_of values) ≡ Ok values
 extensions_after-written options names values agreed group fits =
     extensions_after-names options names (blocks_of values) ∙ extensions_in-written options values agreed group fits
 
 -- and so is a group alone
-pub extensions_after-group : (options group : ℕ) (names : List ℕ) → has_option options security_ctx ≡ false
-    → has_option options create_supp_group ≡ true → group < 2 ^ 32
+pub extensions_after-group : (options group : ℕ) (names : List ℕ) → has_flag options security_ctx ≡ false
+    → has_flag options create_supp_group ≡ true → group < 2 ^ 32
     → extensions_after options (length names) (names ++ group_block (Some group))
     ≡ Ok (record { context = None; group = Some group })
 extensions_after-group options group names unagreed agreed small =

@@ -2,9 +2,9 @@
 //! proved.
 
 ghost use Rattle.std.specs.Prelude.{◌≡◌, ◌<◌, ◌^◌, ◌++◌, ℕ, List, length, IsTrue, IsFalse, is_some, if◌then◌else◌, Ok, Some, None};
-ghost use Rattle.fuse_flags.specs.Flags.{security_ctx, create_supp_group};
+ghost use Rattle.fuse_flags.specs.Flags.{security_ctx, create_supp_group, has_flag};
 ghost use Rattle.fs_trait.specs.Values.{ExtensionValues};
-ghost use Rattle.fuse_grammar.specs.Extensions.{Block, cut_of, has_option, extensions_in, no_extensions};
+ghost use Rattle.fuse_grammar.specs.Extensions.{Block, cut_of, extensions_in, no_extensions};
 ghost use Rattle.fuse_grammar.specs.Words.{extensions_after, extensions_of, reads_extensions, nothing_received};
 ghost use Rattle.laws_turns.specs.Extensions.{blocks_of, group_block, FitExtensions, IsCut, error_left};
 
@@ -12,16 +12,16 @@ ghost use Rattle.laws_turns.specs.Extensions.{blocks_of, group_block, FitExtensi
 /// front of them: with a context agreed on, and with a group too where there is one.
 pub fn written_extensions_are_found()
     ensures { (options : ℕ) (names : List ℕ) (values : ExtensionValues) →
-        IsTrue (has_option options security_ctx) →
-        (IsTrue (is_some values.group) → IsTrue (has_option options create_supp_group)) →
+        IsTrue (has_flag options security_ctx) →
+        (IsTrue (is_some values.group) → IsTrue (has_flag options create_supp_group)) →
         FitExtensions values →
         extensions_after options (length names) (names ++ blocks_of values) ≡ Ok values }
 {}
 
 /// The same of a group alone, where no context was agreed on.
 pub fn written_groups_are_found()
-    ensures { (options group : ℕ) (names : List ℕ) → IsFalse (has_option options security_ctx) →
-        IsTrue (has_option options create_supp_group) → group < 2 ^ 32 →
+    ensures { (options group : ℕ) (names : List ℕ) → IsFalse (has_flag options security_ctx) →
+        IsTrue (has_flag options create_supp_group) → group < 2 ^ 32 →
         extensions_after options (length names) (names ++ group_block (Some group))
         ≡ Ok (record { context = None; group = Some group }) }
 {}

@@ -1,10 +1,10 @@
 -- What a request asks by the rows that the file system offers.
 use Rattle.std.proofs.Common.{◌≡◌, ◌==◌, ◌&&◌, ◌+◌, ◌∙◌, ℕ, Bool, true, false, List, length, drop, nat_le, nat_lt, if◌then◌else◌, Result, Ok, Err, refl, sym, subst}
+use Rattle.fuse_flags.specs.Flags.{has_flag}
 use Rattle.fuse_wire.specs.Records.{in_header}
 use Rattle.fuse_wire.specs.declared.headers.InHeader.{InHeader}
 use Rattle.fuse_wire_more.specs.Locks.{lk_in}
 use Rattle.fuse_wire_more.specs.Devices.{ioctl_in, statx_in}
-use Rattle.fuse_grammar.specs.Ask.{has_flag}
 use Rattle.fuse_grammar.specs.Limits.{max_len}
 use Rattle.fuse_grammar.specs.Records.{record_of, size_of}
 use Rattle.fuse_grammar.specs.declared.error.Error.{Error}
