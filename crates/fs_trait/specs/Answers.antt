@@ -111,7 +111,7 @@ FitsText bytes = length bytes < 2 ^ 32 - 16
 
 -- An answer of this kind, with its numbers in their widths in the reply: a fault is one of every kind but
 -- `Quiet`, and the only one of `Iterators` and `Faults`; a time is in whole seconds and the nanoseconds
--- beyond. `Fit` and the `Fits..` above say nothing of a room, as `fits` of Room and `Fits` of Listing do.
+-- beyond. `Fit` and the `Fits..` above say nothing of a room, as `Fits` of Listing does.
 abbrev pub IsAnswer : Kind → Answer → Type 0
 IsAnswer Quiet Done = Unit {0}
 IsAnswer Quiet _ = ⊥

@@ -1,5 +1,5 @@
 -- How a reply is put into a room. It leads to `IsReplied`, for every reply, and to `unseen`.
-use Rattle.std.specs.Prelude.{◌≡◌, ℕ, List, ◌++◌, length, take, drop, nat_le, if◌then◌else◌, Bool, true, Option, None, Some, Result, Ok, Err}
+use Rattle.std.specs.Prelude.{◌≡◌, ℕ, List, ◌++◌, length, take, drop, nat_le, if◌then◌else◌, Option, None, Some, Result, Ok, Err}
 use Rattle.fuse_grammar.specs.Reply.{Reply, Refusal, NoReply, Bytes, OpenAfter}
 use Rattle.fuse_grammar.specs.declared.error.Error.{Error}
 use Rattle.fuse_grammar.specs.declared.error.Error.TheVariants.{EncodeMessage}
@@ -31,13 +31,10 @@ IsReplied NoReply room outcome room_after = (outcome ≡ Ok 0) × (room_after �
 IsReplied (Bytes reply) room outcome room_after = IsPut reply room outcome room_after
 IsReplied (OpenAfter reply) room outcome room_after = IsPutOpen reply room outcome room_after
 
--- whether what comes back fits into a room of this length: only `Bytes` may not, for `IsPutOpen`
--- says that its reply does
-abbrev pub fits : (room_len : ℕ) → Reply → Bool
-fits room_len (Bytes reply) = nat_le (length reply) room_len
-fits room_len _ = true
-
--- the node of an entry that a client doesn't get to see: of one whose reply doesn't fit
+-- the node of an entry that a client doesn't get to see: of one whose reply doesn't fit. Only `Bytes` may not,
+-- for `IsPutOpen` says that its reply does
 abbrev pub unseen : (room_len : ℕ) → Reply → Option ℕ → Option ℕ
 unseen room_len reply None = None
-unseen room_len reply (Some node) = if fits room_len reply then None else Some node
+unseen room_len (Bytes reply) (Some node) =
+    if nat_le (length reply) room_len then None else Some node
+unseen room_len reply (Some node) = None

@@ -14,18 +14,18 @@ pub record Written : Type 0 where
   pub held : ℕ
   pub lengths : List ℕ
 
--- all bytes of a writer, those passed and those left. (Elsewhere what is whole lacks nothing of it.)
-abbrev pub whole : Written → List ℕ
-whole w = w.passed ++ w.left
-
 -- A writer keeps the bytes that it had passed, and those of its room are `room_after`, as many as
 -- before, in segments of the same lengths. Where it stands isn't said.
 pub record Leaves (old : Written) (room_after : List ℕ) (new : Written) : Type 0 where
-  pub kept : whole new ≡ old.passed ++ room_after
+  pub kept : new.passed ++ new.left ≡ old.passed ++ room_after
   pub same_length : length room_after ≡ length old.left
   pub same_segments : new.lengths ≡ old.lengths
 
 -- ---- no more is of the promise but `unwritten`, by `Writer::new`: the rest is for contracts of a writer's calls
+
+-- all bytes of a writer, those passed and those left
+abbrev pub whole : Written → List ℕ
+whole w = w.passed ++ w.left
 
 -- a writer that has passed nothing, over these segments
 abbrev pub unwritten : List (List ℕ) → Written

@@ -1,5 +1,5 @@
 -- From what ask and answer say over writers to turns of the grammar.
-use Rattle.std.proofs.Common.{◌≡◌, ◌≢◌, ◌≤◌, ◌<◌, ◌+◌, ◌-◌, ◌++◌, ◌∙◌, ◌==◌, ◌^◌, ◌⊎◌, if◌then◌else◌, ℕ, ℤ, Bool, true, false, not, bit_and, List, [], ◌∷◌, length, take, replicate, min, Option, None, Some, unwrap_or, Result, refl, ap, sym, subst, inl, inr, arith, length-append, append_assoc}
+use Rattle.std.proofs.Common.{◌≡◌, ◌≢◌, ◌≤◌, ◌<◌, ◌+◌, ◌-◌, ◌++◌, ◌∙◌, ◌==◌, ◌^◌, ◌⊎◌, if◌then◌else◌, ℕ, ℤ, Bool, true, false, not, bit_and, nat_le, List, [], ◌∷◌, length, take, replicate, min, Option, None, Some, unwrap_or, Result, refl, ap, sym, subst, inl, inr, arith, length-append, append_assoc}
 use Rattle.std.proofs.lemmas.Bool.Decides.{nat_tests}
 use Rattle.std.proofs.lemmas.List.{append_cancel_left, length-replicate}
 use Rattle.std.specs.Prelude.{⊤}
@@ -13,8 +13,8 @@ use Rattle.fuse_grammar.specs.Ask.{ask}
 use Rattle.fuse_grammar.specs.Forms.{Ask, Ends, Asks as asks_call, Lists, WithMemory}
 use Rattle.fuse_grammar.specs.Limits.{AreLimits}
 use Rattle.fuse_grammar.specs.Listing.{Listing, given_back}
-use Rattle.fuse_grammar.specs.Reply.{Echo, Reply, reply_of}
-use Rattle.fuse_grammar.specs.Room.{IsReplied, unseen, fits}
+use Rattle.fuse_grammar.specs.Reply.{Echo, Reply, Refusal, NoReply, Bytes, OpenAfter, reply_of}
+use Rattle.fuse_grammar.specs.Room.{IsReplied, unseen}
 use Rattle.fuse_grammar.specs.Turn.{Turn, Follows, node_answered}
 use Rattle.fuse_grammar.specs.Words.{counted}
 use Rattle.fuse_grammar.specs.declared.error.Error.{Error}
@@ -112,7 +112,10 @@ back_once : (n : ℕ) (reply : Reply) (node : ℕ) (zero : Bool) → (node == 0)
     → counted (unwrap_or (unseen n reply (if zero then None else Some node)) 0)
     ≡ unseen n reply (if zero then None else Some node)
 back_once n reply node true is = refl
-back_once n reply node false is = back_if node (fits n reply) is
+back_once n (Bytes reply) node false is = back_if node (nat_le (length reply) n) is
+back_once n (Refusal error) node false is = refl
+back_once n NoReply node false is = refl
+back_once n (OpenAfter reply) node false is = refl
 
 back_told : (n : ℕ) (reply : Reply) (kind : Kind) (answer : Answer)
     → counted (unwrap_or (unseen n reply (node_answered kind answer)) 0) ≡ unseen n reply (node_answered kind answer)
