@@ -36,8 +36,8 @@
  *
  * Who owns what. All structs are yours. What a slot points to is the library's, from the first call
  * that it is lent to up to nizwarf_end_slot. A request is lent to nizwarf_ask alone: nizwarf_reply
- * goes by `call`, which may be copied. Texts, items and names are lent for the length of a call. A
- * session, a call and an answer are handed in with all their fields set.
+ * goes by `call`, which may be copied, and reads no range of it. Texts, items and names are lent for the
+ * length of a call. A session, a call and an answer are handed in with all their fields set.
  *
  * Rooms. nizwarf_ask and nizwarf_reply write the first `told.put` bytes of the room, as the last they do,
  * and no other; so a room may overlap a request, texts and names. The data of a READ are yours to put,

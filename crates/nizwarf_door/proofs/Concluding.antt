@@ -1,7 +1,6 @@
 -- What both promises conclude of a request that was asked and then answered.
-use Rattle.std.proofs.Common.{◌≡◌, ◌≢◌, ◌≤◌, ◌+◌, ◌-◌, ◌++◌, ◌∙◌, ◌==◌, ◌⊎◌, ℕ, ℤ, List, length, replicate, refl, ap, sym, subst, inl, inr, arith, length-append}
+use Rattle.std.proofs.Common.{◌≡◌, ◌≢◌, ◌≤◌, ◌+◌, ◌-◌, ◌++◌, ◌∙◌, ◌==◌, ◌⊎◌, ℕ, ℤ, List, length, replicate, refl, sym, subst, inl, inr, arith, length-append}
 use Rattle.std.proofs.lemmas.List.{length-replicate}
-use Rattle.fs_trait.specs.Runs.{Event}
 use Rattle.fuse_grammar.specs.Ask.{ask}
 use Rattle.fuse_grammar.specs.Turn.{Turn, IsTurn}
 use Rattle.fuse_grammar.specs.declared.limits.Limits.{Limits}
@@ -40,7 +39,7 @@ module _ (limits : Limits) (options : ℕ) (request : List ℕ) (room : ℕ) (as
       let some : length following ≡ n = length-replicate n 0 in
       let sum : length (s.room ++ following) ≡ length s.room + length following = length-append s.room following in
       let all : length (s.room ++ following) ≡ c.room = omega (arith, some, sum, within, s.length_is) in
-      let it = s.turn request following t.is_of all in
+      let it = s.turn request following (c, t.is_of, refl, λ is. refl) all in
       let turn : Turn = record {
         request = request;
         room = s.room ++ following;

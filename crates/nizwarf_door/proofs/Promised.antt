@@ -19,11 +19,11 @@ use Rattle.door_calls.specs.declared.call.kind.TheConstants as kind
 use Rattle.door_calls.specs.declared.data.ItemData.{ItemData}
 use Rattle.door_answer.specs.Listing.{IsOfferedBy}
 use Rattle.door_answer.specs.Said.{IsSaid, IsFailed}
-use Rattle.laws_flight.specs.Table.{AreOf, interrupted}
+use Rattle.laws_flight.specs.Table.{interrupted}
 use Rattle.c_rooms.specs.Codes.{is_asked, no_memory, not_asked, too_long, outcome_code, length_of}
 use Rattle.nizwarf_door.specs.Answering.{entry_of}
 use Rattle.nizwarf_door.specs.Kept.{put_of}
-use Rattle.nizwarf_door.specs.Turns.{AnswersCall, Finishes, Happened, IsAnsweredOrNot, IsAskedOrNot, IsUnanswered}
+use Rattle.nizwarf_door.specs.Turns.{Happened, IsAnsweredOrNot, IsAskedOrNot, Suffice}
 use Rattle.nizwarf_door.specs.declared.data.ToldData.{ToldData}
 use Rattle.nizwarf_door.proofs.Asking.{put_within}
 
@@ -97,15 +97,15 @@ module _ (limits : Limits) (call : CallData) (a : AnswerData) (text : List ℕ) 
       (s.outcome, s.room_after, s.code_is, s.len, s.put, s.same_interrupts, s.shown_is)
   told_of_one (inr u) lacks unasked = absurd (none_of _ _ u.why (λ n. lacks n.0) (λ n. unasked n.0))
 
-  -- nothing is told of data that are of no request
+  -- nothing is told of data that suffice for no request
   pub of_none : IsAnsweredOrNot limits call a text items code told told_after shown → code ≡ not_asked
-      → (told_after ≡ told) × (shown ≡ []) × ((request : List ℕ) → AreOf limits request call → ⊥)
+      → (told_after ≡ told) × (shown ≡ []) × ((request : List ℕ) → Suffice limits request call → ⊥)
   of_none (inl s) is = absurd (never_unasked s.outcome (sym s.code_is ∙ is))
   of_none (inr u) is = by u.why
     where
       by : ((code ≡ no_memory) × (told_after ≡ record told { give_back = entry_of call a; taken = 0 }))
-          ⊎ ((code ≡ not_asked) × (told_after ≡ told) × ((request : List ℕ) → AreOf limits request call → ⊥))
-          → (told_after ≡ told) × (shown ≡ []) × ((request : List ℕ) → AreOf limits request call → ⊥)
+          ⊎ ((code ≡ not_asked) × (told_after ≡ told) × ((request : List ℕ) → Suffice limits request call → ⊥))
+          → (told_after ≡ told) × (shown ≡ []) × ((request : List ℕ) → Suffice limits request call → ⊥)
       by (inl none) = absurd (let e = sym none.0 ∙ is in cc)
       by (inr none) = (none.1, u.none_shown, none.2)
 
@@ -138,7 +138,7 @@ none_offered a items l events records answer (inr opened) taken some offered = a
 
 module _ (limits : Limits) (call : CallData) (a : AnswerData) (text : List ℕ) (items : List ItemData) (code : ℤ)
     (told told_after : ToldData) (shown request : List ℕ) (echo : Echo) (some : a.error ≢ pos 0)
-    (are : AreOf limits request call) where
+    (are : Suffice limits request call) where
   -- whatever stood after the bytes of the room that are put
   abbrev following : List ℕ → List ℕ
   following room = replicate (call.room - length room) 0

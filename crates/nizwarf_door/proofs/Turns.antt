@@ -1,5 +1,5 @@
 -- From what ask and answer say over writers to turns of the grammar.
-use Rattle.std.proofs.Common.{◌≡◌, ◌≢◌, ◌≤◌, ◌<◌, ◌+◌, ◌-◌, ◌++◌, ◌∙◌, ◌==◌, ◌^◌, ◌⊎◌, if◌then◌else◌, ℕ, ℤ, Bool, true, false, not, bit_and, nat_le, List, [], ◌∷◌, length, take, replicate, min, Option, None, Some, unwrap_or, Result, refl, ap, sym, subst, inl, inr, arith, length-append, append_assoc}
+use Rattle.std.proofs.Common.{◌≡◌, ◌≤◌, ◌<◌, ◌+◌, ◌-◌, ◌++◌, ◌∙◌, ◌==◌, ◌^◌, ◌⊎◌, if◌then◌else◌, ℕ, ℤ, Bool, true, false, not, bit_and, nat_le, List, [], ◌∷◌, length, take, replicate, min, Option, None, Some, unwrap_or, Result, refl, ap, sym, subst, inl, inr, arith, length-append, append_assoc}
 use Rattle.std.proofs.lemmas.Bool.Decides.{nat_tests}
 use Rattle.std.proofs.lemmas.List.{append_cancel_left, length-replicate}
 use Rattle.std.specs.Prelude.{⊤}
@@ -27,18 +27,18 @@ use Rattle.door_ask.specs.Asked.{IsAsked, Tells, interrupted_by}
 use Rattle.door_ask.specs.declared.asked.Asked.{Asked}
 use Rattle.door_ask.specs.declared.asked.Asked.TheVariants as asked
 use Rattle.door_answer.specs.Listing.{IsOfferedBy, listing_told}
-use Rattle.door_answer.specs.Told.{TellsEcho, TellsListing, IsShort, IsUnlisted, AnswersEachCall, AnswersEachListing}
+use Rattle.door_answer.specs.Told.{TellsEcho, TellsOffer, TellsCall, TellsListing, IsShort, AnswersEachCall, AnswersEachListing}
 use Rattle.door_answer.specs.declared.answered.Answered.{Answered}
-use Rattle.laws_flight.specs.Table.{TellsAsked, AreOf, interrupted}
+use Rattle.laws_flight.specs.Table.{TellsAsked}
 use Rattle.laws_flight.proofs.OneTurn.{came_back, are_finished_turns}
 use Rattle.laws_flight.proofs.Servable.{HasHeader, IsServable, is_servable}
 use Rattle.laws_flight.proofs.Table.{are_of, tells_call, interrupted_same}
 use Rattle.c_rooms.specs.Codes.{length_of}
-use Rattle.nizwarf_door.specs.Answering.{AnswersOrNot, answered}
+use Rattle.nizwarf_door.specs.Answering.{AnswersOrNot}
 use Rattle.nizwarf_door.specs.Answering.{IsPassedOn as IsAnswerTold}
 use Rattle.nizwarf_door.specs.Asking.{AsksOrNot, IsPassedOn, finished}
 use Rattle.nizwarf_door.specs.Kept.{put_of}
-use Rattle.nizwarf_door.specs.Turns.{IsAskedOrNot, IsAnsweredOrNot, Happened}
+use Rattle.nizwarf_door.specs.Turns.{IsAskedOrNot, IsAnsweredOrNot, Happened, Suffice, read_of, read_of_directory}
 use Rattle.nizwarf_door.specs.declared.data.ToldData.{ToldData}
 use Rattle.nizwarf_door.proofs.OneTurn.{listing_after}
 
@@ -140,6 +140,65 @@ listing_is request told echo l space t = (
   },
 )
 
+-- these data tell what an answer goes by, of what is asked
+abbrev GoesBy : CallData → Ask → Type 0
+GoesBy c (Ends reply) = ⊥
+GoesBy c (asks_call echo asked) = TellsEcho c echo × TellsCall c asked
+GoesBy c (Lists echo l) = TellsEcho c echo × TellsListing c l
+GoesBy c (WithMemory rest) = GoesBy c rest
+
+offer_same : (told c : CallData) (asked : Call) → c.length ≡ told.length → TellsOffer told asked → TellsOffer c asked
+offer_same told c (call.Init offered) same is = same ∙ is
+offer_same told c asked same is = tt
+
+-- the directory that is told by these data, and this size and room
+abbrev directory_told : CallData → (size room : ℕ) → Listing
+directory_told c size room = listing_told (record c { size = size; room = room })
+
+-- so do those of which an answer reads the same
+module _ (request : List ℕ) (told c : CallData) (same : read_of c ≡ read_of told)
+    (directory : told.answer ≡ 14 → read_of_directory c ≡ read_of_directory told) where
+  listing_same : told.answer ≡ 14 → listing_told c ≡ listing_told told
+  listing_same is =
+      ap (λ (x : CallData). directory_told x c.size c.room) (directory is)
+      ∙ ap (λ (x : CallData). directory_told (read_of_directory told) x.size x.room) same
+
+  goes_by : (most : ℕ) (asks : Ask) → IsServable most told.room asks → TellsAsked request told asks → GoesBy c asks
+  goes_by most (Ends reply) usual t = t
+  goes_by most (asks_call echo asked) usual t =
+      let says = tells_call request echo told asked t in (
+        record {
+          unique = ap (λ (x : CallData). x.unique) same ∙ says.0.unique;
+          readahead = ap (λ (x : CallData). x.readahead) same ∙ says.0.readahead;
+        },
+        record {
+          number = ap (λ (x : CallData). x.call) same ∙ says.1.number;
+          kind = ap (λ (x : CallData). x.answer) same ∙ says.1.kind;
+          size = ap (λ (x : CallData). x.size) same ∙ says.1.size;
+          offer = offer_same told c asked (ap (λ (x : CallData). x.length) same) says.1.offer;
+        },
+      )
+  goes_by most (Lists echo l) usual t =
+      let says = listing_is request told echo l usual.1 t in (
+        record {
+          unique = ap (λ (x : CallData). x.unique) same ∙ says.0.unique;
+          readahead = ap (λ (x : CallData). x.readahead) same ∙ says.0.readahead;
+        },
+        record {
+          kind = ap (λ (x : CallData). x.answer) same ∙ says.1.kind;
+          listing_is = listing_same says.1.kind ∙ says.1.listing_is;
+        },
+      )
+  goes_by most (WithMemory rest) usual t = goes_by most rest usual t
+
+suffices : (limits : Limits) (request : List ℕ) (c : CallData) → Suffice limits request c
+    → GoesBy c (ask limits c.options c.room request)
+suffices limits request c (told, are, same, directory) =
+    subst (λ (o : ℕ). GoesBy c (ask limits o c.room request)) (sym (ap (λ (x : CallData). x.options) same))
+    (subst (λ (n : ℕ). GoesBy c (ask limits told.options n request)) (sym (ap (λ (x : CallData). x.room) same))
+    (goes_by request told c same directory limits.max_buffer (ask limits told.options told.room request)
+    (is_servable limits told.options told.room request) are))
+
 module _ (limits : Limits) (request : List ℕ) (c : CallData) (a : AnswerData) (text : List ℕ) (items : List ItemData)
     (old new : Written) (came : Answered) (told : ToldData) (following room_after : List ℕ)
     (kept : whole new ≡ old.passed ++ room_after) (all : length old.left + length following ≡ c.room)
@@ -169,11 +228,10 @@ module _ (limits : Limits) (request : List ℕ) (c : CallData) (a : AnswerData) 
       → Follows (turn_of events) limits c.options asks told.options
   under asks events h = subst (λ (o : ℕ). Follows (turn_of events) limits c.options asks o) (sym leaves) h
 
-  turned : (asks : Ask) → IsServable limits.max_buffer c.room asks → TellsAsked request c asks → Turned asks
+  turned : (asks : Ask) → IsServable limits.max_buffer c.room asks → GoesBy c asks → Turned asks
   turned (Ends reply) usual t = absurd t
   turned (asks_call echo asked) usual t =
-      let says = tells_call request echo c asked t in
-      let came_so = calls echo asked following says.0 says.1 usual.0 all in
+      let came_so = calls echo asked following t.0 t.1 usual.0 all in
       let reply = reply_of limits echo came.options (kind_of asked) came_so.answer in
       let back = unseen (length (old.left ++ following)) reply (node_answered (kind_of asked) came_so.answer) in
       let b = came_back reply (with_after old following) (with_after new following) came.outcome came_so.replied in
@@ -198,8 +256,7 @@ module _ (limits : Limits) (request : List ℕ) (c : CallData) (a : AnswerData) 
         under (asks_call echo asked) events follows,
       )
   turned (Lists echo l) usual t =
-      let says = listing_is request c echo l usual.1 t in
-      let came_so = listings echo l says.0 says.1 (length-append old.left following ∙ all) in
+      let came_so = listings echo l t.0 t.1 (length-append old.left following ∙ all) in
       let reply = reply_of limits echo came.options (Data l.size) (read_answer came_so.answer came_so.records) in
       let b = came_back reply (with_after old following) (with_after new following) came.outcome came_so.replied in
       let follows : Follows (turn_of came_so.events) limits c.options (Lists echo l) came.options = (
@@ -251,22 +308,20 @@ listed space size most room small least (inr long) = omega (arith, small, least,
 
 module _ (limits : Limits) (are : AreLimits limits) (c : CallData) (a : AnswerData) (text : List ℕ) (items : List ItemData)
     (old new : Written) (space : length old.left ≡ put_of c c.room) where
-  module _ (request : List ℕ) (calls : AnswersEachCall limits c a text old None new)
+  module _ (calls : AnswersEachCall limits c a text old None new)
       (listings : AnswersEachListing limits c a items old None new) where
-    of_none : (asks : Ask) → IsServable limits.max_buffer c.room asks → TellsAsked request c asks → ⊥
+    of_none : (asks : Ask) → IsServable limits.max_buffer c.room asks → GoesBy c asks → ⊥
     of_none (Ends reply) usual t = t
     of_none (asks_call echo asked) usual t =
-        let says = tells_call request echo c asked t in
         let n : length (replicate (c.room - length old.left) 0) ≡ c.room - length old.left =
         length-replicate (c.room - length old.left) 0 in
-        let short = calls echo asked (replicate (c.room - length old.left) 0) says.0 says.1 usual.0
+        let short = calls echo asked (replicate (c.room - length old.left) 0) t.0 t.1 usual.0
         (ap (λ (n : ℕ). length old.left + n) n ∙ put_within (c.answer == 3) c.room (length old.left) space) in
-        not_short asked c.answer c.room (length old.left) _ (c.answer == 3) refl says.1.kind usual.1 space n short
+        not_short asked c.answer c.room (length old.left) _ (c.answer == 3) refl t.1.kind usual.1 space n short
     of_none (Lists echo l) usual t =
-        let says = listing_is request c echo l usual.1 t in
-        let all = whole_room c.answer c.room (length old.left) (c.answer == 3) refl says.1.kind space in
+        let all = whole_room c.answer c.room (length old.left) (c.answer == 3) refl t.1.kind space in
         listed (length old.left) l.size limits.max_buffer (subst (λ (n : ℕ). 16 ≤ n) (sym all) usual.0) usual.2 are.greatest
-        (listings echo l says.0 says.1 all)
+        (listings echo l t.0 t.1 all)
     of_none (WithMemory rest) usual t = of_none rest usual t
 
   module _ (code : ℤ) (told told_after : ToldData) (shown : List ℕ) where
@@ -279,8 +334,8 @@ module _ (limits : Limits) (are : AreLimits limits) (c : CallData) (a : AnswerDa
           why = inr (
             on.0,
             on.1,
-            λ request is. of_none request calls listings (ask limits c.options c.room request)
-                (is_servable limits c.options c.room request) is,
+            λ request is. of_none calls listings (ask limits c.options c.room request)
+                (is_servable limits c.options c.room request) (suffices limits request c is),
           );
           none_shown = on.2;
         })
@@ -297,7 +352,7 @@ module _ (limits : Limits) (are : AreLimits limits) (c : CallData) (a : AnswerDa
               (listing_after limits c a items old new came following (c.answer == 3) refl space sum listings)
               (ap (λ (t : ToldData). t.give_back) on.1) (ap (λ (t : ToldData). t.taken) on.1)
               (ap (λ (t : ToldData). t.options) on.1) (ask limits c.options c.room request)
-              (is_servable limits c.options c.room request) is in (
+              (is_servable limits c.options c.room request) (suffices limits request c is) in (
                 r.0,
                 r.1,
                 subst (λ (n : ℕ). Follows (record {

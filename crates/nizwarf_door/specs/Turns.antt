@@ -12,6 +12,7 @@ use Rattle.fuse_grammar.specs.declared.error.Error.{Error}
 use Rattle.fuse_grammar.specs.declared.limits.Limits.{Limits}
 use Rattle.door_calls.specs.Shapes.{nothing}
 use Rattle.door_calls.specs.declared.call.CallData.{CallData}
+use Rattle.door_calls.specs.declared.call.kind.TheConstants.{DIRECTORY}
 use Rattle.door_calls.specs.declared.data.AnswerData.{AnswerData}
 use Rattle.door_calls.specs.declared.data.ItemData.{ItemData}
 use Rattle.door_answer.specs.Listing.{IsOfferedBy}
@@ -55,6 +56,38 @@ module _ (limits : Limits) (options : ℕ) (request : List ℕ) (room : ℕ) (co
   abbrev pub IsAskedOrNot : Type 0
   IsAskedOrNot = TellsItsCall ⊎ Finishes ⊎ IsNotAsked request code call told told_after shown
 
+-- what an answer reads of the data of a call
+abbrev pub read_of : CallData → CallData
+read_of call = record nothing {
+  unique = call.unique;
+  readahead = call.readahead;
+  options = call.options;
+  room = call.room;
+  call = call.call;
+  answer = call.answer;
+  size = call.size;
+  length = call.length;
+}
+
+-- and besides, where a directory is read
+abbrev pub read_of_directory : CallData → CallData
+read_of_directory call = record nothing {
+  uid = call.uid;
+  gid = call.gid;
+  pid = call.pid;
+  node = call.node;
+  handle = call.handle;
+  offset = call.offset;
+  has = call.has;
+}
+
+-- These data suffice for an answer to this request: an answer reads the same of them as of those that tell what the
+-- request asks for. No name and no value is read.
+abbrev pub Suffice : Limits → (request : List ℕ) → CallData → Type 0
+Suffice limits request call =
+    (told : CallData) × AreOf limits request told × (read_of call ≡ read_of told)
+    × (told.answer ≡ DIRECTORY → read_of_directory call ≡ read_of_directory told)
+
 module _ (a : AnswerData) (text : List ℕ) (items : List ItemData) where
   -- What happened since the request was asked, which asks this: the call, with the answer that the data say, and that
   -- the entry was given back which is told to be; or that the directory was read from the items that were offered.
@@ -72,15 +105,15 @@ module _ (a : AnswerData) (text : List ℕ) (items : List ItemData) where
 
 module _ (limits : Limits) (call : CallData) (a : AnswerData) (text : List ℕ) (items : List ItemData) (code : ℤ)
     (told told_after : ToldData) (shown : List ℕ) where
-  -- The call was answered: of each request of which the data are, with whatever after the bytes of the room that are
-  -- put here, this is a turn of the grammar, under the options that it was asked with. Which bytes `room` had isn't said:
-  -- those that are shown are of the reply alone.
+  -- The call was answered: of each request for which the data suffice, as those that were told of it do, with whatever
+  -- after the bytes of the room that are put here, this is a turn of the grammar, under the options that it was asked
+  -- with. Which bytes `room` had isn't said: those that are shown are of the reply alone.
   pub record AnswersCall : Type 0 where
     pub room : List ℕ
     pub outcome : Result ℕ Error
     pub room_after : List ℕ
     pub length_is : length room ≡ put_of call call.room
-    pub turn : (request following : List ℕ) → AreOf limits request call → length (room ++ following) ≡ call.room
+    pub turn : (request following : List ℕ) → Suffice limits request call → length (room ++ following) ≡ call.room
         → (events : List Event)
         × Happened a text items (ask limits call.options call.room request) (room ++ following) told_after events
         × IsTurn limits call.options (record {
@@ -96,11 +129,11 @@ module _ (limits : Limits) (call : CallData) (a : AnswerData) (text : List ℕ) 
     pub same_interrupts : told_after.interrupts ≡ told.interrupts
     pub shown_is : shown ≡ take (put_of call (length_of outcome)) room_after
 
-  -- It was not, since there is no memory: then the entry is to be given back, and each item; or since the data are of no
-  -- request.
+  -- It was not, since there is no memory: then the entry is to be given back, and each item; or since the data
+  -- suffice for no request.
   pub record IsUnanswered : Type 0 where
     pub why : ((code ≡ no_memory) × (told_after ≡ record told { give_back = entry_of call a; taken = 0 }))
-        ⊎ ((code ≡ not_asked) × (told_after ≡ told) × ((request : List ℕ) → AreOf limits request call → ⊥))
+        ⊎ ((code ≡ not_asked) × (told_after ≡ told) × ((request : List ℕ) → Suffice limits request call → ⊥))
     pub none_shown : shown ≡ []
 
   -- what comes of answering

@@ -18,12 +18,15 @@ ghost use Rattle.fuse_grammar.specs.Samples.{not_served_reply};
 ghost use Rattle.fuse_grammar.specs.Turn.{IsTurn, Turn};
 ghost use Rattle.fuse_grammar.specs.declared.error.Error.{Error};
 ghost use Rattle.door_calls.specs.Shapes.{nothing};
+ghost use Rattle.door_calls.specs.declared.call.CallData.{CallData};
+ghost use Rattle.door_calls.specs.declared.call.Range.{Range};
 ghost use Rattle.door_calls.specs.declared.call.number.TheConstants as number;
 ghost use Rattle.door_calls.specs.declared.call.kind.TheConstants as kind;
 ghost use Rattle.laws_flight.specs.Table.{AreOf, interrupted};
 ghost use Rattle.c_rooms.specs.Codes.{ok, no_memory, not_asked, is_asked, too_long, wrong_size, outcome_code, length_of};
 ghost use Rattle.nizwarf_door.specs.Kept.{HoldsFor, put_of};
 ghost use Rattle.nizwarf_door.specs.Shown.{shown_in};
+ghost use Rattle.nizwarf_door.specs.Turns.{Suffice};
 ghost use Rattle.nizwarf_door.specs.Uses.{usual_limits};
 ghost use Rattle.nizwarf_door.specs.UsesRest.{IsCallOf, interrupt_of_7, request_of_99};
 
@@ -154,9 +157,9 @@ fn check_interrupt(alloc: Global, request: &[u8], call: &mut CallData, interrupt
 
 /// Answers any call. From an INIT on that was answered these options are agreed on, of those that it offered, and from a
 /// DESTROY on none. No more items are in the reply than there are. What is told of an answer is of one outcome, and the
-/// reply's bytes that are put are there to be copied out; of data that are of no request nothing is told. A GETATTR that is
-/// answered by an error is a turn in which the file system answered that error; and of a directory that is, no item is
-/// in the reply.
+/// reply's bytes that are put are there to be copied out; of data that suffice for no request nothing is told, and those that
+/// tell a request suffice, also if their name and their second offset were changed. A GETATTR that is answered by an error is
+/// a turn in which the file system answered that error; and of a directory that is, no item is in the reply.
 fn answer_anything(
     alloc: Global,
     handle: &mut Handle,
@@ -176,10 +179,13 @@ fn answer_anything(
         × (shown_in handle.new.value ≡ take (put_of call.now (length_of outcome)) room_after) }
     ensures untold { result ≡ not_asked → told.new ≡ told.old }
     ensures nothing { result ≡ not_asked → shown_in handle.new.value ≡ [] }
-    ensures of_none { result ≡ not_asked → (request : List ℕ) → AreOf usual_limits request call.now → ⊥ }
+    ensures of_none { result ≡ not_asked → (request : List ℕ) → Suffice usual_limits request call.now → ⊥ }
+    ensures changed { (request : List ℕ) (asked : CallData) (name : Range) (other_offset : ℕ) →
+        AreOf usual_limits request asked →
+        call.now ≡ record asked { name = name; other_offset = other_offset } → result ≢ not_asked }
     ensures failed { (code : ℤ) → result ≡ code → code ≢ no_memory → code ≢ not_asked →
         (request : List ℕ) (echo : Echo) (ctx : Context) (inode : ℕ) (handle : Option ℕ) →
-        AreOf usual_limits request call.now →
+        Suffice usual_limits request call.now →
         ask_of usual_limits call.now.options call.now.room request ≡ Asks echo (Getattr ctx inode handle) →
         answer.now.error ≢ pos 0 →
         (turn : Turn) × (fault : Option ℕ) × IsTurn usual_limits call.now.options turn told.new.options
@@ -188,7 +194,7 @@ fn answer_anything(
         ∷ given_back echo.ctx (if told.new.give_back == 0 then None else Some told.new.give_back))
         × (told.new.taken ≡ 0) }
     ensures unread { (code : ℤ) → result ≡ code → code ≢ no_memory → code ≢ not_asked →
-        (request : List ℕ) (echo : Echo) (l : Listing) → AreOf usual_limits request call.now →
+        (request : List ℕ) (echo : Echo) (l : Listing) → Suffice usual_limits request call.now →
         ask_of usual_limits call.now.options call.now.room request ≡ Lists echo l →
         answer.now.error ≢ pos 0 → (told.new.taken ≡ 0) × (told.new.give_back ≡ 0) }
 {
