@@ -1,14 +1,15 @@
 -- What the promises say of any request that is asked, and of any call that is answered.
-use Rattle.std.proofs.Common.{◌≡◌, ◌≢◌, ◌⊎◌, ◌^◌, ◌≤◌, ◌+◌, ◌-◌, ◌++◌, ◌==◌, ◌∙◌, if◌then◌else◌, ℕ, ℤ, pos, List, [], ◌∷◌, length, replicate, take, Option, None, Some, Result, Ok, Err, refl, ap, sym, subst, inl, inr, arith, length-append}
+use Rattle.std.proofs.Common.{◌≡◌, ◌≢◌, ◌⊎◌, ◌≤◌, ◌+◌, ◌-◌, ◌++◌, ◌==◌, ◌∙◌, if◌then◌else◌, Bool, false, true, nat_le, ℕ, ℤ, pos, List, [], ◌∷◌, length, replicate, take, Option, None, Some, Result, Ok, Err, refl, ap, sym, subst, inl, inr, arith, length-append}
 use Rattle.std.proofs.lemmas.List.{length-replicate}
-use Rattle.fs_trait.specs.Calls.{Answer, Getattr, TimedAttributes, Done, Failed, Options, Found, Attributes, Put, Opened, Created, Statistics, Text, Count, Offset, Wrote}
+use Rattle.fs_trait.specs.Calls.{Answer, Kind, Agreements, Data, Quiet, Untold, kind_of, read_answer, Getattr, TimedAttributes, Done, Failed, Options, Found, Attributes, Put, Opened, Created, Statistics, Text, Count, Offset, Wrote}
 use Rattle.fs_trait.specs.Runs.{Event, Called}
 use Rattle.fs_trait.specs.declared.entry.Context.{Context}
 use Rattle.fuse_grammar.specs.Ask.{ask}
-use Rattle.fuse_grammar.specs.Forms.{Ask, Asks, Lists}
+use Rattle.fuse_grammar.specs.Forms.{Ask, Asks, Ends, Lists, WithMemory}
 use Rattle.fuse_grammar.specs.Listing.{Listing, IsDirectory, given_back}
-use Rattle.fuse_grammar.specs.Reply.{Echo}
-use Rattle.fuse_grammar.specs.Turn.{Turn, IsTurn}
+use Rattle.fuse_grammar.specs.Reply.{Bytes, Echo, NoReply, OpenAfter, Refusal, Reply, reply_of}
+use Rattle.fuse_grammar.specs.Room.{IsReplied}
+use Rattle.fuse_grammar.specs.Turn.{Follows, Turn, IsTurn}
 use Rattle.fuse_grammar.specs.declared.error.Error.{Error}
 use Rattle.fuse_grammar.specs.declared.error.Error.TheVariants as error
 use Rattle.fuse_grammar.specs.declared.limits.Limits.{Limits}
@@ -109,6 +110,102 @@ module _ (limits : Limits) (call : CallData) (a : AnswerData) (text : List ℕ) 
       by (inl none) = absurd (let e = sym none.0 ∙ is in cc)
       by (inr none) = (none.1, u.none_shown, none.2)
 
+-- ---- a call without memory for its answer
+
+-- what comes back of an answer is no refusal
+abbrev IsNoRefusal : Reply → Type 0
+IsNoRefusal (Refusal error) = ⊥
+IsNoRefusal reply = Unit {0}
+
+no_refusal : (limits : Limits) (echo : Echo) (options : ℕ) (kind : Kind) (answer : Answer)
+    → IsNoRefusal (reply_of limits echo options kind answer)
+no_refusal limits echo options Agreements answer = tt
+no_refusal limits echo options Quiet answer = tt
+no_refusal limits echo options Untold Done = tt
+no_refusal limits echo options (Data size) answer = tt
+no_refusal limits echo options kind answer = tt
+
+by_length : (fit : Bool) (n : ℕ) (outcome : Result ℕ Error) → outcome ≡ (if fit then Ok n else Err error.EncodeMessage)
+    → outcome_code outcome ≡ no_memory → ⊥
+by_length true n outcome is lacks = let e = sym (ap outcome_code is) ∙ lacks in cc
+by_length false n outcome is lacks = let e = sym (ap outcome_code is) ∙ lacks in cc
+
+never_lacks : (reply : Reply) (room : List ℕ) (outcome : Result ℕ Error) (room_after : List ℕ) → IsNoRefusal reply
+    → IsReplied reply room outcome room_after → outcome_code outcome ≡ no_memory → ⊥
+never_lacks (Refusal error) room outcome room_after none replied lacks = none
+never_lacks NoReply room outcome room_after none replied lacks = let e = sym (ap outcome_code replied.0) ∙ lacks in cc
+never_lacks (Bytes reply) room outcome room_after none replied lacks =
+    by_length (nat_le (length reply) (length room)) (length reply) outcome replied.says lacks
+never_lacks (OpenAfter reply) room outcome room_after none replied lacks =
+    let e = sym (ap outcome_code replied.says) ∙ lacks in cc
+
+module _ (limits : Limits) (options after : ℕ) (a : AnswerData) (text : List ℕ) (items : List ItemData) (turn : Turn)
+    (told_after : ToldData) where
+  -- something is seen of the file system
+  some_event : (asks : Ask) → Happened a text items asks turn.room told_after turn.events → turn.events ≡ [] → ⊥
+  some_event (Ends reply) h none = h
+  some_event (Asks echo call) h none = let e = sym h.2 ∙ none in cc
+  some_event (Lists echo l) (records, answer, inl unopened, offered, back) none = let e = sym unopened.1 ∙ none in cc
+  some_event (Lists echo l) (records, answer, inr opened, offered, back) none = let e = sym opened.1 ∙ none in cc
+  some_event (WithMemory rest) h none = some_event rest h none
+
+  -- so the turn is no refusal for want of memory
+  has_memory : (asks : Ask) → Happened a text items asks turn.room told_after turn.events
+      → Follows turn limits options asks after → outcome_code turn.outcome ≡ no_memory → ⊥
+  has_memory (Ends reply) h f lacks = h
+  has_memory (Asks echo call) h f lacks =
+      never_lacks (reply_of limits echo after (kind_of call) f.0) turn.room turn.outcome turn.room_after
+      (no_refusal limits echo after (kind_of call) f.0) f.3 lacks
+  has_memory (Lists echo l) h f lacks =
+      never_lacks (reply_of limits echo after (Data l.size) (read_answer f.1 f.0)) turn.room turn.outcome turn.room_after
+      (no_refusal limits echo after (Data l.size) (read_answer f.1 f.0)) f.4 lacks
+  has_memory (WithMemory rest) h (inl f) lacks = has_memory rest h f lacks
+  has_memory (WithMemory rest) h (inr f) lacks = some_event rest h f.0
+
+-- whatever stood after the bytes of the room that are put
+abbrev following : CallData → List ℕ → List ℕ
+following call room = replicate (call.room - length room) 0
+
+whole : (call : CallData) (room : List ℕ) → length room ≡ put_of call call.room
+    → length (room ++ following call room) ≡ call.room
+whole call room long =
+    let n : ℕ = call.room - length room in
+    let rest : List ℕ = replicate n 0 in
+    let within : put_of call call.room ≤ call.room = put_within call call.room (call.answer == kind.DATA) refl in
+    let zeros : length rest ≡ n = length-replicate n 0 in
+    let sum : length (room ++ rest) ≡ length room + length rest = length-append room rest in
+    omega (arith, zeros, sum, within, long)
+
+module _ (limits : Limits) (call : CallData) (a : AnswerData) (text : List ℕ) (items : List ItemData) (code : ℤ)
+    (told told_after : ToldData) (shown request : List ℕ) (are : Suffice limits request call) where
+  -- what is told then: the entry that is to be given back, and nothing else
+  abbrev pub IsLacking : Type 0
+  IsLacking = (told_after ≡ record told { give_back = entry_of call a; taken = 0 }) × (shown ≡ [])
+
+  pub lacking : IsAnsweredOrNot limits call a text items code told told_after shown → code ≡ no_memory → IsLacking
+  lacking (inl s) lacks =
+      let all = whole call s.room s.length_is in
+      let it = s.turn request (following call s.room) are all in
+      let turn : Turn = record {
+        request = request;
+        room = s.room ++ following call s.room;
+        events = it.0;
+        outcome = s.outcome;
+        room_after = s.room_after ++ following call s.room;
+      } in
+      let asks = ask limits call.options call.room request in
+      let follows : Follows turn limits call.options asks told_after.options =
+      subst (λ (n : ℕ). Follows turn limits call.options (ask limits call.options n request) told_after.options) all it.2 in
+      absurd (has_memory limits call.options told_after.options a text items turn told_after asks it.1 follows
+      (sym s.code_is ∙ lacks))
+  lacking (inr u) lacks = by u.why
+    where
+      by : ((code ≡ no_memory) × (told_after ≡ record told { give_back = entry_of call a; taken = 0 }))
+          ⊎ ((code ≡ not_asked) × (told_after ≡ told) × ((request : List ℕ) → Suffice limits request call → ⊥))
+          → IsLacking
+      by (inl none) = (none.1, u.none_shown)
+      by (inr none) = absurd (let e = sym none.0 ∙ lacks in cc)
+
 -- ---- a call that is answered by an error
 
 module _ (a : AnswerData) (text room : List ℕ) (some : a.error ≢ pos 0) where
@@ -139,19 +236,6 @@ none_offered a items l events records answer (inr opened) taken some offered = a
 module _ (limits : Limits) (call : CallData) (a : AnswerData) (text : List ℕ) (items : List ItemData) (code : ℤ)
     (told told_after : ToldData) (shown request : List ℕ) (echo : Echo) (some : a.error ≢ pos 0)
     (are : Suffice limits request call) where
-  -- whatever stood after the bytes of the room that are put
-  abbrev following : List ℕ → List ℕ
-  following room = replicate (call.room - length room) 0
-
-  whole : (room : List ℕ) → length room ≡ put_of call call.room → length (room ++ following room) ≡ call.room
-  whole room long =
-      let n : ℕ = call.room - length room in
-      let rest : List ℕ = replicate n 0 in
-      let within : put_of call call.room ≤ call.room = put_within call call.room (call.answer == kind.DATA) refl in
-      let zeros : length rest ≡ n = length-replicate n 0 in
-      let sum : length (room ++ rest) ≡ length room + length rest = length-append room rest in
-      omega (arith, zeros, sum, within, long)
-
   abbrev pub IsErrorsTurn : Context → (inode : ℕ) → (handle : Option ℕ) → Type 0
   IsErrorsTurn ctx inode handle =
       (turn : Turn) × (fault : Option ℕ) × IsTurn limits call.options turn told_after.options
@@ -165,15 +249,15 @@ module _ (limits : Limits) (call : CallData) (a : AnswerData) (text : List ℕ) 
       → IsAnsweredOrNot limits call a text items code told told_after shown → code ≢ no_memory → code ≢ not_asked
       → IsErrorsTurn ctx inode handle
   error_answered ctx inode handle asks (inl s) lacks unasked =
-      let it = s.turn request (following s.room) are (whole s.room s.length_is) in
-      let h = subst (λ (q : Ask). Happened a text items q (s.room ++ following s.room) told_after it.0) asks it.1 in
-      let e = said_error a text (s.room ++ following s.room) some h.0 h.1 in (
+      let it = s.turn request (following call s.room) are (whole call s.room s.length_is) in
+      let h = subst (λ (q : Ask). Happened a text items q (s.room ++ following call s.room) told_after it.0) asks it.1 in
+      let e = said_error a text (s.room ++ following call s.room) some h.0 h.1 in (
         record {
           request = request;
-          room = s.room ++ following s.room;
+          room = s.room ++ following call s.room;
           events = it.0;
           outcome = s.outcome;
-          room_after = s.room_after ++ following s.room;
+          room_after = s.room_after ++ following call s.room;
         },
         e.0,
         it.2,
@@ -190,8 +274,8 @@ module _ (limits : Limits) (call : CallData) (a : AnswerData) (text : List ℕ) 
       → IsAnsweredOrNot limits call a text items code told told_after shown → code ≢ no_memory → code ≢ not_asked
       → (told_after.taken ≡ 0) × (told_after.give_back ≡ 0)
   error_listed l lists (inl s) lacks unasked =
-      let it = s.turn request (following s.room) are (whole s.room s.length_is) in
-      let h = subst (λ (q : Ask). Happened a text items q (s.room ++ following s.room) told_after it.0) lists it.1 in
+      let it = s.turn request (following call s.room) are (whole call s.room s.length_is) in
+      let h = subst (λ (q : Ask). Happened a text items q (s.room ++ following call s.room) told_after it.0) lists it.1 in
       (none_offered a items l it.0 h.0 h.1 h.2 told_after.taken some h.3, h.4)
   error_listed l lists (inr u) lacks unasked =
       absurd (none_of _ _ u.why (λ n. lacks n.0) (λ n. unasked n.0))

@@ -24,6 +24,7 @@ ghost use Rattle.door_calls.specs.declared.call.number.TheConstants as number;
 ghost use Rattle.door_calls.specs.declared.call.kind.TheConstants as kind;
 ghost use Rattle.laws_flight.specs.Table.{AreOf, interrupted};
 ghost use Rattle.c_rooms.specs.Codes.{ok, no_memory, not_asked, is_asked, too_long, wrong_size, outcome_code, length_of};
+ghost use Rattle.nizwarf_door.specs.Answering.{entry_of};
 ghost use Rattle.nizwarf_door.specs.Kept.{HoldsFor, put_of};
 ghost use Rattle.nizwarf_door.specs.Shown.{shown_in};
 ghost use Rattle.nizwarf_door.specs.Turns.{Suffice};
@@ -158,8 +159,9 @@ fn check_interrupt(alloc: Global, request: &[u8], call: &mut CallData, interrupt
 /// Answers any call. From an INIT on that was answered these options are agreed on, of those that it offered, and from a
 /// DESTROY on none. No more items are in the reply than there are. What is told of an answer is of one outcome, and the
 /// reply's bytes that are put are there to be copied out; of data that suffice for no request nothing is told, and those that
-/// tell a request suffice, also if their name and their second offset were changed. A GETATTR that is answered by an error is
-/// a turn in which the file system answered that error; and of a directory that is, no item is in the reply.
+/// tell a request suffice, also if their name and their second offset were changed. Where there is no memory for the answer
+/// to a request, an entry is to be given back, and nothing else is told. A GETATTR that is answered by an error is a turn in
+/// which the file system answered that error; and of a directory that is, no item is in the reply.
 fn answer_anything(
     alloc: Global,
     handle: &mut Handle,
@@ -183,6 +185,9 @@ fn answer_anything(
     ensures changed { (request : List ℕ) (asked : CallData) (name : Range) (other_offset : ℕ) →
         AreOf usual_limits request asked →
         call.now ≡ record asked { name = name; other_offset = other_offset } → result ≢ not_asked }
+    ensures lacking { result ≡ no_memory → (request : List ℕ) → Suffice usual_limits request call.now →
+        (told.new ≡ record told.old { give_back = entry_of call.now answer.now; taken = 0 })
+        × (shown_in handle.new.value ≡ []) }
     ensures failed { (code : ℤ) → result ≡ code → code ≢ no_memory → code ≢ not_asked →
         (request : List ℕ) (echo : Echo) (ctx : Context) (inode : ℕ) (handle : Option ℕ) →
         Suffice usual_limits request call.now →

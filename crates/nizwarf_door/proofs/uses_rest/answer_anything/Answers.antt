@@ -3,7 +3,7 @@ use Rattle.c_rooms.specs.Codes.{not_asked, ok}
 use Rattle.nizwarf_door.specs.Turns.{read_of, read_of_directory}
 use Rattle.nizwarf_door.proofs.Ending.{agreed_then, few_taken, none_agreed_then}
 use Rattle.nizwarf_door.proofs.Lookup.{are_limits}
-use Rattle.nizwarf_door.proofs.Promised.{error_answered, error_listed, of_none, told_of_one}
+use Rattle.nizwarf_door.proofs.Promised.{error_answered, error_listed, lacking, of_none, told_of_one}
 use Rattle.nizwarf_door.proofs.uses_rest.answer_anything.Goals as goal
 
 pub returns-clause-agreed : goal.returns-clause-agreed
@@ -47,6 +47,10 @@ returns-clause-changed c request asked name other_offset are same code =
     let none : c.nizwarf_answer_at.result ≡ not_asked = search (rules, code) in
     (of_none _ _ _ _ _ _ _ _ _ (c.nizwarf_answer_at.ensures.promise are_limits) none).2 request
     (asked, are, ap read_of same, λ is. ap read_of_directory same)
+
+pub returns-clause-lacking : goal.returns-clause-lacking
+returns-clause-lacking c code request are =
+    lacking _ _ _ _ _ _ _ _ _ request are (c.nizwarf_answer_at.ensures.promise are_limits) (search (rules, code))
 
 pub returns-clause-failed : goal.returns-clause-failed
 returns-clause-failed c code is lacks unasked request echo ctx inode handle are asks some =
