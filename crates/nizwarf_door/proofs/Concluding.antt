@@ -19,10 +19,10 @@ neither : (P Q : Type 0) → P ⊎ Q → (P → ⊥) → (Q → ⊥) → ⊥
 neither P Q (inl p) f g = f p
 neither P Q (inr q) f g = g q
 
-none_asked : (code : ℤ) → code ≡ is_asked → code ≡ no_memory → ⊥
+pub none_asked : (code : ℤ) → code ≡ is_asked → code ≡ no_memory → ⊥
 none_asked code is none = let e = sym is ∙ none in cc
 
-long_asked : (code : ℤ) → code ≡ is_asked → code ≡ too_long → ⊥
+pub long_asked : (code : ℤ) → code ≡ is_asked → code ≡ too_long → ⊥
 long_asked code is long = let e = sym is ∙ long in cc
 
 module _ (limits : Limits) (options : ℕ) (request : List ℕ) (room : ℕ) (asked answered code : ℤ) (c : CallData)

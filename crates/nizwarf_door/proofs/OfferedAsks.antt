@@ -26,9 +26,11 @@ use Rattle.nizwarf_door.specs.Checking.{Checks, IsWhole}
 use Rattle.nizwarf_door.specs.Further.{AsksOffered, ChecksOffered, HoldsOffered, MayWantOffered, named}
 use Rattle.nizwarf_door.specs.Kept.{HoldsAnswer, HoldsFor, TellsOrNot, put_of}
 use Rattle.nizwarf_door.specs.Rooms.{HasRoomFor}
+use Rattle.nizwarf_door.specs.Turns.{IsAskedOrNot}
 use Rattle.nizwarf_door.specs.declared.data.ToldData.{ToldData}
 use Rattle.nizwarf_door.specs.declared.memory.Memory.{Memory}
 use Rattle.nizwarf_door.specs.declared.memory.Part.{Part}
+use Rattle.nizwarf_door.proofs.Turns.{asked_or_not}
 
 module _ (limits : Limits) (options : ℕ) (q : List ℕ) (room : ℕ) (old mid : CallData) (result : Further) where
   -- what was told of a request by the further table
@@ -145,6 +147,17 @@ pub none_unnamed : (limits : Limits) (options : ℕ) (q : List ℕ) (room : ℕ)
     → AsksOffered limits options q room Unnamed code call told told shown
 none_unnamed limits options q room code call told shown code_is call_is none =
     (nothing, inr (record { why = inl code_is; no_call = refl; same_told = refl; nothing = none }), rw code_is call_is)
+
+-- a request of no row is asked as the promise says
+pub promised : (limits : Limits) (options : ℕ) (q : List ℕ) (room : ℕ) (what : What) (code : ℤ) (call_after : CallData)
+    (told told_after : ToldData) (shown : List ℕ) → what ≡ Ordinary
+    → AsksOffered limits options q room what code call_after told told_after shown
+    → IsAskedOrNot limits options q room code call_after told told_after shown
+promised limits options q room Ordinary code call_after told told_after shown is asks =
+    asked_or_not limits options q room code call_after told told_after shown asks
+promised limits options q room Short code call_after told told_after shown is asks = absurd (let e = is in cc)
+promised limits options q room (Row row) code call_after told told_after shown is asks = absurd (let e = is in cc)
+promised limits options q room Unnamed code call_after told told_after shown is asks = absurd (let e = is in cc)
 
 -- ---- a code that is another's
 

@@ -20,13 +20,14 @@ use Rattle.door_calls.specs.declared.call.kind.TheConstants as kind
 use Rattle.door_calls.specs.declared.data.ItemData.{ItemData}
 use Rattle.door_answer.specs.Listing.{IsOfferedBy}
 use Rattle.door_answer.specs.Said.{IsSaid, IsFailed}
-use Rattle.laws_flight.specs.Table.{interrupted}
+use Rattle.laws_flight.specs.Table.{AreOf, interrupted}
 use Rattle.c_rooms.specs.Codes.{is_asked, no_memory, not_asked, too_long, outcome_code, length_of}
 use Rattle.nizwarf_door.specs.Answering.{entry_of}
 use Rattle.nizwarf_door.specs.Kept.{put_of}
 use Rattle.nizwarf_door.specs.Turns.{Happened, IsAnsweredOrNot, IsAskedOrNot, Suffice}
 use Rattle.nizwarf_door.specs.declared.data.ToldData.{ToldData}
-use Rattle.nizwarf_door.proofs.Asking.{put_within}
+use Rattle.nizwarf_door.proofs.Asking.{no_call, put_within}
+use Rattle.nizwarf_door.proofs.Concluding.{long_asked, none_asked}
 
 none_of : (P Q : Type 0) → P ⊎ Q → (P → ⊥) → (Q → ⊥) → ⊥
 none_of P Q (inl p) f g = f p
@@ -54,6 +55,13 @@ module _ (limits : Limits) (options : ℕ) (request : List ℕ) (room : ℕ) (co
   only_told (inl t) some = (t.code_is, t.same_told, t.none_shown)
   only_told (inr (inl f)) some = absurd (some f.no_call)
   only_told (inr (inr n)) some = absurd (some n.no_call)
+
+  -- where one is told, it is the request's
+  pub call_told : IsAskedOrNot limits options request room code call told told_after shown → code ≡ is_asked
+      → AreOf limits request call
+  call_told (inl t) is = t.is_of
+  call_told (inr (inl f)) is = absurd (no_call f.turn.outcome (sym f.code_is ∙ is))
+  call_told (inr (inr n)) is = absurd (none_of _ _ n.why (none_asked code is) (λ e. long_asked code is e.0))
 
   -- a turn without a call, and what is told of it
   abbrev pub Ended : Type 0

@@ -1,26 +1,28 @@
 //! The door of a file system that offers rows of the further table: calls that virtiofsd has not.
 
-ghost use Rattle.std.specs.Prelude.{◌≡◌, ◌≢◌, ◌≤◌, ℕ, [], length, min, Err};
+ghost use Rattle.std.specs.Prelude.{◌≡◌, ◌≢◌, ◌≤◌, ℕ, [], length, min, Err, IsSome};
 ghost use Rattle.fuse_flags.specs.Flags.{fs_options_bits};
 ghost use Rattle.fuse_segments.specs.Segments.{segments_of, flat_bytes};
 ghost use Rattle.door_calls.specs.declared.call.number.TheConstants.{CREATE};
 ghost use Rattle.door_calls.specs.Shapes.{nothing};
 ghost use Rattle.fuse_grammar.specs.Ask.{ask as ask_of};
+ghost use Rattle.fuse_grammar.specs.Forms.{Ask};
 ghost use Rattle.fuse_grammar.specs.Limits.{AreLimits};
 ghost use Rattle.fuse_grammar.specs.declared.error.Error.TheVariants.{DecodeMessage};
 ghost use Rattle.door_ask.specs.Memory.{MayWant};
 ghost use Rattle.door_ask.specs.WithOpcode.{unread_with_opcode};
 ghost use Rattle.door_further.specs.Fitting.{answer_offered};
-ghost use Rattle.door_further.specs.Further.{Unnamed, what_of};
+ghost use Rattle.door_further.specs.Further.{Ordinary, Unnamed, what_of};
 ghost use Rattle.door_further.specs.Turns.{as_create};
 ghost use Rattle.c_rooms.specs.Codes.{is_asked, no_memory, outcome_code, wrong_size};
 ghost use Rattle.nizwarf_door.specs.Answering.{AnswersOrNot};
 ghost use Rattle.nizwarf_door.specs.Asking.{AsksOrNot, finished, unread_in};
 ghost use Rattle.nizwarf_door.specs.Further.{AsksOffered, ChecksOffered, HoldsOffered, MayWantOffered, named};
-ghost use Rattle.nizwarf_door.specs.Kept.{HasFor, Holds, HoldsAnswer, put_of};
+ghost use Rattle.nizwarf_door.specs.Kept.{HasFor, Holds, HoldsAnswer, HoldsFor, put_of};
 ghost use Rattle.nizwarf_door.specs.Rooms.{HasRoomFor};
 ghost use Rattle.nizwarf_door.specs.Session.{limits_of, options_of};
 ghost use Rattle.nizwarf_door.specs.Shown.{bytes_shown, shown_in};
+ghost use Rattle.nizwarf_door.specs.Turns.{IsAnsweredOrNot, IsAskedOrNot};
 
 use crate::ask::{not_asked, number_and_length, tell_call};
 use crate::check::{code_and_number, nizwarf_check_at, reader_of};
@@ -71,7 +73,14 @@ pub extern "C" fn nizwarf_ask_offered_at(
         (what_of offers (limits_of session.now) (flat_bytes (segments_of request.now)))
         result call.new told.old told.new (shown_in handle.new.value) }
 
-    // A slot that has memory wants no more, but as `nizwarf_ask_at` does.
+    // A request that is of no row that is offered is asked as `nizwarf_ask_at` promises.
+    ensures promise { AreLimits (limits_of session.now) →
+        what_of offers (limits_of session.now) (flat_bytes (segments_of request.now)) ≡ Ordinary →
+        IsAskedOrNot (limits_of session.now) (options_of session.now)
+        (flat_bytes (segments_of request.now)) room
+        result call.new told.old told.new (shown_in handle.new.value) }
+
+    // A slot that has memory wants no more, but as `nizwarf_ask_at` does; and it has it, and keeps it, as there.
     ensures memory { HoldsOffered (limits_of session.now) (options_of session.now)
         (flat_bytes (segments_of request.now)) room
         (what_of offers (limits_of session.now) (flat_bytes (segments_of request.now)))
@@ -82,6 +91,10 @@ pub extern "C" fn nizwarf_ask_offered_at(
         result ≢ no_memory }
     ensures kept { result ≡ is_asked → HoldsAnswer call.new handle.new.value }
     ensures keeps { (n : ℕ) → Holds n handle.old.value → Holds n handle.new.value }
+    ensures ready { result ≡ is_asked → (less : ℕ) → less ≤ put_of call.new call.new.room →
+        (asks : Ask) → HoldsFor less asks handle.new.value }
+    ensures stays { (less : ℕ) (asks : Ask) →
+        HoldsFor less asks handle.old.value → HoldsFor less asks handle.new.value }
 {
     let Some(limits) = session.limits() else {
         return WRONG_SIZE;
@@ -102,6 +115,7 @@ fn refuse(alloc: Global, handle: &mut Handle, call: &mut CallData, told: &mut To
     ensures told { told.new ≡ finished (Err DecodeMessage) 0 told.old }
     ensures shown { shown_in handle.new.value ≡ [] }
     ensures keeps { (n : ℕ) → Holds n handle.old.value → Holds n handle.new.value }
+    ensures some { IsSome handle.old.value → IsSome handle.new.value }
 {
     show_nothing(alloc, handle);
     *call = CallData::NONE;
@@ -132,6 +146,7 @@ fn ask_unnamed(
         Unnamed) → result ≢ no_memory }
     ensures kept { result ≡ is_asked → HoldsAnswer call.new handle.new.value }
     ensures keeps { (n : ℕ) → Holds n handle.old.value → Holds n handle.new.value }
+    ensures some { IsSome handle.old.value → IsSome handle.new.value }
 {
     let Some(mut memory) = memory_of(alloc, handle) else {
         return not_asked(OUT_OF_MEMORY, call);
@@ -255,9 +270,16 @@ pub extern "C" fn nizwarf_answer_offered_at(
         AnswersOrNot (limits_of session.now) call.now (answer_offered call.now answer.now text.now)
         text.now items.now result told.old told.new (shown_in handle.new.value) }
 
-    // A slot with which the call was asked has memory for its answer, and has it for others still.
+    // Of a call that `nizwarf_ask_at` tells this is its promise.
+    ensures promise { AreLimits (limits_of session.now) →
+        IsAnsweredOrNot (limits_of session.now) call.now (answer_offered call.now answer.now text.now)
+        text.now items.now result told.old told.new (shown_in handle.new.value) }
+
+    // A slot with which the call was asked has memory for its answer, and has it for others still, and for requests.
     ensures memory { HoldsAnswer call.now handle.old.value → result ≢ no_memory }
     ensures keeps { (n : ℕ) → Holds n handle.old.value → Holds n handle.new.value }
+    ensures stays { (less : ℕ) (asks : Ask) →
+        HoldsFor less asks handle.old.value → HoldsFor less asks handle.new.value }
 {
     if is_unfit(call, answer, text) {
         let unfit = AnswerData {

@@ -78,6 +78,7 @@ pub(crate) fn memory_of(alloc: Global, handle: &mut Handle) -> Option<Box<Memory
 pub(crate) fn show_nothing(alloc: Global, handle: &mut Handle)
     ensures nothing { shown_in handle.new.value ≡ [] }
     ensures keeps { (n : ℕ) → Holds n handle.old.value → Holds n handle.new.value }
+    ensures some { IsSome handle.old.value → IsSome handle.new.value }
 {
     if let Some(mut memory) = handle.take(alloc) {
         memory.shown = 0;

@@ -4,8 +4,8 @@ use Rattle.door_further.specs.Further.{what_of}
 use Rattle.nizwarf_door.specs.Asking.{unread_in}
 use Rattle.nizwarf_door.specs.Session.{limits_of, options_of}
 use Rattle.c_rooms.specs.Codes.{is_asked, no_memory}
-use Rattle.nizwarf_door.proofs.Asking.{held_for}
-use Rattle.nizwarf_door.proofs.OfferedAsks.{no_code, ordinary, ordinary_holds, ordinary_wants, recode, row_holds, row_told, short, unnamed, unnamed_holds, unnamed_wants}
+use Rattle.nizwarf_door.proofs.Asking.{held_for, ready_for, stays_for}
+use Rattle.nizwarf_door.proofs.OfferedAsks.{no_code, ordinary, ordinary_holds, ordinary_wants, promised, recode, row_holds, row_told, short, unnamed, unnamed_holds, unnamed_wants}
 use Rattle.nizwarf_door.proofs.further.nizwarf_ask_offered_at.Goals as goal
 
 pub returns-in-Ordinary-clause-asked : goal.returns-in-Ordinary-clause-asked
@@ -104,3 +104,49 @@ returns-in-Ordinary-clause-kept c code = c.nizwarf_ask_at.ensures.kept (search (
 
 pub returns-in-Unnamed-clause-kept : goal.returns-in-Unnamed-clause-kept
 returns-in-Unnamed-clause-kept c code = c.ask_unnamed.ensures.kept (search (rules, code))
+
+pub returns-in-Ordinary-clause-promise : goal.returns-in-Ordinary-clause-promise
+returns-in-Ordinary-clause-promise c are is =
+    promised (limits_of c.args.session.now) (options_of c.args.session.now) (flat_bytes (segments_of c.args.request.now))
+    c.args.room _ _ _ _ _ _ is (returns-in-Ordinary-clause-asked c are)
+
+pub returns-in-Short-clause-promise : goal.returns-in-Short-clause-promise
+returns-in-Short-clause-promise c are is =
+    promised (limits_of c.args.session.now) (options_of c.args.session.now) (flat_bytes (segments_of c.args.request.now))
+    c.args.room _ _ _ _ _ _ is (returns-in-Short-clause-asked c are)
+
+pub returns-in-Row-clause-promise : goal.returns-in-Row-clause-promise
+returns-in-Row-clause-promise c are is =
+    promised (limits_of c.args.session.now) (options_of c.args.session.now) (flat_bytes (segments_of c.args.request.now))
+    c.args.room _ _ _ _ _ _ is (returns-in-Row-clause-asked c are)
+
+pub returns-in-Unnamed-clause-promise : goal.returns-in-Unnamed-clause-promise
+returns-in-Unnamed-clause-promise c are is =
+    promised (limits_of c.args.session.now) (options_of c.args.session.now) (flat_bytes (segments_of c.args.request.now))
+    c.args.room _ _ _ _ _ _ is (returns-in-Unnamed-clause-asked c are)
+
+pub returns-in-Ordinary-clause-ready : goal.returns-in-Ordinary-clause-ready
+returns-in-Ordinary-clause-ready c code less within asks =
+    c.nizwarf_ask_at.ensures.ready (search (rules, code)) less within asks
+
+pub returns-in-Row-clause-ready : goal.returns-in-Row-clause-ready
+returns-in-Row-clause-ready c code less within asks =
+    ready_for _ less asks c.tell_in_slot.new.handle.value within (returns-in-Row-clause-kept c code)
+
+pub returns-in-Unnamed-clause-ready : goal.returns-in-Unnamed-clause-ready
+returns-in-Unnamed-clause-ready c code less within asks =
+    ready_for _ less asks c.ask_unnamed.new.handle.value within (c.ask_unnamed.ensures.kept (search (rules, code)))
+
+pub returns-in-Short-clause-stays : goal.returns-in-Short-clause-stays
+returns-in-Short-clause-stays c less asks holds =
+    stays_for less asks c.args.handle.now.value c.refuse.new.handle.value c.refuse.ensures.some c.refuse.ensures.keeps holds
+
+pub returns-in-Row-clause-stays : goal.returns-in-Row-clause-stays
+returns-in-Row-clause-stays c less asks holds =
+    stays_for less asks c.args.handle.now.value c.tell_in_slot.new.handle.value c.tell_in_slot.ensures.some
+    c.tell_in_slot.ensures.keeps holds
+
+pub returns-in-Unnamed-clause-stays : goal.returns-in-Unnamed-clause-stays
+returns-in-Unnamed-clause-stays c less asks holds =
+    stays_for less asks c.args.handle.now.value c.ask_unnamed.new.handle.value c.ask_unnamed.ensures.some
+    c.ask_unnamed.ensures.keeps holds

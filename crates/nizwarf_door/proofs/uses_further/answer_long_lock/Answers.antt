@@ -2,15 +2,27 @@ use Rattle.std.proofs.Common.{◌≡◌, rules, subst}
 use Rattle.std.specs.Prelude.{ℤ, []}
 use Rattle.nizwarf_door.specs.Answering.{AnswersOrNot}
 use Rattle.nizwarf_door.specs.Further.{with_eio}
+use Rattle.nizwarf_door.specs.Turns.{IsAnsweredOrNot}
 use Rattle.nizwarf_door.specs.Uses.{usual_limits}
 use Rattle.nizwarf_door.specs.Shown.{shown_in}
 use Rattle.nizwarf_door.proofs.Lookup.{are_limits}
 use Rattle.nizwarf_door.proofs.uses_further.answer_long_lock.Goals as goal
 
-pub returns : goal.returns
-returns c = λ code is.
+pub returns-clause-writers : goal.returns-clause-writers
+returns-clause-writers c code is =
     let same : c.nizwarf_answer_offered_at.result ≡ code = search (rules, is) in
     subst (λ (n : ℤ). AnswersOrNot usual_limits c.args.call.now (with_eio c.args.a.now) c.args.lock.now [] n c.args.told.now
     c.nizwarf_answer_offered_at.new.told (shown_in c.nizwarf_answer_offered_at.new.handle.value)) same
     (rw (c.requires.asked)
     (rw (c.requires.asked, c.requires.fine, c.requires.lock) at (c.nizwarf_answer_offered_at.ensures.answered are_limits)))
+
+pub returns-clause-promise : goal.returns-clause-promise
+returns-clause-promise c code is =
+    let same : c.nizwarf_answer_offered_at.result ≡ code = search (rules, is) in
+    subst (λ (n : ℤ). IsAnsweredOrNot usual_limits c.args.call.now (with_eio c.args.a.now) c.args.lock.now [] n
+    c.args.told.now c.nizwarf_answer_offered_at.new.told (shown_in c.nizwarf_answer_offered_at.new.handle.value)) same
+    (rw (c.requires.asked)
+    (rw (c.requires.asked, c.requires.fine, c.requires.lock) at (c.nizwarf_answer_offered_at.ensures.promise are_limits)))
+
+pub returns-clause-stays : goal.returns-clause-stays
+returns-clause-stays c asks = c.nizwarf_answer_offered_at.ensures.stays 4096 asks
