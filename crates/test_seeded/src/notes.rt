@@ -4,27 +4,6 @@ use fs_trait::{CStr, Context, Extensions};
 use fuse_flags::Fault;
 use std::alloc::{AllocError, Global};
 
-/// An argument of a call: its name, and its value.
-#[derive(Clone, Copy)]
-pub enum Arg<'a> {
-    /// A number.
-    Number(&'a str, u64),
-    /// A number of 32 bits.
-    Small(&'a str, u32),
-    /// A number that need not be there.
-    Maybe(&'a str, Option<u64>),
-    /// True or false.
-    Truth(&'a str, bool),
-    /// Bytes, shown in hex.
-    Bytes(&'a str, &'a [u8]),
-    /// A name, likewise.
-    Name(&'a str, CStr<'a>),
-    /// Pairs of a node and a count, joined by commas.
-    Pairs(&'a str, &'a [(u64, u64)]),
-    /// The extensions of a request: the name and the value of its security context, and its group.
-    Extensions(&'a Extensions),
-}
-
 /// Lines, each with two spaces before it.
 ///
 /// A call begins a line, its arguments go on with it, each as ` NAME=VALUE`, and `end` ends it; an
@@ -78,28 +57,6 @@ impl Notes {
         self.keep(noted);
     }
 
-    /// Arguments of the call, in this order.
-    pub fn args(&mut self, args: &[Arg<'_>]) {
-        for arg in args {
-            self.arg(*arg);
-        }
-    }
-
-    // An argument.
-    fn arg(&mut self, arg: Arg<'_>) {
-        match arg {
-            Arg::Number(name, value) => self.number(name, value),
-            Arg::Small(name, value) => self.number(name, u64::from(value)),
-            Arg::Maybe(name, value) => self.option(name, value),
-            Arg::Truth(name, true) => self.word(name, "true"),
-            Arg::Truth(name, false) => self.word(name, "false"),
-            Arg::Bytes(name, value) => self.bytes(name, value),
-            Arg::Name(name, value) => self.bytes(name, value.to_bytes()),
-            Arg::Pairs(name, value) => self.pairs(name, value),
-            Arg::Extensions(ext) => self.extensions(ext),
-        }
-    }
-
     /// An argument or a part of an answer that is a word.
     pub fn word(&mut self, name: &str, value: &str) {
         let noted = write!(self.text, " {name}={value}");
@@ -110,6 +67,16 @@ impl Notes {
     pub fn number(&mut self, name: &str, value: u64) {
         let noted = write!(self.text, " {name}={value}");
         self.keep(noted);
+    }
+
+    /// One that is a number of 32 bits.
+    pub fn small(&mut self, name: &str, value: u32) {
+        self.number(name, u64::from(value));
+    }
+
+    /// One that is true or false.
+    pub fn truth(&mut self, name: &str, value: bool) {
+        self.word(name, if value { "true" } else { "false" });
     }
 
     /// One that is a set of bits, in hex.
@@ -130,6 +97,11 @@ impl Notes {
     pub fn bytes(&mut self, name: &str, value: &[u8]) {
         self.word(name, "");
         self.hex(value);
+    }
+
+    /// A name, likewise.
+    pub fn name(&mut self, name: &str, value: CStr<'_>) {
+        self.bytes(name, value.to_bytes());
     }
 
     /// Pairs of a node and a count, joined by commas.

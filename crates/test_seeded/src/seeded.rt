@@ -34,7 +34,7 @@ ghost use Rattle.fs_trait.specs.CallValue.{IsOptions, IsEntry, IsAttributes, IsT
 
 use crate::contents::Contents;
 use crate::listing::{DirectoryItems, Seeded};
-use crate::notes::{Arg, Notes};
+use crate::notes::Notes;
 use crate::rules::{attr, bytes, fault_of, time, wanted_bits};
 use crate::told::{Source, Told};
 use bitflags::Flags;
@@ -88,18 +88,22 @@ impl<'a> SeededFs<'a> {
         &self.notes
     }
 
-    // Notes a call, and takes its word.
-    fn called(&mut self, call: &str, ctx: &Context, args: &[Arg<'_>]) {
+    // Begins to note a call, and takes its word.
+    fn begin_call(&mut self, call: &str, ctx: &Context) {
         self.notes.call_by(call, ctx);
         self.word = ctx.pid.cast_unsigned();
-        self.notes.args(args);
-        self.notes.end();
     }
 
-    // Notes a call that has no caller.
-    fn called_untold(&mut self, call: &str) {
-        self.notes.call(call);
-        self.notes.end();
+    // The same of a call whose first argument is this node.
+    fn begin(&mut self, call: &str, ctx: &Context, word: &str, node: u64) {
+        self.begin_call(call, ctx);
+        self.notes.number(word, node);
+    }
+
+    // The same of a call whose second argument is a name.
+    fn begin_named(&mut self, call: &str, ctx: &Context, word: &str, node: u64, name: CStr<'_>) {
+        self.begin(call, ctx, word, node);
+        self.notes.name("name", name);
     }
 
     // The answer that is told for this call, if one is.

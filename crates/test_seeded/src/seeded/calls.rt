@@ -5,7 +5,6 @@ ghost use Rattle.fs_trait.specs.CallValue.{call_of, IsOfKind};
 
 use super::SeededFs;
 use crate::listing::DirectoryItems;
-use crate::notes::Arg::{Bytes, Extensions, Maybe, Name, Number, Pairs, Small, Truth};
 use crate::rules::statistics;
 use bitflags::Flags;
 use fs_trait::{
@@ -101,57 +100,44 @@ impl SeededFs<'_> {
             CallValue::Init { capable } => {
                 self.notes.call("init");
                 self.notes.bits("capable", capable.bits());
-                self.notes.end();
             }
-            CallValue::Getlk => self.called_untold("getlk"),
-            CallValue::Setlk => self.called_untold("setlk"),
-            CallValue::Setlkw => self.called_untold("setlkw"),
-            CallValue::Bmap => self.called_untold("bmap"),
-            CallValue::Destroy => self.called_untold("destroy"),
-            CallValue::Ioctl => self.called_untold("ioctl"),
-            CallValue::Poll => self.called_untold("poll"),
-            CallValue::NotifyReply => self.called_untold("notify_reply"),
-            CallValue::Tmpfile => self.called_untold("tmpfile"),
+            CallValue::Getlk => self.notes.call("getlk"),
+            CallValue::Setlk => self.notes.call("setlk"),
+            CallValue::Setlkw => self.notes.call("setlkw"),
+            CallValue::Bmap => self.notes.call("bmap"),
+            CallValue::Destroy => self.notes.call("destroy"),
+            CallValue::Ioctl => self.notes.call("ioctl"),
+            CallValue::Poll => self.notes.call("poll"),
+            CallValue::NotifyReply => self.notes.call("notify_reply"),
+            CallValue::Tmpfile => self.notes.call("tmpfile"),
         }
+        self.notes.end();
     }
 
     // Notes a call by a node and a name.
     fn note_name(&mut self, asked: &CallValue<'_>) {
         match asked {
-            CallValue::Lookup { ctx, parent, name } => self.called(
-                "lookup",
-                ctx,
-                &[Number("parent", *parent), Name("name", *name)],
-            ),
-            CallValue::Unlink { ctx, parent, name } => self.called(
-                "unlink",
-                ctx,
-                &[Number("parent", *parent), Name("name", *name)],
-            ),
-            CallValue::Rmdir { ctx, parent, name } => self.called(
-                "rmdir",
-                ctx,
-                &[Number("parent", *parent), Name("name", *name)],
-            ),
-            CallValue::Removexattr { ctx, inode, name } => self.called(
-                "removexattr",
-                ctx,
-                &[Number("inode", *inode), Name("name", *name)],
-            ),
+            CallValue::Lookup { ctx, parent, name } => {
+                self.begin_named("lookup", ctx, "parent", *parent, *name);
+            }
+            CallValue::Unlink { ctx, parent, name } => {
+                self.begin_named("unlink", ctx, "parent", *parent, *name);
+            }
+            CallValue::Rmdir { ctx, parent, name } => {
+                self.begin_named("rmdir", ctx, "parent", *parent, *name);
+            }
+            CallValue::Removexattr { ctx, inode, name } => {
+                self.begin_named("removexattr", ctx, "inode", *inode, *name);
+            }
             CallValue::Getxattr {
                 ctx,
                 inode,
                 name,
                 size,
-            } => self.called(
-                "getxattr",
-                ctx,
-                &[
-                    Number("inode", *inode),
-                    Name("name", *name),
-                    Small("size", *size),
-                ],
-            ),
+            } => {
+                self.begin_named("getxattr", ctx, "inode", *inode, *name);
+                self.notes.small("size", *size);
+            }
             CallValue::Setxattr {
                 ctx,
                 inode,
@@ -159,17 +145,12 @@ impl SeededFs<'_> {
                 value,
                 flags,
                 extra,
-            } => self.called(
-                "setxattr",
-                ctx,
-                &[
-                    Number("inode", *inode),
-                    Name("name", *name),
-                    Bytes("value", value),
-                    Small("flags", *flags),
-                    Small("extra", extra.bits()),
-                ],
-            ),
+            } => {
+                self.begin_named("setxattr", ctx, "inode", *inode, *name);
+                self.notes.bytes("value", value);
+                self.notes.small("flags", *flags);
+                self.notes.small("extra", extra.bits());
+            }
             _ => {}
         }
     }
@@ -183,16 +164,13 @@ impl SeededFs<'_> {
                 parent,
                 name,
                 ext,
-            } => self.called(
-                "symlink",
-                ctx,
-                &[
-                    Name("linkname", *linkname),
-                    Number("parent", *parent),
-                    Name("name", *name),
-                    Extensions(ext),
-                ],
-            ),
+            } => {
+                self.begin_call("symlink", ctx);
+                self.notes.name("linkname", *linkname);
+                self.notes.number("parent", *parent);
+                self.notes.name("name", *name);
+                self.notes.extensions(ext);
+            }
             CallValue::Mknod {
                 ctx,
                 inode,
@@ -201,18 +179,13 @@ impl SeededFs<'_> {
                 rdev,
                 umask,
                 ext,
-            } => self.called(
-                "mknod",
-                ctx,
-                &[
-                    Number("inode", *inode),
-                    Name("name", *name),
-                    Small("mode", *mode),
-                    Small("rdev", *rdev),
-                    Small("umask", *umask),
-                    Extensions(ext),
-                ],
-            ),
+            } => {
+                self.begin_named("mknod", ctx, "inode", *inode, *name);
+                self.notes.small("mode", *mode);
+                self.notes.small("rdev", *rdev);
+                self.notes.small("umask", *umask);
+                self.notes.extensions(ext);
+            }
             CallValue::Mkdir {
                 ctx,
                 parent,
@@ -220,17 +193,12 @@ impl SeededFs<'_> {
                 mode,
                 umask,
                 ext,
-            } => self.called(
-                "mkdir",
-                ctx,
-                &[
-                    Number("parent", *parent),
-                    Name("name", *name),
-                    Small("mode", *mode),
-                    Small("umask", *umask),
-                    Extensions(ext),
-                ],
-            ),
+            } => {
+                self.begin_named("mkdir", ctx, "parent", *parent, *name);
+                self.notes.small("mode", *mode);
+                self.notes.small("umask", *umask);
+                self.notes.extensions(ext);
+            }
             _ => {}
         }
     }
@@ -245,31 +213,23 @@ impl SeededFs<'_> {
                 newdir,
                 newname,
                 flags,
-            } => self.called(
-                "rename",
-                ctx,
-                &[
-                    Number("olddir", *olddir),
-                    Name("oldname", *oldname),
-                    Number("newdir", *newdir),
-                    Name("newname", *newname),
-                    Small("flags", *flags),
-                ],
-            ),
+            } => {
+                self.begin("rename", ctx, "olddir", *olddir);
+                self.notes.name("oldname", *oldname);
+                self.notes.number("newdir", *newdir);
+                self.notes.name("newname", *newname);
+                self.notes.small("flags", *flags);
+            }
             CallValue::Link {
                 ctx,
                 inode,
                 newparent,
                 newname,
-            } => self.called(
-                "link",
-                ctx,
-                &[
-                    Number("inode", *inode),
-                    Number("newparent", *newparent),
-                    Name("newname", *newname),
-                ],
-            ),
+            } => {
+                self.begin("link", ctx, "inode", *inode);
+                self.notes.number("newparent", *newparent);
+                self.notes.name("newname", *newname);
+            }
             CallValue::Create {
                 ctx,
                 parent,
@@ -279,19 +239,14 @@ impl SeededFs<'_> {
                 flags,
                 umask,
                 ext,
-            } => self.called(
-                "create",
-                ctx,
-                &[
-                    Number("parent", *parent),
-                    Name("name", *name),
-                    Small("mode", *mode),
-                    Truth("kill_priv", *kill_priv),
-                    Small("flags", *flags),
-                    Small("umask", *umask),
-                    Extensions(ext),
-                ],
-            ),
+            } => {
+                self.begin_named("create", ctx, "parent", *parent, *name);
+                self.notes.small("mode", *mode);
+                self.notes.truth("kill_priv", *kill_priv);
+                self.notes.small("flags", *flags);
+                self.notes.small("umask", *umask);
+                self.notes.extensions(ext);
+            }
             _ => {}
         }
     }
@@ -299,51 +254,39 @@ impl SeededFs<'_> {
     // Notes a call of a node or of several, with one number at most.
     fn note_node(&mut self, asked: &CallValue<'_>) {
         match asked {
-            CallValue::Forget { ctx, inode, count } => self.called(
-                "forget",
-                ctx,
-                &[Number("inode", *inode), Number("count", *count)],
-            ),
-            CallValue::BatchForget { ctx, requests } => self.called(
-                "batch_forget",
-                ctx,
-                &[Pairs("requests", requests)],
-            ),
-            CallValue::Getattr { ctx, inode, handle } => self.called(
-                "getattr",
-                ctx,
-                &[Number("inode", *inode), Maybe("handle", *handle)],
-            ),
-            CallValue::Readlink { ctx, inode } => self.called(
-                "readlink",
-                ctx,
-                &[Number("inode", *inode)],
-            ),
-            CallValue::Statfs { ctx, inode } => self.called(
-                "statfs",
-                ctx,
-                &[Number("inode", *inode)],
-            ),
-            CallValue::Listxattr { ctx, inode, size } => self.called(
-                "listxattr",
-                ctx,
-                &[Number("inode", *inode), Small("size", *size)],
-            ),
-            CallValue::Access { ctx, inode, mask } => self.called(
-                "access",
-                ctx,
-                &[Number("inode", *inode), Small("mask", *mask)],
-            ),
-            CallValue::Opendir { ctx, inode, flags } => self.called(
-                "opendir",
-                ctx,
-                &[Number("inode", *inode), Small("flags", *flags)],
-            ),
-            CallValue::Syncfs { ctx, inode } => self.called(
-                "syncfs",
-                ctx,
-                &[Number("inode", *inode)],
-            ),
+            CallValue::Forget { ctx, inode, count } => {
+                self.begin("forget", ctx, "inode", *inode);
+                self.notes.number("count", *count);
+            }
+            CallValue::BatchForget { ctx, requests } => {
+                self.begin_call("batch_forget", ctx);
+                self.notes.pairs("requests", requests);
+            }
+            CallValue::Getattr { ctx, inode, handle } => {
+                self.begin("getattr", ctx, "inode", *inode);
+                self.notes.option("handle", *handle);
+            }
+            CallValue::Readlink { ctx, inode } => {
+                self.begin("readlink", ctx, "inode", *inode);
+            }
+            CallValue::Statfs { ctx, inode } => {
+                self.begin("statfs", ctx, "inode", *inode);
+            }
+            CallValue::Listxattr { ctx, inode, size } => {
+                self.begin("listxattr", ctx, "inode", *inode);
+                self.notes.small("size", *size);
+            }
+            CallValue::Access { ctx, inode, mask } => {
+                self.begin("access", ctx, "inode", *inode);
+                self.notes.small("mask", *mask);
+            }
+            CallValue::Opendir { ctx, inode, flags } => {
+                self.begin("opendir", ctx, "inode", *inode);
+                self.notes.small("flags", *flags);
+            }
+            CallValue::Syncfs { ctx, inode } => {
+                self.begin("syncfs", ctx, "inode", *inode);
+            }
             _ => {}
         }
     }
@@ -360,16 +303,10 @@ impl SeededFs<'_> {
             } => {
                 let mut record = [0u8; SetattrIn::SIZE];
                 attr.put(&mut record);
-                self.called(
-                    "setattr",
-                    ctx,
-                    &[
-                        Number("inode", *inode),
-                        Bytes("attr", &record),
-                        Maybe("handle", *handle),
-                        Small("valid", valid.bits()),
-                    ],
-                );
+                self.begin("setattr", ctx, "inode", *inode);
+                self.notes.bytes("attr", &record);
+                self.notes.option("handle", *handle);
+                self.notes.small("valid", valid.bits());
             }
             CallValue::Fallocate {
                 ctx,
@@ -378,17 +315,13 @@ impl SeededFs<'_> {
                 mode,
                 offset,
                 length,
-            } => self.called(
-                "fallocate",
-                ctx,
-                &[
-                    Number("inode", *inode),
-                    Number("handle", *handle),
-                    Small("mode", *mode),
-                    Number("offset", *offset),
-                    Number("length", *length),
-                ],
-            ),
+            } => {
+                self.begin("fallocate", ctx, "inode", *inode);
+                self.notes.number("handle", *handle);
+                self.notes.small("mode", *mode);
+                self.notes.number("offset", *offset);
+                self.notes.number("length", *length);
+            }
             _ => {}
         }
     }
@@ -401,15 +334,11 @@ impl SeededFs<'_> {
                 inode,
                 kill_priv,
                 flags,
-            } => self.called(
-                "open",
-                ctx,
-                &[
-                    Number("inode", *inode),
-                    Truth("kill_priv", *kill_priv),
-                    Small("flags", *flags),
-                ],
-            ),
+            } => {
+                self.begin("open", ctx, "inode", *inode);
+                self.notes.truth("kill_priv", *kill_priv);
+                self.notes.small("flags", *flags);
+            }
             CallValue::Release {
                 ctx,
                 inode,
@@ -418,32 +347,24 @@ impl SeededFs<'_> {
                 flush,
                 flock_release,
                 lock_owner,
-            } => self.called(
-                "release",
-                ctx,
-                &[
-                    Number("inode", *inode),
-                    Small("flags", *flags),
-                    Number("handle", *handle),
-                    Truth("flush", *flush),
-                    Truth("flock_release", *flock_release),
-                    Maybe("owner", *lock_owner),
-                ],
-            ),
+            } => {
+                self.begin("release", ctx, "inode", *inode);
+                self.notes.small("flags", *flags);
+                self.notes.number("handle", *handle);
+                self.notes.truth("flush", *flush);
+                self.notes.truth("flock_release", *flock_release);
+                self.notes.option("owner", *lock_owner);
+            }
             CallValue::Releasedir {
                 ctx,
                 inode,
                 flags,
                 handle,
-            } => self.called(
-                "releasedir",
-                ctx,
-                &[
-                    Number("inode", *inode),
-                    Small("flags", *flags),
-                    Number("handle", *handle),
-                ],
-            ),
+            } => {
+                self.begin("releasedir", ctx, "inode", *inode);
+                self.notes.small("flags", *flags);
+                self.notes.number("handle", *handle);
+            }
             _ => {}
         }
     }
@@ -456,43 +377,31 @@ impl SeededFs<'_> {
                 inode,
                 handle,
                 lock_owner,
-            } => self.called(
-                "flush",
-                ctx,
-                &[
-                    Number("inode", *inode),
-                    Number("handle", *handle),
-                    Number("owner", *lock_owner),
-                ],
-            ),
+            } => {
+                self.begin("flush", ctx, "inode", *inode);
+                self.notes.number("handle", *handle);
+                self.notes.number("owner", *lock_owner);
+            }
             CallValue::Fsync {
                 ctx,
                 inode,
                 datasync,
                 handle,
-            } => self.called(
-                "fsync",
-                ctx,
-                &[
-                    Number("inode", *inode),
-                    Truth("datasync", *datasync),
-                    Number("handle", *handle),
-                ],
-            ),
+            } => {
+                self.begin("fsync", ctx, "inode", *inode);
+                self.notes.truth("datasync", *datasync);
+                self.notes.number("handle", *handle);
+            }
             CallValue::Fsyncdir {
                 ctx,
                 inode,
                 datasync,
                 handle,
-            } => self.called(
-                "fsyncdir",
-                ctx,
-                &[
-                    Number("inode", *inode),
-                    Truth("datasync", *datasync),
-                    Number("handle", *handle),
-                ],
-            ),
+            } => {
+                self.begin("fsyncdir", ctx, "inode", *inode);
+                self.notes.truth("datasync", *datasync);
+                self.notes.number("handle", *handle);
+            }
             _ => {}
         }
     }
@@ -506,16 +415,12 @@ impl SeededFs<'_> {
                 handle,
                 offset,
                 whence,
-            } => self.called(
-                "lseek",
-                ctx,
-                &[
-                    Number("inode", *inode),
-                    Number("handle", *handle),
-                    Number("offset", *offset),
-                    Small("whence", *whence),
-                ],
-            ),
+            } => {
+                self.begin("lseek", ctx, "inode", *inode);
+                self.notes.number("handle", *handle);
+                self.notes.number("offset", *offset);
+                self.notes.small("whence", *whence);
+            }
             CallValue::Copyfilerange {
                 ctx,
                 inode_in,
@@ -526,20 +431,16 @@ impl SeededFs<'_> {
                 offset_out,
                 len,
                 flags,
-            } => self.called(
-                "copyfilerange",
-                ctx,
-                &[
-                    Number("inode_in", *inode_in),
-                    Number("handle_in", *handle_in),
-                    Number("offset_in", *offset_in),
-                    Number("inode_out", *inode_out),
-                    Number("handle_out", *handle_out),
-                    Number("offset_out", *offset_out),
-                    Number("len", *len),
-                    Number("flags", *flags),
-                ],
-            ),
+            } => {
+                self.begin("copyfilerange", ctx, "inode_in", *inode_in);
+                self.notes.number("handle_in", *handle_in);
+                self.notes.number("offset_in", *offset_in);
+                self.notes.number("inode_out", *inode_out);
+                self.notes.number("handle_out", *handle_out);
+                self.notes.number("offset_out", *offset_out);
+                self.notes.number("len", *len);
+                self.notes.number("flags", *flags);
+            }
             _ => {}
         }
     }
@@ -573,18 +474,13 @@ impl PartialFileSystem for SeededFs<'_> {
         lock_owner: Option<u64>,
         flags: u32,
     ) -> Result<usize, Fault> {
-        self.called(
-            "read",
-            &ctx,
-            &[
-                Number("inode", inode),
-                Number("handle", handle),
-                Small("size", size),
-                Number("offset", offset),
-                Maybe("owner", lock_owner),
-                Small("flags", flags),
-            ],
-        );
+        self.begin("read", &ctx, "inode", inode);
+        self.notes.number("handle", handle);
+        self.notes.small("size", size);
+        self.notes.number("offset", offset);
+        self.notes.option("owner", lock_owner);
+        self.notes.small("flags", flags);
+        self.notes.end();
         let answer = self.read_file(w, size, offset);
         self.note_moved(&answer);
         answer
@@ -603,20 +499,15 @@ impl PartialFileSystem for SeededFs<'_> {
         kill_priv: bool,
         flags: u32,
     ) -> Result<u32, Fault> {
-        self.called(
-            "write",
-            &ctx,
-            &[
-                Number("inode", inode),
-                Number("handle", handle),
-                Small("size", size),
-                Number("offset", offset),
-                Maybe("owner", lock_owner),
-                Truth("delayed_write", delayed_write),
-                Truth("kill_priv", kill_priv),
-                Small("flags", flags),
-            ],
-        );
+        self.begin("write", &ctx, "inode", inode);
+        self.notes.number("handle", handle);
+        self.notes.small("size", size);
+        self.notes.number("offset", offset);
+        self.notes.option("owner", lock_owner);
+        self.notes.truth("delayed_write", delayed_write);
+        self.notes.truth("kill_priv", kill_priv);
+        self.notes.small("flags", flags);
+        self.notes.end();
         let answer = self.write_file(r, size, offset);
         self.note_moved(&answer);
         match answer {
@@ -633,16 +524,11 @@ impl PartialFileSystem for SeededFs<'_> {
         size: u32,
         offset: u64,
     ) -> Result<DirectoryItems, Fault> {
-        self.called(
-            "readdir",
-            &ctx,
-            &[
-                Number("inode", inode),
-                Number("handle", handle),
-                Small("size", size),
-                Number("offset", offset),
-            ],
-        );
+        self.begin("readdir", &ctx, "inode", inode);
+        self.notes.number("handle", handle);
+        self.notes.small("size", size);
+        self.notes.number("offset", offset);
+        self.notes.end();
         let answer = self.listing(offset);
         self.notes.answer(&answer);
         self.notes.end();
