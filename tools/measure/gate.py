@@ -3,9 +3,11 @@
 
 Usage: tools/measure/gate.py [--functions N] [--edits] [CRATE..]
 For each crate, or those named, that `rt check` proved from nothing: how long that took, by the times of the files that it
-left in out/incremental, and how many must-fail edits there are; then the N (20) dearest functions. A check that began
-with what an earlier one kept tells of both. With --edits each crate's edits are tried by `rt must-fail --anew`, one at a
-time, which tells the processor time of an edit, with that of the check that they begin with.
+left in out/incremental, how many must-fail edits there are, and how often the gate proves it: once, and again for its
+edits, if it has any, to begin them with. Then the N (20) dearest functions. A check that began with what an earlier one
+kept tells of both; the tests of test_all, which the gate proves too, are there after `rt check --test` in its folder.
+With --edits each crate's edits are tried by `rt must-fail --anew`, one at a time, which tells the processor time of an
+edit, with that of the check that they begin with.
 Status 0: all is told; 1: a crate's edits are not refused, or a crate is not there or not proved.
 """
 import argparse
@@ -78,10 +80,12 @@ def main():
             each = "refused not" if used is None else f"{used:.0f}"
         rows.append((sum(functions.values()) + shared, crate, edits, each))
         dear += [(seconds, crate, name) for name, seconds in functions.items()]
-    print("| Crate | Seconds of its proof | Edits | Processor seconds of an edit |\n|---|---|---|---|")
+    print("| Crate | Seconds of its proof | Proofs | Edits | Processor seconds of an edit |\n|---|---|---|---|---|")
     for seconds, crate, edits, each in sorted(rows, reverse=True):
-        print(f"| `{crate}` | {seconds:.0f} | {edits} | {each} |")
-    print(f"\nAll: {sum(it[0] for it in rows):.0f} s, {sum(it[2] for it in rows)} edits. The dearest functions:\n")
+        print(f"| `{crate}` | {seconds:.0f} | {2 if edits else 1} | {edits} | {each} |")
+    whole = sum(it[0] for it in rows)
+    again = sum(it[0] for it in rows if it[2])
+    print(f"\nAll: {whole:.0f} s, {again:.0f} s again for {sum(it[2] for it in rows)} edits. The dearest functions:\n")
     for seconds, crate, name in sorted(dear, reverse=True)[:given.functions]:
         print(f"{seconds:7.1f} s  {crate}: {name}")
     return status
