@@ -102,7 +102,10 @@ renew() {
 # Puts what is here into the copy of libfuse's sources.
 replace() {
     local file archives
-    "$here/bindings/libfuse/make.py" "$source/lib/fuse_lowlevel.c" > "$work/fuse_lowlevel.c" 2> "$work/left-out"
+    "$here/bindings/libfuse/make.py" "$source/lib/fuse_lowlevel.c" > "$work/fuse_lowlevel.c" 2> "$work/left-out" || {
+        cat "$work/left-out"
+        return 1
+    }
     renew "$work/fuse_lowlevel.c" "$work/tree/lib/fuse_lowlevel.c"
     for file in "$here"/bindings/libfuse/*.h "$here"/include/nizwarf.h "$here"/include/nizwarf_tree.h; do
         renew "$file" "$work/tree/lib/${file##*/}"
@@ -130,8 +133,9 @@ build() {
         [[ $known != *"'${option%=*}'"* ]] || options+=("-D$option")
     done
     mkdir -p "$work"
-    [ -e "$work/tree" ] || cp -R "$source" "$work/tree"
-    [ "$kind" = unmodified ] || replace
+    # (half a copy would be taken for a whole one by the next run)
+    [ -e "$work/tree" ] || { rm -rf "$work/tree.part" && cp -R "$source" "$work/tree.part" && mv "$work/tree.part" "$work/tree"; } || return 1
+    [ "$kind" = unmodified ] || replace || return 1
     [ -e "$work/build/build.ninja" ] || meson setup "$work/build" "$work/tree" "${options[@]}" || return 1
     if [ -n "$all" ]; then
         ninja -j "${JOBS:-2}" -C "$work/build"

@@ -90,13 +90,13 @@ renew() {
 fetch() {
     local packages part=$folder/part
     rm -rf "$part"
-    use_suite trixie "$part/apt"
+    use_suite trixie "$part/apt" || return
     # virtiofsd's own package, and those that it wants: of these the sources alone.
     mapfile -t packages < <(apt-get "${apt[@]}" install -y -s --no-install-recommends librust-virtiofsd-dev |
         sed -nE 's/^Inst (librust-[^ ]+) .*/\1/p')
-    [ ${#packages[@]} -gt 0 ]
-    unpack_packages "$part/unpacked" "${packages[@]}"
-    mv "$part/unpacked/usr/share/cargo/registry" "$folder/crates"
+    [ ${#packages[@]} -gt 0 ] || return
+    unpack_packages "$part/unpacked" "${packages[@]}" || return
+    mv "$part/unpacked/usr/share/cargo/registry" "$folder/crates" || return
     rm -rf "$part"
 }
 

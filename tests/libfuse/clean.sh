@@ -64,8 +64,8 @@ need apt-get "The Debian is made of packages."
 make_debian() {
     rm -rf "$root"
     mkdir -p "$root"
-    command -v debootstrap > /dev/null || apt-get install -qq -y --no-install-recommends debootstrap
-    bootstrap_debian "$root"
+    command -v debootstrap > /dev/null || apt-get install -qq -y --no-install-recommends debootstrap || return
+    bootstrap_debian "$root" || return
     mkdir -p "$root$kit"
     : > "$root.made"
 }

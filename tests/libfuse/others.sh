@@ -124,7 +124,7 @@ root=$folder/root
 
 make_root() {
     if [ "$suite" = sid ]; then
-        unpack_root "$root" "$suite" dash libc-bin findutils attr e2fsprogs mawk passwd procps ruby bindfs
+        unpack_root "$root" "$suite" dash libc-bin findutils attr e2fsprogs mawk passwd procps ruby bindfs || return
         printf '%s\n' 'nobody:x:65534:65534::/:/bin/sh' >> "$root/etc/passwd"
         printf '%s\n' 'root:x:0:' 'nogroup:x:65534:' > "$root/etc/group"
         ln -sf which.debianutils "$root/usr/bin/which"
@@ -133,7 +133,7 @@ make_root() {
     fi
     unpack_root "$root" "$suite" dash libc-bin findutils gawk procps python3 perl attr bc file hostname e2fsprogs \
         xdg-desktop-portal-tests libglib2.0-bin ostree-tests libnbd-bin nbdkit qemu-utils qemu-system-common \
-        qemu-system-x86
+        qemu-system-x86 || return
     ln -sf which.debianutils "$root/usr/bin/which"
     # (libnbd's tests wait a minute by loops of bash's, and ask sh for that: dash waits a second)
     ln -sf bash "$root/usr/bin/sh"

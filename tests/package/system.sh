@@ -52,10 +52,10 @@ debian_has=(systemd systemd-sysv dbus kmod procps python3 qemu-system-x86 libvir
 make_debian() {
     rm -rf "$debian" "$debian.made"
     mkdir -p "$debian"
-    bootstrap_debian "$debian"
+    bootstrap_debian "$debian" || return
     echo 'APT::Get::Assume-Yes "true";' > "$debian/etc/apt/apt.conf.d/91check"
     chroot "$debian" env DEBIAN_FRONTEND=noninteractive sh -c \
-        'apt-get update -qq && apt-get install -qq --no-install-recommends "$@"' - "${debian_has[@]}"
+        'apt-get update -qq && apt-get install -qq --no-install-recommends "$@"' - "${debian_has[@]}" || return
     rm -f "$debian/etc/machine-id"
     echo "${debian_has[*]}" > "$debian.made"
 }
@@ -85,7 +85,7 @@ put_page_files() {
 if [ -n "$clean" ]; then
     need debootstrap "Install it: apt-get install debootstrap."
     part "a Debian 12, if it isn't there"
-    [ "$(cat "$debian.made" 2> /dev/null)" = "${debian_has[*]}" ] || quietly "$work/said" make_debian
+    [ "$(cat "$debian.made" 2> /dev/null)" = "${debian_has[*]}" ] || quietly "$work/said" make_debian || exit 2
 fi
 part "the packages are made and installed"
 "$here/tools/package.sh" --unproved --out "$work/packages" > "$work/said" 2>&1 || { cat "$work/said" >&2 && exit 1; }

@@ -1,4 +1,8 @@
 # For the scripts beside it: packages of Debian, downloaded and unpacked, and never installed.
+#
+# What downloads is judged by its caller, as `quietly` judges it, and where a function is judged `set -e` means nothing
+# in it. So each step says itself that its failure is the function's: half a download would be kept otherwise, and taken
+# for a whole one by the next run.
 # shellcheck shell=bash
 
 # Where the machine's own apt gets Debian from.
@@ -12,8 +16,8 @@ debian_archive() {
 bootstrap_debian() {
     local archive
     archive=$(debian_archive) || true
-    [ -n "$archive" ]
-    debootstrap --variant=minbase bookworm "$1" "$archive"
+    [ -n "$archive" ] || return
+    debootstrap --variant=minbase bookworm "$1" "$archive" || return
     echo "deb $archive bookworm main" > "$1/etc/apt/sources.list"
     apt-config dump | grep -E '^Acquire::(Check|https?::)' > "$1/etc/apt/apt.conf.d/90machine" || true
     cp /etc/resolv.conf "$1/etc/"
@@ -47,10 +51,10 @@ kernel_of() {
 unpack_packages() {
     local folder=$1 package
     shift
-    mkdir -p "$folder/debs"
-    (cd "$folder/debs" && apt-get "${apt[@]}" download "$@")
+    mkdir -p "$folder/debs" || return
+    (cd "$folder/debs" && apt-get "${apt[@]}" download "$@") || return
     for package in "$folder/debs"/*.deb; do
-        dpkg-deb -x "$package" "$folder"
+        dpkg-deb -x "$package" "$folder" || return
     done
     rm -r "$folder/debs"
 }
@@ -60,9 +64,9 @@ fetch_virtiofsd() {
     local part=$2.part
     rm -rf "$part"
     mkdir -p "$part"
-    use_suite "$1" "$part/apt"
-    unpack_packages "$part/unpacked" virtiofsd libc6 libcap-ng0 libgcc-s1 libseccomp2
-    mv "$part/unpacked" "$2"
+    use_suite "$1" "$part/apt" || return
+    unpack_packages "$part/unpacked" virtiofsd libc6 libcap-ng0 libgcc-s1 libseccomp2 || return
+    mv "$part/unpacked" "$2" || return
     rm -rf "$part"
 }
 
@@ -91,12 +95,12 @@ fetch_qemu() {
     local part=$2.part needed
     rm -rf "$part"
     mkdir -p "$part"
-    use_suite "$1" "$part/apt"
+    use_suite "$1" "$part/apt" || return
     mapfile -t needed < <(apt-get "${apt[@]}" install -y -s --no-install-recommends qemu-system-x86 |
         sed -nE 's/^Inst ([^ ]+) .*/\1/p')
-    [ ${#needed[@]} -gt 0 ]
-    unpack_packages "$part/unpacked" "${needed[@]}"
-    mv "$part/unpacked" "$2"
+    [ ${#needed[@]} -gt 0 ] || return
+    unpack_packages "$part/unpacked" "${needed[@]}" || return
+    mv "$part/unpacked" "$2" || return
     rm -rf "$part"
 }
 
@@ -139,8 +143,7 @@ get_passthrough() {
         echo "Getting libfuse's sources and bindfs .." >&2
         rm -rf "$beside"
         mkdir -p "$beside"
-        quietly "$beside/said" make_passthrough "$beside"
-        [ -x "$beside/passthrough_ll" ] || exit 1
+        quietly "$beside/said" make_passthrough "$beside" || exit 1
     fi
     LD_LIBRARY_PATH=$(dirname "$(find "$beside" -name libfuse3.so.3 -print -quit)")
     export LD_LIBRARY_PATH
@@ -149,12 +152,13 @@ get_passthrough() {
 make_passthrough() {
     local folder=$1 suite
     suite=$(. /etc/os-release && echo "$VERSION_CODENAME")
-    use_suite "$suite" "$folder"
+    use_suite "$suite" "$folder" || return
     sed 's/^Types: deb$/Types: deb-src/' "$folder/sources/debian.sources" > "$folder/sources/source.sources"
-    apt-get "${apt[@]}" update
-    unpack_packages "$folder" libfuse2 libfuse3-3 libfuse3-dev bindfs
-    (cd "$folder" && apt-get "${apt[@]}" --download-only source fuse3 && tar -xf fuse3_*.orig.tar.?z)
+    apt-get "${apt[@]}" update || return
+    unpack_packages "$folder" libfuse2 libfuse3-3 libfuse3-dev bindfs || return
+    (cd "$folder" && apt-get "${apt[@]}" --download-only source fuse3 && tar -xf fuse3_*.orig.tar.?z) || return
+    apt-cache "${apt[@]}" show libfuse3-3 bindfs | sed -n 's/^Version: //p' > "$folder/versions" || return
+    # (last, since it is by this that the folder counts as made)
     cc -O2 -w -D_FILE_OFFSET_BITS=64 -pthread -I "$folder/usr/include/fuse3" -o "$folder/passthrough_ll" \
         "$folder"/fuse-*/example/passthrough_ll.c "$folder"/lib/*/libfuse3.so.3
-    apt-cache "${apt[@]}" show libfuse3-3 bindfs | sed -n 's/^Version: //p' > "$folder/versions"
 }

@@ -6,14 +6,14 @@
 fetch_guest() {
     use_suite "" ""
     if [ ! -e "$busybox" ]; then
-        unpack_packages "$work/busybox" busybox-static
+        unpack_packages "$work/busybox" busybox-static || return
         mkdir -p "${busybox%/*}"
-        cp "$(find "$work/busybox" -name busybox -type f -perm /111 | sed -n 1p)" "$busybox"
+        cp "$(find "$work/busybox" -name busybox -type f -perm /111 | sed -n 1p)" "$busybox" || return
     fi
     if [ ! -e "$kernel" ]; then
-        use_suite "$2" "$work/apt"
-        unpack_packages "$work/kernel" "$(kernel_of "$1")"
-        mv "$work/kernel" "$kernel"
+        use_suite "$2" "$work/apt" || return
+        unpack_packages "$work/kernel" "$(kernel_of "$1")" || return
+        mv "$work/kernel" "$kernel" || return
     fi
 }
 

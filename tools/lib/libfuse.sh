@@ -25,17 +25,18 @@ unpack_root() {
     rm -rf "$root"
     mkdir -p "$root"/usr/{bin,sbin,lib,lib64} "$root"/{etc,proc,dev,run,tmp,lib-of-it,work,here}
     for name in bin sbin lib lib64; do ln -s "usr/$name" "$root/$name"; done
-    use_suite "$suite" "$root/apt"
+    use_suite "$suite" "$root/apt" || return
     mapfile -t packages < <(apt-get "${apt[@]}" install -y -s --no-install-recommends bash coreutils diffutils grep sed \
         util-linux mount fuse3 "${@:3}" | sed -nE 's/^Inst ([^ ]+) .*/\1/p')
+    [ ${#packages[@]} -gt 0 ] || return
     mkdir "$root/debs"
-    (cd "$root/debs" && apt-get "${apt[@]}" download "${packages[@]}")
+    (cd "$root/debs" && apt-get "${apt[@]}" download "${packages[@]}") || return
     for name in "$root"/debs/*.deb; do
-        dpkg-deb --fsys-tarfile "$name" | tar -x -C "$root" --keep-directory-symlink
+        dpkg-deb --fsys-tarfile "$name" | tar -x -C "$root" --keep-directory-symlink || return
     done
     rm -r "$root/debs" "$root/apt"
     printf '%s\n' 'root:x:0:0::/root:/bin/bash' 'sshd:x:100:100::/run/sshd:/bin/false' > "$root/etc/passwd"
-    ln -s /proc/self/mounts "$root/etc/mtab"
+    ln -s /proc/self/mounts "$root/etc/mtab" || return
     mv "$root" "$1"
 }
 
@@ -60,17 +61,17 @@ unpack_sources() {
     local folder=$1 part=$1.part words it
     rm -rf "$part"
     mkdir -p "$part/tree"
-    use_suite "$2" "$part/apt"
+    use_suite "$2" "$part/apt" || return
     sed 's/^Types: deb$/Types: deb-src/' "$part/apt/sources/debian.sources" > "$part/apt/sources/source.sources"
-    apt-get "${apt[@]}" update
+    apt-get "${apt[@]}" update || return
     for it in "${@:3}"; do
         read -ra words <<< "$it"
         mkdir "$part/${words[0]}"
-        (cd "$part" && apt-get "${apt[@]}" --download-only source "${words[0]}")
+        (cd "$part" && apt-get "${apt[@]}" --download-only source "${words[0]}") || return
         tar -C "$part/${words[0]}" --strip-components=1 --wildcards -xf "$part/${words[0]}"_*.orig.tar.?z \
-            "${words[@]:1}"
-        mv "$part/${words[0]}" "$part/tree/"
+            "${words[@]:1}" || return
+        mv "$part/${words[0]}" "$part/tree/" || return
     done
-    mv "$part/tree" "$folder"
+    mv "$part/tree" "$folder" || return
     rm -rf "$part"
 }
