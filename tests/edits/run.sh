@@ -42,8 +42,8 @@ if [ "${1:-}" = --texts ]; then
     exit
 fi
 need rt "The folder bin of the Rattle toolchain has it; README.md says where that is."
-[ $# != 0 ] || read -ra crates < <(cd "$here" && printf '%s ' */ | tr -d /)
-[ $# = 0 ] || crates=("$@")
+crates=("$@")
+[ $# != 0 ] || mapfile -t crates < <(cd "$here" && printf '%s\n' */ | tr -d /)
 for it in "${crates[@]}"; do
     if [ ! -d "$here/$it" ]; then
         echo "There are no edits of $it here: $(cd "$here" && printf '%s ' */ | tr -d /)" >&2
