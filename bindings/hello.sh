@@ -1,6 +1,7 @@
 # Sourced by check.sh and rust/check.sh: tests of programs that serve the file `hello` as examples/c/hello.c
 # does. `folder` is a temporary folder, and `steps` how many there are.
 # shellcheck shell=bash
+. "$(dirname "${BASH_SOURCE[0]}")/../tools/lib/mounts.sh"
 step_number=0
 
 # Runs a command, and prints its output only if it fails: step "NAME" COMMAND..
@@ -38,11 +39,7 @@ use_mount() {
     mkdir -p "$folder/mount"
     timeout 60 "$@" &
     server=$!
-    for _ in $(seq 200); do
-        ! mountpoint -q "$folder/mount" || break
-        kill -0 "$server" || return 1
-        sleep 0.05
-    done
+    await_mounted "$folder/mount" "$server" || return 1
     [ "$(ls "$folder/mount")" = hello ] && [ "$(cat "$hello")" = 'Hello, world!' ] \
         && [ "$(stat -c '%a %s' "$hello")" = '444 14' ] && [ "$(dd if="$hello" bs=5 skip=1 status=none)" = ', world!' ] \
         && ! cat "$folder/mount/none" && ! echo text >> "$hello" && umount "$folder/mount" && wait "$server"

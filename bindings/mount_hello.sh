@@ -8,16 +8,21 @@
 set -euo pipefail
 cd "$1"
 shift
+# The folder is another user's, and the device is of the machine: both are mounted in this namespace alone.
 mount -t tmpfs none dev
 mknod -m 666 dev/fuse c 10 229
 mount --bind dev/fuse /dev/fuse
 "$@" ./hello mount &
 server=$!
 trap 'kill $server 2> /dev/null || true' EXIT
-for _ in $(seq 200); do
-    ! grep -q "$PWD/mount " /proc/self/mountinfo || break
+# A minute at most. (mountpoint(1) asks the mount itself, which lets nobody else in, not even root)
+for _ in $(seq 1200); do
+    ! grep -qF "$PWD/mount " /proc/self/mountinfo || break
+    kill -0 "$server"
     sleep 0.05
 done
 [ "$("$@" cat mount/hello)" = "Hello, world!" ]
 "$@" fusermount3 -u mount
 wait "$server"
+# (its number may be another process's from here on)
+trap - EXIT

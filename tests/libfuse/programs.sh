@@ -14,6 +14,7 @@
 # Status 0: all that are there are equal; 1: not so; 2: it could not start.
 set -euo pipefail
 . "$(dirname "$0")/../../tools/lib/usage.sh"
+. "$(dirname "$0")/../../tools/lib/mounts.sh"
 
 usage() {
     echo "Usage: tests/libfuse/programs.sh [--suite SUITE] LIB FOLDER [PROGRAM..]" >&2
@@ -28,9 +29,7 @@ if [ "${1:-}" = --suite ]; then
 fi
 [ $# -ge 2 ] || usage
 need_root "It mounts"
-if [ -z "${OWN_MOUNTS:-}" ]; then
-    OWN_MOUNTS=yes exec unshare -m --propagation private "$0" "${given[@]}"
-fi
+own_mounts "${given[@]}"
 here=$(cd "$(dirname "$0")/../.." && pwd)
 list=$here/tests/libfuse/programs.txt
 lib=$1 folder=$(realpath -m "$2")
@@ -58,7 +57,7 @@ enter() {
     [ -e "$root" ] || { echo "Downloading programs of $suite .." >&2 &&
         quietly "$root.said" unpack_root "$root" "$suite" "${wanted[@]}"; }
     bind_root "$root" "$folder" "$lib"
-    exec chroot "$root" /usr/bin/env -i PATH=/usr/sbin:/usr/bin OWN_MOUNTS=yes HOME=/root \
+    exec chroot "$root" /usr/bin/env -i PATH=/usr/sbin:/usr/bin "NIZWARF_OWN_MOUNTS=$NIZWARF_OWN_MOUNTS" HOME=/root \
         /here/tests/libfuse/programs.sh "${search:--}" /work/it "${programs[@]}"
 }
 
@@ -79,16 +78,6 @@ fill() {
     ln -s ../a/large "$to/many/link"
     chmod 600 "$to/many/7"
     chmod 755 "$to/many/8"
-}
-
-# Waits until something is mounted.
-wait_mounted() {
-    local i
-    for i in $(seq 200); do
-        ! mountpoint -q "$folder/mnt" || return 0
-        sleep 0.1
-    done
-    return 1
 }
 
 # Whether a process that serves has this library in its memory.
@@ -119,7 +108,7 @@ read_by() {
     rm -rf served
     cp -a tree served
     if ! (unset LD_LIBRARY_PATH && eval "$(field "$program" 3)") > said 2>&1 ||
-        ! eval "$(field "$program" 4)" > said 2>&1 || ! wait_mounted; then
+        ! eval "$(field "$program" 4)" > said 2>&1 || ! await_mounted "$folder/mnt"; then
         echo "$program: it did not mount: $(tail -n 1 said)"
         return 1
     fi

@@ -9,15 +9,14 @@
 # Status 0: no report is of bindings/libfuse, and what was read is right; 1: not so; 2: it could not start.
 set -euo pipefail
 . "$(dirname "$0")/../../tools/lib/usage.sh"
+. "$(dirname "$0")/../../tools/lib/mounts.sh"
 
 if [ $# != 2 ]; then
     echo "Usage: tests/libfuse/threads.sh PROGRAM FOLDER" >&2
     exit 2
 fi
 need_root "It mounts"
-if [ -z "${OWN_MOUNTS:-}" ]; then
-    OWN_MOUNTS=yes exec unshare -m --propagation private "$0" "$@"
-fi
+own_mounts "$@"
 program=$1 folder=$(realpath -m "$2")
 rm -rf "$folder"
 mkdir -p "$folder/mnt" "$folder/src"
@@ -39,11 +38,9 @@ work() {
 
 TSAN_OPTIONS=log_path=$folder/report "$program" -f -o "source=$folder/src,cache=never" mnt > said 2>&1 &
 server=$!
-for _ in $(seq 100); do
-    ! mountpoint -q mnt || break
-    sleep 0.1
-done
-mountpoint -q mnt || { cat said && exit 2; }
+# (an end before its own leaves no server)
+trap 'umount -lq mnt || true' EXIT
+await_mounted mnt "$server" || { cat said && exit 2; }
 workers=() status=0
 for number in 1 2 3 4; do
     work "$number" &

@@ -79,11 +79,7 @@ status=0
 mirror_mount() {
     "${@:2}" "$work/mount" &
     server=$!
-    for _ in $(seq 200); do
-        ! mountpoint -q "$work/mount" || break
-        kill -0 "$server" || exit 2
-        sleep 0.05
-    done
+    await_mounted "$work/mount" "$server" || exit 2
     mirror calls "$1" "$work/mount" "$work/tmpfs/beside" || status=1
     umount "$work/mount"
     if ! wait "$server"; then

@@ -14,6 +14,7 @@
 set -euo pipefail
 . "$(dirname "$0")/../../tools/lib/usage.sh"
 . "$(dirname "$0")/../../tools/lib/transport.sh"
+. "$(dirname "$0")/../../tools/lib/mounts.sh"
 take_none "$@"
 need_root "Only root may mount"
 if [ ! -e /dev/fuse ]; then
@@ -35,13 +36,7 @@ mount -t tmpfs check "$beside"
 start() {
     timeout 1800 "$transport" "$@" "$folder" &
     server=$!
-    for _ in $(seq 100); do
-        ! mountpoint -q "$folder" || return 0
-        kill -0 "$server" 2> /dev/null || break
-        sleep 0.05
-    done
-    echo "It was not mounted." >&2
-    exit 1
+    await_mounted "$folder" "$server" || { echo "It was not mounted." >&2 && exit 1; }
 }
 
 # Waits for the server, which must have ended well, with nothing mounted.

@@ -6,6 +6,7 @@
 # Status 0: each came to what it must; 1: not so.
 set -Eeuo pipefail
 . "$(dirname "$0")/../../tools/lib/usage.sh"
+. "$(dirname "$0")/../../tools/lib/mounts.sh"
 [ $# = 1 ] || { echo "Usage: tests/package/pages.sh FOLDER" >&2 && exit 2; }
 here=$(cd "$(dirname "$0")/../.." && pwd)
 cd "$1"
@@ -22,10 +23,7 @@ shown() {
 # Mounts by a command of a page, which serves until it is unmounted by the other one: mounted LOOK COMMAND UNMOUNT.
 mounted() {
     bash -c "exec $2" > came 2>&1 &
-    for _ in $(seq 100); do
-        ! mountpoint -q /mnt || break
-        sleep 0.1
-    done
+    await_mounted /mnt $!
     $1
     bash -ec "$3"
     wait $!

@@ -2,13 +2,26 @@
 # source usage.sh first.
 # shellcheck shell=bash
 
-# Runs the script anew where what it mounts is seen by nobody else, and ends with it: own_mounts "$@".
+# Runs the script anew where what it mounts is seen by nobody else, and ends with it: own_mounts "$@". The variable has
+# the number of that namespace, so one that comes from elsewhere is not believed, and scripts that it starts stay in it.
 own_mounts() {
     need unshare "Install util-linux."
     need mountpoint "Install util-linux."
-    if [ -z "${NIZWARF_OWN_MOUNTS:-}" ]; then
-        NIZWARF_OWN_MOUNTS=yes exec unshare --mount --propagation private "$0" "$@"
+    if [ "${NIZWARF_OWN_MOUNTS:-}" != "$(readlink /proc/self/ns/mnt)" ]; then
+        # shellcheck disable=SC2016
+        exec unshare --mount --propagation private \
+            bash -c 'NIZWARF_OWN_MOUNTS=$(readlink /proc/self/ns/mnt) exec "$0" "$@"' "$0" "$@"
     fi
+}
+
+# Waits until a folder is mounted, a minute at most, since a machine may have other work. Where the process that mounts it
+# is named, it fails as soon as that is gone: await_mounted FOLDER [PID].
+await_mounted() {
+    local until=$((SECONDS + 60))
+    while ! mountpoint -q "$1"; do
+        [ "$SECONDS" -lt "$until" ] && { [ -z "${2:-}" ] || kill -0 "$2" 2> /dev/null; } || return 1
+        sleep 0.05
+    done
 }
 
 # Makes the folder `work`. When the script ends, the process `server` is ended, if there is one, what is

@@ -15,6 +15,7 @@ set -euo pipefail
 tools=$(cd "$(dirname "$0")/../../../tools" && pwd)
 . "$tools/lib/usage.sh"
 . "$tools/lib/debian.sh"
+. "$tools/lib/mounts.sh"
 
 here=$(cd "$(dirname "$0")" && pwd)
 built=$here/../../../out/rust/fuser
@@ -92,10 +93,8 @@ use_example() {
     esac
     timeout 120 "$built/target/debug/$example-$2" "${words[@]}" > "$mount.server" 2>&1 &
     server=$!
-    for _ in $(seq 400); do
-        ! mountpoint -q "$mount" || break
-        sleep 0.05
-    done
+    # (without a mount the calls fail, which is told)
+    await_mounted "$mount" "$server" || true
     timeout 60 "$here/session.py" "$example" "$mount" > "$mount.said" 2>&1 || status=$?
     umount "$mount" || status=unmounted
     case $example in
