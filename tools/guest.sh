@@ -30,10 +30,7 @@ if [ $# -gt 1 ] || [[ ${1:-} == -* ]]; then
     echo "Usage: tools/guest.sh [--share | --virtiofsd] [KERNEL-PACKAGE[/SUITE]]" >&2
     exit 2
 fi
-if [ "$(uname -m)" != x86_64 ]; then
-    echo "It is made for x86-64 alone." >&2
-    exit 2
-fi
+need_x86_64
 need qemu-system-x86_64 "Install it: apt-get install qemu-system-x86."
 if [ "$by" = --virtiofsd ]; then
     transport=$("$here/tools/virtiofsd.sh")

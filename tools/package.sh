@@ -55,10 +55,7 @@ while [ $# -gt 0 ]; do
     shift
 done
 out=${out:-$here/out/packages}
-if [ "$(uname -m)" != x86_64 ]; then
-    echo "It is made for x86-64 alone." >&2
-    exit 2
-fi
+need_x86_64
 for command in ld nm objcopy objdump readelf strip; do
     need "$command" "Install it: apt-get install binutils."
 done

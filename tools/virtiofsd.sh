@@ -50,10 +50,7 @@ for word in "$@"; do
         *) take_folder "$word" ;;
     esac
 done
-if [ "$(uname -m)" != x86_64 ]; then
-    echo "It is made for x86-64 alone." >&2
-    exit 2
-fi
+need_x86_64
 for command in apt-get dpkg-deb; do
     need "$command" "virtiofsd's sources are packages of Debian."
 done

@@ -77,6 +77,17 @@ def talk(asking, lines):
     return asked, answers
 
 
+def end(process, seconds):
+    """Waits so long for the end of a process, and then kills it."""
+    try:
+        process.wait(seconds)
+    except subprocess.TimeoutExpired:
+        pass
+    finally:
+        process.kill()
+        process.wait()
+
+
 def ask_new(daemon, lines):
     """What a new daemon is asked, what it answers, and what it printed."""
     with tempfile.TemporaryDirectory(dir=folder) as at:
@@ -90,13 +101,8 @@ def ask_new(daemon, lines):
                                       text=True) as asking:
                     asked, answers = talk(asking, lines)
                 process.terminate()
-                try:
-                    process.wait(1)
-                except subprocess.TimeoutExpired:
-                    pass
             finally:
-                process.kill()
-                process.wait()
+                end(process, 1)
             log.seek(0)
             if asking.returncode or "" in answers:
                 raise Stopped(f"{words[0]} can't be asked:\n{log.read()}")

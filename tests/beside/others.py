@@ -143,13 +143,8 @@ def ask_pair(peer, asked):
         try:
             answered, last = talk(ours, asked)
             ours.shutdown(socket.SHUT_RDWR)
-            try:
-                process.wait(2)
-            except subprocess.TimeoutExpired:
-                pass
         finally:
-            process.kill()
-            process.wait()
+            beside.end(process, 2)
         log.seek(0)
         return answered, last, log.read(), process.returncode
 

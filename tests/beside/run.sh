@@ -57,15 +57,9 @@ done
 for command in apt-get apt-cache dpkg-deb; do
     need "$command" "The others are packages of Debian."
 done
-if [ "$(id -u)" != 0 ]; then
-    echo "virtiofsd is started as root: run it as root." >&2
-    exit 2
-fi
+need_root "virtiofsd is started as root"
 need python3 "Install it: apt-get install python3."
-if [ "$(uname -m)" != x86_64 ]; then
-    echo "It is made for x86-64 alone." >&2
-    exit 2
-fi
+need_x86_64
 find_library nizwarf_door
 
 there=$here/out/beside

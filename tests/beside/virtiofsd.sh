@@ -32,15 +32,9 @@ fi
 for command in apt-get dpkg-deb; do
     need "$command" "virtiofsd is a package of Debian."
 done
-if [ "$(id -u)" != 0 ]; then
-    echo "virtiofsd is started as root: run it as root." >&2
-    exit 2
-fi
+need_root "virtiofsd is started as root"
 need python3 "Install it: apt-get install python3."
-if [ "$(uname -m)" != x86_64 ]; then
-    echo "It is made for x86-64 alone." >&2
-    exit 2
-fi
+need_x86_64
 build_transport vhost
 
 work=$(mktemp -d)

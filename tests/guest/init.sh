@@ -4,16 +4,8 @@
 # root. It powers off when it has done all that a person does once more. /settings has `modules`, which the kernel
 # needs, and `shared`: --shared if a folder of the host is shared, of which it is not known what is in use.
 # shellcheck shell=dash disable=SC2154
-/bin/busybox --install -s /bin
-export PATH=/bin
-mount -t devtmpfs dev /dev
-mount -t proc proc /proc
-exec < /dev/console > /dev/console 2>&1
-# shellcheck source=/dev/null
-. /settings
-for module in $modules; do
-    [ ! -e "/modules/$module.ko" ] || insmod "/modules/$module.ko"
-done
+# shellcheck source=../lib/guest-begin.sh
+. /begin
 echo "Linux $(uname -r)"
 
 # Nodes and KiB in use.

@@ -16,10 +16,7 @@ set -euo pipefail
 take_none "$@"
 need_root "A handle is opened by root alone"
 need python3 "Install it: apt-get install python3."
-if [ "$(uname -m)" != x86_64 ]; then
-    echo "It is made for x86-64 alone." >&2
-    exit 2
-fi
+need_x86_64
 build_transport share nizwarf_door
 work=$(mktemp -d -p "$(if [ -d /dev/shm ]; then echo /dev/shm; else echo /tmp; fi)")
 started=()

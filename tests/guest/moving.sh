@@ -2,16 +2,8 @@
 # The first program of the virtual machine that tests/guest/migrate.sh moves: it reads on in a file, writes on in another,
 # lists a directory and makes files, two hundred times.
 # shellcheck shell=dash disable=SC2154,SC2012
-/bin/busybox --install -s /bin
-export PATH=/bin
-mount -t devtmpfs dev /dev
-mount -t proc proc /proc
-exec < /dev/console > /dev/console 2>&1
-# shellcheck source=/dev/null
-. /settings
-for module in $modules; do
-    [ ! -e "/modules/$module.ko" ] || insmod "/modules/$module.ko"
-done
+# shellcheck source=../lib/guest-begin.sh
+. /begin
 echo "Linux $(uname -r)"
 mount -t virtiofs nizwarf /mnt || poweroff -f
 cd /mnt/d || poweroff -f

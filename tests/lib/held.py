@@ -13,6 +13,11 @@ def hold(fact, what):
         print(f"FAILED: {what}", file=sys.stderr, flush=True)
 
 
+def step(what, came, wanted):
+    """Holds what a step came to against what is wanted."""
+    hold(came == wanted, f"{what}: {came}, and not {wanted}")
+
+
 def wait_for(fact, most=None):
     """Whether it comes to be a fact, within SOON or that many seconds."""
     until = time.monotonic() + (most or SOON)

@@ -2,19 +2,14 @@
 FOLDER"""
 import errno
 import os
+import pathlib
 import sys
+
+sys.path.append(str(pathlib.Path(__file__).resolve().parents[1] / "lib"))
+from held import faults, step  # noqa: E402
 
 folder = sys.argv[1]
 named = f"{folder}/named"
-wrong = 0
-
-
-def step(what, came, wanted):
-    """Tells of a step that came to something else."""
-    global wrong
-    if came != wanted:
-        wrong += 1
-        print(f"FAILED: {what}: {came}, and not {wanted}", file=sys.stderr)
 
 
 def made(flags=0, mode=0o640):
@@ -58,5 +53,5 @@ directory = os.open(named, os.O_RDONLY)
 os.rmdir(named)
 os.close(os.open(f"/proc/self/fd/{directory}", os.O_TMPFILE | os.O_RDWR))
 os.close(directory)
-print(f"Files without a name: {wrong} steps are wrong.")
-sys.exit(wrong > 0)
+print(f"Files without a name: {len(faults)} steps are wrong.")
+sys.exit(bool(faults))

@@ -5,10 +5,14 @@ import ctypes
 import errno
 import fcntl
 import os
+import pathlib
 import struct
 import subprocess
 import sys
 import time
+
+sys.path.append(str(pathlib.Path(__file__).resolve().parents[1] / "lib"))
+from held import faults, step  # noqa: E402
 
 GETFLAGS, SETFLAGS, FSGETXATTR, FSSETXATTR = 0x80086601, 0x40086602, 0x801c581f, 0x401c5820
 UNKNOWN = 0x8004ff7f
@@ -16,15 +20,6 @@ IMMUTABLE, COMPRESSED = 0x10, 0x4
 BTIME, ALL = 0x800, 0xfff
 NO_FOLLOW = 0x100
 libc = ctypes.CDLL(None, use_errno=True)
-wrong = 0
-
-
-def step(what, came, wanted):
-    """Tells of a step that came to something else."""
-    global wrong
-    if came != wanted:
-        wrong += 1
-        print(f"FAILED: {what}: {came}, and not {wanted}", file=sys.stderr)
 
 
 def statx(path, mask=ALL):
@@ -158,5 +153,5 @@ for at in folder, tmpfs:
     for name in "file", "link", "fifo", "device":
         os.unlink(f"{at}/{name}")
     os.rmdir(f"{at}/directory")
-print(f"Births and flags: {wrong} steps are wrong.")
-sys.exit(wrong > 0)
+print(f"Births and flags: {len(faults)} steps are wrong.")
+sys.exit(bool(faults))

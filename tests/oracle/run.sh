@@ -20,6 +20,7 @@
 set -euo pipefail
 . "$(dirname "$0")/../../tools/lib/usage.sh"
 . "$(dirname "$0")/../../tools/lib/program.sh"
+. "$(dirname "$0")/../lib/oracle.sh"
 
 # Tells how it is used, and stops.
 refuse() {
@@ -32,25 +33,9 @@ source=()
 jobs=$(nproc)
 numbers=()
 while [ $# -gt 0 ]; do
-    case $1 in
-        --source)
-            [ -d "${2:-}" ] || refuse "--source wants a folder with virtiofsd's four files."
-            source=(--source "$2")
-            shift 2
-            ;;
-        --jobs)
-            [[ ${2:-} =~ ^[1-9][0-9]*$ ]] || refuse "--jobs wants a number of processors."
-            jobs=$2
-            shift 2
-            ;;
-        *)
-            [[ $1 =~ ^[0-9]+$ ]] || refuse "$1 is no number."
-            numbers+=("$1")
-            shift
-            ;;
-    esac
+    take_word "$@"
+    shift "$taken"
 done
-[ ${#numbers[@]} -le 2 ] || refuse "There are more than two numbers."
 seed=${numbers[0]:-1}
 count=${numbers[1]:-1000000}
 [ "$count" -ge 2 ] || refuse "There are fewer than two requests."

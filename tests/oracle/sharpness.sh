@@ -9,6 +9,7 @@
 # as caught. Status 0: all are caught. It takes some minutes on four processors.
 set -euo pipefail
 . "$(dirname "$0")/../../tools/lib/usage.sh"
+. "$(dirname "$0")/../lib/oracle.sh"
 here=$(cd "$(dirname "$0")" && pwd)
 
 # Tells how it is used, and stops.
@@ -20,30 +21,14 @@ refuse() {
 
 source=() jobs=$(nproc) only='' numbers=()
 while [ $# -gt 0 ]; do
-    case $1 in
-        --source)
-            [ -d "${2:-}" ] || refuse "--source wants a folder with virtiofsd's four files."
-            source=(--source "$2")
-            shift 2
-            ;;
-        --jobs)
-            [[ ${2:-} =~ ^[1-9][0-9]*$ ]] || refuse "--jobs wants a number of processors."
-            jobs=$2
-            shift 2
-            ;;
-        --only)
-            [ -n "${2:-}" ] || refuse "--only wants a part of a line of wrong-bodies.txt."
-            only=$2
-            shift 2
-            ;;
-        *)
-            [[ $1 =~ ^[0-9]+$ ]] || refuse "$1 is no number."
-            numbers+=("$1")
-            shift
-            ;;
-    esac
+    if [ "$1" = --only ]; then
+        [ -n "${2:-}" ] || refuse "--only wants a part of a line of wrong-bodies.txt."
+        only=$2 taken=2
+    else
+        take_word "$@"
+    fi
+    shift "$taken"
 done
-[ ${#numbers[@]} -le 2 ] || refuse "There are more than two numbers."
 "$here/build.sh" "${source[@]}"
 folder=$(mktemp -d)
 trap 'rm -rf "$folder"' EXIT

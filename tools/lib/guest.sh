@@ -52,6 +52,7 @@ put_guest() {
             *.ko) cp "$file" "$1/modules/" ;;
         esac
     done
+    cp "$here/tests/lib/guest-begin.sh" "$1/begin"
     cp "$2" "$1/init"
     chmod +x "$1/init"
 }

@@ -33,6 +33,14 @@ need_root() {
     fi
 }
 
+# Stops on another processor than those that the libraries are built for.
+need_x86_64() {
+    if [ "$(uname -m)" != x86_64 ]; then
+        echo "It is made for x86-64 alone." >&2
+        exit 2
+    fi
+}
+
 # Stops a tool that takes no arguments where it was given some: take_none "$@".
 take_none() {
     if [ $# != 0 ]; then
