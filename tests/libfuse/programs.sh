@@ -61,7 +61,13 @@ enter() {
         /here/tests/libfuse/programs.sh "${search:--}" /work/it "${programs[@]}"
 }
 
+# Ends the server of serve_ssh, which removes its file as it ends.
+end_ssh() {
+    [ ! -e "$folder/sshd.pid" ] || kill "$(cat "$folder/sshd.pid")"
+}
+
 [ -z "$suite" ] || enter
+trap 'end_ssh 2> /dev/null || true' EXIT
 [ "$lib" = - ] || export LD_LIBRARY_PATH=$lib
 rm -rf "$folder"
 mkdir -p "$folder/tree" "$folder/mnt" "$folder/work"
@@ -110,6 +116,7 @@ read_by() {
     if ! (unset LD_LIBRARY_PATH && eval "$(field "$program" 3)") > said 2>&1 ||
         ! eval "$(field "$program" 4)" > said 2>&1 || ! await_mounted "$folder/mnt"; then
         echo "$program: it did not mount: $(tail -n 1 said)"
+        end_ssh
         return 1
     fi
     where=$(has_library)
@@ -123,7 +130,7 @@ read_by() {
         fi
     fi
     umount mnt || umount -l mnt
-    [ ! -e sshd.pid ] || kill "$(cat sshd.pid)"
+    end_ssh
     echo "$program: $came, library $where"
     [ -z "$bad" ] && [ "$where" != "not here" ]
 }
