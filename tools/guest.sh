@@ -68,10 +68,7 @@ fi
 timeout 1800 "$transport" "${words[@]}" &
 transport_id=$!
 started+=("$transport_id")
-for _ in $(seq 100); do
-    [ ! -S "$work/socket" ] || break
-    sleep 0.05
-done
+await_listener "$work/socket" "$transport_id"
 began=$SECONDS
 : > "$work/console"
 timeout -k 5 1790 qemu-system-x86_64 -nodefaults -no-user-config -display none \

@@ -34,10 +34,7 @@ pack_guest "$work/root" "$work/files"
 serve() {
     "$transport" --log-level=warn --socket-path="$at/$1.socket" "${@:2}" "$at/folder" &
     started+=($!)
-    for _ in $(seq 200); do
-        [ ! -S "$at/$1.socket" ] || break
-        sleep 0.05
-    done
+    await_listener "$at/$1.socket" $!
 }
 
 # Starts a machine with a share: boot NAME WORDS

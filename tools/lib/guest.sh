@@ -57,6 +57,19 @@ put_guest() {
     chmod +x "$1/init"
 }
 
+# Waits until a server listens, which QEMU wants before it starts, a minute at most, or tells that it is gone:
+# await_listener PATH PID.
+await_listener() {
+    local until=$((SECONDS + 60))
+    while [ ! -S "$1" ]; do
+        if [ "$SECONDS" -ge "$until" ] || ! kill -0 "$2" 2> /dev/null; then
+            echo "FAILED: nothing listens at $1." >&2
+            return 1
+        fi
+        sleep 0.05
+    done
+}
+
 # Packs such a folder as what a kernel begins with: pack_guest FOLDER FILE.
 pack_guest() {
     (cd "$1" && find . | "$busybox" cpio -o -H newc 2> /dev/null) > "$2"
