@@ -67,9 +67,10 @@ else
 fi
 cc -std=c11 -O2 -Wall -Wextra -Werror -o "$here/out/c/share_speed" "$here/tools/measure/share_speed.c"
 work=$(mktemp -d -p /dev/shm)
+# What a run leaves that ends before its own: without its mount a server ends by itself.
 tidy() {
-    umount -lq "$work"/*.mount
-    rm -rf "$work"
+    umount -lq "$work/mount"
+    rm -rf --one-file-system "$work"
 }
 trap 'tidy 2> /dev/null || true' EXIT
 # Where root has set it to Y, before this, requests of the tree come by io_uring, and the share is timed so too.
