@@ -56,29 +56,36 @@ if [ -n "$uninstall" ]; then
 fi
 
 mkdir -p "$root"
-made=$(mktemp)
-trap 'rm -f "$made" "$made.files"' EXIT
+# (a folder that nobody else can write to, since root may run this: beside a file of mktemp any user may put a link)
+lists=$(mktemp -d)
+trap 'rm -rf "$lists"' EXIT
+# Folders in the order of their names, so that each is made after the one that it is in. Those that were there before
+# stay when all is removed.
 find . -mindepth 1 -type d | sed 's,^\./,,' | sort | while IFS= read -r folder; do
     if [ ! -d "$root/$folder" ]; then
         mkdir "$root/$folder"
-        echo "$folder/" >> "$made"
+        echo "$folder/" >> "$lists/folders"
     fi
 done
-find . -mindepth 2 ! -type d | sed 's,^\./,,' | sort > "$made.files"
+touch "$lists/folders"
+# (this script lies in the first level, and is not installed)
+find . -mindepth 2 ! -type d | sed 's,^\./,,' | sort > "$lists/files"
+# The list comes first, so that what a failure leaves half done can be removed.
+{
+    cat "$lists/folders" "$lists/files"
+    echo share/nizwarf/installed
+} > "$list"
 while IFS= read -r file; do
+    # (so a program that runs stays what it is)
     rm -f "$root/$file"
     cp -P "$file" "$root/$file"
-done < "$made.files"
+done < "$lists/files"
 awk -v prefix="$prefix" '/^prefix=/ { $0 = "prefix=" prefix } { print }' lib/pkgconfig/nizwarf.pc \
     > "$root/lib/pkgconfig/nizwarf.pc"
 # A manager of virtual machines, or of services, finds the program by its full path.
 for file in share/qemu/vhost-user/60-nizwarf-share.json lib/systemd/system/nizwarf-share@.service; do
     awk -v prefix="${prefix%/}" '{ sub("/usr/local", prefix) } { print }' "$file" > "$root/$file"
 done
-{
-    cat "$made" "$made.files"
-    echo share/nizwarf/installed
-} > "$list"
 
 echo "Nizwarf is in $root."
 if [ -z "$destdir" ]; then
