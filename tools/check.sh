@@ -83,7 +83,7 @@ trap 'rm -rf "$folder"' EXIT
 
 # Files that are there, known to git or new, by their ends.
 files() {
-    git ls-files --cached --others --exclude-standard -z -- "$@" | xargs -0r ls -d 2> /dev/null || true
+    git ls-files --cached --others --exclude-standard -z -- "$@" | xargs -0r ls -d -- 2> /dev/null || true
 }
 
 # Runs a command for pieces of a list of files, as many at once as there are processors.
@@ -91,8 +91,10 @@ each() {
     tr '\n' '\0' | xargs -0r -n 8 -P "$(nproc)" "$@"
 }
 
-scripts() { files '*.sh' '.ci/run'; }
+scripts() { files '*.sh' .ci/run packaging/nizwarf-decode packaging/nizwarf-demo; }
 c_files() { files '*.c' '*.h'; }
+
+# ---- The parts. Each is judged, so `set -e` means nothing in it, and a step whose failure counts says so itself.
 
 check_documents() { tools/dev/documents.sh; }
 check_figures() { tools/dev/figures.py; }
@@ -111,7 +113,7 @@ check_rattle() {
     files crates.txt 'crates/*.rt' 'crates/*.antt' | tar -cT - | tar -xC "$folder/copy"
     cp -R "$folder/copy" "$folder/formatted"
     # shellcheck disable=SC2016
-    (cd "$folder/formatted/crates" && printf '%s\n' * | each -n 1 bash -c 'cd "$0" && rt fmt > /dev/null')
+    (cd "$folder/formatted/crates" && printf '%s\n' * | each -n 1 bash -c 'cd "$0" && rt fmt > /dev/null') || return
     diff -ru "$folder/copy" "$folder/formatted"
 }
 
@@ -134,7 +136,8 @@ check_crate() {
     export NIZWARF_LIB_DIR=$here/out/rust/lib
     find_library nizwarf_door
     mkdir -p "$NIZWARF_LIB_DIR"
-    cp -u "${library[@]}" "$NIZWARF_LIB_DIR"
+    # (without the library an older one would be tested, which is there)
+    cp -u "${library[@]}" "$NIZWARF_LIB_DIR" || return
     (cd bindings/rust && cargo test --quiet --offline)
 }
 
