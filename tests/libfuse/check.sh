@@ -76,6 +76,8 @@ compile() {
     compile_libfuse "$folder" "$suite" "$@"
 }
 
+# ---- The parts. Each is judged, so `set -e` means nothing in it, and a step whose failure counts says so itself.
+
 sanitized=(-fsanitize=address -fsanitize=undefined -fno-sanitize-recover=undefined)
 
 # What a library has for programs, and what it is linked with.
@@ -89,6 +91,7 @@ symbols_of() {
 check_symbols() {
     symbols_of "$theirs" > "$work/theirs"
     symbols_of "$ours" > "$work/ours"
+    [ -s "$work/theirs" ] || return 1
     echo "$(comm -12 "$work/theirs" "$work/ours" | wc -l) of $(wc -l < "$work/theirs") symbols and names of libraries"
     diff "$work/theirs" "$work/ours"
 }
@@ -110,7 +113,8 @@ check_hostile() {
     python3 -B "$here/tests/beside/others.py" --count 300 "$work/servers" "$work" > "$work/came" 2> "$work/said" ||
         cat "$work/said"
     grep -A 1 '^What came of' "$work/came" | grep -v '^--'
-    [ "$(grep -c '^What came of' "$work/came")" = 2 ]
+    # (both tables are there: of the stored sessions, and of those that are generated)
+    [ "$(grep -c '^What came of' "$work/came")" = 2 ] || return 1
     ! grep -E "$version +(silent|panicked|read past|ended by an error)" "$work/came" | grep -vE ' of 0 bytes(,|$)'
 }
 
@@ -160,6 +164,7 @@ check_tests() {
     local failed
     run_tests unmodified "$work/theirs"
     run_tests nizwarf "$work/ours"
+    [ -s "$work/theirs" ] && [ -s "$work/ours" ] || return 1
     mapfile -t failed < <(comm -12 <(sed -nE 's/ PASS(ED)?$//p' "$work/theirs") <(sed -nE 's/ FAIL(ED)?$//p' "$work/ours"))
     [ -z "${failed[*]}" ] || echo "Tried again: ${failed[*]}"
     mapfile -t failed < <(try_again "${failed[@]}")
