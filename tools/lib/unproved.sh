@@ -36,6 +36,8 @@ echo "Building $name without a proof .." >&2
 kit=$(dirname "$(rt doc)")
 folder=$(mktemp -d)
 trap 'rm -rf "$folder"' EXIT
+# What is built is as old as this, so that a source that changes meanwhile is newer than it.
+: > "$folder/begun"
 
 # Links to all of a folder, but for what has one of the names after it.
 link_all() {
@@ -103,10 +105,12 @@ if [[ $out == *.a ]]; then
         -e "s/^define internal (.*@($called)\()/define \1/" "$folder/module.ll" > "$folder/named.ll"
     "${compile[@]}" -O2 -fPIC -c -x ir "$folder/named.ll" -o "$folder/module.o"
     "$kit/toolchain/bin/llvm-ar" rcs "$folder/library.a" "$folder/module.o"
+    touch -r "$folder/begun" "$folder/library.a"
     mv "$folder/library.a" "$out"
     exit
 fi
 "${compile[@]}" -O2 -fPIE -c -x ir "$folder/module.bc" -o "$folder/module.o"
 "$kit/bin/rattle-link" --target $target --toolchain "$kit/toolchain" -o "$folder/program" \
     "$folder/module.o" "$kit/c/libos_c.a" "$kit/c/liblibc_c.a" 2> "$folder/said" || { cat "$folder/said" >&2 && exit 2; }
+touch -r "$folder/begun" "$folder/program"
 mv "$folder/program" "$out"
