@@ -126,7 +126,8 @@ depends_of() {
                 libc.so.6) objdump -T "$file" | sed -nE 's/.*GLIBC_([0-9.]+).*/\1/p' >> "$glibc" ;;
                 "$soname") echo "libnizwarf0 (>= $release~)" ;;
                 ld-linux*) ;;
-                *) dpkg-query -S "*/$name" | sed 's/[:,].*//;q' ;;
+                # (the first line, as `libcap-ng0:amd64: /lib/..`, up to the architecture or the next package)
+                *) dpkg-query -S "*/$name" | sed 's/[:,].*//;q' || wrong "no package of Debian has $name, which ${file##*/} needs." ;;
             esac
         done
     done < <(find "$1" -type f ! -name '*.a')
