@@ -276,8 +276,10 @@ class Postgres:
     def __init__(self, run):
         self.run, self.own = run, run.folder / "postgres"
         self.own.mkdir()
-        # Its socket is elsewhere: a socket in the folder is a case of other suites.
-        self.sockets = Path(tempfile.mkdtemp(prefix="nizwarf-"))
+        # Its socket is elsewhere, since a socket in the folder is a case of other suites: in a folder that goes with this
+        # object, or with the process.
+        self.kept = tempfile.TemporaryDirectory(prefix="nizwarf-")
+        self.sockets = Path(self.kept.name)
         for folder in (self.own, self.sockets):
             os.chown(folder, 65534, 65534)
         bins = [*Path("/usr/lib/postgresql").glob("*/bin"), *(run.there / "root/usr/lib/postgresql").glob("*/bin")]
