@@ -33,7 +33,8 @@ for command in valgrind python3 objdump cc; do
     need "$command" "Install it."
 done
 need rt "The Rattle toolchain builds the library: put its folder bin on the PATH."
-[ -e "$library" ] || "$here/tools/measure/speed.sh" --runs 1 --ms 1 --only null/getattr > /dev/null
+# (which builds the library if it isn't there, or a source is newer)
+"$here/tools/measure/speed.sh" --runs 1 --ms 1 --only null/getattr > /dev/null
 folder=$(mktemp -d)
 trap 'rm -rf "$folder"' EXIT
 wraps=$(printf ' -Wl,--wrap=%s' malloc calloc realloc aligned_alloc)
