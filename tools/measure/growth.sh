@@ -38,16 +38,7 @@ for command in python3 cc dpkg-deb; do
 done
 own_mounts "${given[@]}"
 get_passthrough
-there=$here/out/beside/trixie
-if [ ! -e "$there" ]; then
-    echo "Downloading virtiofsd of Debian's trixie .." >&2
-    mkdir -p "$here/out/beside"
-    quietly "$there.said" "$here/tests/beside/get.sh" virtiofsd trixie "$there" "$there.lists"
-    rm -r "$there.lists"
-fi
-# By its own loader and libraries, whatever the machine has.
-libraries=$there/usr/lib/x86_64-linux-gnu
-virtiofsd=("$libraries/ld-linux-x86-64.so.2" --library-path "$libraries" "$there/usr/libexec/virtiofsd")
+find_virtiofsd trixie "$here/out/beside/trixie"
 build_transport share nizwarf_door "$here/tools/measure/locks.c" -I "$here/tools/measure" -include locks.h
 counting=$transport
 build_transport share nizwarf_door
@@ -63,7 +54,7 @@ mount -t tmpfs -o nr_inodes=0,size=90% growth "$work"
 built="built without a proof"
 [[ ${library[0]} == */out/unproved/* ]] || built="the proved one"
 facts="Begun on $(LC_ALL=C date '+%-d %B %Y'), commit $(git -C "$here" describe --always --dirty --exclude '*'), the library $built; \
-Linux $(uname -r), $(nproc) processors, load $(cut -d ' ' -f 1-3 /proc/loadavg); $("${virtiofsd[@]}" --version 2>&1), libfuse $(head -n 1 "$beside/versions")."
+Linux $(uname -r), $(nproc) processors, load $(cut -d ' ' -f 1-3 /proc/loadavg); $version, libfuse $(head -n 1 "$beside/versions")."
 measure() {
     python3 -B "$here/tools/measure/growth.py" "$folder/pace" "$folder/floor_vhost" "$work" "$most" "$facts" "$transport" \
         "$counting" "$beside/passthrough_ll" "${virtiofsd[@]}"
