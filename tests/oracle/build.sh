@@ -46,7 +46,7 @@ fetch() {
     if command -v apt-get > /dev/null && command -v dpkg-deb > /dev/null; then
         folder=$(mktemp -d)
         # shellcheck disable=SC2064
-        trap "rm -rf '$folder'" EXIT
+        trap "rm -rf ${folder@Q}" EXIT
         echo "Downloading $package .." >&2
         # (in a shell of its own, since it goes elsewhere)
         if (quietly "$folder/said" download "$folder"); then

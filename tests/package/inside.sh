@@ -24,9 +24,9 @@ no_mount() {
 is_gone() {
     fails 1 test -e "$1"
 }
-# Until no server is there.
+# Until no server is there, half a minute at most.
 await_end() {
-    for _ in $(seq 100); do
+    for _ in $(seq 600); do
         [ -n "$(pgrep -f "^[^ ]*$1")" ] || return 0
         sleep 0.05
     done

@@ -51,7 +51,8 @@ printf '%s\n' 'security_driver = "none"' 'user = "root"' 'group = "root"' 'stdio
     'remember_owner = 0' 'cgroup_controllers = []' 'namespaces = []' > /etc/libvirt/qemu.conf
 libvirtd > "$work/said" 2>&1 &
 server=$!
-for _ in $(seq 100); do
+# (half a minute at most: then the first machine tells what libvirtd said)
+for _ in $(seq 300); do
     ! virsh list > /dev/null 2>&1 || break
     sleep 0.1
 done
