@@ -23,6 +23,7 @@ SMALL = re.compile(r"^/\* ((?:(?!\*/).)*?) \*/\nstatic inline (\w+) (nizwarf_\w+
                    r"\{\n\t(return )?\w+->(\w+)( &?= \w+)?;\n\}", re.M | re.S)
 # The comment before some constants, and their names.
 CONSTANTS = re.compile(r"\t/\* ((?:(?!\*/).)*?) \*/\n((?:\tNIZWARF_\w+ = [\d <]+,\n)+)", re.S)
+# A constant of C: words in capitals with `_` between them.
 LETTERS = r"[A-Z][A-Z0-9]*(?:_[A-Z0-9]+)+"
 
 
@@ -36,6 +37,7 @@ def part(text, begin, end):
 
 
 class Header:
+    """What the two headers say that pages quote: functions, calls with their comments, fields, constants, structs."""
     def __init__(self, text, ops):
         self.structs = part(ops, 'extern "C" {\n#endif\n\n', "\nstruct nizwarf_dir {").rstrip("\n")
         self.functions = SMALL.findall(text)
@@ -61,6 +63,7 @@ class Header:
         """A text in mdoc: a line for each word that has a macro, and for what is between; a sentence begins a line."""
         lines = [""]
         for word in text.split(" "):
+            # (mdoc wants the signs that end a sentence as words of their own)
             core, after = re.fullmatch(r"(.*?)([.,:;]*)", word).groups()
             macro = self.macro(core)
             if macro:
@@ -87,6 +90,7 @@ class Header:
             yield f".Fn {name} " + " ".join(f'"{word}"' for word in words.split(", "))
 
     def made_calls(self):
+        """The lines of @CALLS@: an item for each comment on calls, which ends with the kind of the answer in brackets."""
         widest = max((name for _, names in self.calls for name in re.findall(r"NIZWARF_\w+", names)), key=len)
         yield f".Bl -tag -width {widest}"
         for comment, names in self.calls:
@@ -112,6 +116,7 @@ class Header:
     def made_structs(self):
         yield ".Bd -literal"
         for line in self.structs.split("\n"):
+            # In roff `\` begins a command, and so does a line with `.` or `'` at its beginning.
             line = line.replace("\\", "\\e")
             yield f"\\&{line}" if line[:1] in (".", "'") else line
         yield ".Ed"
@@ -120,11 +125,13 @@ class Header:
         lines = []
         for line in page.splitlines():
             wanted = re.fullmatch(r"@([A-Z]+)@", line)
+            # (@NAMES@ is what made_names gives, and so on)
             lines += getattr(self, f"made_{wanted[1].lower()}")() if wanted else [line]
         return "\n".join(lines) + "\n"
 
 
 def main(folder):
+    """Copies each page into the folder, and fills in those that end in `.in`."""
     texts = []
     for name in ("nizwarf.h", "nizwarf_ops.h"):
         with open(f"{HERE}/include/{name}", encoding="utf-8") as file:

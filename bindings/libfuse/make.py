@@ -56,6 +56,8 @@ def drop(source, pattern, needed):
 
 
 def main():
+    """Reads the file that is named, and writes what is made of it: each place that is to change must be there as often as it is
+    in the versions that are known, or it stops."""
     if len(sys.argv) != 2 or sys.argv[1] in ("-h", "--help"):
         print(__doc__.strip())
         sys.exit(0 if len(sys.argv) == 2 else 2)
@@ -68,6 +70,7 @@ def main():
         kept = drop(kept, definition(name), name)
     kept = drop(kept, definition(PROCESS), "fuse_session_process_buf_int")
     kept = drop(kept, definition(CALLED), "do_getattr")
+    # (the table of functions by opcode, and the second one that versions with io_uring have)
     kept = drop(kept, r"^static struct \{\n\tvoid \(\*func\).*?^\} fuse_ll_ops2?\[\][^\n]*\n.*?^\};\n", "fuse_ll_ops")
     for was, is_now in OWN:
         kept, count = re.subn(was, is_now, kept)
@@ -84,6 +87,7 @@ def main():
     kept, count = re.subn(r'(#include "mount_util\.h"\n)', r'\1#include "door.h"\n', kept)
     if count != 1:
         sys.exit("fuse_lowlevel.c doesn't include what is known here.")
+    # What door.h and the files after it ask of the version, by the preprocessor.
     print("\n".join(f"#define {word} 1" for word in words))
     print(f"#define PROCESS_BUF {process.group(1)}")
     print(f"#define REQ_COUNT {'ref_cnt' if 'req->ref_cnt' in source else 'ctr'}")

@@ -86,6 +86,7 @@ def serve(library, slot, session, request):
 
 def mount_on(folder):
     device = os.open("/dev/fuse", os.O_RDWR)
+    # As fuse(4) has them; 040000 says that the root is a directory. The 6 below is MS_NOSUID and MS_NODEV.
     options = f"fd={device},rootmode=40000,user_id=0,group_id=0,default_permissions"
     libc = ctypes.CDLL(None, use_errno=True)
     if libc.mount(b"hello", os.fsencode(folder), b"fuse.hello", 6, options.encode()):
@@ -94,19 +95,23 @@ def mount_on(folder):
 
 
 def main(words):
+    """Serves requests until the file is unmounted or the socket is closed."""
     if words == ["--help"]:
         return print(__doc__)
     if len(words) != (2 if words[:1] == ["--fd"] else 1) or words[0].startswith("-") and words[0] != "--fd":
         print(__doc__, file=sys.stderr)
         sys.exit(2)
     library = ctypes.CDLL(os.environ.get("NIZWARF_LIB", "libnizwarf.so.0"))
+    # (ctypes takes numbers to be of 32 bits if it isn't told)
     library.nizwarf_copy_slot_at.argtypes = [c_void_p, c_size_t, POINTER(c_char), c_size_t]
     library.nizwarf_ask_at.argtypes = [c_void_p] * 3 + [c_size_t] * 2 + [c_void_p] * 2
     library.nizwarf_answer_at.argtypes = [c_void_p] * 4 + [c_char_p, c_size_t, c_void_p, c_size_t, c_void_p]
+    # A slot holds one request; of the session pages have 4 KiB, and data 1 MiB at most.
     slot, session = c_void_p(), Session(0, 4096, 1 << 20)
     device = int(words[1]) if words[0] == "--fd" else mount_on(words[0])
     while True:
         try:
+            # (a read gives one whole request, if there is room for the longest)
             if not (request := os.read(device, LONGEST)):
                 break
             if reply := serve(library, slot, session, request):

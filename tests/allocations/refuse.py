@@ -4,8 +4,11 @@ import collections, glob, os, re, subprocess, sys, threading
 from concurrent.futures import ThreadPoolExecutor
 
 FOLDER = sys.argv[1]
+# In hexadecimal: a byte of a room that nothing was written to; and of a reply with ENOMEM the length and the error,
+# 16 and -12.
 FILL = "00"
 ENOMEM = "10000000f4ffffff"
+# (more than any run allocates)
 UNREFUSED = 1 << 40
 
 Part = collections.namedtuple("Part", "name state answers now calls")
@@ -27,6 +30,7 @@ def built(name):
 
 def run(program, stdin, part=0, number=UNREFUSED):
     """A run in which this allocation of this part is refused."""
+    # (runs are side by side, and each thread has a file of its own)
     counts = f"{FOLDER}/{threading.get_ident()}"
     if os.path.exists(counts):
         os.remove(counts)
@@ -45,6 +49,7 @@ def refused(program, stdin, part, clean):
     number = 1
     while True:
         it = run(program, stdin, part, number)
+        # (it made fewer allocations in this part, so none was refused)
         if len(it.counts) > part and it.counts[part] < number:
             if it != clean:
                 raise ValueError(f"a run that met no refusal differs, part {part}")
@@ -95,6 +100,7 @@ def fault_in(room):
 
 def refused_calls(calls):
     """The calls of a request of which the first is answered ENOMEM."""
+    # A scripted answer has a line of its own; another one is part of the call's line.
     if len(calls) > 1 and calls[1].startswith("  -> "):
         return [calls[0], "  -> fault 12"]
     return [re.sub(r"kind: \w+, value: \d+", "kind: Fault, value: 12", calls[0])]
@@ -167,12 +173,14 @@ def demo_ending(program, lines, stored, it):
     at = next(at for at in range(len(stored)) if answers[at] != stored[at])
     unique = re.sub(rb"[^0-9a-f]", b"", lines[at].split(b" ")[1])[16:32].decode()
     ends = {"err OutOfMemory": "the server", f"ok 16 {ENOMEM}{unique}": "the file system"}
+    # What a session answers that never had this line: nothing of it may be left.
     without = run(program, b"".join(line for i, line in enumerate(lines) if i != at))
     same = answers[at + 1:] == without.output.splitlines()[at:]
     return ends.get(answers[at]) if same else None
 
 
 def try_demo(program, lines, stored):
+    """How text_demo ends by each of its allocations, once it gave its stored answers with none refused."""
     stdin = b"".join(lines)
     clean = run(program, stdin)
     if clean.status or clean.output.splitlines() != stored:
@@ -200,6 +208,7 @@ with open("crates/text_demo/stdin", "rb") as file:
     lines = file.readlines()
 with open("crates/text_demo/stdout") as file:
     stored = file.read().splitlines()
+# The LOOKUP of the stored session: a room of 144 bytes, 42 (0x2a) of opcode 1, of which the last two are `a` and a nul.
 header = next(it[1] for it in (re.match(rb"(144 2a00000001[0-9a-f]*)61\+00\n", it) for it in lines) if it)
 lookups = [header + b"+6100\n", header + b"61+00\n"]
 
@@ -207,6 +216,7 @@ print("1 of 2: each call of test_sessions, by itself ..", flush=True)
 tried = Refusals(script, lines + lookups)
 with ThreadPoolExecutor(os.cpu_count()) as pool:
     endings = list(pool.map(tried.endings, range(len(tried.parts))))
+# (cut after its header it copies no name, and inside its name it does)
 if endings[-2:] != [[], ["the server"]]:
     faults.append("LOOKUP of a")
     print(f"LOOKUP of a, cut behind its header and in its name: {endings[-2:]}", file=sys.stderr)

@@ -8,10 +8,12 @@ import sys
 
 def loop_of(text, function, number):
     """Where the loop of this number begins."""
+    # A definition of the function at the beginning of a line, up to the brace alone on its line.
     head = re.search(r"^[a-z][^;{}()#]*[ *]" + function + r"\([^;{]*\)\n\{", text, re.M)
     if not head:
         return None
     end = text.index("\n}\n", head.end())
+    # (a `while (..);` that ends a line closes a `do`, and begins none)
     loops = [found.start() for found in re.finditer(r"^\t+(for|while|do)\b(?!.*\);$)", text[head.end():end], re.M)]
     return head.end() + loops[number - 1] if number <= len(loops) else None
 
@@ -23,6 +25,7 @@ def put_in(text, kind, where, body):
         at = loop_of(text, function, int(number))
         return None if at is None else f"{text[:at]}/*@ {body} */\n{text[at:]}"
     if kind == "before":
+        # (the line must be there once)
         parts = text.split(f"\n{where}\n")
         return None if len(parts) != 2 else f"\n{body}\n{where}\n".join(parts)
     changed, count = re.subn(where, body, text, flags=re.M)
@@ -30,6 +33,7 @@ def put_in(text, kind, where, body):
 
 
 def main():
+    """Copies each source with its annotations. A rule is a line FILE KIND WHERE, and its body below, indented by four."""
     annotations, to, *sources = sys.argv[1:]
     with open(annotations, encoding="utf-8") as file:
         blocks = [block.strip("\n") for block in re.split(r"\n\n+", file.read())]

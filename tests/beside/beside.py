@@ -32,6 +32,7 @@ import requests
 
 PAGE = pathlib.Path(__file__).resolve().parents[2] / "docs/generated/beside-virtiofsd.md"
 MARKS = "<!-- the tables of a run: tests/beside/virtiofsd.sh --page -->\n", "<!-- the end of the tables -->\n"
+# How ask.c prints a reply of 16 bytes with ENOSYS (-38, 0xda) to the request whose unique is 7: that of LAST in requests.py.
 ENOSYS = "16 10000000daffffff0700000000000000"
 # What virtiofsd prints as a refusal ends it, of 1.13.2 and of 1.14.0; and the files of its protocol layer.
 REFUSALS = r"ProcessQueue\((\w+)|Failed to handle an incoming request: ([^:\n]+)"
@@ -72,6 +73,7 @@ def talk(asking, lines):
         except BrokenPipeError:
             pass
         answers.append(asking.stdout.readline().rstrip("\n"))
+        # (the words of ask.c for a chain that doesn't come back, and for a daemon that is gone)
         if answers[-1] in ("", "none", "hung up"):
             break
     return asked, answers
@@ -117,6 +119,7 @@ def reply_of(answer, request):
     """The bytes of a reply that is whole, and of this request, or None."""
     found = re.fullmatch(r"(\d+) ((?:[0-9a-f]{2})*)", answer)
     reply = bytes.fromhex(found[2]) if found else b""
+    # (Linux takes errors from -1 to -4095, and nothing after one)
     if len(reply) < 16 or not int(found[1]) == len(reply) == struct.unpack_from("<I", reply)[0]:
         return None
     error, unique = struct.unpack_from("<iQ", reply, 4)
@@ -148,6 +151,7 @@ def difference(there, here, opcode):
         return "the options that INIT agrees on" if without(there, OPTIONS) == without(here, OPTIONS) else None
     mode = MODES.get(len(here))
     kinds = mode and [struct.unpack_from("<I", reply, mode)[0] >> 12 for reply in (there, here)]
+    # (the upper four bits of a mode are the kind of file)
     return "attributes" if kinds and kinds[0] == kinds[1] else None
 
 
@@ -193,6 +197,7 @@ def judge(session):
 
 
 def judge_all():
+    """What came of each session, eight at a time; the first that can't be judged ends all."""
     sessions = list(requests.sessions())
     with concurrent.futures.ThreadPoolExecutor(8) as pool:
         judged = []
@@ -260,6 +265,7 @@ def hold(made, versions, write):
     if any(text.count(mark) != 1 for mark in MARKS):
         raise Stopped(f"{PAGE.name} lacks the two marks of the tables.")
     start, end = text.index(MARKS[0]) + len(MARKS[0]), text.index(MARKS[1])
+    # (the first paragraph says when it was made)
     stands = text[start:end].strip("\n").partition("\n\n")[2]
     if write:
         when = f"{of_today()}, with {versions}."
@@ -273,6 +279,7 @@ def hold(made, versions, write):
 
 
 def main(how, versions):
+    """Judges all sessions, shows what came by kind and part, and holds the page against it, or writes it."""
     judged = judge_all()
     kinds = by_parts(judged)
     for kind in filter(kinds.get, (*KINDS, None)):

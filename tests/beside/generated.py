@@ -13,6 +13,7 @@ from shapes import SHAPES, Op  # noqa: E402
 ROOT = 1
 # How many requests a session begins with, by which it gets its first nodes and handles.
 FIRST = 17
+# Those of `fill`, some that are there nowhere, and some for what is made.
 NAMES = [*(b"f%d" % i for i in range(30)), *2 * (b"d1", b"d2", b"l", b"h2", b"none", b".", b"..", b"new"),
          *(b"n%d" % i for i in range(8))]
 # Numbers of nodes that may not be there.
@@ -127,6 +128,7 @@ class Client:
                 self.entry(reply, at)
                 at += 128
             reply[at:at + 8] = bytes(8)
+            # A record is 24 bytes and the name, and begins at a multiple of 8.
             at += 24 + (struct.unpack_from("<I", reply, at + 16)[0] + 7 & ~7)
 
 
@@ -140,6 +142,7 @@ class Maker:
 
     def __init__(self, rng, client, options):
         self.rng, self.client = rng, client
+        # SETXATTR_EXT, SECURITY_CTX and CREATE_SUPP_GROUP of INIT's options.
         self.long_setxattr = options >> 29 & 1
         self.contexts, self.groups = options >> 32 & 1, options >> 34 & 1
 
@@ -208,6 +211,7 @@ class Maker:
         return "+".join(map(str, [*pieces, room]))
 
     def extensions(self):
+        """Blocks of extensions, in either order, as far as the session agreed on them."""
         context = group = b""
         if self.contexts:
             value = self.some(b"system_u:object_r:x:s0\0", b"v", self.rng.randbytes(40))
@@ -268,11 +272,13 @@ class Maker:
         return shape.reply or self.some(0, 16)
 
     def attributes(self, opcode):
+        """A GETATTR or SETATTR, of a node or by an open file: node, parts and room."""
         node, pack = self.node(), struct.pack
         owner, handle = self.opened("file")
         has = self.some(0, 0, 1)
         if opcode == Op.GETATTR:
             return owner if has else node, [pack("<II", has, 0), handle], 120
+        # Bits of FATTR_: mode, uid, gid, size, times by value or now, the handle, ctime, and 1 << 11 for privileges.
         valid = self.some(1, 2, 4, 8, 16 + 32, 0x80 + 0x100 + 16 + 32, 8 + 64, 0x400, 6, 1 << 11, 0)
         size, mode = self.some(0, 10, 5000, 2**40), self.some(0o644, 0o4755, 0o100600)
         rest = pack("<QQQQQIIIIIIII", size, 0, 100, 200, 300, 1, 2, 3, mode, 0, self.some(0, 5), self.some(0, 6), 0)

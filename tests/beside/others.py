@@ -92,6 +92,7 @@ def is_end_by_design(asked):
             return True
         if opcode(request) == INIT and len(request) >= 48:
             major, minor = struct.unpack_from("<II", request, 40)
+            # (27 is the least minor version that virtiofsd takes)
             if major != 7 or minor < 27:
                 return True
     return opcode(asked[0]) != INIT
@@ -118,6 +119,7 @@ def talk(end, asked):
             return answered, None
         is_last = at == len(asked)
         # (the first one waits for the process to start)
+        # A busy machine may be late with a reply that is due; one that is not due comes soon or never.
         seconds = 5 if is_last else 0.05 if not is_due(request) else 4 if at == 0 else 1
         while (message := hear(end, seconds)) is not None:
             if not message:
@@ -180,12 +182,15 @@ def place_of(log):
 
 
 def judge(peer, asked, skipped):
+    """What came of one session, by what was answered and by how the process ended."""
     answered, last, log, status = (ask_pair if peer.how == "pair" else ask_vhost)(peer, asked)
     handed = re.search(r"^check: (\d+) requests, (\d+) handed on", log, re.M)
     handed = (int(handed[1]), int(handed[2])) if handed else (0, 0)
+    # (SIGBUS and SIGSEGV: a page after each message can't be read)
     if "ERROR: AddressSanitizer" in log or status in (-7, -11):
         return Found(PAST, place_of(log), handed)
     alive = last is not None and last[:16].hex() == beside.ENOSYS.split()[1] and "the program has gone" not in log
+    # (SIGABRT, as of an abort of Rust's or of the C library)
     if not alive and re.search(r"panicked at|^panic: |^fatal error: ", log, re.M) or status == -6:
         return Found(PANIC, place_of(log), handed)
     if not alive:
@@ -208,6 +213,7 @@ def judge_all(peer, sessions):
 
 def shrink(peer, asked, wanted):
     """The smallest request found that breaks a server in the same place, after an INIT if there was one."""
+    # How many sessions it may take: one over vhost-user waits longer for a queue that is served no more.
     tries = 60 if peer.how == "pair" else 20
 
     def breaks(rest):
@@ -339,6 +345,7 @@ def show(lines):
 
 
 def main(peers, seed, count, page):
+    """Asks each server all sessions, and prints the tables. It ends with 1 if the server here broke."""
     draw, fail = (table, failures_in_short) if page else (plain, failures)
     known = list(known_sessions())
     names = [name for name, _, _ in known]

@@ -21,6 +21,7 @@ CLASSES = {
 
 
 def options():
+    """The words of the command; it stops at a class that is none."""
     parser = argparse.ArgumentParser(add_help=False)
     parser.add_argument("--rounds", type=int, default=60)
     parser.add_argument("--ms", type=int, default=4)
@@ -64,6 +65,7 @@ class Daemon:
     """A daemon that serves a front end."""
 
     def __init__(self, given, number, pool, before=()):
+        """Starts the daemon of a number in NAMES, after the words `before`, and its front end, each on its processors."""
         program = (given.theirs, given.replaced, given.share)[number]
         self.name, self.socket = NAMES[number], f"{given.work}/socket-{number}"
         words = [f"--socket-path={self.socket}", f"--shared-dir={given.work}/shared", "--xattr",
@@ -115,6 +117,7 @@ def same_bytes(daemons, kind, answers):
 def compare(daemons, kind, depth, given):
     """The rounds of a class: for each, of each daemon the time by the clock and of the processor, in
     nanoseconds a request."""
+    # Twice as many until they take half the time that is wanted, then as many as take all of it.
     count = 4 * depth
     while (wall := daemons[0].ask(kind, depth, count)[0]) < given.ms * 500_000:
         count = max(2 * count, count * given.ms * 1_000_000 // max(wall, 1) // 2)
@@ -215,6 +218,7 @@ def all_instructions(given):
     """Of each class the instructions that each daemon's own code takes for a request."""
     counts = {}
     for kind in given.classes:
+        # The difference leaves out what starting and ending takes. A READDIR of a thousand names takes long under valgrind.
         short, long = (2, 12) if "readdir" in kind else (50, 550)
         counts[kind] = []
         for number, name in enumerate(NAMES):

@@ -45,6 +45,7 @@ class Daemon:
     """A process, with a folder of its own, and a client of it."""
 
     def __init__(self, words, at, options):
+        """Starts the words with options, over a new folder below `at`, and what asks it."""
         self.folder, socket = at + "/share", at + "/socket"
         os.mkdir(self.folder)
         generated.fill(self.folder)
@@ -100,6 +101,7 @@ def plain(client, request, answer):
 def why(request, there, here):
     """Why two answers differ, if it is known."""
     room = sum(map(int, request.room.split("+")))
+    # A READ (15) that is EIO there (-5, 0xfb), and here no error.
     if request.opcode == 15 and there.startswith("16 10000000fbffffff") and re.match(r"\d+ .{8}0{8}", here):
         return PAST_SIZE if room > 16 + struct.unpack_from("<I", request.parts[2])[0] else None
     return None
@@ -108,6 +110,7 @@ def why(request, there, here):
 def options_of(answer):
     """The options in the reply to INIT."""
     reply = bytes.fromhex(answer.split(" ")[1])
+    # (`flags` of INIT's reply, and `flags2` above them)
     return struct.unpack_from("<I", reply, 28)[0] | struct.unpack_from("<I", reply, 48)[0] << 32
 
 
@@ -136,6 +139,7 @@ def compare(session):
                          for daemon, answer in zip((there, here), answers)]
                 known = None if alike[0] == alike[1] else why(request, *alike)
                 found["same" if alike[0] == alike[1] else known or "differs"] += 1
+                # (16 bytes whose error is not 0)
                 errors += bool(re.match(r"16 10000000(?!0{8})", alike[1]))
                 if alike[0] != alike[1] and not known:
                     shown.append(f"session {seed} {options}, {n}: {requests.NAMES.get(request.opcode)} "
@@ -169,6 +173,7 @@ def broken(rng, line):
         elif how == 2:
             made += rng.randbytes(rng.randrange(60))
         elif how == 3 and len(made) >= 4:
+            # (about the header's 40 bytes, the message's own, and the largest)
             length = rng.choice((0, 39, 40, 41, len(made) - 1, len(made) + 1, 2**32 - 1, 1 << 20, rng.randrange(2**32)))
             struct.pack_into("<I", made, 0, length & 0xFFFFFFFF)
         elif how == 4 and len(made) >= 8:
@@ -232,6 +237,7 @@ def give_back():
         handle = struct.unpack_from("<Q", reply_to(here, requests.line("32", requests.request(27, bytes(8)))))[0]
         items = reply_to(here, requests.line("4112", requests.transfer(28, 4096, handle=handle)))
         before, place, at = here.descriptors(), 0, 0
+        # (to the first item that is neither `.` nor `..`)
         while not items[at + 24:].startswith((b"d1", b"l\0")):
             place, length = struct.unpack_from("<QI", items, at + 8)
             at += 24 + (length + 7 & ~7)
@@ -284,6 +290,7 @@ def show(rows, head):
 
 
 def main(seed, count):
+    """Asks all, prints the tables, and ends with 1 if there is a fault."""
     faults = []
     judged = list(over("Hostile requests", 8, hostile, requests.sessions()))
     kinds = beside.by_parts(judged)

@@ -88,10 +88,12 @@ for module, body in re.findall(r"^pub mod (\w+) \{\n(.*?)^\}", read("crates/door
             hold(f"(int){opcode} == {value}", f"{opcode} is {value}")
             held["numbers"] += 1
 CODES = read("crates/c_rooms/specs/Codes.antt")
+# Codes whose definition has another name than the header's constant.
 CALLED = {"no_memory": "OUT_OF_MEMORY", "is_asked": "ASKED"}
 CODE = dict(re.findall(r"^abbrev pub (\w+) : ℤ\n\1 = pos (\d+)$", CODES, re.M))
 for name, value in CODE.items():
     hold_number([f"NIZWARF_{CALLED.get(name, name.upper())}"], value, "a code")
+# Each line of outcome_code, as `outcome_code (Err EncodeMessage) = pos 3`, or with another code's name.
 for error, value in re.findall(r"^outcome_code \((?:Err )?\(?(\w+)[^=]*\) = (?:pos )?(\w+)$", CODES, re.M):
     plain = "ok" if error == "Ok" else error.lower()
     hold_number([it for it in sorted(NAMES) if it[len("NIZWARF_"):].replace("_", "").lower() == plain],

@@ -71,7 +71,9 @@ def renamed(fields, struct):
 
 
 def hold_record(name):
+    """Asserts the size of a table's struct, and the place and the size of each of its fields."""
     comment = comment_of(TABLES[name][0])
+    # A comment as `struct fuse_attr`, 88 bytes, or one of the beginning or the rest of a struct.
     told = re.search(r"(?:the (beginning|rest) of )?`struct (fuse_\w+)`, (\d+) bytes", comment)
     fields = list(laid_out(name))
     size = sum(width for _, width in fields)
@@ -83,6 +85,7 @@ def hold_record(name):
         absent.append(struct)
         return
     begin = f"sizeof(struct {struct}) - {size}" if part == "rest" else "0"
+    # (what is a part has another size than the whole)
     if not part:
         hold(f"sizeof(struct {struct}) == {size}", f"{struct}: its size is {size}")
     held["records"] += 1
@@ -113,10 +116,13 @@ faults += [f"{it}: it has no table that can be read" for it in implemented if it
 
 
 def hold_number(names, text, needed=True):
+    """Asserts that the first of these names that the header has is this number; none is told as absent, if it is needed."""
     number, _, bits = text.replace("_", "").partition("<<")
+    # (a number, or `1 << N`)
     value = int(number) << int(bits or 0)
     name = next((it for it in names if it in NAMES), None)
     if name:
+        # (an enumerator is an int: by way of unsigned its upper bit is no sign)
         hold(f"(unsigned long long)(unsigned{' long long' * (value >= 1 << 32)})({name}) == {value}", f"{name}: {value}")
         held["numbers"] += 1
     elif needed:
@@ -125,6 +131,7 @@ def hold_number(names, text, needed=True):
 
 def plain(prefix, name):
     """The names of the header that are this one, however its words are joined."""
+    # ReadDirPlus is FUSE_READ_DIR_PLUS here, which the header has as FUSE_READDIRPLUS.
     own = prefix + re.sub(r"(?<=[a-z0-9])(?=[A-Z])", "_", name).upper()
     return [it for it in sorted(NAMES) if it.replace("_", "") == own.replace("_", "")] or [own]
 

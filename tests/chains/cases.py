@@ -14,9 +14,12 @@ import random
 import struct
 import sys
 
+# VRING_DESC_F_ of a descriptor.
 NEXT, WRITE, INDIRECT = 1, 2, 4
+# How many entries each of the two tables has in a case, and where in the guest's memory the indirect one lies.
 ENTRIES, AT = 16, 0x4000
 SIZE = 4 + 2 * 16 * ENTRIES
+# The guest's memory: address and length of each region, as walk.c and upstream.rs have it. The second and the third touch.
 REGIONS = [(0, 0x8000), (0x10000, 0x2000), (0x12000, 0x1000), (0x100000000, 0xc0000000)]
 # The numbers of chain.h.
 (LAST, MORE, TABLE, OUTSIDE_TABLE, LONGER_THAN_TABLE, OUTSIDE, PAST_END, READABLE_AFTER_WRITABLE, TOO_MANY_BYTES,
@@ -61,6 +64,7 @@ def piece(rng):
     start = rng.choice([0, 1, size - length, size - length + 1, size, rng.randrange(size)]) if rng.random() < 0.2 \
         else rng.randrange(size - length + 1)
     if rng.random() < 0.05:
+        # (addresses beyond all regions, and in none)
         address, length = rng.choice([(1 << 64) - 0x1000, 0x8000, 0x20000]), rng.choice([0, 1, 0xffffffff])
         start = 0
     if rng.random() < 0.05:
@@ -76,6 +80,7 @@ def table(rng, size, first, indirect):
         order.remove(first)
     order = [first, *order][:size]
     turn = rng.randrange(len(order) + 1)
+    # From place `turn` on entries are for the device to write.
     for place, at in enumerate(order):
         is_last = place + 1 == len(order)
         flags = (WRITE if place >= turn else 0) | (0 if is_last else NEXT)
@@ -97,6 +102,7 @@ def make(seed, count):
     for _ in range(count):
         size = rng.choice([1, 2, 4, 8, 16])
         head = rng.randrange(size) if rng.random() < 0.98 else size
+        # (seldom with a table in a table)
         indirect = table(rng, ENTRIES, 0, rng.random() < 0.03)
         yield case(size, head, table(rng, size, min(head, size - 1), rng.random() < 0.4), indirect)
 
@@ -107,6 +113,7 @@ def refused_entry(one, ours):
     base, entries, left = 4, size, len(ours)
     while at < entries:
         d = struct.unpack_from("<QIHH", one, base + 16 * at)
+        # (the first table begins after the two numbers of 2 bytes)
         if d[2] & INDIRECT and base == 4:
             offset = d[0] - AT
             if ours_refuses_here(left) and (d[1] % 16 or not d[1] or d[2] & NEXT or not 0 <= offset <= 16 * (ENTRIES - 1)):
@@ -170,6 +177,7 @@ def judge(one, ours, theirs):
 
 
 def compare(cases, ours, theirs):
+    """Compares two files of lines, one for each case, and counts what came by kind. Shows the first five that are wrong."""
     with open(cases, "rb") as file:
         bytes_of = file.read()
     with open(ours, encoding="ascii") as file:

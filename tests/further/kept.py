@@ -20,7 +20,10 @@ import subprocess
 import sys
 import time
 
+# How many wait at a time, which is the most over io_uring; seconds within which a thing comes, and of the stress; how many
+# processes that has; and MNT_FORCE and MNT_DETACH of umount2(2).
 KEPT, SOON, STRESSED, PROCESSES, FORCE, LAZY = 4, 8, 4, 12, 1, 2
+# What a call on a mount comes to that is aborted or gone.
 ENDS = ("ECONNABORTED", "ENOTCONN", "EIO")
 libc = ctypes.CDLL(None)
 program, folder, *words = sys.argv[1:] if len(sys.argv) in (3, 4) else sys.exit(__doc__.strip())
@@ -41,6 +44,7 @@ def wait_for(fact):
 
 
 class Server:
+    """news.c, mounted on the folder."""
     def __init__(self):
         # pylint: disable-next=consider-using-with
         self.process = subprocess.Popen([program, *words, folder], stdin=subprocess.PIPE, stdout=subprocess.PIPE, text=True)
@@ -71,12 +75,14 @@ class Waiter:
     """A process of the first processor that locks the file, and tells what came."""
 
     def __init__(self, kind=fcntl.LOCK_EX):
+        """Forks; the child writes `got`, or the name of an error, into the pipe, and nothing if it is killed."""
         reads, writes = os.pipe()
         self.reads, self.pid = reads, os.fork()
         if self.pid:
             os.close(writes)
             return
         os.sched_setaffinity(0, {min(os.sched_getaffinity(0))})
+        # (a handler that raises: flock is begun anew by Python after one that returns)
         signal.signal(signal.SIGUSR1, lambda *_: (_ for _ in ()).throw(InterruptedError(errno.EINTR, "")))
         said = "got"
         try:
@@ -84,9 +90,11 @@ class Waiter:
         except OSError as error:
             said = errno.errorcode[error.errno]
         os.write(writes, said.encode())
+        # (without what Python does at an end, which is the parent's)
         os._exit(0)
 
     def came(self):
+        """What the process wrote: '' if it was killed, and `nothing` if it had to be, since it waits still."""
         os.set_blocking(self.reads, False)
         said = []
 
@@ -122,6 +130,7 @@ def answers(name):
 
 
 def one_processor():
+    """What waits on one processor, and what else is served there meanwhile."""
     server = Server()
     held = os.open(path, os.O_RDONLY)
     fcntl.flock(held, fcntl.LOCK_EX)
@@ -144,6 +153,7 @@ def one_processor():
 
 
 def ends():
+    """What waits as the connection or the program ends in each way."""
     for what in ("aborted", "two signals", "killed"):
         server = Server()
         held = os.open(path, os.O_RDONLY)
@@ -186,6 +196,7 @@ def stress(seed):
 
 
 def many():
+    """Processes that lock and unlock while signals come; and none may wait at the end."""
     server, pids = Server(), []
     for i in range(PROCESSES):
         pid = os.fork()

@@ -20,7 +20,9 @@ import time
 
 READ, WRITE, NONE = fcntl.F_RDLCK, fcntl.F_WRLCK, fcntl.F_UNLCK
 EXCLUSIVE, SHARED, AT_ONCE, UNLOCK = fcntl.LOCK_EX, fcntl.LOCK_SH, fcntl.LOCK_NB, fcntl.LOCK_UN
+# F_OFD_SETLK of fcntl.h, which this Python may lack.
 OFD_SETLK = 37
+# In seconds: after which a thing counts as waited for, and as too late.
 LATER, LONG = 0.2, 5
 counts = {"ok": 0, "WRONG": 0}
 as_cases = False
@@ -78,6 +80,7 @@ def flock(fd, how):
 
 
 def packed(kind, start, length):
+    # A struct flock: l_type, l_whence, which is SEEK_SET, l_start, l_len, l_pid.
     return struct.pack("hhqqi4x", kind, 0, start, length, 0)
 
 
@@ -105,6 +108,7 @@ def waits(lock):
 
 
 def interrupted(lock):
+    """A lock that an alarm ends, which comes after twice LATER: what a process does, for `started`."""
     def ring(*_):
         raise Alarm
 
@@ -126,6 +130,7 @@ def setlkw(fd):
 
 
 class Locks:
+    """The steps, over one descriptor of this process, and those of others."""
     def __init__(self, path, other):
         self.path, self.others = path, other
         self.fd = os.open(path, os.O_RDWR)
@@ -143,6 +148,7 @@ class Locks:
         return ended(process)
 
     def flocks(self):
+        """flock(2): exclusive and shared, waiting, and what an exit gives up."""
         step("flock", flock(self.fd, EXCLUSIVE), "got")
         step("flock by another", self.other(lambda fd: flock(fd, EXCLUSIVE | AT_ONCE)), "EAGAIN")
         step("a shared one by another", self.other(lambda fd: flock(fd, SHARED | AT_ONCE)), "EAGAIN")
@@ -156,6 +162,7 @@ class Locks:
         step("unlock", flock(self.fd, UNLOCK), "got")
 
     def ranges(self):
+        """fcntl(2): ranges that split and join, F_GETLK, and waiting."""
         step("10 to 19", setlk(self.fd, WRITE, 10, 10), "got")
         step("what is in the way", self.other(lambda fd: getlk(fd, WRITE, 0, 0)), str((WRITE, 10, 10, "mine")))
         step("before it nothing", self.other(lambda fd: getlk(fd, WRITE, 0, 10)), str((NONE, 0, 10, "")))
@@ -172,6 +179,7 @@ class Locks:
         step("one that waited", said, "got late")
 
     def interrupts(self):
+        """Waiting that a signal or a kill ends."""
         step("all", setlk(self.fd, WRITE), "got")
         step("waiting interrupted", ended(started(self.others, interrupted(setlkw))), "interrupted late")
         step("flock", flock(self.fd, EXCLUSIVE), "got")
@@ -209,6 +217,7 @@ class Locks:
 
 
 def main():
+    """Goes through all steps, by the words of the command."""
     global as_cases
     words = sys.argv[1:]
     with_close, as_cases = "--no-ofd-close" not in words, "--cases" in words

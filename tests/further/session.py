@@ -16,6 +16,7 @@ import sys
 import threading
 import time
 
+# Commands of ioctl(2): Linux's FIBMAP, and two of news.c: _IOR('n', 1, int) and _IOWR('n', 2) of 64 bytes.
 FIBMAP, LENGTH, COUNT = 1, 0x80046E01, 0xC0406E02
 HERE = os.path.dirname(os.path.abspath(__file__))
 faults = 0
@@ -28,6 +29,7 @@ def step(what, got, wanted):
 
 
 class News:
+    """news.c, mounted: its file is `news`, and it does what it is told by lines."""
     def __init__(self, program, folder, *words):
         self.folder = folder
         self.file = os.path.join(folder, "news")
@@ -65,6 +67,7 @@ class News:
 
 
 def texts(news):
+    """What is kept of the file's bytes and size, before and after each notice."""
     step("text", news.read(), "old")
     news.say("quiet one")
     step("after a quiet change", news.read(), "old")
@@ -85,6 +88,7 @@ def texts(news):
 
 
 def names(news):
+    """What is kept of names, before and after each notice."""
     step("no such name", news.read("other"), "No such file or directory")
     news.say("quietname other")
     step("after a quiet change", news.read("other"), "No such file or directory")
@@ -99,6 +103,7 @@ def names(news):
 
 
 def others(news):
+    """IOCTL, STATX, POLL and O_TMPFILE."""
     fd = os.open(news.file, os.O_RDONLY)
     step("IOCTL out", struct.unpack("I", fcntl.ioctl(fd, LENGTH, bytes(4)))[0], os.stat(news.file).st_size)
     step("IOCTL in and out", struct.unpack("I", fcntl.ioctl(fd, COUNT, b"four".ljust(64, b"\0"))[:4])[0], 4)
@@ -142,6 +147,7 @@ def notices(news):
 
 
 def main():
+    """Goes through all parts, and then the locks."""
     if len(sys.argv) not in (3, 4):
         print(__doc__.strip())
         return 0 if sys.argv[1:] in (["-h"], ["--help"]) else 2
@@ -159,6 +165,6 @@ def main():
     return 1 if faults else 0
 
 
-# (Python does not tell of a signal that ends it otherwise)
+# PR_SET_PDEATHSIG: this ends, by SIGKILL, with what started it.
 ctypes.CDLL(None).prctl(1, 9)
 sys.exit(main())

@@ -11,6 +11,7 @@ import socket
 import sys
 import time
 
+# (QEMU computes the processor, so a machine takes minutes where others take seconds)
 SECONDS = 300
 
 
@@ -32,11 +33,13 @@ class Monitor:
             answer = json.loads(self.lines.readline())
             if "error" in answer:
                 raise RuntimeError(answer["error"]["desc"])
+            # (events come between, which are passed over)
             if "return" in answer:
                 return answer["return"]
 
 
 def main(folder):
+    """Has the source migrate to the target, and waits until it says how that came out."""
     until = time.monotonic() + SECONDS
     while not os.path.exists(folder + "/move") and time.monotonic() < until:
         time.sleep(0.05)

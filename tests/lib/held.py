@@ -8,6 +8,7 @@ faults = []
 
 
 def hold(fact, what):
+    """Tells what is wrong, if this is no fact."""
     if not fact:
         faults.append(what)
         print(f"FAILED: {what}", file=sys.stderr, flush=True)

@@ -20,10 +20,12 @@ TEXTS = ["a", "b/c", "c", "nope", "x" * 300, "", "y" * 4095, "z" * 4096, "h"]
 ATTRIBUTES = ["user.a", "trusted.b", "security.k", "user." + "n" * 250, "user." + "n" * 251, "user.", "other.a",
               *(f"trusted.{i}" for i in range(8))]
 SLOTS = 5
+# FALLOC_FL_ of fallocate(2), the second with KEEP_SIZE; of renameat2(2) RENAME_NOREPLACE and RENAME_WHITEOUT.
 KEEP_SIZE, PUNCH_HOLE, ZERO_RANGE, WHITEOUT_NEW = 1, 3, 16, 5
 AT_FDCWD, AT_EMPTY_PATH = -100, 0x1000
 # One entry more for user 1000, by the header of Linux.
 NO_ONE = 2**32 - 1
+# Version 2; entries of a tag, a permission and an id: owner, a user, group, mask, others.
 ACL = struct.pack("<I", 2) + b"".join(struct.pack("<HHI", *entry) for entry in [
     (1, 6, NO_ONE), (2, 7, 1000), (4, 4, NO_ONE), (16, 7, NO_ONE), (32, 0, NO_ONE)])
 
@@ -39,6 +41,7 @@ OPERATIONS = {
 
 
 def some_path(random):
+    """A path of one to four names, mostly short ones, so that many are the same; seldom an odd one."""
     depth = random.choices([1, 2, 3, 4], [35, 40, 18, 7])[0]
     parts = [random.choice(NAMES) for _ in range(depth)]
     odd = random.random()
@@ -310,6 +313,7 @@ class Side:
         os.close(file)
 
     def access(self, path, how):
+        # (0x200 is AT_EACCESS: as the user who asks now)
         check(LIBC.faccessat(AT_FDCWD, os.fsencode(self.at(path)), how, 0x200))
 
     # Files that are held open.
@@ -320,6 +324,7 @@ class Side:
 
     def held(self, slot):
         if self.slots[slot] is None:
+            # (EBADF)
             raise OSError(9, "nothing is open")
         return self.slots[slot]
 

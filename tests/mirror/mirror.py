@@ -16,6 +16,7 @@ MOST = 8
 
 
 class Mirror:
+    """Random sessions of two sides, what is known to differ, and what is not."""
     def __init__(self, way, kind, known, places):
         self.way, self.places = {"calls": calls, "requests": requests}[way], places
         self.known = [line for line in known if any(fnmatch.fnmatchcase(it, line[0]) for it in (kind, kind.split()[0]))]
@@ -46,6 +47,7 @@ class Mirror:
         """Random sessions, until that many operations were asked."""
         asked, began, told = 0, time.monotonic(), time.monotonic()
         while asked < count and len(self.unknown) < MOST:
+            # (so each session is made of the seed and its place, whatever those before came to)
             chance = random.Random(f"{seed} {asked}")
             operations = [self.way.generate(chance) for _ in range(min(self.way.Session.LENGTH, count - asked))]
             done, what = self.try_all(operations)
@@ -66,6 +68,7 @@ class Mirror:
             for at, operation in enumerate(operations, 1):
                 if new := self.new(session.step(operation)):
                     return at, new[0]
+                # (a look at all takes long)
                 if at % 300 == 0 and (new := self.new(session.check())):
                     return at, new[0]
             new = self.new(session.check()) or self.new(session.finish())
@@ -74,6 +77,7 @@ class Mirror:
             session.end()
 
     def differs(self, operations, what):
+        """Whether these operations still come to that difference first, of those that are not known."""
         session = self.session()
         try:
             for operation in operations:
@@ -102,6 +106,7 @@ class Mirror:
         return operations
 
     def report(self, asked):
+        """Prints what came."""
         print(f"{asked} operations in {self.sessions} sessions.")
         print("Known differences, and how often they came:")
         for _, pattern, why in self.known:

@@ -93,17 +93,20 @@ def shown(operation):
 
 
 class Settings(ctypes.Structure):
+    """The struct nizwarf_settings of nizwarf_tree.h: the time, limits, whose the root is, and flags."""
     _fields_ = [(name, ctypes.c_uint64) for name in ("seconds", "nodes", "bytes", "file")] + [
         (name, ctypes.c_uint32) for name in ("nanoseconds", "uid", "gid", "mode")] + [("flags", ctypes.c_uint64)]
 
 
 class Segment(ctypes.Structure):
+    """The struct nizwarf_segment."""
     _fields_ = [("at", ctypes.c_void_p), ("len", ctypes.c_size_t)]
 
 
 class Library:
     """A server of the library over a tree of its own, by messages."""
     def __init__(self, file):
+        """Loads the library, makes a server, and agrees on options as a kernel does."""
         self.of = ctypes.CDLL(file)
         self.server, self.length = ctypes.c_void_p(), ctypes.c_size_t()
         self.room = ctypes.create_string_buffer(ROOM)
@@ -116,6 +119,7 @@ class Library:
         if self.of.nizwarf_new_at(ctypes.byref(self.server), 4096, 1 << 20, ctypes.byref(settings)):
             raise RuntimeError("there is no server")
         self.unique, self.group = 0, 0
+        # (all options of 7.31 but 1 << 26, MAP_ALIGNMENT)
         self.ask(Op.INIT, 0, record(Op.INIT, major=7, minor=31, readahead=131072, flags=0x3BFFFFFB & ~(1 << 26)))
 
     def end(self):
@@ -125,6 +129,7 @@ class Library:
         """What is answered to a request, after its header; an error is raised."""
         self.unique += 1
         message = struct.pack("<IIQQIIII", 40 + len(body), opcode, self.unique, node, 0, self.group, 1, 0) + body
+        # (in two pieces, as a kernel sends it, and every third in one)
         cut = 40 if self.unique % 3 else len(message)
         buffer = ctypes.create_string_buffer(message, len(message))
         at = ctypes.addressof(buffer)
@@ -193,6 +198,7 @@ def opened(file, flags, act):
 
 
 class Node:
+    """A node that is known: the descriptor of the file beside, and how many lookups of it were given."""
     def __init__(self, file):
         self.file, self.given, self.born = file, 0, None
         is_so = os.fstat(file)
@@ -224,6 +230,7 @@ class Session:
     def step(self, operation):
         group, name, *words = operation
         self.found, self.operation, self.library.group = [], name, group
+        # (of the operation itself, so that a part of a session is as slow as the whole)
         self.is_slow = zlib.crc32(repr(operation).encode()) % 64 == 0
         getattr(self, name.lower())(*words)
         self.library.group = 0
@@ -364,6 +371,7 @@ class Session:
                   lambda directory: os.symlink(text, name, dir_fd=directory))
 
     def link(self, of, into, name):
+        """LINK, and linkat(2)."""
         node, parent = self.pick(of), self.pick(into)
 
         def call():
@@ -391,6 +399,7 @@ class Session:
         self.remove(of, name, Op.RMDIR, os.rmdir)
 
     def rename(self, of, name, into, new, flags):
+        """RENAME or RENAME2, and renameat2(2) with the same flags."""
         old_parent, new_parent = self.pick(of), self.pick(into)
         moved = [node for node in (self.known(old_parent, name), self.known(new_parent, new)) if node]
         names = name + b"\0" + new + b"\0"
@@ -410,11 +419,13 @@ class Session:
                 self.compare(node)
 
     def setattr(self, of, what, mode, size, owner, when):
+        """SETATTR of a mode, an owner, a size or times, and the call for that."""
         node = self.pick(of)
         file, kind = self.file(node), self.nodes[node].kind
         if what == "mode" and kind == "l":
             return
         # (a kernel that leaves privileges to the tree asks for them by 0x800)
+        # FATTR_: mode 1, uid and gid 6, size 8, times 0x30, and with `now` 0x180; 0x800 is KILL_SUIDGID.
         valid = {"mode": 1, "owner": 6 if kind == "d" else 0x806, "size": 8, "times": 0x30, "now": 0x1B0}[what]
         seconds, nanoseconds = when if what == "times" else (0, 0)
         body = record(Op.SETATTR, valid=valid, size=size, atime=seconds, mtime=seconds, atimensec=nanoseconds,
@@ -475,6 +486,7 @@ class Session:
                 self.compare(node)
 
     def readlink(self, of):
+        """READLINK, and readlink(2)."""
         node = self.pick(of)
 
         def call():
@@ -526,6 +538,7 @@ class Session:
                       lambda: os.removexattr(way(self.file(node)), key), (node,))
 
     def fallocate(self, of, at, length, mode):
+        """FALLOCATE, and fallocate(2)."""
         node = self.pick(of)
         if self.nodes[node].kind != "f":
             return
@@ -544,6 +557,7 @@ class Session:
                    lambda file: (os.ftruncate(file, len(before)), os.pwrite(file, before, 0)))
 
     def lseek(self, of, whence, at):
+        """LSEEK for data or a hole, and lseek(2)."""
         node = self.pick(of)
         if self.nodes[node].kind != "f":
             return
@@ -559,6 +573,7 @@ class Session:
         self.compare(self.pick(of))
 
     def statx(self, of):
+        """STATX, which is held against statx(2) and against GETATTR, and whose birth stays."""
         node = self.pick(of)
         buffer = ctypes.create_string_buffer(256)
         if LIBC.statx(self.file(node), b"", AT_EMPTY_PATH, 0xFFF, buffer):
@@ -584,6 +599,7 @@ class Session:
                 self.note("another value")
 
     def forget(self, of, part, batch):
+        """Gives back some or all lookups of a node, by FORGET or BATCH_FORGET."""
         node = self.pick(of)
         given = self.nodes[node].given
         if node == 1 or not given:
@@ -632,6 +648,7 @@ class Session:
         return ours
 
     def pieces(self, node, plus, size):
+        """The names of a directory and their kinds, by as many requests of this size as it takes."""
         at, names = 0, []
         opcode = Op.READDIRPLUS if plus else Op.READDIR
         while bytes_ := self.library.ask(opcode, node, record(opcode, offset=at, size=size), 16 + size):
@@ -641,6 +658,7 @@ class Session:
                 place += 128 if plus else 0
                 inode, at, length, kind = struct.unpack_from("<QQII", bytes_, place)
                 name = bytes_[place + 24:place + 24 + length]
+                # (a record of 24 bytes and its name, up to a multiple of 8)
                 place += (24 + length + 7) // 8 * 8
                 names.append((name, kind))
                 if plus and struct.unpack_from("<Q", entry)[0]:
@@ -662,6 +680,7 @@ class Session:
         return self.found
 
     def walk(self, node, depth):
+        """Compares a node, and all below it."""
         self.compare(node)
         of = self.nodes[node]
         if of.kind == "f":
@@ -697,6 +716,7 @@ class Session:
         for key in os.listxattr(way(self.file(1))):
             self.library.ask(Op.REMOVEXATTR, 1, os.fsencode(key) + b"\0")
         blocks, free, _, files, left = struct.unpack_from("<QQQQQ", self.library.ask(Op.STATFS, 1))
+        # (the root stays)
         if free != blocks or left != files - 1:
             self.note("something is left once all is given back")
         return self.found

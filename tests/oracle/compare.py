@@ -32,6 +32,7 @@ WAYS = {"test_sessions": ("test_sessions", "script", "script"), "text_demo": ("t
 # Kinds with lines that are not read after the line `refusals`, or more calls than are noted there.
 NO_ROOMS = ("badline", "limits", "full")
 # How many sessions a task has, at most.
+# (few enough that all processes have work up to the end)
 SESSIONS = 48
 OPCODES = opcodes.names()
 ORDER = [OPCODES[number] for number in sorted(OPCODES)]
@@ -93,6 +94,7 @@ def outcome_of(block):
         return "bad line"
     if words[1] == "0":
         return "none"
+    # (the error of a reply's header, in hexadecimal)
     return "reply" if words[2][8:16] == "00000000" else "error"
 
 
@@ -124,6 +126,7 @@ def write_sessions(way, seed, chosen, folder):
 def differences_of(way, name, text, status, got, wanted):
     """The first difference of a session, if there is one."""
     bad = wanted.rpartition("\nbad line ")[1] or wanted.startswith("bad line ")
+    # (a program ends so at a line that is none)
     wanted_status = 2 if bad else 0
     theirs, ours = wanted_blocks(way, wanted), blocks_of(way, got)
     asked, lines = sessions.requests_of(text), text.splitlines()
@@ -165,6 +168,7 @@ def work(task):
 
 def tasks_for(seed, total, oracle, paths):
     """The tasks: some sessions for one program each, asked in one way."""
+    # (an odd total is one more for the first)
     halves = {"script": (total + 1) // 2, "memory": total // 2}
     tasks = []
     path_of = {pathlib.Path(path).name: path for path in paths}
@@ -204,6 +208,7 @@ def tell_difference(differences, folder):
 
 
 def main(args):
+    """Compares all sessions by that many processes, and prints the table of outcomes, and what differs."""
     if len(args) != 6:
         sys.exit(__doc__)
     seed, total, jobs, oracle, *paths = args[0], int(args[1]), int(args[2]), *args[3:]

@@ -22,6 +22,7 @@ def blocks():
 
 
 def main(folder):
+    """Has each program answer each session of differences.txt, and counts what is otherwise."""
     wrong = tried = 0
     for files, parts in blocks():
         asked = "".join(f"{rest}\n" for kind, rest in parts if kind == "line")
@@ -31,6 +32,7 @@ def main(folder):
                 said = [rest for kind, rest in parts if kind == "mended"]
             words = [pathlib.Path(folder) / program, files]
             ran = subprocess.run(words, input=asked, stdout=subprocess.PIPE, text=True)
+            # (lines that are indented are calls, which are not held here)
             answers = [line for line in ran.stdout.splitlines() if not line.startswith("  ")]
             tried += len(said)
             if answers != said:

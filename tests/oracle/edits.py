@@ -141,6 +141,7 @@ def wrong_bodies():
 
 def edit_wrong(texts, number):
     line, name, which, old, new = wrong_bodies()[number - 1]
+    # A place without a number must be there once; the third of three is between parts[2] and parts[3].
     parts = texts[name].split(old)
     if which == 0 and len(parts) != 2 or len(parts) <= max(which, 1):
         stop(f"{name}.rs has {len(parts) - 1} places for the wrong body: {line}")
@@ -149,6 +150,7 @@ def edit_wrong(texts, number):
 
 
 def main(args):
+    """Checks the sources, or puts them, edited, into a folder."""
     if len(args) == 2 and args[1] == "--check":
         texts = read_source(pathlib.Path(args[0]))
         different = [f"{name}.rs" for name in NAMES if sum_of(texts[name]) != SUMS[name]]

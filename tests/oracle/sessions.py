@@ -45,6 +45,7 @@ MOST_ANSWERED = 800_000
 
 SECURITY_CTX, CREATE_SUPP_GROUP, SETXATTR_EXT, INIT_EXT = 1 << 32, 1 << 34, 1 << 29, 1 << 30
 ALL_EXTENSIONS = INIT_EXT | SECURITY_CTX | CREATE_SUPP_GROUP
+# The bits of INIT's options that FUSE 7.38 has, and those that virtiofsd takes.
 KNOWN = 0x117fbffffff
 SUPPORTED = 0x10448449829
 EVERY_BIT = (1 << 64) - 1
@@ -75,6 +76,7 @@ def recorded():
     return [(file.stem, file.read_text().splitlines()) for file in sorted(HERE.glob("recorded/*.lines"))]
 
 
+# (longer ones would fill a session)
 RECORDED_LINES = [line for _, lines in recorded() for line in lines if len(line) < 4000]
 
 
@@ -117,6 +119,7 @@ class Session:
         """The scripted files answer by it: a fault where its rest by 8 is 7."""
         r = self.rng
         p = r.choice([r.getrandbits(32), r.randrange(1 << 12), r.randrange(1 << 12), 8 * r.randrange(500)])
+        # (fewer faults than that, so that more calls are answered)
         if p % 8 == 7 and r.random() < 0.6:
             p -= 1
         if self.files == "script" and p >= 1 << 31 and r.random() < 0.8:
@@ -126,6 +129,7 @@ class Session:
     # What follows the header.
 
     def context_block(self, count=None, good=True):
+        """A block with that many security contexts, 0 or 1 if no count is given; or one that is cut or says another size."""
         r = self.rng
         count = (1 if r.random() < 0.85 else 0) if count is None else count
         value = r.randbytes(r.randrange(1, 12))
@@ -153,6 +157,7 @@ class Session:
         return u32(8 + len(body)) + u32(32) + body
 
     def extensions(self, wild=0.05):
+        """The blocks that the session agreed on, in any order; with this chance one is spoilt, and then again with it."""
         r = self.rng
         blocks = []
         if self.options & SECURITY_CTX:
@@ -204,6 +209,7 @@ class Session:
         return self.extensions() if what == "extensions" else self.name() + b"\0"
 
     def record(self, opcode):
+        """The record of an opcode, of which fields that an answer depends on have values that matter."""
         r = self.rng
         if opcode == Op.SETATTR:
             return u32(r.choice([0, 0x40, 0xdbf, 0xffffffff, self.odd32()])) + r.randbytes(84)
@@ -324,6 +330,7 @@ class Session:
     def put(self, rooms, segments):
         """A line, or a STATFS where its answer might be too long."""
         room, length = sum(rooms), sum(len(it) for it in segments)
+        # About how many characters the answer takes, in hexadecimal: of `full` the call has no data.
         cost = 2 * room + 20 if self.size > 1000 else 3 * room + 4 * length + 300
         if self.answered + cost > MOST_ANSWERED:
             rooms, segments, cost = [96], [self.header(Op.STATFS, 40, 1, 0)], 500
@@ -350,6 +357,7 @@ class Session:
     def agree(self, flags=None):
         """A session's INIT. The scripted files want what the call before says."""
         r = self.rng
+        # (the scripted file system takes its options by the process of the call before: those below, by the rest by 6)
         q = r.randrange(6) + 6 * r.randrange(20) if flags is None else 1
         if flags is None:
             flags = r.choice([EVERY_BIT, KNOWN, INIT_EXT | SECURITY_CTX, INIT_EXT | CREATE_SUPP_GROUP, SETXATTR_EXT,
@@ -369,6 +377,7 @@ class Session:
     # The kinds. Each adds some lines, and is asked again while there are too few.
 
     def valid(self):
+        """Each opcode several times, in any order."""
         self.agree()
         opcodes = OPCODES * 3 + NAMING * 2 + [*DIRECTORY, Op.READ, Op.WRITE] * 3
         if self.files == "memory":
@@ -429,6 +438,7 @@ class Session:
             self.line(message, room, 0.2)
 
     def cuts(self):
+        """A message cut at each place, into single bytes, and into random pieces."""
         self.agree()
         message, reply = self.message(self.rng.choice(OPCODES))
         if len(message) > 300:
@@ -442,6 +452,7 @@ class Session:
             self.line(message, reply, 1)
 
     def extensions_of_all_sorts(self):
+        """Requests with extensions, of which many are spoilt, and some are of messages that say fewer bytes."""
         r = self.rng
         self.agree(r.choice([INIT_EXT | SECURITY_CTX, INIT_EXT | CREATE_SUPP_GROUP, ALL_EXTENSIONS, ALL_EXTENSIONS, 0]))
         plain = self.extensions
@@ -458,6 +469,7 @@ class Session:
         self.line(self.header(Op.CREATE, 40 + len(body), 1, 0) + body, 160, 0)
 
     def directories(self):
+        """Directories read with sizes about what one entry takes."""
         r = self.rng
         self.agree()
         if self.files == "memory":
@@ -480,6 +492,7 @@ class Session:
         self.line(self.header(opcode, 80, node, process) + body, room)
 
     def transfers(self):
+        """READ and WRITE of sizes and offsets up to the last one."""
         r = self.rng
         self.agree()
         for _ in range(120):
@@ -511,6 +524,7 @@ class Session:
                 self.good(Op.FORGET)
 
     def limits(self):
+        """Sizes about the limit of data, and about that of a message, which is 4096 above it."""
         r = self.rng
         limit = 1 << 20
         if not self.lines:
@@ -529,12 +543,15 @@ class Session:
             if what < 0.3:
                 message = u32(r.choice(about)) + message[4:]
             elif what < 0.8 and len(message) >= 60:
+                # Where the size or the count is: of GETXATTR, LISTXATTR and BATCH_FORGET after the header, of a READ or
+                # WRITE 16 bytes later.
                 at = {22: 40, 23: 40, 42: 40, 28: 56, 44: 56, 15: 56, 16: 56}.get(opcode, 40)
                 value = r.choice(about) // (16 if opcode == Op.BATCH_FORGET else 1) + r.choice([0, 0, 1])
                 message = message[:at] + u32(value) + message[at + 4:]
             self.line(message, self.room(reply))
 
     def hostile(self):
+        """Bytes without sense, most after the length and the opcode of a header."""
         r = self.rng
         if r.random() < 0.7:
             self.agree(r.choice([None, EVERY_BIT]))
@@ -547,6 +564,7 @@ class Session:
             self.line(message, r.choice([0, 8, 15, 16, 24, 80, 144, 160, 400, r.randrange(0, 300)]))
 
     def mutated(self):
+        """Sixty recorded requests, each changed in up to two places."""
         r = self.rng
         if r.random() < 0.5:
             self.agree()
@@ -570,6 +588,7 @@ class Session:
         elif what == 1:
             message[at] = r.choice([0, 1, 127, 128, 255])
         elif what == 2:
+            # (the number of 4 bytes that this place is in, and below one of 8)
             message[at & ~3:(at & ~3) + 4] = u32(self.odd32())
         elif what == 3:
             message[at & ~7:(at & ~7) + 8] = u64(self.odd64())
@@ -581,6 +600,7 @@ class Session:
             message[:4] = u32(len(message))
 
     def full(self):
+        """Over scripted answers 200 requests of an opcode; in memory a thousand files, or thirty, and requests for them."""
         r = self.rng
         if self.files == "script":
             self.agree()
@@ -628,6 +648,7 @@ class Session:
         return r.choice(["items ", "items ", "items ", "endless "]) + " ".join(items), names
 
     def told_directory(self, long=False):
+        """A directory whose items are told, read with a size that they just fit, or about that."""
         r = self.rng
         opcode = r.choice(DIRECTORY)
         answer, names = self.told_items(long)
@@ -636,10 +657,12 @@ class Session:
         if opcode == Op.READDIRPLUS:
             for _ in range(r.choice([0, 1, len(names)])):
                 self.tell(self.told_value())
+        # (24 bytes a record and its name, up to a multiple of 8; with READDIRPLUS 128 more for the entry)
         size = fits if long else r.choice([fits, fits, fits - 1, fits + 100, max(0, fits - r.randrange(200))])
         self.read_directory(opcode, max(0, size), size + 16, 0)
 
     def told(self):
+        """Answers at their extremes, told before the request that they are for. Files in memory can't be told."""
         if self.files == "memory":
             self.mixed()
             return
@@ -655,6 +678,7 @@ class Session:
             self.options = 0 if opcode == Op.INIT else self.options
 
     def badline(self):
+        """Good lines, and one at the end that is none."""
         r = self.rng
         for _ in range(self.size - 1):
             self.good(r.choice(OPCODES))

@@ -23,6 +23,7 @@ SECONDS = 60
 # In which ways a program is asked, and the sessions of each.
 WAYS = {"script": "script", "memory": "memory", "rooms": "memory"}
 
+# (of each thread, its folder)
 place = threading.local()
 
 
@@ -34,6 +35,7 @@ def write_sessions(seed, count, folder):
             (folder / stage / files).mkdir(parents=True)
         made = [(f"recorded-{name}", "\n".join(lines) + "\n") for name, lines in sessions.recorded()]
         made += [sessions.session(seed, files, number, size) for number, size in sessions.numbers(count // 2)]
+        # (a wrong body is mostly caught by these few, which take no time)
         first = len(sessions.recorded()) + len(sessions.KINDS)
         for at, (name, text) in enumerate(made):
             into = folder / ("first" if at < first else "others") / files
@@ -86,6 +88,7 @@ def build(number, source, oracle, folder):
 
 
 def main(args):
+    """Tries each wrong body on all sessions, that many at a time, and counts the ends."""
     if len(args) != 6:
         sys.exit(__doc__)
     seed, count, jobs, oracle, folder = args[0], int(args[1]), int(args[2]), *map(pathlib.Path, args[3:5])

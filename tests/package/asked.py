@@ -25,6 +25,7 @@ def by_user(message, user):
 
 
 def main():
+    """Begins a session, has user 1000 create and write a file, and root ask for a device."""
     asking = subprocess.Popen([ASK, SOCKET], stdin=subprocess.PIPE, stdout=subprocess.PIPE, text=True)
 
     def ask(text):
@@ -34,6 +35,7 @@ def main():
         return -struct.unpack_from("<i", reply, 4)[0], reply[16:]
 
     assert ask(requests.FIRST[1])[0] == 0
+    # The record of CREATE: flags, mode, with the set-user-ID bit, umask, and flags of its own.
     create = struct.pack("<IIII", os.O_RDWR, stat.S_IFREG | 0o4755, 0o022, 0) + b"file\0"
     error, made = ask(requests.line("16+144", by_user(requests.request(CREATE, create), 1000)))
     assert error == 0, error

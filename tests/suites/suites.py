@@ -16,6 +16,7 @@ from concurrent.futures import ThreadPoolExecutor
 from pathlib import Path
 
 HERE = Path(__file__).resolve().parent
+# In seconds, the time in which each suite ends; a quarter of it with --quick.
 SECONDS = {"cpython": 900, "coreutils": 1200, "test_syscalls": 60, "posixtest": 120, "stress-ng": 600, "fio": 240,
            "sqlite": 240, "pgbench": 300, "git": 300, "rsync": 180, "tar": 180, "cp": 180, "names": 600, "locks": 600,
            "two-mounts": 600}
@@ -52,6 +53,7 @@ ENDS_WITH_THIS = ["setpriv", "--pdeathsig=KILL"]
 # What a suite has while it runs.
 
 class Run:
+    """The folder of a suite, that by a second mount, what it was given, and the environment of its programs."""
     def __init__(self, folder, second, there, quick):
         self.folder, self.second, self.there, self.quick = Path(folder), Path(second), Path(there), quick
         root = self.there / "root"
@@ -102,6 +104,7 @@ CPYTHON_QUICK = "test_os test_posix test_shutil test_pathlib test_mmap test_fcnt
 
 
 def cpython(run, modules=None, those=()):
+    """CPython's tests of these modules, of which only `those` cases, if any are named, by a report in XML."""
     python = run.there / "cpython/usr/bin/python3"
     modules = modules or (CPYTHON_QUICK if run.quick else CPYTHON)
     cases = run.folder / "cases.xml"
@@ -118,6 +121,7 @@ def cpython(run, modules=None, those=()):
         parts = {part.tag for part in case}
         is_so = "failed" if parts & {"failure", "error"} else "skipped" if "skipped" in parts else "ok"
         name = case.get("name").split(" ")[0].removeprefix("test.")
+        # (a case with several parts is as bad as its worst)
         came[name] = max(came.get(name, "ok"), is_so, key=worst.index)
         if is_so == "failed":
             told[name.split(".")[0]] += 1
@@ -141,6 +145,7 @@ COREUTILS_MISC = """truncate* stat-* readlink* realpath* mknod* mktemp* tee* shr
 
 
 def coreutils(run):
+    """The scripts that make files, two at a time, as `make check` calls them."""
     built = run.there / "coreutils"
     env = dict(part.split("=", 1) for part in (built / "environment").read_bytes().decode().split("\0") if "=" in part)
     env |= {"TMPDIR": str(run.folder), "NON_ROOT_USERNAME": "nobody", "PWD": str(run.folder)}
@@ -166,6 +171,7 @@ def coreutils(run):
                                 env=env | {"CU_TEST_NAME": f"coreutils,{name.replace('/', '-')}"})
         if status:
             print(f"== {name}: {status}\n{text[-300 if status == 77 else -3000:]}", file=sys.stderr, flush=True)
+        # (77 is how a check of automake skips; -9 how `call` ends what is late)
         return name, {0: "ok", 77: "skipped", -9: "did not end"}.get(status, "failed")
 
     with ThreadPoolExecutor(2) as pool:
@@ -177,6 +183,7 @@ def test_syscalls(run):
     (run.folder / "folder").mkdir()
     _, text = run.call([run.there / "test_syscalls", run.folder / "folder"], 50, said="always")
     for line in text.splitlines():
+        # (as ` 12 [open_acc]     OK`, by the number of the test)
         if line[:4].strip().isdigit() and "[" in line:
             name = line[line.index("[") + 1:line.rindex("]")]
             run.case(name, "ok" if line.endswith("] OK") else "failed")
@@ -207,11 +214,13 @@ def stress_ng(run):
 
 
 def stress(run, names, instances, seconds):
+    """Each stressor by itself, for some seconds."""
     for name in names:
         status, text = run.call(["stress-ng", f"--{name}", instances, "--timeout", f"{seconds}s", "--verify", "--oomable",
                                  "--temp-path", run.folder], 60, said=False)
         came = "ok"
         if status:
+            # (3: no resources; 4: not implemented)
             came = {-9: "did not end", 3: "skipped", 4: "skipped"}.get(status, "failed")
         elif "skipped: 1" in text or "skipping" in text:
             came = "skipped"
@@ -221,6 +230,7 @@ def stress(run, names, instances, seconds):
 
 
 def fio(run):
+    """Jobs that write, and verify what they wrote."""
     size = "8m" if run.quick else "64m"
     jobs = {
         "buffered, two jobs, crc32c": "--rw=randrw --bs=512-256k --numjobs=2 --verify=crc32c",
@@ -242,6 +252,7 @@ CREATE INDEX b ON a(t); DELETE FROM a WHERE i%3=0; VACUUM; PRAGMA integrity_chec
 
 
 def sqlite(run):
+    """A database in each journal mode, by several writers, and by one that is killed."""
     rows = 9000 if run.quick else 90000
     for mode in ("delete", "truncate", "persist", "memory", "wal"):
         run.step(mode, f"sqlite3 {mode}.db '{SQLITE.format(mode=mode, rows=rows)}'", f"{mode}\nok\n{rows - rows // 3}")
@@ -274,6 +285,7 @@ class Postgres:
     """A server of PostgreSQL, run by nobody, whose folder each of its calls names."""
 
     def __init__(self, run):
+        """Makes its folder, and that of its socket, which are nobody's: PostgreSQL doesn't run as root."""
         self.run, self.own = run, run.folder / "postgres"
         self.own.mkdir()
         # Its socket is elsewhere, since a socket in the folder is a case of other suites: in a folder that goes with this
@@ -332,6 +344,7 @@ class Postgres:
 
 
 def pgbench(run):
+    """Load on a server that is killed, then recovers, and must have all that it said was done."""
     server = Postgres(run)
     server.init()
     if not server.start("start"):
@@ -341,6 +354,7 @@ def pgbench(run):
         time.sleep(2 if run.quick else 8)
         kill_all("postgres")
         load.wait(60)
+    # (its processes go on for a moment)
     time.sleep(0.5)
     if not server.start("recovery"):
         return
@@ -379,6 +393,7 @@ def ping_pong(run, name, words, one, other):
 
 
 def perl(run, module, libraries):
+    """The tests of a module of Perl, with these folders of libraries."""
     words = [f"-I{folder}" for folder in libraries]
 
     def check(test):
@@ -476,6 +491,7 @@ def two_mounts(run):
 
 
 def git(run):
+    """What git does with this repository's history, or with one that is made if there are too few commits."""
     source = HERE.parent.parent.parent
     status, _ = run.call(["git", "-c", "safe.directory=*", "-C", source, "rev-parse", "HEAD~5"], said=False)
     run.env |= {f"GIT_{who}_{what}": "suites" for who in ("AUTHOR", "COMMITTER") for what in ("NAME", "EMAIL")}
@@ -524,6 +540,7 @@ def make_sample(folder):
     (folder / os.fsdecode(b"\xff\xfe \n\t")).write_text("an odd name")
     (folder / ("n" * 255)).write_text("a long name")
     with open(folder / "holes", "wb") as file:
+        # A hole of 3 MiB before the first byte.
         file.seek(3 << 20)
         file.write(b"end")
     (folder / "empty").touch()
@@ -531,6 +548,7 @@ def make_sample(folder):
         folder_too.chmod((0o755, 0o1777, 0o2755, 0o700)[i % 4])
     for root, folders, files in os.walk(folder):
         for i, name in enumerate(sorted(folders + files)):
+            # (nanoseconds: of access 2001, of changes a day apart, with parts of a second)
             times = (10**18 + i, (10**9 + 86400 * i) * 10**9 + 123456789 + i)
             os.utime(Path(root) / name, ns=times, follow_symlinks=False)
 
@@ -557,6 +575,7 @@ def facts(folder):
         for name in folders + files:
             path = os.path.join(root, name)
             is_so = os.lstat(path)
+            # (S_IFMT: 0o100000 a file, 0o040000 a directory, 0o120000 a symbolic link)
             kind = is_so.st_mode & 0o170000
             xattrs = {}
             if kind in (0o100000, 0o040000):
@@ -618,6 +637,7 @@ def cp(run):
 
 
 def names(run):
+    """Many files in a directory: made, listed, renamed and removed while it is read."""
     count = 10000 if run.quick else 100000
     big = run.folder / "big"
     big.mkdir()
@@ -675,6 +695,7 @@ class Column:
         return self.mounts[0] / "suite", self.mounts[-1] / "suite"
 
     def serve(self, suite, mount):
+        """Starts a server on a mount, and waits until that is there, half a minute at most."""
         words = [word.replace("FOLDER", f"{self.at}/folder").replace("MOUNT", str(mount)) for word in self.words]
         if self.kind.startswith("fuse.nizwarf-share"):
             words[1:1] = OF_SHARE.get(suite, [])
@@ -736,6 +757,7 @@ class Column:
         with open("/proc/self/mountinfo", encoding="utf-8") as mounts:
             for line in mounts:
                 words = line.split()
+                # mountinfo: the third word is the device as 0:N, the fifth the mount point; N is the connection's number.
                 if words[4] in map(str, self.mounts):
                     file = Path("/sys/fs/fuse/connections") / words[2].split(":")[1] / "abort"
                     if file.exists():
@@ -756,6 +778,7 @@ def run_one(column, suite, options):
         return {"the mount": f"failed: {error}"}, 0
     logs = Path(options.logs)
     came, log = logs / f"{suite}.{column.word}.cases", logs / f"{suite}.{column.word}.log"
+    # (a namespace of processes, so that a suite that is ended leaves none)
     words = [*ENDS_WITH_THIS, "unshare", "--mount", "--propagation=slave", "--pid", "--fork", "--kill-child=KILL",
              "--mount-proc", sys.executable, "-B", __file__, "--one", suite, str(folder), str(second), "--there",
              options.there]
@@ -853,6 +876,7 @@ def reap(child):
 
 
 def main():
+    """Runs all suites over all columns and prints the table; or lists them, or runs one in a child that it waits for."""
     options = argparse.ArgumentParser()
     for word in ("--there", "--columns", "--work", "--logs", "--suites", "--reasons"):
         options.add_argument(word)

@@ -52,6 +52,7 @@ def quoted(path, name):
 
 def rows_of(path, name):
     """The rows of a definition by cases, with what is before `=` and after it, on one line each."""
+    # (up to an empty line; a row may go over several)
     text = re.search(rf"^( *)abbrev pub {name} :.*?(?=^$|\Z)", crate(path), re.M | re.S)
     expect(text, f"{path} does not define {name}")
     rows = re.findall(rf"^ *{name} ((?:\([^)]*\)|[^=(\n])+) =\s+(.*?)(?=^ *{name} |\Z)", text[0], re.M | re.S)
@@ -74,6 +75,7 @@ class Stored:
 
 def stored():
     """The stored requests by the comment above each, and how many stand above it since."""
+    # Each answer of the program, with the calls below it, which are indented.
     came = re.findall(r"^((?:ok|err) .*)\n((?:  .*\n)*)", crate("test_sessions/stdout"), re.M)
     found, comment, answers, number, at = {}, "", [], 0, 0
     for line in crate("test_sessions/stdin").split("\n"):
@@ -81,6 +83,7 @@ def stored():
             comment, number = (comment + line[1:] if number == 0 else line[2:]), 0
         elif line.startswith("answer "):
             answers.append(line[len("answer "):])
+        # (a line ROOMS PIECES, each with `+` between parts)
         elif re.match(r"\d[\d+]* [\d+a-f]*$", line):
             room, request = line.split(" ")
             told = [it.strip() for it in came[at][1].splitlines()]
@@ -155,6 +158,7 @@ def books(turn_answered, accepted, delivered, sent):
 
 
 def lookup(found):
+    """The section of a LOOKUP that is answered, and of the same one whose reply doesn't fit."""
     it, cut = one(found, "LOOKUP of `a` finds node 5"), one(found, "In smaller rooms the call was made")
     opcode, request = request_cells(it.request)
     name = it.request[40:]
@@ -162,6 +166,7 @@ def lookup(found):
     call = f"Lookup ctx {parent} ({name[0]} ∷ [])"
     said = f"call lookup ctx=0,0,0 parent={parent} name={name[:1].hex()}"
     expect(name == b"a\0" and it.told == [said, f"-> ok node={node}"], "the stored LOOKUP is another")
+    # (the reply's first field after 16 bytes of header is the node)
     expect(it.left[16:24] == node.to_bytes(8, "little") and it.fits, "the stored LOOKUP's reply is another")
     expect(cut.request == it.request and cut.told == [*it.told, f"call forget ctx=0,0,0 inode={node} count=1"]
            and cut.left == it.left[:cut.room], "the stored LOOKUP in a smaller room is another")
@@ -198,6 +203,7 @@ A name in two segments is copied first. Without memory for that the other side o
 
 
 def interrupt(found):
+    """The section of a request that makes no call."""
     it = one(found, "INTERRUPT: no call and no reply")
     opcode, request = request_cells(it.request)
     expect(opcode == "Interrupt" and it.fits and not it.left and not it.told, "the stored INTERRUPT is another")
@@ -211,6 +217,7 @@ Below `INTERRUPT: no call and no reply`:
 
 
 def readdir(found):
+    """The section of a directory's two items, of which the second doesn't fit."""
     it = one(found, "READDIR of `.` and `..` with a size of 63")
     opcode, request = request_cells(it.request, "read_in")
     listing = dict((name, int(number)) for _, name, number in request if number.isdigit())
@@ -220,6 +227,7 @@ def readdir(found):
     expect(it.told == [f"call readdir ctx=0,0,0 inode=1 handle=0 size={size} offset=0", "-> ok"] and len(items) == 2,
            "the stored READDIR is another")
     records = it.left[16:]
+    # (24 bytes and the name, up to a multiple of 8)
     length = -(-(24 + len(items[1][3])) // 8) * 8
     expect(length == len(records) and size - length < length, "the stored READDIR's records are others")
     space = it.room - 16
@@ -242,6 +250,7 @@ Below `READDIR of . and .. with a size of {size}`:
 
 
 def begin():
+    """The page docs/BEGIN.md."""
     found = stored()
     asks = lookup(found)
     quotes = ["\n".join([f"<!-- crates/{path} -->", "```antt", *(quoted(path, name) + "\n" for name in names)]).rstrip("\n")
@@ -317,6 +326,7 @@ def answer_of(row, kinds, kind_of):
 
 
 def protocol():
+    """The page docs/generated/protocol.md: a row for each opcode, in the order of form_of."""
     numbers = {name: number for number, name in opcodes().items()}
     kind_of = {given.strip("()").split()[0]: made.split()[0] for given, made in rows_of(CALLS, "kind_of")}
     kinds, lines, seen = answers(), [], set()
@@ -339,6 +349,7 @@ Number, record in `fuse.h` with its fields' bytes, once; row of `form_of` (`crat
 
 
 def main():
+    """Makes both pages, or tells which is not as it would be made."""
     words = sys.argv[1:]
     if words not in ([], ["--check"]):
         print(__doc__.strip())

@@ -36,6 +36,7 @@ def rows():
     """Patterns, command and time of each line of the table."""
     for line in read("tools/dev/changes.txt").splitlines():
         if line and not line.startswith("#"):
+            # (a row is PATTERN, PATTERN .. | COMMAND | TIME; CRATE and ABOVE are filled in)
             files, command, takes = (cell.strip() for cell in line.split("|"))
             yield files.split(", "), command, takes
 
@@ -57,6 +58,7 @@ def crates_above(crates):
 
 
 def main():
+    """Prints the commands that judge what changed, each once, in the order of the table."""
     if sys.argv[1:2] in (["-h"], ["--help"]):
         print(__doc__.strip())
         return

@@ -13,8 +13,11 @@ LINKED = [*sorted(glob.glob("docs/generated/*.md")), *sorted(glob.glob("bindings
 # Where no crate is named in PROTOCOL.md, it is this one, as that page says.
 CRATES = {"docs/PROTOCOL.md": ["fuse_grammar"]}
 CODE = re.compile(r"`([^`]+)`")
+# `NAME`, .. `FILE`: names, and the file that defines them.
 NAMED = re.compile(r"((?:`[\w:]+`, )+)`([\w./]+\.(?:rt|antt))`")
+# `NAME`: `CLAUSE`, ..
 CLAUSED = re.compile(r"`[\w:]+`: ((?:`\w+`(?:, )?)+)")
+# `NAME` (`FILE:LINE`)
 PLACE = re.compile(r"`([^`]+)` \(`([^`]+):(\d+)`\)")
 ENDING = re.compile(r"\.(rt|antt|edit|md|sh|rs|py|c|h|a|txt|svg|tsv)$")
 # virtiofsd's files, and the kernel's header.
@@ -25,6 +28,7 @@ CLAUSE = re.compile(r"\b(?:ensures|requires|ghost) (?=(\w+))")
 NUMBERS = ("no one two three four five six seven eight nine ten eleven twelve thirteen fourteen fifteen "
            "sixteen seventeen eighteen nineteen twenty").split()
 NUMBER = rf"\b(\d[\d,]*|{'|'.join(NUMBERS)})"
+# How many crates are below one.
 BELOW = re.compile(rf"{NUMBER} crates below (it|the program|`\w+`)")
 
 
@@ -102,6 +106,7 @@ said_of = {}
 
 def anchors(document):
     headings = re.findall(r"^#+ (.*)", read(document), re.M)
+    # (as GitHub makes the anchor of a heading)
     return {re.sub(r"[^\w\- ]", "", heading.lower()).replace(" ", "-") for heading in headings}
 
 
@@ -128,6 +133,7 @@ def check_path(fault, document, path, beside):
     """Answers in which folders a part of a path is looked for after this one. What is built isn't looked for."""
     if path.startswith("out/"):
         return beside
+    # (words that stand for any name)
     pattern = re.sub(r"\b(CRATE|NAME|my_library|my_tree)\b", "*", path).rstrip("/")
     for full in (pattern, f"crates/{pattern}", os.path.join(os.path.dirname(document), pattern)):
         if glob.glob(full):
@@ -167,6 +173,7 @@ def check_order(fault, items):
 
 
 def check_line(fault, document, crates, line):
+    """Holds a line that is no part of a block against the sources: counts, links, names, paths."""
     check_below(fault, line)
     for pattern, there in COUNTS:
         for match in re.finditer(pattern, line):
@@ -213,6 +220,7 @@ def logic_of(kit):
 
 
 def check_block(fault, language, comment, block):
+    """Whether a block stands in the file of the comment above it: of Rust and C as a whole, else each line."""
     path = (re.fullmatch(r"<!-- (\S+) -->", comment) or [None, None])[1]
     if path and path not in paths:
         fault(f"there is no file {path}")
@@ -320,6 +328,7 @@ trusted = read("README.md").partition("**Trusted**")[2]
 kit_crates = {name for line in re.findall(r"^\w+.*: (.*)", read("crates.txt"), re.M) for name in line.split()}
 for name in sorted(kit_crates - CRATE_NAMES - {"core", "std_alloc"} - set(CODE.findall(trusted))):
     faults.append(f"README.md: the crate {name} of the kit is not named as trusted")
+# How many words a set of pages may have.
 for pages, most in ((["README.md"], 750), (COUNTED, 15000), (sorted(glob.glob("docs/generated/*.md")), 8000)):
     found = sum(len(read(page).split()) for page in pages)
     if found > most:

@@ -37,6 +37,7 @@ MEASURED = {
 # Made from the sources, as documents.sh sees, or of the toolchain alone.
 OF_NO_COMMIT = ["docs/generated/protocol.md", "docs/generated/refused.md"]
 ALL = ["crates/", "include/", "programs/", "bindings/", "examples/c/", "tests/beside/"]
+# Seven to twelve digits of hexadecimal, with at least one letter and one number, so that no word or figure is taken for one.
 COMMIT = re.compile(r"\b(?=[0-9]*[a-f])(?=[a-f]*[0-9])[0-9a-f]{7,12}\b")
 COMMAND = re.compile(r"\b(?:tools|tests)/[\w./-]+\.(?:sh|py)\b")
 # Lines that change nothing: comments of C, Rust, Rattle and scripts, and imports.
@@ -82,6 +83,7 @@ def changed_since(commit, seen={}):
 
 
 def main():
+    """Prints which pages are older than what they measure, and what is wrong with what pages name."""
     lines = re.findall(r"^(\w+).*: (.*)", read("crates.txt"), re.M)
     named = {name: [it for it in uses.split() if os.path.isdir(f"{HERE}/crates/{it}")] for name, uses in lines}
     history = git("rev-parse", "--is-shallow-repository").stdout.strip() == "false"
@@ -102,6 +104,7 @@ def main():
         if not ages:
             faults.append(f"{name}: it names no commit")
             continue
+        # (the one with most commits after it)
         oldest = max(ages, key=ages.get)
         begins = tuple(begins_of(MEASURED.get(name, ALL), named))
         changed = [it for it in changed_since(oldest) if it.startswith(begins) and "/src/uses" not in it]

@@ -109,6 +109,7 @@ for at, bit in enumerate(HAS.values()):
 said = part(CODES, "outcome_code : ", r"\n\n")
 CODE = {"OK": 0, "NULL": 14}
 for name, n in re.findall(r"\(Err \(?(\w+).*\) = (pos \d+|no_memory)", said):
+    # (a name in capitals with `_`: InvalidCString2 is INVALID_C_STRING_2; no_memory has the code 10)
     CODE[re.sub(r"(?<=[a-z])(?=[A-Z2])|(?<=C)(?=String)", "_", name).upper()] = 10 if n == "no_memory" else int(n[4:])
 for name, code in (("no_server", "NO_SERVER"), ("wrong_size", "WRONG_SIZE"), ("too_long", "TOO_LONG"),
                    ("is_asked", "ASKED"), ("not_asked", "NOT_ASKED"), ("no_memory", "OUT_OF_MEMORY")):
@@ -218,6 +219,7 @@ def offsets(name):
     at, places = 0, {}
     for field, it in of_c(name):
         size = 8 if "*" in it else C_SIZES.get(it) or offsets(it.removeprefix("nizwarf_"))[None]
+        # (C puts a field at a multiple of its size)
         at += -at % min(size, 8)
         places[field] = at
         at += size
@@ -253,6 +255,7 @@ told = "".join(map(read, PAGES))
 for name in {**enum_with("OK"), **enum_with("ASKED")}:
     if f"NIZWARF_{name}\n" not in told:
         faults.append(f"packaging/man: no page tells the code NIZWARF_{name}")
+# A number in a definition where a name could stand: after asks, call, answer, opcode, bit, has, kind.
 BARE = re.compile(r"\basks \d|\b(?:call|answer|opcode)\b (?:==|≡|=) [1-9]|\b(?:bit|bit_of) [\w.]+ \d|\.has \d"
                   r"|\b(?:n|number|kind) == [1-9]|^\w*(?:number|opcode) = \d")
 for crate in ("door_calls", "door_ask", "door_answer", "laws_flight", "nizwarf_door"):

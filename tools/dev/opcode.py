@@ -65,6 +65,7 @@ def listed():
     section = section.partition("\n## ")[0]
     for number, line in enumerate(section.split("\n"), before.count("\n") + 2):
         folder = ""
+        # (a name without a folder is in that of the one before)
         for code in re.findall(r"`([^` ]+)`", line.split("|")[1]) if line.startswith("| ") else []:
             if re.search(r"/|\.\w+$", code):
                 folder = code.rpartition("/")[0] if "/" in code else folder
@@ -73,6 +74,7 @@ def listed():
 
 
 def main():
+    """Does what the first word says, or holds the list."""
     if sys.argv[1:2] in (["-h"], ["--help"]):
         print(__doc__.strip())
         return 0
@@ -80,6 +82,7 @@ def main():
         print(*SPELLED)
         return 0
     texts = {path: read(path) for path in tracked()}
+    # All files with an opcode; those that the list must name; and of these, those that a new opcode goes into.
     stands = {opcode: files_of(opcode, texts) for opcode in SPELLED}
     counted = {opcode: [it for it in paths if not fits(it, APART + ELSEWHERE)] for opcode, paths in stands.items()}
     own = {opcode: [it for it in paths if not fits(it, OTHERS)] for opcode, paths in counted.items()}
@@ -93,6 +96,7 @@ def main():
             print(*{**counted, **rows}[sys.argv[2]], sep="\n")
             return 0
         if sys.argv[1:2] == ["--lacks"] and len(sys.argv) == 4 and sys.argv[3] in {**own, **rows}:
+            # (SYNC_RANGE is also syncrange and SyncRange)
             new, model = re.compile(re.escape(sys.argv[2]).replace("_", "_?"), re.I), {**own, **rows}[sys.argv[3]]
             lacking = [path for path in model if not new.search(texts[path])]
             print(*lacking, f"{sys.argv[2]} is not in {len(lacking)} of {len(model)} files of {sys.argv[3]}", sep="\n")

@@ -52,6 +52,7 @@ def attributes(values):
 
 
 class Picture:
+    """A picture in SVG: shapes and texts in the order in which they are drawn, in pixels from the upper left."""
     def __init__(self, title):
         self.title, self.parts = title, []
 
@@ -168,6 +169,7 @@ def spread(wanted, widths):
     offsets = [sum(widths[:i]) + width // 2 for i, width in enumerate(widths)]
     groups = []
     for want, offset in zip(wanted, offsets):
+        # Things that would overlap become a group, which stands at the mean of what its members want.
         groups.append((want - offset, 1))
         while len(groups) > 1 and groups[-2][0] > groups[-1][0]:
             (a, n), (b, m) = groups[-2:]
@@ -185,6 +187,7 @@ def places(rows, lines, broad, narrow):
     x = {name: 100 * i * broad for row in rows for i, name in enumerate(row)}
     beside = {name: [low if name == up else up for _, low, up in lines if name in (low, up)]
               for name in x}
+    # (up and down, until no crate moves: 60 times are enough for those that there are)
     for row in [*rows, *reversed(rows)] * 60:
         wanted = [sum(x[other] for other in beside[name]) // len(beside[name]) for name in row]
         x.update(zip(row, spread(wanted, [width[name] for name in row])))
@@ -204,6 +207,7 @@ def legend(picture, left, found):
 
 
 def crates():
+    """The picture of the crates."""
     stands_on = dependencies()
     below = all_below(stands_on)
     found = families(stands_on)
@@ -238,6 +242,7 @@ def step_of(row):
         fault(f"{ARCHITECTURE}: step {number} of a LOOKUP begins with no **word**: in bold")
     word, what = found[1], found[2].replace("`", "")
     named = CODE.findall(functions)
+    # (the box is 380 wide, with 10 at each side)
     if wide(f"{number} {word} {named[0]}") > 340 or wide(what) > 360:
         fault(f"{ARCHITECTURE}: the first words of step {number} are too long for its box")
     paths = [code.split("/")[0] for code in named if "/" in code]
@@ -245,6 +250,7 @@ def step_of(row):
 
 
 def lookup():
+    """The picture of one LOOKUP."""
     steps = [step_of(row) for row in table(ARCHITECTURE, "| | Step |")]
     crates = [name for name in dependencies() if any(name in step[4] for step in steps)]
     tint = {name: TINTS[at % len(TINTS)] for at, name in enumerate(crates)}
@@ -310,6 +316,7 @@ def ratio_rows():
 
 
 def ratios():
+    """The picture of the ratios of requests by their cutting."""
     rows = list(ratio_rows())
     colours = {"one piece": "#2f6fc4", "header apart": "#7a52b3", "pieces of 4096": "#b3722a",
                "pieces of 64": "#2a8a7f", "single bytes": "#b03a4b"}
@@ -341,6 +348,7 @@ def middle(picture, x, y, scale, cell, colour, column, end):
 
 
 def end_to_end():
+    """The picture of requests to a daemon."""
     rows = table(END_TO_END, "| Request | with this layer: processor |")
     colours = {"with this layer: processor": "#2f6fc4", "clock": "#8fb4e8",
                "nizwarf-share: processor": "#b3722a", "its clock": "#e3bd8d"}
@@ -392,6 +400,7 @@ def lines_of(picture, left, rows, names, which, words, scales):
 
 
 def growth():
+    """The picture of what a file takes by the number of files."""
     names = {"nizwarf-share": "#2f6fc4", "nizwarf-share, descriptors": "#2a8a7f", "virtiofsd": "#b3722a",
              "passthrough_ll": "#b03a4b"}
     picture = Picture("What a file takes by the number of files that are known")
@@ -408,6 +417,7 @@ def growth():
 
 
 def main():
+    """Draws all, or names those that are not as they would be drawn."""
     if sys.argv[1:] not in ([], ["--check"]):
         fault("it takes --check or nothing")
     old = []

@@ -50,6 +50,7 @@ def derive(name, fields):
     put = ", ".join(f"{WIDTHS[it][0]}(self.{field})" for field, it in fields)
     take = "".join(f"            {field}: {it}_at(b, {at}),\n" for (field, it), at in zip(fields, places))
     made = "".join(f"  {field} = slice_index xs {at};\n" for at, (field, _) in enumerate(fields))
+    # (of the bytes 1, 2, 3, .. in their order, little endian)
     numbers = ["0x" + "".join(f"{it:02x}" for it in range(at + width, at, -1)) for at, width in zip(places, widths)]
     lies = "".join(f"  {field} = {number};\n" for (field, _), number in zip(fields, numbers))
     return (f"""impl ByteValued for {name} {{
@@ -86,6 +87,7 @@ made_{table} xs = record {{
 
 def plain(text):
     """A text without its layout."""
+    # (nor with the comma that `rt fmt` puts after the last of a list)
     return re.sub(r",(?=[}\])])", "", re.sub(r"\s+", "", text))
 
 
@@ -126,6 +128,7 @@ use Rattle.{crate}.specs.{declared}.{{{name}}}
 
 
 def main(words):
+    """Prints what is derived of one record, or counts those that stand as derived."""
     if words == ["--help"] or len(words) != 1:
         print(__doc__.strip())
         sys.exit(0 if words == ["--help"] else 2)

@@ -56,6 +56,7 @@ class Function:
     def note_size(self, word, size):
         """Notes that the place where the stack ends is changed."""
         if word in ("sub", "add") and size:
+            # (objdump shows what is added as a number of 64 bits: 0xffff..80 takes 128)
             bytes_ = int(size[1], 16) if word == "sub" else 2**64 - int(size[1], 16)
             # (what is given back is not counted)
             if bytes_ < 2**63:
@@ -117,6 +118,7 @@ class Depths:
         self.under_way.append(name)
         most, path = max((self.of(called) for called in sorted(below)), default=(0, ()))
         self.under_way.pop()
+        # (one that may call itself takes its own part once for each level)
         times = levels if name in it.calls else 1
         self.found[name] = times * (it.taken + it.reserved) + most, (name, *path)
         return self.found[name]
@@ -127,6 +129,7 @@ def bound(library, every, most):
     functions = read(library)
     sys.setrecursionlimit(10 * len(functions) + 1000)
     depths = Depths(functions)
+    # (what C calls has a plain name; those of Rattle have `::`)
     found = sorted((depths.of(name) for name in functions if re.fullmatch(r"\w+", name)), reverse=True)
     for fault in sorted(depths.faults):
         print(f"{library}: no bound: {fault}")

@@ -42,12 +42,14 @@ class Daemon:
     """A daemon, with a front end that asks it."""
 
     def __init__(self, name, words, queues=1):
+        """Starts a daemon by its words, and pace.c with that many queues; passthrough_ll and it have two ends of a socket."""
         Daemon.count = getattr(Daemon, "count", 0) + 1
         self.name, path, ours, theirs = name, f"{work}/socket-{Daemon.count}", None, None
         if name == LIBFUSE:
             ours, theirs = socket.socketpair(socket.AF_UNIX, socket.SOCK_SEQPACKET)
             for end in (ours, theirs):
                 end.setsockopt(socket.SOL_SOCKET, socket.SO_SNDBUF, 4 << 20)
+            # (libfuse serves a descriptor that is open already by this name)
             words, path = [*words, f"/dev/fd/{theirs.fileno()}"], str(ours.fileno())
         elif name in (FLOOR, CALLS):
             words = [*words, path, *([shared] if name == CALLS else [])]
@@ -133,6 +135,7 @@ def grow(name):
     """Of each size the bytes of a file, and the nanoseconds of the first LOOKUP and a later one; and the nanoseconds of a
     file of a FORGET of all, and those in all of a DESTROY and an INIT."""
     daemon, rows, known = Daemon(name, words_of(name)), {}, 0
+    # (so that what a daemon allocates once is not counted as a file's)
     daemon.ask("getattr", 1, 1000)
     begun = daemon.memory()
     for size in sizes:
@@ -147,6 +150,7 @@ def grow(name):
     say(f"{name}: FORGET, DESTROY, INIT")
     forget = f"{daemon.ask('forget', 1, 1)[1] / known:,.0f}"
     left = f"{max(daemon.memory() - begun, 0) / known:,.0f}"
+    # (a million are enough to see the time of a file)
     known = min(known, 1_000_000)
     daemon.ask("know", 16, known)
     destroy = f"{daemon.ask('destroy', 1, 1)[0] / known:,.0f}"
@@ -164,6 +168,7 @@ def list_folders(name):
         if size > most:
             break
         say(f"{name}, a folder of {size:,}")
+        # (20,000 names at least, so that few are not lost in the clock's steps)
         times = max(1, 20_000 // size)
         cells.append(f"{sum(daemon.ask('list', 1, size)[1] for _ in range(times)) / times / size:,.0f}")
     daemon.end()
@@ -232,6 +237,7 @@ def parts():
 
 
 def main():
+    """Fills the folder, measures, and prints the page as it comes."""
     names = SHARE, HELD, VIRTIOFSD, LIBFUSE
     fill()
     print(HEAD.format(most=MOST_OF_LIST, facts=facts))

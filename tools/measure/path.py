@@ -54,13 +54,16 @@ def kind_of(code):
         return "write" if name.startswith("push") else "read"
     if name.startswith(("lea", "nop")) or "(" not in operands:
         return "else"
+    # (in AT&T's order the last operand is written; a comma in brackets is an address's)
     last = re.split(r",(?![^(]*\))", operands.split("#")[0].strip())[-1]
     return "write" if "(" in last else "read"
 
 
 def main():
+    """Prints the rows, and with --listing the instructions."""
     lists, (code_path, fewer, more, requests) = "--listing" in sys.argv[1:], [it for it in sys.argv[1:] if it != "--listing"]
     with open(code_path, encoding="utf-8") as file:
+        # (lines of objdump: a place, a tab, an instruction)
         code = {int(place, 16): " ".join(rest.split()) for place, rest in re.findall(r"^ +([0-9a-f]+):\t(.+)$", file.read(), re.M)}
     (before, _), (after, calls) = count(fewer), count(more)
     rows, lines = [], []

@@ -65,6 +65,7 @@ def table():
 
 
 def write(rows):
+    """Writes the table, all at once, so that a run that is stopped leaves a whole one, and answers its text."""
     known = reasons()
     text = HEAD + "\t".join(["crate", "files", "minutes", *COUNTS]) + "\n"
     for crate, (row, proved) in sorted(rows.items()):
@@ -92,6 +93,7 @@ def reasons():
 
 
 def main():
+    """Plants in the crates that changed, and tells if a body is proved that has no reason."""
     parser = argparse.ArgumentParser()
     parser.add_argument("crates", nargs="*")
     parser.add_argument("--minutes", type=int, default=3)

@@ -123,6 +123,7 @@ class Server:
         """Begins to count system calls; the answer ends that, and gives them by name."""
         tracer = subprocess.Popen(["strace", "-f", "-c", "-o", work + "/calls", "-p", self.pid()],
                                   stderr=subprocess.DEVNULL)
+        # (until strace is attached: it says so to nobody)
         time.sleep(0.7)
 
         def end():
@@ -130,6 +131,7 @@ class Server:
             tracer.wait()
             with open(work + "/calls") as said:
                 lines = [it.split() for it in said]
+            # (its table: % time, seconds, usecs/call, calls, errors if there are any, name)
             return {it[-1]: int(it[3]) for it in lines if len(it) > 4 and it[3].isdigit()}
         return end
 
@@ -147,6 +149,7 @@ class Server:
         shutil.rmtree(self.folder)
         if ran.returncode:
             return None
+        # (the last line of share_speed.c: seconds by the clock, and of the server's processor)
         return calls if counts else [float(it) for it in ran.stdout.split("\n")[-2].split()]
 
 
@@ -229,6 +232,7 @@ def rows_of(servers, own, what):
                 # (of bindfs the quicker one of the two ways)
                 other = name.split(",")[0]
                 if name not in own:
+                    # (zeros: the other one could not do it, and is shown as a line)
                     found = ratios(times[it], times[name]) or ((0, 0, 0), (0, 0, 0))
                     beside[other] = tuple(max(pair) for pair in zip(beside.get(other, found), found))
             cells[it].append((jobs, {other: both for other, both in beside.items()}))
@@ -277,6 +281,7 @@ def said_of(jobs):
 
 
 def main():
+    """Times all classes over all mounts, and prints the page, with what the system calls are at its end."""
     subprocess.run(["git", "-C", repository, "archive", "--output", work + "/archive", "--format=tar", "HEAD"],
                    check=True)
     subprocess.run(["git", "clone", "-q", repository, work + "/clone"], check=True)

@@ -12,6 +12,7 @@ def figures(paths):
         with open(path, encoding="utf-8") as file:
             for line in file:
                 words = line.split()
+                # A line of figures: class, cutting, .., allocations there (7th) and here (12th), and last the ratio.
                 if len(words) == 15 and words[1] in CUTTINGS:
                     one = found.setdefault((words[0], words[1]), ([], words[6], words[11]))
                     one[0].append(float(words[14]))

@@ -4,7 +4,9 @@ import collections, glob, os, re, sys
 sys.path.append("tools/lib")
 from records import COPIED, ZEROS
 
+# An import: `use Rattle.MODULE.{NAME, ..}`, `use Rattle.MODULE`, or the latter `as NAME`.
 USE = re.compile(r"^\s*(?:unfoldable )?(?:pub )?use Rattle\.([\w.]+?)(?:\.\{([^}]*)\}|( as (\w+))?)$")
+# The first line of a definition, with how far it is indented.
 TOP = re.compile(r"^( *)(?:abbrev |unfoldable |opaque )*pub (?!use )(record |data )?([\w-]+)")
 CRATES = f"({'|'.join(os.listdir('crates'))})"
 WORD = re.compile(r"\w+(?:-\w+)*")
@@ -61,6 +63,7 @@ class Specs:
         here = self.of.get(module, {})
         if name in here:
             return module, name
+        # (a constructor stands for its type)
         maker = next((it for it, found in here.items() if name in found.makes), None)
         if maker:
             return module, maker
@@ -129,6 +132,7 @@ def is_held(specs, it):
 
 
 def main():
+    """Prints what the words ask for, and the counts of what is reached from these definitions."""
     words = sys.argv[1:]
     show = words.pop(0) if words and words[0].startswith("--") else ""
     if show not in ("", "--files", "--once", "--beside"):

@@ -67,11 +67,13 @@ def write(path, data, offset=0, flags=os.O_WRONLY | os.O_CREAT, mode=0o644):
 
 def exchange(old, new, flags):
     """renameat2(2), which Python does not have."""
+    # (-100 is AT_FDCWD)
     if LIBC.renameat2(-100, old.encode(), -100, new.encode(), flags):
         raise OSError(ctypes.get_errno(), "renameat2")
 
 
 def hello():
+    """Its file, read in parts, and what it refuses."""
     for path in [".", "hello.txt", "none", "none/below"]:
         show(f"attributes {path}", attributes, path)
     show("list", os.listdir, ".")
@@ -99,6 +101,7 @@ def simple():
 
 
 def directories():
+    """Folders with many names, long ones, and what rmdir refuses."""
     show("make", os.mkdir, "folder", 0o750)
     show("make again", os.mkdir, "folder")
     show("attributes of a folder", attributes, "folder")
@@ -119,6 +122,7 @@ def directories():
 
 
 def files():
+    """One file: its bytes, size, mode, owner, times, locks and maps."""
     exclusive = os.O_CREAT | os.O_EXCL | os.O_RDWR
     show("create", write, "file", b"0123456789", 0, exclusive, 0o640)
     show("create again", write, "file", b"", 0, exclusive)
@@ -151,6 +155,7 @@ def files():
     for whence in [os.SEEK_END, os.SEEK_DATA, os.SEEK_HOLE]:
         show(f"seek {whence}", os.lseek, descriptor, 0, whence)
     show("lock", fcntl.lockf, descriptor, fcntl.LOCK_EX | fcntl.LOCK_NB)
+    # (_IO('E', 0), a command of another example)
     show("command", fcntl.ioctl, descriptor, 0x4500)
     with mmap.mmap(descriptor, 4096) as mapped:
         mapped[:6] = b"mapped"
@@ -172,6 +177,7 @@ def copy(old, new):
 
 
 def names():
+    """Links, names that change, and nodes of other kinds."""
     for name in "ab":
         write(name, name.encode())
     show("hard link", os.link, "a", "linked")
@@ -181,6 +187,7 @@ def names():
     show("what it has", read, "b")
     os.mkdir("folder")
     write("folder/d", b"d")
+    # RENAME_NOREPLACE, RENAME_EXCHANGE, RENAME_WHITEOUT.
     for flags in [1, 2, 4]:
         show(f"rename with {flags}", exchange, "b", "folder/d", flags)
         show("what is there", lambda: (sorted(os.listdir(".")), sorted(os.listdir("folder"))))
@@ -195,6 +202,7 @@ def names():
 
 
 def further():
+    """Extended attributes and access."""
     write("file", b"text")
     show("set", os.setxattr, "file", "user.one", b"1" * 300)
     show("set again", os.setxattr, "file", "user.one", b"", os.XATTR_CREATE)
@@ -225,6 +233,7 @@ def as_other(user):
 
 def ioctl():
     descriptor = os.open("fioc", os.O_RDWR)
+    # FIOC_GET_SIZE and FIOC_SET_SIZE of the example: _IOR and _IOW of 'E', 0 and 1, 8 bytes each.
     get_size, set_size = 0x80084500, 0x40084501
     show("list", os.listdir, ".")
     show("size", fcntl.ioctl, descriptor, get_size, bytes(8))
@@ -235,6 +244,7 @@ def ioctl():
 
 
 def poll():
+    """Waits until files have something to read, three times."""
     waits, files = select.poll(), {}
     for name in sorted(os.listdir(".")):
         descriptor = os.open(name, os.O_RDONLY)
