@@ -34,6 +34,7 @@ make_shared() {
     local packed
     for packed in "$here"/out/packages/nizwarf-*-linux-x86_64.tar.gz; do
         if [ -e "$packed" ] && is_newest "$packed"; then
+            # (NAME/lib/FILE becomes FILE)
             tar -xzf "$packed" -C "$built" --strip-components=2 --wildcards '*/lib/libnizwarf.so*'
             echo "The shared library is from ${packed##*/}." >&2
             return
@@ -71,6 +72,7 @@ follow_readme() {
     fi
 }
 
+# (bindings/rust/check.sh counts its own)
 steps=13
 make_shared
 export LD_LIBRARY_PATH=$built${LD_LIBRARY_PATH:+:$LD_LIBRARY_PATH}
@@ -78,6 +80,7 @@ if command -v python3 > /dev/null; then
     check_hello hello.py "$here/bindings/python/hello.py"
     sanitizer=$(cc -print-file-name=libasan.so)
     if [ -e "$sanitizer" ]; then
+        # (Python's own allocator would hide what is read past; what it leaks is its own)
         LD_PRELOAD=$sanitizer PYTHONMALLOC=malloc ASAN_OPTIONS=detect_leaks=0 \
             step "hello.py with the address sanitizer" \
             ask_hello "$here/bindings/python/hello.py"

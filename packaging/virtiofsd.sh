@@ -21,6 +21,7 @@ set -euo pipefail
 . "$(dirname "$0")/../tools/lib/front.sh"
 . "$(dirname "$0")/../tools/lib/debs.sh"
 
+# Tells how it is used, and stops.
 refuse() {
     echo "$1" >&2
     echo "Usage: tools/virtiofsd.sh --package [--unproved] [--check] [FOLDER]" >&2
@@ -61,6 +62,7 @@ pack() {
     mkdir -p "$root/usr/sbin" "$doc" "$root/usr/share/qemu/vhost-user" "$2"
     install -m 755 "$1/nizwarf-virtiofsd" "$root$program"
     strip --remove-section=.comment --remove-section=.note "$root$program"
+    # The number before a description's name says which one comes first: virtiofsd's is 50.
     sed "s,\"/usr/libexec/virtiofsd\",\"$program\"," "$1/tree/50-virtiofsd.json" \
         > "$root/usr/share/qemu/vhost-user/60-$name.json"
     grep -q "\"$program\"" "$root/usr/share/qemu/vhost-user/60-$name.json" || wrong "virtiofsd's description names no program."
@@ -85,6 +87,7 @@ pack "$folder" "$work/out"
 if [ -n "$check" ]; then
     part "the same again in another folder, to be compared"
     mkdir "$work/again"
+    # (downloaded once)
     ln -s "$folder/crates" "$work/again/crates"
     "$here/tools/virtiofsd.sh" "$work/again" > /dev/null
     pack "$work/again" "$work/compared"

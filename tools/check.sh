@@ -36,6 +36,7 @@ declare -A wanted=(
     [rust]="rustfmt" [python]="pyflakes3"
     [c]="cc python3" [format]="clang-format" [door]="rt cc" [crate]="cargo rt cc"
 )
+# (a program that isn't here is in the package of its name)
 declare -A package=([cc]="gcc libc6-dev" [rt]="")
 
 # The programs of a part that are not there.
@@ -88,6 +89,7 @@ files() {
 
 # Runs a command for pieces of a list of files, as many at once as there are processors.
 each() {
+    # (names from `files`, a line each)
     tr '\n' '\0' | xargs -0r -n 8 -P "$(nproc)" "$@"
 }
 
@@ -167,6 +169,7 @@ fi
 failed=() skipped=() times=() number=0
 for part in "${parts[@]}"; do
     number=$((number + 1))
+    # (paste ends even an empty line, so that read has one)
     read -ra missing < <(missing_of "$part" | paste -sd ' ')
     if [ ${#missing[@]} != 0 ]; then
         echo "$number of ${#parts[@]}: $part, skipped for want of ${missing[*]}"
@@ -175,6 +178,7 @@ for part in "${parts[@]}"; do
     fi
     echo "$number of ${#parts[@]}: $part, $(count_of "$part") .."
     begun=$SECONDS
+    # (what is built beside must be there)
     case $part in door | crate) wait ;; esac
     if ! "check_$part" > "$folder/said" 2>&1 < /dev/null; then
         cat "$folder/said"

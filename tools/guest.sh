@@ -62,14 +62,17 @@ if [ -n "$shared" ]; then
     chmod 755 "$folder"
     words=("--socket-path=$work/socket" --writeback --xattr "$folder")
     if [ "$by" = --virtiofsd ]; then
+        # virtiofsd takes the folder by an option, and has one queue for requests.
         words=("${words[@]::3}" --shared-dir "$folder" --killpriv-v2) queues=1
     fi
 fi
+# Half an hour, in which a guest that QEMU computes is done many times over.
 timeout 1800 "$transport" "${words[@]}" &
 transport_id=$!
 started+=("$transport_id")
 await_listener "$work/socket" "$transport_id"
 began=$SECONDS
+# (so that tail has a file before QEMU makes it)
 : > "$work/console"
 timeout -k 5 1790 qemu-system-x86_64 -nodefaults -no-user-config -display none \
     -machine q35,accel=tcg -cpu max -smp 1 -m 256 \
@@ -79,6 +82,7 @@ timeout -k 5 1790 qemu-system-x86_64 -nodefaults -no-user-config -display none \
     -device vhost-user-fs-pci,queue-size=1024,num-request-queues=$queues,chardev=socket,tag=nizwarf < /dev/null &
 guest_id=$!
 started+=("$guest_id")
+# (ends with QEMU)
 tail -n +1 -f -s 0.2 --pid "$guest_id" "$work/console" &
 shown_id=$!
 started+=("$shown_id")

@@ -85,8 +85,10 @@ if [ ! -e "$source" ]; then
         exit 2
     }
 fi
+# The number in the library's file name: that of meson.build, or if it takes it from elsewhere, of Debian's version.
 number=$(sed -nE "s/^project\('libfuse3'.*version: '([0-9.]+)[^']*'.*/\1/p" "$source/meson.build")
 [ -n "$number" ] || number=$(sed 's/-.*//' "$source/debian-version")
+# A folder for each suite, kind and sanitizer; what is made of the machine's suite with the layer is in FOLDER/lib.
 work=$folder/$suite-$kind
 [ "$sanitize" = none ] || work=$work-${sanitize//,/-}
 lib=$folder/lib
@@ -114,6 +116,7 @@ replace() {
         renew "$file" "$work/tree/lib/${file##*/}"
     done
     archives="'$work/tree/lib/${library[0]##*/}', '$work/tree/lib/${library[1]##*/}'"
+    # Both libraries are linked into libfuse's own, which is made anew if the door's changes.
     sed -E "s#link_args: \['-Wl,--version-script,'#link_args: [$archives, '-Wl,--version-script,'#
         s#link_depends: 'fuse_versionscript'#link_depends: ['fuse_versionscript', '${library[0]##*/}']#" \
         "$source/lib/meson.build" > "$work/meson.build"
@@ -125,6 +128,7 @@ replace() {
 }
 
 build() {
+    # Nothing is installed, but the library has paths of helpers in it, as /usr/bin/fusermount3.
     local options=(--prefix=/usr -Duseroot=false "-Dudevrulesdir=$work/udev" "-Db_sanitize=$sanitize" -Db_lundef=false)
     local option known
     known=$(cat "$source"/meson_options.txt "$source"/meson.options 2> /dev/null || true)

@@ -45,6 +45,7 @@ while [[ ${1:-} == -* ]]; do
             shift
             ;;
         --check)
+            # (the number of words that are left, with it; no options; the library as it is)
             [ "$# ${#options[@]} $name" = "1 0 nizwarf_tree" ] || usage "--check stands alone."
             exec "$here/tests/mount/check.sh"
             ;;
@@ -65,6 +66,7 @@ if [ ! -d "$1" ]; then
     echo "$1 is no folder." >&2
     exit 2
 fi
+# (the kernel's list of mounts has full paths without links)
 folder=$(realpath "$1")
 build_transport mount "$name"
 echo "Mounting on $folder; \`umount $folder\` or Ctrl-C ends it." >&2

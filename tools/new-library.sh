@@ -33,6 +33,7 @@ new_tree() {
     mkdir -p "crates/$tree"
     cp -R crates/example_tree/{src,specs} "crates/$tree/"
     rm "crates/$tree/src/uses.rt"
+    # (the line, and the empty one after it)
     sed -i '/^mod uses;$/,+1d' "crates/$tree/src/lib.rt"
     name_copy example_tree "$tree"
     echo "The tree is in crates/$tree/src/lib.rt, and what is there in crates/$tree/specs/Docs.antt."
@@ -70,6 +71,7 @@ over_tree() {
         sed "s/\bNAME\b/$name/g; s/\bTREE\b/$tree/g; s/\bTYPE\b/$type/g; s/\bTABLES\b/$tables/g; s/\bMODULE\b/$module/g" \
             "tools/lib/read_only_library/${file##*/}.in" > "crates/$name/$file"
     done
+    # (the proof of the tree in memory's answers)
     rm -r "crates/$name"/proofs/{files,Texts.antt}
     sed -i '/^mod Texts$/d' "crates/$name/proofs/Lib.antt"
     sed -i "/^$name\b/s/ fs_tree\b/ fs_small $tree/" crates.txt

@@ -64,6 +64,7 @@ need make "Install it: apt-get install make."
 need gzip "Install it: apt-get install gzip."
 need python3 "Install it: apt-get install python3."
 
+# The programs, as programs/Makefile lists them; and what Debian calls this kind of machine.
 programs=$(make -s -f "$here/programs/Makefile" list)
 triplet=x86_64-linux-gnu
 work=$(mktemp -d)
@@ -94,6 +95,7 @@ find_parts() {
 # Joins a library and what it stands on to one object, in which the library's own names alone are global:
 # join_library LIBRARY OBJECT.
 join_library() {
+    # (so that the two libraries, which stand on the same crates, don't share names)
     ld -r -o "$2" --whole-archive "$1" --no-whole-archive "$heap"
     objcopy --wildcard --keep-global-symbol='nizwarf_*' --strip-unneeded --remove-section=.comment \
         --remove-section='.note.gnu*' --remove-section=.llvm_addrsig --remove-section='.rela.llvm_addrsig' "$2"
@@ -123,6 +125,7 @@ make_libraries() {
     ln -sf "$soname.${release#*.}" "$folder/$soname"
     ln -sf "$soname" "$folder/libnizwarf.so"
 
+    # (three words: address, kind, name)
     others=$(nm --defined-only --extern-only "$folder/libnizwarf.a" | awk 'NF == 3 && $3 !~ /^nizwarf_/ { print $3 }' | paste -sd ' ')
     [ -z "$others" ] || wrong "names of libnizwarf.a do not begin with nizwarf_: $others"
     needed=$(needed_by "$folder/$soname" | paste -sd ' ')
@@ -271,6 +274,7 @@ make_tree() {
 make_tarball() {
     local tree=$1 name=nizwarf-$version-linux-x86_64
     set_times "$tree"
+    # (the same bytes, whoever makes it)
     tar --sort=name --owner=0 --group=0 --numeric-owner --format=gnu --transform "s,^\.,$name," -C "$tree" -cf - . \
         | gzip -9n > "$2/$name.tar.gz"
 }
@@ -287,6 +291,7 @@ make_debs() {
         echo "* Build-Depends-Package: libnizwarf-dev"
         # (a node of NIZWARF_0.3 came with 0.3.0)
         sed -nE 's/^(NIZWARF_([0-9.]+)) \{$/ \1@\1 \2.0~/p' "$packaging/nizwarf.map"
+        # (~: an earlier build, as ~unproved, is enough)
         exported "$root/$lib/$soname" | sed -E 's/^(.*@NIZWARF_(.*))$/ \1 \2.0~/'
     } > "$root/DEBIAN/symbols"
     echo "activate-noawait ldconfig" > "$root/DEBIAN/triggers"
@@ -352,6 +357,7 @@ if [ -n "$check" ]; then
     fi
 fi
 mkdir -p "$out"
+# (of an older version: what lies there is one version)
 rm -f "$out"/*nizwarf*.deb "$out"/nizwarf-*.tar.gz
 mv "$work"/out/* "$out/"
 (cd "$out" && stat -c '%8s  %n' ./*nizwarf* | sed 's,\./,,')

@@ -57,6 +57,7 @@ if cmp -s "$answers" "$expected"; then
     exit
 fi
 
+# (`.. differ: byte N, line M`; if one is the beginning of the other, `EOF on ..`, and the next line differs)
 at=$(cmp "$answers" "$expected" 2>&1 | sed -nE 's/.* line ([0-9]+)$/\1/p') || true
 if [ -z "$at" ]; then
     at=$(($(wc -l < "$answers") + 1))

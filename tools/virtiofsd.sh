@@ -67,6 +67,7 @@ mkdir -p "$folder/link" "$folder/lib" "$folder/home"
 # Lets the linker find a library that is installed without its package for development.
 link_library() {
     local name=$1 package=$2 it
+    # (a line of ldconfig: a tab, libNAME.so.N, kinds in brackets, => and the path)
     it=$(PATH=$PATH:/sbin ldconfig -p | sed -nE "s,^\slib$name\.so\.[0-9]+ .*x86-64.* => (.*),\1,p" | sed -n 1p)
     if [ -z "$it" ]; then
         echo "Missing: lib$name. Install it: apt-get install $package." >&2
@@ -75,6 +76,7 @@ link_library() {
     ln -sfn "$it" "$folder/link/lib$name.so"
 }
 
+# These are linked by their names without a version, which packages for development have.
 link_library cap-ng libcap-ng0
 link_library seccomp libseccomp2
 [ -n "$unmodified" ] || find_library nizwarf_door
@@ -120,6 +122,7 @@ if [ ! -e "$tree/Cargo.toml" ]; then
     mkdir -p "$tree/.cargo"
     cp -R "$from/src" "$tree/"
 fi
+# (packaging/virtiofsd.sh takes its description from there)
 cp -u "$from/50-virtiofsd.json" "$tree/"
 cp "$from/Cargo.toml" "$folder/Cargo.toml"
 needed=("$tree/src" "$tree/Cargo.toml" "$here/tools/virtiofsd.sh")
@@ -134,6 +137,7 @@ if [ -z "$unmodified" ]; then
     needed+=("$folder/lib" "$here"/bindings/rust/{src,build.rs,Cargo.toml})
 fi
 renew "$folder/Cargo.toml" "$tree/Cargo.toml"
+# cargo takes crates from this folder alone, and asks no network.
 printf '[source.crates-io]\nreplace-with = "debian"\n[source.debian]\ndirectory = "%s"\n[net]\noffline = true\n' \
     "$crates" > "$tree/.cargo/config.toml"
 

@@ -60,6 +60,7 @@ tests=(--lib --test answers --test calls --test fuser --test hostile --test late
 mount_as_other() {
     mkdir -p "$folder/other/dev" "$folder/other/mount"
     cp "$built/debug/examples/hello" "$folder/other/hello"
+    # (mktemp's folder is root's alone)
     chmod -R 755 "$folder"
     chown 65534:65534 "$folder/other/mount"
     timeout 60 unshare -m "$here/bindings/mount_hello.sh" "$folder/other" \
@@ -85,6 +86,7 @@ build_static() {
     mkdir -p "$installed"
     cc -shared -o "$installed/libnizwarf.so" -Wl,--whole-archive "$NIZWARF_LIB_DIR/libnizwarf_door.a" \
         -Wl,--no-whole-archive "$NIZWARF_LIB_DIR/liblibc_c.a" || return
+    # (a script for ar: both libraries in one)
     printf 'create %s\naddlib %s\naddlib %s\nsave\n' "$installed/libnizwarf.a" "$NIZWARF_LIB_DIR"/lib{nizwarf_door,libc_c}.a |
         ar -M || return
     sed -e "s,^prefix=.*,prefix=$installed,; s,^libdir=.*,libdir=$installed," -e "s/@VERSION@/$version/" \
@@ -189,6 +191,7 @@ if [ $has_msrv = 1 ]; then
     export LD_LIBRARY_PATH=$debian/usr/lib/x86_64-linux-gnu
     if [ ! -e "$debian/unpacked" ]; then
         echo "Downloading the rustc of Debian 12 .." >&2
+        # Those, and the libraries that they link; others the machine has.
         packages=(rustc cargo libstd-rust-1.63 libstd-rust-dev libllvm14 libgit2-1.5 libmbedcrypto7 libmbedtls14
             libmbedx509-1 libhttp-parser2.9 libssh2-1 libcurl3-gnutls)
         mkdir -p "$debian"

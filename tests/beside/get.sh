@@ -21,12 +21,14 @@ if [ ! -e "$lists/options" ]; then
     use_suite "$suite" "$lists"
     sed 's/^Types: deb$/Types: deb-src/' "$lists/sources/debian.sources" > "$lists/sources/source.sources"
     apt-get "${apt[@]}" update
+    # (kept for the next call: `apt` with these folders)
     declare -p apt > "$lists/options"
 fi
 # shellcheck source=/dev/null
 . "$lists/options"
 mkdir -p "$folder"
 
+# The version of a package of the suite.
 version_of() {
     apt-cache "${apt[@]}" show "$1" | sed -n 's/^Version: //p' | sed -n 1p
 }
@@ -46,6 +48,7 @@ build_libfuse() {
     number=$(sed -nE "s/^project\('libfuse3'.*version: '([0-9.]+)[^']*'.*/\1/p" "$folder/source/meson.build")
     number=${number:-${version%%-*}}
     IFS=. read -r major minor patch <<< "$number"
+    # What libfuse's configuration would find on Linux, and no more than its library is compiled with.
     printf '#define HAVE_%s 1\n' FORK FSTATAT OPENAT READLINKAT PIPE2 SPLICE VMSPLICE POSIX_FALLOCATE FDATASYNC \
         UTIMENSAT COPY_FILE_RANGE FALLOCATE SETXATTR STRUCT_STAT_ST_ATIM CUSTOM_IO STATX > "$folder/made/fuse_config.h"
     printf '#define PACKAGE_VERSION "%s"\n' "$number" >> "$folder/made/fuse_config.h"
@@ -66,6 +69,7 @@ build_fuser() {
     local libraries loader packages
     mapfile -t packages < <(stand_on librust-fuser-dev rustc cargo |
         grep -E '^(librust-.*|libstd-rust.*|rustc|cargo|lib.*)$' |
+        # (not what only a compiler of C wants)
         grep -vE '^lib(clang|perl|dpkg|objc|[a-z]*san[0-9]|(c6|c|gcc-[0-9]+|stdc\+\+-[0-9]+|clang-[0-9]+)-dev)')
     unpack_packages "$folder/rust" "${packages[@]}"
     libraries=$folder/rust/usr/lib/x86_64-linux-gnu
@@ -74,6 +78,7 @@ build_fuser() {
     mkdir "$folder/program/.cargo"
     printf '[source.crates-io]\nreplace-with = "debian"\n[source.debian]\ndirectory = "%s"\n' \
         "$folder/rust/usr/share/cargo/registry" > "$folder/program/.cargo/config.toml"
+    # cargo starts rustc by one path, so the loader before it is a script's.
     printf '#!/bin/sh\nexec %s "%s" --sysroot "%s" "$@"\n' "${loader[*]}" "$folder/rust/usr/bin/rustc" \
         "$folder/rust/usr" > "$folder/rustc"
     chmod +x "$folder/rustc"
@@ -102,6 +107,7 @@ build_go_fuse() {
         done < <(sed -nE 's/^(require)?[ \t]+([a-z]+\.[^ ]+) v.*/\2/p' "$sources/github.com/hanwen/go-fuse/go.mod")
     } > "$folder/program/go.mod"
     cd "$folder/program"
+    # (no other toolchain and no proxy: what is not here is an error)
     env GOROOT="$root" GOTOOLCHAIN=local GOFLAGS=-mod=mod GOPROXY=off GOCACHE="$folder/cache" \
         GOPATH="$folder/path" CGO_ENABLED=0 "$root/bin/go" build -p 1 -o "$to" .
     version_of golang-github-hanwen-go-fuse-dev > "$to.version"

@@ -16,6 +16,7 @@ set -euo pipefail
 . "$(dirname "$0")/../../tools/lib/debian.sh"
 . "$(dirname "$0")/../../tools/lib/front.sh"
 
+# Tells how it is used, and stops.
 refuse() {
     echo "$1" >&2
     echo "Usage: tests/beside/replaced.sh [--seed N] [--requests N] [FOLDER]" >&2
@@ -37,6 +38,7 @@ done
 need_front "$0"
 need prlimit "Install util-linux."
 make_folder
+# (with the tests of its sources first)
 daemon=$("$here/tools/virtiofsd.sh" --test "$folder")
 
 find_virtiofsd trixie "$folder/debian"

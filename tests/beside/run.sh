@@ -30,6 +30,7 @@ set -euo pipefail
 . "$(dirname "$0")/../../tools/lib/debian.sh"
 . "$(dirname "$0")/../../tools/lib/libfuse.sh"
 
+# Tells how it is used, and stops.
 usage() {
     echo "Usage: tests/beside/run.sh [--seed N] [--count M] [--only NAME] [--suite SUITE] [--page]" >&2
     exit 2
@@ -64,10 +65,12 @@ find_library nizwarf_door
 
 there=$here/out/beside
 mkdir -p "$there"
+# (below out, since compilers want 1.5 GB there)
 work=$(mktemp -d "$there/work.XXXXXX")
 trap 'rm -rf "$work"' EXIT
 built=$there/servers-$suite
 compile=(cc -std=c11 -O2 -g -Wall -Wextra -Werror)
+# An error of either sanitizer ends the program, so that others.py sees it.
 sanitized=("${compile[@]}" -fsanitize=address -fsanitize=undefined -fno-sanitize-recover=undefined -I "$here/include")
 daemons=(trixie)
 [ "$suite" = trixie ] || daemons+=("$suite")

@@ -46,6 +46,7 @@ if [ "$how" != show ] && [[ $version != *1.13.2* ]]; then
     echo "This is $version and not virtiofsd 1.13.2." >&2
     exit 2
 fi
+# Debian's own version of it, in brackets in the first line of its changes.
 package=$(gzip -dc "$there/usr/share/doc/virtiofsd/changelog.Debian.gz" | sed -nE '1s/.*\(([^)]*)\).*/\1/p')
 library_is="the library for C proved"
 [[ ${library[0]} != */unproved/* ]] || library_is="the library for C built without a proof"

@@ -27,6 +27,8 @@ if [[ $version != *1.13.2* ]]; then
     exit 2
 fi
 mkdir "$work/words"
+# Asks by words.py, and shows what it said if it fails; of virtiofsd's complaints one is of submounts, which are not
+# asked for.
 ask_words() {
     timeout 300 python3 -B "$here/tests/share/words.py" "$ask" "$work/words" "$@" 2> "$work/said" ||
         { grep -v "Cannot announce" "$work/said" >&2 && exit 1; }

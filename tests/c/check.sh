@@ -27,6 +27,7 @@ case $# in
     0) ;;
     1) [[ $1 =~ ^--(prove|quick)$ ]] ;;
     *) false ;;
+# (the status of the case that was taken)
 esac || { echo "Usage: tests/c/check.sh [--prove | --quick]" >&2 && exit 2; }
 quick=
 [ "${1:-}" != --quick ] || quick=yes part_count=3
@@ -60,6 +61,7 @@ has_flags() {
 }
 
 # shellcheck disable=SC2054
+# By these a test counts allocations, and refuses each in turn.
 counted=(-Wl,--wrap=malloc -Wl,--wrap=realloc -Wl,--wrap=free)
 # shellcheck disable=SC2054
 sanitized=(-g -O1 -fsanitize=address,undefined -fno-sanitize-recover=all)
@@ -128,6 +130,7 @@ if command -v c++ > /dev/null; then
     echo '#include "nizwarf_ops.h"' \
         | c++ -std=c++11 -Wall -Wextra -Werror -I "$here/include" -fsyntax-only -x c++ -
 fi
+# (three words: address, kind, name)
 other_names=$(nm --defined-only --extern-only "${library[@]:0:2}" | awk 'NF == 3 && $3 !~ /^nizwarf_/ { print $3 }')
 if [ -n "$other_names" ]; then
     echo "Names of the libraries that do not begin with nizwarf_: $(paste -sd ' ' <<< "$other_names")" >&2
@@ -173,6 +176,7 @@ run_installed() {
     local words
     make -s -B -C "$folder" -f "$folder/installed/usr/local/share/doc/nizwarf/examples/Makefile" serve hello \
         CFLAGS="-O2 -Wall -Wextra -Werror" "$@"
+    # (STATIC=yes is make's word, --static is pkg-config's, and -static the compiler's)
     read -ra words < <(pkg-config --cflags --libs "${@/#STATIC=yes/--static}" nizwarf)
     echo '#include "nizwarf.h"
 int main(void) { return nizwarf_version() != NIZWARF_VERSION; }' | cc -o "$folder/version" -x c - "${words[@]}" \
@@ -204,6 +208,7 @@ if ! readelf -d "$folder/hello" | grep -q 'NEEDED.*libnizwarf\.so\.0'; then
     echo "A program that is linked by pkg-config does not need the shared library." >&2
     exit 1
 fi
+# A program of that version has each function of its header as a symbol of NIZWARF_0.2.
 declared=$(sed -nE 's/^(u?int[0-9]+_t|size_t) (nizwarf_\w+)\(.*/\2@NIZWARF_0.2/p' "$here/tests/c/version-0.2/nizwarf.h" | sort)
 if [ "$declared" != "$(nm -D "$folder/older" | sed -nE 's/.* (nizwarf_)/\1/p' | sort)" ]; then
     echo "A program of version 0.2 does not use all functions of that version." >&2

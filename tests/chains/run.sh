@@ -24,11 +24,13 @@ need apt-get "The crate virtio-queue is a package of Debian."
 
 out=$here/out/chains
 packages=$out/packages
+# virtio-queue, and all that it stands on; Debian's package of one is librust-NAME-dev.
 crates=(virtio-queue vm-memory virtio-bindings vmm-sys-util log libc arc-swap bitflags bitflags-1 rangemap thiserror
     thiserror-impl syn quote proc-macro2 unicode-ident serde)
 names=("${crates[@]/#/librust-}")
 names=("${names[@]/%/-dev}")
 mkdir -p "$out"
+# (what is there is whole: it is moved to its place at the end)
 if [ ! -d "$packages" ]; then
     rm -rf "$out/half"
     use_suite sid "$out/apt" > "$out/said" 2>&1 || { echo "Debian's packages are not to be had." >&2 && exit 2; }

@@ -25,6 +25,7 @@ look_at_texts() {
             case $line in
                 "file: "*) file=$crate/${line#file: } ;;
                 "old: "*)
+                    # (counted by occurrences, of which a line may have several)
                     if [ "$(grep -oF -e "${line#old: }" "$file" | wc -l)" != 1 ]; then
                         echo "${edit#"$root"/}: what it replaces does not stand once in ${file#"$root"/}: ${line#old: }"
                         bad=1

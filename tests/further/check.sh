@@ -21,6 +21,7 @@ fi
 # What is mounted here is in no other namespace, where it would stay in use.
 own_mounts "$@"
 folder=$(mktemp -d)
+# (without its mount the program ends by itself)
 trap 'umount -lq "$folder/mounted" || true; rm -rf "$folder"' EXIT
 mkdir "$folder/mounted"
 find_library nizwarf_door
@@ -46,6 +47,7 @@ run() {
     done
 }
 
+# Tells that a part begins.
 say() {
     echo "$1 of 3: $2 .." >&2
 }

@@ -44,11 +44,13 @@ for name in ioctl poll invalidate_path notify_{inval_inode,inval_entry,store_ret
 done
 for name in passthrough_ll passthrough_hp; do
     # shellcheck disable=SC2016
+    # The runner starts programs by these names; passthrough.sh sees by its own which one it is.
     printf '#!/bin/sh\nexec "%s" "%s" "$0" %s "$@"\n' "$here/tests/further/passthrough.sh" "$transport" "${words[*]}" > "$built/example/$name"
 done
 # (what it asks of fusermount3 is to unmount, and of printcap, what the kernel can)
 # shellcheck disable=SC2016
 printf '#!/bin/sh\n[ "$1" != -z ] || { shift && set -- "$@" -l; }\nshift\nexec umount "$@"\n' > "$built/util/fusermount3"
+# (EXPIRE_ONLY came with Linux 6.2)
 caps=(WRITEBACK_CACHE)
 [ "$(printf '%s\n' 6.2 "$(uname -r)" | sort -V | sed -n 1p)" != 6.2 ] || caps+=(EXPIRE_ONLY)
 printf '#!/bin/sh\nprintf "\\tFUSE_CAP_%%s\\n" %s\n' "${caps[*]}" > "$built/example/printcap"

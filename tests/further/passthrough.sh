@@ -11,6 +11,7 @@ set -euo pipefail
 share=$1 name=$2 words=(--flock --posix-lock --xattr --log-level=warn -o "suid,dev,allow_other")
 at_once=entry_timeout=0,attr_timeout=0 folders=()
 for word in "${@:3}"; do
+    # Words of libfuse's passthroughs, and what says the same here; others are of no meaning here.
     case $word in
         --nocache) words+=(--cache=never) ;;
         timeout=0) words+=(-o "$at_once") ;;
@@ -21,9 +22,11 @@ for word in "${@:3}"; do
     esac
 done
 if [[ $name == *_ll ]]; then
+    # (the runner's own folder for a case, which it unmounts and removes)
     all=$(mktemp -d -p "$TEST_TMP")
     mount --bind / "$all"
     mount --make-private "$all"
     folders=("$all" "${folders[@]}")
 fi
+# (what mounts is of the runner, which ends it)
 exec "$share" "${words[@]}" "${folders[@]}"

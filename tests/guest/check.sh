@@ -10,6 +10,7 @@ set -euo pipefail
 said=$(mktemp)
 trap 'rm -f "$said"' EXIT
 "$(dirname "$0")/../../tools/guest.sh" "$@" | tee "$said"
+# (a console ends its lines by both)
 sed -i 's/\r//g' "$said"
 
 # Stops, since this is wrong.
@@ -18,6 +19,7 @@ wrong() {
     exit 1
 }
 
+# (once before the guest reboots, and once after it)
 [ "$(grep -c ' steps, 0 wrong$' "$said")" = 2 ] || wrong "the session."
 ! grep -q WRONG "$said" || wrong "something is in use that is gone."
 grep -q '^The guest unmounted it' "$said" || wrong "it was not unmounted."

@@ -35,13 +35,16 @@ fill() {
 }
 
 mount -t virtiofs nizwarf /mnt || poweroff -f
+# The file tells of the time before the reboot.
 if [ ! -e /mnt/made ]; then
     made=$(used)
+    # (of a tree the root alone)
     [ "$shared${made% *}" = 1 ] || [ -n "$shared" ] || echo "WRONG: $made nodes and KiB are in use at first"
     sh /session.sh ${shared:+"$shared"} /mnt
     is_empty 'nothing is in use after it'
     # It forgets what it has of a file, and asks for it anew.
     echo again > /mnt/a
+    # (3: pages, names and inodes)
     echo 3 > /proc/sys/vm/drop_caches
     [ "$(cat /mnt/a)" = again ] && rm /mnt/a || echo 'WRONG: a file is another one'
     fill

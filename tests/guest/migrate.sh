@@ -20,6 +20,7 @@ need_x86_64
 build_transport share nizwarf_door
 work=$(mktemp -d -p "$(if [ -d /dev/shm ]; then echo /dev/shm; else echo /tmp; fi)")
 started=()
+# (what ended is none of these: `started` is emptied once all were waited for)
 trap 'kill "${started[@]}" 2> /dev/null || true; rm -rf "$work"' EXIT
 chmod 755 "$work"
 # shellcheck disable=SC2119
@@ -37,7 +38,7 @@ serve() {
     await_listener "$at/$1.socket" $!
 }
 
-# Starts a machine with a share: boot NAME WORDS
+# Starts a machine with a share, and with a monitor by which migrate.py has it migrate: boot NAME WORDS
 boot() {
     # shellcheck disable=SC2154
     timeout -k 5 1800 "${qemu[@]}" -nodefaults -no-user-config -display none -machine q35,accel=tcg -cpu max -smp 1 \
@@ -73,6 +74,7 @@ move() {
     serve source "$@"
     serve target "$@"
     boot source
+    # (a tenth of what the guest does: it is in the midst of it)
     await_line source 'step 20' || wrong='it did not begin'
     boot target -incoming "unix:$at/move"
     [ -n "$wrong" ] || python3 -B "$here/tests/guest/migrate.py" "$at" || wrong='it did not migrate'

@@ -7,6 +7,7 @@
 echo "Linux $(uname -r)"
 mount -t virtiofs nizwarf /mnt || poweroff -f
 cd /mnt/d || poweroff -f
+# (open from before the machine moves until after it)
 exec 3< lines 4>> written
 for i in $(seq 1 200); do
     read -r line <&3
@@ -14,6 +15,7 @@ for i in $(seq 1 200); do
     echo "written $i" >&4 || echo "WRONG: it can't write at $i"
     [ "$(ls many | wc -l)" = 500 ] || echo "WRONG: a list at $i"
     echo new > "new$i" && [ "$(cat "new$i")" = new ] || echo "WRONG: a new file at $i"
+    # (migrate.sh waits for the first of these)
     [ $((i % 20)) != 0 ] || echo "step $i"
 done
 [ "$(wc -l < written)" = 200 ] || echo "WRONG: $(wc -l < written) lines were written"

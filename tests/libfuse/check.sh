@@ -24,6 +24,7 @@ set -euo pipefail
 . "$(dirname "$0")/../../tools/lib/transport.sh"
 . "$(dirname "$0")/../../tools/lib/libfuse.sh"
 
+# Tells how it is used, and stops.
 usage() {
     echo "Usage: tests/libfuse/check.sh [--only PART].. [--suite SUITE] [FOLDER]" >&2
     exit 2
@@ -88,6 +89,7 @@ symbols_of() {
     readelf -d "$it" | sed -nE 's/.*\((SONAME|NEEDED)\).*\[(.*)\]/\1 \2/p' | sort
 }
 
+# Both libraries have the same.
 check_symbols() {
     symbols_of "$theirs" > "$work/theirs"
     symbols_of "$ours" > "$work/ours"
@@ -96,11 +98,13 @@ check_symbols() {
     diff "$work/theirs" "$work/ours"
 }
 
+# Each wrong answer comes to its caller alone.
 check_answers() {
     compile "$here/tests/libfuse/wrong.c" "$work/answers" "${sanitized[@]}"
     "$work/answers" answers 2> "$work/said" || { cat "$work/said" && return 1; }
 }
 
+# Each allocation of some requests is refused in turn.
 check_memory() {
     compile "$here/tests/libfuse/wrong.c" "$work/memory" -DREFUSE
     "$work/memory" memory 2> "$work/said" || { cat "$work/said" && return 1; }
@@ -112,12 +116,14 @@ check_hostile() {
     printf 'pair\tlibfuse over this layer\t%s\tnobody\t%s\tDESCRIPTOR\n' "$version" "$work/hostile" > "$work/servers"
     python3 -B "$here/tests/beside/others.py" --count 300 "$work/servers" "$work" > "$work/came" 2> "$work/said" ||
         cat "$work/said"
+    # (the table's head, and its row)
     grep -A 1 '^What came of' "$work/came" | grep -v '^--'
     # (both tables are there: of the stored sessions, and of those that are generated)
     [ "$(grep -c '^What came of' "$work/came")" = 2 ] || return 1
     ! grep -E "$version +(silent|panicked|read past|ended by an error)" "$work/came" | grep -vE ' of 0 bytes(,|$)'
 }
 
+# Four processes at once, and requests that other threads answer.
 check_threads() {
     compile "$folder/$suite-nizwarf/tree/example/passthrough_ll.c" "$work/threads" -fsanitize=thread
     "$here/tests/libfuse/threads.sh" "$work/threads" "$work/threaded" || return 1
@@ -125,6 +131,7 @@ check_threads() {
     "$work/others" threads 2> "$work/said" || { cat "$work/said" && return 1; }
 }
 
+# Each program's trees, with the machine's library and with the layer's.
 check_programs() {
     local lib status=0 of=()
     [ "$suite" = "$(sed -n 's/^VERSION_CODENAME=//p' /etc/os-release)" ] || of=(--suite "$suite")
@@ -160,6 +167,7 @@ try_again() {
     printf '%s\n' "${again[@]}"
 }
 
+# libfuse's own tests with both libraries.
 check_tests() {
     local failed
     run_tests unmodified "$work/theirs"

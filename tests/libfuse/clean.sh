@@ -31,6 +31,7 @@ check_inside() {
     mount -t proc proc "$root/proc"
     mount --bind -o ro "$kit" "$root$kit"
     quietly "$root.said" inside apt-get update
+    # It names packages that are missing, for one part after another.
     for _ in 1 2 3 4 5; do
         status=0
         inside /root/nizwarf/tools/libfuse.sh --check "$@" 2>&1 | tee "$root.said" || status=${PIPESTATUS[0]}
@@ -61,6 +62,7 @@ fi
 need git "Install it: apt-get install git."
 need apt-get "The Debian is made of packages."
 
+# Makes it, with the toolchain's folder to be mounted on; the file beside it says that it is whole.
 make_debian() {
     rm -rf "$root"
     mkdir -p "$root"
@@ -79,4 +81,5 @@ if [ ! -e "$root.made" ]; then
 fi
 rm -rf "$root/root/nizwarf"
 git clone -q --depth 1 "file://$here" "$root/root/nizwarf"
+# (in namespaces of mounts and of processes, which end with it)
 unshare -m -p -f --kill-child --propagation private "$0" --inside "$@"

@@ -28,6 +28,7 @@ tap() {
     sed -nE "s/^(not )?ok( [0-9]+)?( -)? *(.*)/$1: \4 \1ok/p" "$2" | sed -E 's/ not ok$/ failed/; s/ ok$/ passed/'
 }
 
+# The document portal's two programs.
 run_portal() {
     local tests=/usr/libexec/installed-tests/xdg-desktop-portal
     XDG_RUNTIME_DIR=/run "$tests/test-doc-portal" --tap > "$said" 2>&1 || echo "test-doc-portal ended by $? failed"
@@ -36,6 +37,7 @@ run_portal() {
     tap test-document-fuse.sh "$said"
 }
 
+# rofiles-fuse's script.
 run_rofiles() {
     export G_TEST_SRCDIR=/usr/libexec/installed-tests/libostree LC_ALL=C.UTF-8
     export G_TEST_BUILDDIR=$G_TEST_SRCDIR
@@ -43,6 +45,7 @@ run_rofiles() {
     tap test-rofiles-fuse.sh "$said"
 }
 
+# Each script of nbdfuse, which wants what a build of libnbd has above it.
 run_nbdfuse() {
     local it
     cp -r /sources/libnbd .
@@ -81,11 +84,13 @@ run_bindfs() {
         awk '/^:/ { name = $0; next } { print ++number name, $1 }'
 }
 
+# (run_SUITE for each suite)
 run_raw() { run_image raw; }
 run_qcow2() { run_image qcow2; }
 
 if [ "${1:-}" = --inside ]; then
     said=/tmp/said
+    # (a tmpfs, by bind_root)
     cd "$(mktemp -d -p /tmp)"
     "run_$2"
     exit
@@ -93,6 +98,7 @@ fi
 
 # ---- Outside of it ------------------------------------------------------------------------------------
 
+# Tells how it is used, and stops.
 usage() {
     echo "Usage: tests/libfuse/others.sh LIB FOLDER [portal|rofiles|nbdfuse|raw|qcow2|bindfs].." >&2
     exit 2
@@ -122,6 +128,7 @@ fi
 mkdir -p "$folder"
 root=$folder/root
 
+# Unpacks what the suites want into a root, and does what scripts of packages would do.
 make_root() {
     if [ "$suite" = sid ]; then
         unpack_root "$root" "$suite" dash libc-bin findutils attr e2fsprogs mawk passwd procps ruby bindfs || return

@@ -16,6 +16,7 @@ set -euo pipefail
 . "$(dirname "$0")/../../tools/lib/usage.sh"
 . "$(dirname "$0")/../../tools/lib/mounts.sh"
 
+# Tells how it is used, and stops.
 usage() {
     echo "Usage: tests/libfuse/programs.sh [--suite SUITE] LIB FOLDER [PROGRAM..]" >&2
     exit 2
@@ -41,6 +42,7 @@ programs=("$@")
 field() {
     local fields
     IFS='|' read -ra fields < <(grep "^$1 |" "$list")
+    # (fields are between bars, with blanks around them)
     sed 's/^ *//; s/ *$//' <<< "${fields[$2 - 1]:-}"
 }
 
@@ -80,6 +82,7 @@ fill() {
     for i in $(seq 200); do echo "$i" > "$to/many/$i"; done
     head -c 3000001 /dev/urandom > "$to/a/large"
     : > "$to/a/b/empty"
+    # (a name of 200 letters)
     echo text > "$to/a/b/c/$(printf 'n%.0s' {1..200})"
     ln -s ../a/large "$to/many/link"
     chmod 600 "$to/many/7"
@@ -129,6 +132,7 @@ read_by() {
             bad=yes came="$came, but not what was written: $(head -n 1 differs)"
         fi
     fi
+    # (one that is busy goes once it isn't)
     umount mnt || umount -l mnt
     end_ssh
     echo "$program: $came, library $where"

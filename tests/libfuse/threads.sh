@@ -36,6 +36,7 @@ work() {
     done
 }
 
+# (a file for each process, report.PID)
 TSAN_OPTIONS=log_path=$folder/report "$program" -f -o "source=$folder/src,cache=never" mnt > said 2>&1 &
 server=$!
 # (an end before its own leaves no server)
@@ -50,6 +51,7 @@ for worker in "${workers[@]}"; do
     wait "$worker" || status=1
 done
 umount mnt
+# (the sanitizer's status is 66 where it has reports)
 wait "$server" || true
 shopt -s nullglob
 reports=(report*)

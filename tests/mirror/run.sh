@@ -25,6 +25,7 @@ set -euo pipefail
 . "$(dirname "$0")/../../tools/lib/transport.sh"
 . "$(dirname "$0")/../../tools/lib/mounts.sh"
 
+# Tells how it is used, and stops.
 usage() {
     [ $# = 0 ] || echo "$1" >&2
     echo "Usage: tests/mirror/run.sh [--library] SEED COUNT, or --mount | --share SEED COUNT [-- WORDS]," >&2
@@ -58,6 +59,7 @@ fi
 need_root "It asks as several users"
 need python3 "Install it: apt-get install python3."
 known=$here/tests/mirror/known.txt
+# Mirrors in a way: mirror calls|requests KIND PLACE PLACE.
 mirror() {
     python3 -B "$here/tests/mirror/mirror.py" "$1" "$2" "$seed" "$count" "$known" "${@:3}"
 }
@@ -71,6 +73,7 @@ own_mounts "${given[@]}"
 server=
 own_work ""
 mkdir "$work/mount" "$work/tmpfs"
+# One tmpfs for both: what is beside, and the folder that is shared.
 mount -t tmpfs -o mode=755 none "$work/tmpfs"
 mkdir "$work/tmpfs/beside" "$work/tmpfs/folder"
 status=0

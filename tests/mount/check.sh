@@ -74,6 +74,7 @@ cut_files() {
     done
     kib=$(memory)
     rm "$folder"/cut?
+    # (more than one file, and less than two)
     if [ "$kib" -ge $((400 * 1024)) ]; then
         echo "FAILED: the server has $kib KiB after files of 300 MiB were cut." >&2
         return 1
@@ -95,6 +96,7 @@ limits_hold() {
         python3 -B "$here/tests/mount/fill.py" "$folder" "$what" || return 1
         kib=$(memory)
         echo "The server has $kib KiB then."
+        # 16 MiB of bytes and 20,000 nodes take less than 128 MiB in any mix.
         [ "$kib" -lt $((128 * 1024)) ] || return 1
         find "$folder" -mindepth 1 -delete
     done
@@ -148,6 +150,7 @@ options_hold() {
 # A signal that comes as soon as there is a mount, or a socket, leaves neither.
 early_signals() {
     local before=(timeout 600 env LD_PRELOAD="$ends/early_signal.so")
+    # (sends itself a signal as soon as mount(2) or listen(2) came back)
     cc -shared -fPIC -Wall -Wextra -Werror -o "$ends/early_signal.so" "$here/tests/share/early_signal.c"
     "${before[@]}" "$transport" "$folder" || wrong "a signal just after the mount: $?"
     ! umount -l "$folder" 2> /dev/null || wrong "a mount is left of an early signal"

@@ -136,8 +136,10 @@ fi
 echo "Building virtiofsd's code from ${given:-the package} .." >&2
 status=0
 python3 -B "$here/edits.py" "$source" --check || status=$?
+# (2: a file is missing; 1: one is of another version)
 [ "$status" != 2 ] || exit 2
 [ "$status" = 0 ] || echo "The edits are tried all the same." >&2
+# (without `built` it counts as not built, until all is)
 rm -rf "$out/build" "$out/fast" "$built"
 
 # With overflow checks and debug assertions off, as virtiofsd is shipped.

@@ -23,6 +23,7 @@ fi
 files=()
 for file in "$@"; do
     [ -f "$file" ] || { echo "There is no file $file." >&2 && exit 2; }
+    # (as git names them, from the top)
     files+=("$(realpath --relative-to="$top" "$file")")
 done
 cd "$top"

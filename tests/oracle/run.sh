@@ -47,6 +47,7 @@ for command in python3 rustc; do
     fi
 done
 
+# A program that isn't proved is built below, side by side.
 programs=()
 for program in test_sessions text_demo; do
     if is_built "$program"; then

@@ -54,6 +54,7 @@ work=$(mktemp -d)
 
 # Ends what was started, and unmounts what was mounted here; of the Debian nothing is left then, but with --keep.
 finish() {
+    # (the group of the step that failed)
     [ -z "$job" ] || kill -- "-$job" 2> /dev/null || true
     mounts_below "$root" | sort -r | xargs -r umount -l 2> /dev/null || true
     wait
@@ -62,6 +63,7 @@ finish() {
         rm -rf "$root" "$root.made"
     fi
 }
+# The mount points below a folder, a line each.
 mounts_below() {
     awk -v below="$1/" 'index($2 "/", below) == 1 { print $2 }' /proc/self/mounts
 }
@@ -97,6 +99,7 @@ step() {
     fi
     job=
 }
+# Tells how long a step took: tell_time BEGAN WORDS
 tell_time() {
     awk -v began="$1" -v ended="$EPOCHREALTIME" -v words="$2" \
         'BEGIN { printf "%7.1f s  %s\n", ended - began, words }'
@@ -108,6 +111,7 @@ inside() {
         chroot "$root" "$@"
 }
 
+# Installs it on this machine, if it is missing.
 install_debootstrap() {
     command -v debootstrap > /dev/null || apt-get install -qq -y --no-install-recommends debootstrap
 }
@@ -132,6 +136,7 @@ unpack_all() {
     inside ldconfig
 }
 
+# Installs what examples are built by.
 install_tools() {
     inside apt-get update
     inside apt-get install -y --no-install-recommends "${build_tools[@]}"
@@ -152,6 +157,7 @@ install_packages() {
     fi
 }
 
+# Removes them, and tells what of them is left.
 remove_packages() {
     local left
     inside apt-get purge -y nizwarf libnizwarf-dev libnizwarf0
@@ -177,6 +183,7 @@ mounted() {
     wait "$server"
     ! is_mounted
 }
+# Whether something is mounted on the Debian's /mnt.
 is_mounted() {
     [ -n "$(mounts_below "$root/mnt")" ]
 }
@@ -186,6 +193,7 @@ sees_hello() {
     [ "$(inside ls /mnt)" = hello ]
     [ "$(inside cat /mnt/hello)" = "Hello, world!" ]
 }
+# Makes, links, renames and removes in a tree.
 writes_and_reads() {
     inside sh -c 'mkdir /mnt/a && echo text > /mnt/a/b && ln /mnt/a/b /mnt/c && mv /mnt/a/b /mnt/b && rmdir /mnt/a'
     [ "$(inside ls /mnt)" = "b
@@ -215,6 +223,7 @@ build_examples() {
     inside make -C /root/examples "$@"
 }
 
+# Builds the example of the crate, without what was built of it here.
 build_rust() {
     rm -rf "$root/root/rust"
     mkdir "$root/root/rust"
@@ -222,6 +231,7 @@ build_rust() {
     inside sh -c 'cd /root/rust && cargo build --offline --release --target-dir target --example hello'
 }
 
+# Nothing that is used here may stand on the toolchain.
 has_no_toolchain() {
     ! inside sh -c 'command -v rt || command -v rattle'
 }

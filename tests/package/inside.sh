@@ -21,6 +21,7 @@ options() {
 no_mount() {
     fails 32 mountpoint -q "$1"
 }
+# Whether there is no such path.
 is_gone() {
     fails 1 test -e "$1"
 }
@@ -71,6 +72,7 @@ fails 1 touch one/file
 mount -o remount,rw,noexec "$work/one"
 [[ $(options one) == rw,*noexec* ]]
 touch one/made
+# (all of this kind)
 umount -a -t "$kind"
 await_end mount.fuse.nizwarf-share
 echo "Lines of fstab(5) are mounted, changed and unmounted."
@@ -121,6 +123,7 @@ systemctl stop "$unit.socket" "$unit.service"
 is_gone "$socket"
 await_end nizwarf-share
 # A group may have the socket, and the server more words, as the page and the unit say.
+# What `systemctl edit UNIT` would write: put_edit UNIT < LINES
 put_edit() {
     mkdir -p "/run/systemd/system/$1.d"
     cat > "/run/systemd/system/$1.d/edit.conf"

@@ -71,8 +71,10 @@ machine() {
 XML
     came=none
     if timeout 60 virsh create "$work/machine" > "$work/came" 2>&1; then
+        # (of this namespace alone: libvirtd, QEMU and what they started)
         for process in /proc/[0-9]*; do
             mapfile -d '' -t words 2> /dev/null < "$process/cmdline" || continue
+            # (libvirt hands its server a socket by its number as the first word)
             [[ ${words[1]:-} != --fd=* ]] || came=${words[0]} line=${words[*]:2}
         done
         timeout 60 virsh destroy shares > "$work/came" 2>&1 || came="what can't be ended"

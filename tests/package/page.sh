@@ -21,6 +21,7 @@ block() {
 }
 
 # Tells what was done, and how long that took: done_with WHAT [FROM].
+# (in seconds, to microseconds)
 first=$EPOCHREALTIME
 began=$first
 done_with() {

@@ -28,9 +28,11 @@ mounted() {
     bash -ec "$3"
     wait $!
 }
+# Whether the folder is shared there.
 has_hello() {
     grep -qx hello /mnt/hello
 }
+# Whether the tree has the page's size, and can be written.
 has_64_mib() {
     [ "$(df --output=size -m /mnt | tail -n 1)" -eq 64 ]
     touch /mnt/file

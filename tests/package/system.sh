@@ -46,6 +46,7 @@ mkdir "$work/files"/{upper,work}
 debian=$here/out/debian/machine
 lower=${clean:+$debian}
 lower=${lower:-/}
+# What a machine has before it does what the page says, which installs the packages itself.
 debian_has=(systemd systemd-sysv dbus kmod procps python3 qemu-system-x86 libvirt-daemon-system libvirt-clients)
 
 # Makes a Debian with what a page needs, where there is none with that.
@@ -138,6 +139,7 @@ enter() {
 }
 
 part "systemd starts there, and mounts and serves${clean:+, as docs/SHARE.md says}"
+# systemd wants a group of its own, below which it makes others: removed after it, from the inside.
 own=$groups/nizwarf-$$
 mkdir "$own"
 status=0
@@ -145,6 +147,7 @@ status=0
     echo "$BASHPID" > "$own/cgroup.procs"
     export root
     export -f enter
+    # (a minute more than systemd gives the checks)
     exec timeout -k 5 960 unshare --mount --pid --cgroup --uts --ipc --net --fork --kill-child bash -euc enter
 ) > "$work/said" 2>&1 < /dev/null || status=$?
 find "$own" -depth -type d -exec rmdir {} \; 2> /dev/null || true

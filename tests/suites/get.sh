@@ -74,6 +74,7 @@ get_coreutils() {
     built=$(find "$work" -maxdepth 1 -name 'coreutils-*' -type d)
     mv "$built" "$there/coreutils"
     cd "$there/coreutils"
+    # (as root it refuses otherwise)
     FORCE_UNSAFE_CONFIGURE=1 ./configure --quiet --disable-nls --without-selinux --disable-libcap \
         CPPFLAGS="-I$root/usr/include" LDFLAGS="-L$libraries -Wl,-rpath,$libraries"
     make -j2
@@ -83,8 +84,10 @@ get_coreutils() {
     [ -s environment ]
 }
 
+# Of libfuse's sources the one program.
 get_test_syscalls() {
     sources fuse3
+    # (all that its configuration would say is on the command line)
     : > "$work/fuse_config.h"
     cc -w -O1 -D_GNU_SOURCE -D_FILE_OFFSET_BITS=64 -I "$work" -o "$there/test_syscalls" \
         "$(find "$work" -name test_syscalls.c | sed -n 1p)"

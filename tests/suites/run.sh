@@ -37,6 +37,7 @@ set -euo pipefail
 . "$(dirname "$0")/../../tools/lib/debian.sh"
 . "$(dirname "$0")/../../tools/lib/mounts.sh"
 
+# Tells how it is used, and stops.
 usage() {
     [ $# = 0 ] || echo "$1" >&2
     echo "Usage: tests/suites/run.sh [--only NAME..] [--quick] [--jobs N] [--sanitizer NAME] FOLDER BESIDE," >&2
@@ -124,9 +125,11 @@ need cc "Install a C compiler: apt-get install gcc libc6-dev."
 need xz "Install it: apt-get install xz-utils."
 
 own_mounts "${given[@]}"
+# (by which suites.py ends a connection on which something hangs)
 mountpoint -q /sys/fs/fuse/connections || mount -t fusectl none /sys/fs/fuse/connections 2> /dev/null || true
 
 there=$here/out/suites
+# (kept, and of another run another folder)
 logs=$there/logs/$$
 mkdir -p "$logs"
 own_work "${on:+$on/nizwarf-suites-$$}"

@@ -17,9 +17,11 @@ while [ -d "/proc/$1" ]; do
         thread=${folder##*/}
         # (one with a program running was started by another of these, and is where that is)
         if [ "$thread" != "$1" ] && [ -z "$(cat "$folder/children")" ] &&
+            # (a list as 0-3 or 0,2: it may run on several yet)
             taskset -pc "$thread" | grep -q '[-,][0-9]*$'; then
             taskset -pc $((at++ % $(nproc))) "$thread" || true
         fi
     done
+    # (a check takes minutes, so a second at its beginning is little)
     sleep 1
 done > /dev/null 2>&1

@@ -26,8 +26,10 @@ fi
 shopt -s nullglob
 sources=("$here"/programs/*/*.c)
 part "clang-tidy over ${#sources[@]} files"
+# (how many warnings it left out it tells on standard error, whatever is quiet)
 clang-tidy --quiet --warnings-as-errors='*' "--checks=$(tr -s ' \n' , <<< "$checks")" "${sources[@]}" \
     -- "${flags[@]}" 2> >(grep -v 'warnings generated' >&2)
+# Of libfuse's file only lines of what is here.
 files='[{"name":"door.h"},{"name":"replies.h"},{"name":"listings.h"},{"name":"notices.h"},{"name":"interrupts.h"},{"name":"requests.h"}]'
 for built in "$here"/out/libfuse/*-nizwarf; do
     part "clang-tidy over bindings/libfuse, in ${built##*/}"

@@ -8,6 +8,7 @@
 # Where the machine's own apt gets Debian from.
 debian_archive() {
     cat /etc/apt/sources.list /etc/apt/sources.list.d/*.list /etc/apt/sources.list.d/*.sources 2> /dev/null |
+        # The first URI that ends in /debian, or is a list of mirrors of that name: `deb URI suite ..`, or `URIs: URI`.
         sed -nE '/^ *#/d; s,.*[ =]([a-z+]+:/[^ ]*/debian(\.list)?/?)( .*)?$,\1,p' | sed -n 1p
 }
 
@@ -27,9 +28,11 @@ bootstrap_debian() {
 # folder: use_suite SUITE FOLDER. Without a suite they are the machine's own.
 use_suite() {
     local suite=$1 folder=$2
+    # (apt as root would fetch as _apt, who may not write below the folder)
     apt=(-qq -o APT::Sandbox::User=root)
     [ -n "$suite" ] || return 0
     apt+=(-o Dir::Etc::sourcelist=/dev/null -o "Dir::Etc::sourceparts=$folder/sources"
+        # (an empty status: nothing counts as installed, so all that a package depends on is had)
         -o "Dir::State::lists=$folder/lists" -o "Dir::State::status=$folder/status"
         -o "Dir::Cache=$folder/cache" -o Acquire::Languages=none)
     mkdir -p "$folder/lists/partial" "$folder/cache/archives/partial" "$folder/sources"
@@ -149,6 +152,7 @@ get_passthrough() {
     export LD_LIBRARY_PATH
 }
 
+# Builds it, and unpacks bindfs, into a folder: make_passthrough FOLDER
 make_passthrough() {
     local folder=$1 suite
     suite=$(. /etc/os-release && echo "$VERSION_CODENAME")

@@ -4,11 +4,13 @@
 
 # shellcheck disable=SC2034,SC2154
 packaging=$here/packaging architecture=amd64
+# The version, as MAJOR.MINOR.PATCH, and the name that programs need at run time.
 release=$(sed -nE 's/^#define NIZWARF_VERSION_(MAJOR|MINOR|PATCH) ([0-9]+)$/\2/p' "$here/include/nizwarf.h" | paste -sd .)
 soname=libnizwarf.so.${release%%.*}
 # The time of the last commit; in sources that are no clone, that of their changes.
 SOURCE_DATE_EPOCH=${SOURCE_DATE_EPOCH:-$(git -C "$here" log -1 --format=%ct 2> /dev/null || stat -c %Y "$here/CHANGELOG.md")}
 export SOURCE_DATE_EPOCH
+# What the same bytes want: one thread of xz, one order of names, one mode of new files.
 export DPKG_DEB_THREADS_MAX=1 LC_ALL=C
 umask 022
 
@@ -90,6 +92,7 @@ tell_build() {
     local name commit changes='' gate
     commit=$(git -C "$here" rev-parse HEAD 2> /dev/null) || commit=
     [ -z "$commit" ] || [ -z "$(git -C "$here" status --porcelain --untracked-files=no)" ] || changes=", with changes"
+    # (.ci/run leaves `COMMIT: N passed, M failed` there)
     gate=$(sed -n "s/^$commit: //p" "$here/out/gate" 2> /dev/null) || gate=
     [ -n "$commit" ] && [ -z "$changes" ] || gate=
     echo "version: $version"
@@ -123,6 +126,7 @@ depends_of() {
     while read -r file; do
         for name in $(needed_by "$file" 2> /dev/null); do
             case $name in
+                # Of the C library the greatest version of a symbol, at the end.
                 libc.so.6) objdump -T "$file" | sed -nE 's/.*GLIBC_([0-9.]+).*/\1/p' >> "$glibc" ;;
                 "$soname") echo "libnizwarf0 (>= $release~)" ;;
                 ld-linux*) ;;
@@ -141,6 +145,7 @@ fill_copyright() {
     sed -e "/^@LICENSE-BSD-3-Clause@/{r $here/LICENSE-BSD-3-Clause" -e 'd}' \
         -e "/^@LICENSE-MIT@/{r $here/LICENSE-MIT" -e 'd}' -e "/^@CRATES@/{r $work/crates" -e 'd}' "$template"
 }
+# Of packaging/control the part of a package: fill_control PACKAGE DEPENDS KIB
 fill_control() {
     local package=$1 depends=$2 size=$3 said='/^@NOTE@$/d'
     [ -n "$proved" ] || said='s/^@NOTE@$/ .\n NOT PROVED: this build stands on no proof./'

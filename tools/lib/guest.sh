@@ -26,6 +26,7 @@ find_guest() {
     need xz "Install it: apt-get install xz-utils."
     busybox=$here/out/guest/busybox
     kernel=$here/out/guest/${name//\//-}
+    # (`/SUITE`, or nothing if there is no slash)
     suite=${name#"${name%/*}"}
     [ ! -e "$busybox" ] || [ ! -e "$kernel" ] || return 0
     echo "Downloading $name .." >&2
@@ -41,9 +42,11 @@ find_guest() {
 put_guest() {
     local module file
     mkdir -p "$1"/{bin,dev,etc,mnt,modules,proc,tmp}
+    # Two users, since a person's session is another user's too.
     printf '%s\n' root:x:0:0::/:/bin/sh nobody:x:65534:65534::/:/bin/sh > "$1/etc/passwd"
     printf '%s\n' root:x:0: nogroup:x:65534: > "$1/etc/group"
     cp "$busybox" "$1/bin/"
+    # In the order in which they stand on each other; a kernel may have some of them in itself.
     modules='virtio_ring virtio virtio_pci_modern_dev virtio_pci_legacy_dev virtio_pci fuse virtiofs'
     for module in $modules; do
         file=$(find "$kernel" -name "$module.ko" -o -name "$module.ko.xz" | sed -n 1p)

@@ -10,6 +10,7 @@ to_build=("apt-get apt" "apt-cache apt" "patch patch" "xz xz-utils" "cc gcc libc
 # compile_libfuse FOLDER SUITE FILE TO FLAGS.. It wants transport.sh.
 compile_libfuse() {
     local built=$1/$2-nizwarf file=$3 to=$4 sources
+    # (without what is BSD's, and the ring of io_uring)
     mapfile -t sources < <(find "$built/tree/lib" -maxdepth 1 -name '*.c' ! -name mount_bsd.c ! -name fuse_uring.c)
     cc -w -g -O1 -fno-omit-frame-pointer "${@:5}" -D_GNU_SOURCE -D_FILE_OFFSET_BITS=64 -DFUSE_USE_VERSION=317 \
         -DFUSERMOUNT_DIR='"/usr/bin"' -DHAVE_CUSTOM_IO -I "$built/build" -I "$built/tree/include" \
@@ -35,6 +36,7 @@ unpack_root() {
         dpkg-deb --fsys-tarfile "$name" | tar -x -C "$root" --keep-directory-symlink || return
     done
     rm -r "$root/debs" "$root/apt"
+    # (sshd gives up its privileges to a user of its own)
     printf '%s\n' 'root:x:0:0::/root:/bin/bash' 'sshd:x:100:100::/run/sshd:/bin/false' > "$root/etc/passwd"
     ln -s /proc/self/mounts "$root/etc/mtab" || return
     mv "$root" "$1"

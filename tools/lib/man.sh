@@ -5,6 +5,7 @@
 # they are declared, and an example that compiles. What is not so is told: hold_pages FOLDER.
 hold_pages() {
     local page example=$1/example.c status=0
+    # (declared again after the header, where C refuses another form)
     awk -f "$here/packaging/prototypes.awk" "$1"/*.3 \
         | cc -fsyntax-only -Werror -I "$here/include" -include nizwarf_ops.h -x c - || {
         echo "A page shows a function in another form than the headers." >&2

@@ -17,6 +17,7 @@ build_programs() {
         jobs+=($!)
     done
     for job in ${jobs[@]+"${jobs[@]}"}; do
+        # (one after another: `wait` with several tells of the last alone)
         wait "$job" || exit 2
     done
 }

@@ -29,6 +29,7 @@ await_mounted() {
 own_work() {
     work=$(mktemp -d)
     work_too=${1:-}
+    # (other users look below it)
     chmod 755 "$work"
     trap 'tidy_work 2> /dev/null || true' EXIT
 }
@@ -36,6 +37,8 @@ own_work() {
 # shellcheck disable=SC2317
 tidy_work() {
     [ -z "${server:-}" ] || kill "$server"
+    # (the inner ones first, and each out of sight at once, even if something has it open)
     awk -v below="$work/" 'index($2 "/", below) == 1 { print $2 }' /proc/self/mounts | sort -r | xargs -r umount -l
+    # (so what could not be unmounted keeps its files)
     rm -rf --one-file-system "$work" ${work_too:+"$work_too"}
 }

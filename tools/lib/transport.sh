@@ -69,6 +69,7 @@ build_transport() {
     folder=$(mktemp -d -p "$here/out/c")
     make_program "$folder" "nizwarf-$name" -O2 "${@:3}"
     transport=$here/out/c/$name-$of$(printf '%s' "${@:3}" | tr -c 'a-z0-9' _)
+    # (in one step: two scripts may build it at once)
     mv "$folder/nizwarf-$name" "$transport"
     rmdir "$folder"
 }

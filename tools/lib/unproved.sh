@@ -87,6 +87,7 @@ if [[ $out == *.a ]]; then
         cat "$it" >> "$root/crates/$name/src/${test%.tests}"
     done
 fi
+# (after one step: what is wanted is the module alone; it ends with a failure then, as it should)
 (cd "$root/crates/$name" && "$folder/kit/bin/rt" try --steps 1 "${tests[@]}") \
     < /dev/null > /dev/null 2> "$folder/said" || true
 if [ ! -e "$folder/module.bc" ]; then
@@ -100,7 +101,9 @@ compile=("$kit/toolchain/bin/clang" "--target=$target" -march=x86-64-v2 --no-def
 if [[ $out == *.a ]]; then
     # What C calls gets its own name, and the tests' `main` is left out as no one's.
     "${compile[@]}" -S -emit-llvm -O0 -x ir "$folder/module.bc" -o "$folder/module.ll"
+    # The names that C calls, as a|b|c.
     called=$(sed -nE 's/^pub extern "C" fn (\w+)\(.*/\1/p' "$here/crates/$name"/src/*.rt | paste -sd '|')
+    # In the module a function has its crate and module before its name, and only what the tests call is there.
     sed -E -e 's/^define (.*@main\()/define internal \1/' -e "s/@\"$name::(\w+::)?($called)\"/@\2/g" \
         -e "s/^define internal (.*@($called)\()/define \1/" "$folder/module.ll" > "$folder/named.ll"
     "${compile[@]}" -O2 -fPIC -c -x ir "$folder/named.ll" -o "$folder/module.o"

@@ -2,6 +2,7 @@
 # shellcheck shell=bash
 case ${1:-} in
     -h | --help)
+        # (from the second line to the first that is no comment)
         sed -n '2,${/^#/!q;s/^# \{0,1\}//p}' "$0"
         exit 0
         ;;

@@ -51,6 +51,7 @@ instructions() {
 
 # The same by the crate of bindings/rust, if that has the class.
 in_rust() {
+    # (it fails at a class that it lacks)
     if [ -n "$by_rust" ] && "$by_rust" "$1" 1; then
         instructions "$by_rust" "$1"
     fi
@@ -58,6 +59,7 @@ in_rust() {
 
 echo "| Request | instructions of an ask | of an ask and its answer | of both by a table of functions | of both by the crate for Rust | ns of both |"
 echo "|---|---|---|---|---|---|"
+# (without a word it lists its classes, and fails)
 for class in $("$program" || true); do
     echo "| $class | $(instructions "$program" "$class" ask) | $(instructions "$program" "$class") | $(instructions "$program" "$class" table) | $(in_rust "$class") | $("$program" "$class" 2000) |"
 done

@@ -39,6 +39,7 @@ done
 own_mounts "${given[@]}"
 get_passthrough
 find_virtiofsd trixie "$here/out/beside/trixie"
+# The share twice: with each lock counted by locks.c, which is included before all else, and as it is.
 build_transport share nizwarf_door "$here/tools/measure/locks.c" -I "$here/tools/measure" -include locks.h
 counting=$transport
 build_transport share nizwarf_door
@@ -50,6 +51,7 @@ cc -std=c11 -O2 -Wall -Wextra -Werror -pthread -I "$here/include" -I "$here/prog
     -o "$folder/floor_vhost" "$here/tools/measure/floor_vhost.c" "${sources[@]}" "$border" "${library[@]}"
 # shellcheck disable=SC2119
 own_work
+# (no limit of inodes: each file is one)
 mount -t tmpfs -o nr_inodes=0,size=90% growth "$work"
 built="built without a proof"
 [[ ${library[0]} == */out/unproved/* ]] || built="the proved one"
@@ -62,6 +64,7 @@ measure() {
 if [ -z "$page" ]; then
     measure
 else
+    # (first aside: a run that fails leaves the old page)
     measure > "$work/page.md"
     cp "$work/page.md" "$here/docs/generated/growth.md"
     "$here/tools/dev/pictures.sh"

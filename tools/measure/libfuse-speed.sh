@@ -63,6 +63,7 @@ least() {
 instructions() {
     local n few
     command -v valgrind > /dev/null || return 0
+    # (the difference leaves out what starting and ending takes)
     for n in 1000 3000; do
         LD_LIBRARY_PATH=$1 valgrind --tool=callgrind --callgrind-out-file="$work/out" "$work/speed" "$2" "$n" \
             > /dev/null 2> "$work/said"
@@ -74,6 +75,7 @@ instructions() {
 echo "| Request | ns, libfuse | ns, here | processor | clock | instructions, libfuse | here | ratio |"
 echo "|---|---|---|---|---|---|---|---|"
 for class in lookup getattr read-4k read-1m write-4k write-1m readdir readdirplus; do
+    # How many requests a run has: some tens of milliseconds.
     times=20000
     [[ $class != readdir* ]] || times=4000
     for _ in $(seq "$rounds"); do

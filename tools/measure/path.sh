@@ -37,6 +37,7 @@ need rt "The Rattle toolchain builds the library: put its folder bin on the PATH
 "$here/tools/measure/speed.sh" --runs 1 --ms 1 --only null/getattr > /dev/null
 folder=$(mktemp -d)
 trap 'rm -rf "$folder"' EXIT
+# (speed.c counts allocations by these)
 wraps=$(printf ' -Wl,--wrap=%s' malloc calloc realloc aligned_alloc)
 # shellcheck disable=SC2086
 cc -O2 -no-pie -o "$folder/speed" "$here/tools/measure/speed.c" "$library" "$(dirname "$(rt doc)")/c/liblibc_c.a" $wraps
@@ -49,6 +50,7 @@ count() {
 }
 
 for class in "${classes[@]}"; do
+    # (100 rounds, and 300: the difference leaves out what starting takes)
     count "$class" 100 > /dev/null
     count=$(count "$class" 300)
     echo "| $class | instructions | read | write | compare | jump | else |"

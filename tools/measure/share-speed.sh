@@ -58,6 +58,7 @@ own_mounts "${given[@]}"
 get_passthrough
 version='' floor=''
 if [ "$what" = tree ]; then
+    # (floor.c stands between the transport and the library)
     build_transport mount nizwarf_tree "$here/tools/measure/floor.c" -Wl,--wrap=nizwarf_message_at -Wl,--wrap=nizwarf_take_at
     floor=$transport
     build_transport mount
@@ -66,6 +67,7 @@ else
     version=", $("$transport" --version | sed 's/.*, //')"
 fi
 cc -std=c11 -O2 -Wall -Wextra -Werror -o "$here/out/c/share_speed" "$here/tools/measure/share_speed.c"
+# (in memory, so that no disk is timed)
 work=$(mktemp -d -p /dev/shm)
 # What a run leaves that ends before its own: without its mount a server ends by itself.
 tidy() {

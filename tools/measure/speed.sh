@@ -55,6 +55,7 @@ if [ ! -e "$library" ] ||
 fi
 
 if [ -z "$beside" ]; then
+    # (speed.c counts allocations by these)
     wraps=$(printf ' -Wl,--wrap=%s' malloc calloc realloc aligned_alloc)
     # shellcheck disable=SC2086
     cc -O2 -o "$folder/speed" "$here/tools/measure/speed.c" "$library" "$kit/c/liblibc_c.a" $wraps
@@ -62,6 +63,7 @@ if [ -z "$beside" ]; then
     exit
 fi
 
+# Both are for the same processors, those of `rt`: x86-64-v2.
 rust=(--edition 2021 -C opt-level=3 -C target-cpu=x86-64-v2 --cap-lints allow
     -L "$beside/fast" --extern "oracle=$beside/fast/liboracle.rlib"
     -C "link-arg=$library" -C "link-arg=$kit/c/liblibc_c.a")

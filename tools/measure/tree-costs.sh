@@ -18,5 +18,7 @@ cc -std=c11 -O2 -Wall -Wextra -Werror -I "$here/include" -o "$folder/costs" "$he
     "${library[@]}"
 "$folder/costs" | awk -F '\t' '
     { print; cost[$1, $2] = $3 }
+    # (a tenth: if a call walked all nodes, one that is held would cost as much as all that are)
     function is_walk(call) { return 10 * cost[call, "200000 nodes, 1 held"] > cost[call, "200000 nodes, 200000 held"] }
+    # (65536 segments are 16 times 4096, so more than 64 times the time is no chance)
     END { exit cost["WRITE", "65536 segments"] > 64 * cost["WRITE", "4096 segments"] || is_walk("INIT") || is_walk("DESTROY") }'

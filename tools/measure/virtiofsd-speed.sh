@@ -71,12 +71,14 @@ make_folder
 "$here/tools/virtiofsd.sh" "$folder" > /dev/null
 "$here/tools/virtiofsd.sh" --unmodified "$folder" > /dev/null
 build_transport share nizwarf_door
+# What the page says it is of.
 of=$(git -C "$here" describe --always --dirty --exclude '*' 2> /dev/null || echo "no commit")
 case ${library[0]} in
     */unproved/*) of="a library of $of without a proof" ;;
     *) of="the proved library of $of" ;;
 esac
 build_front pace
+# (in memory, so that no disk is timed)
 memory=/dev/shm
 [ -w "$memory" ] || memory=${TMPDIR:-/tmp}
 work=$(mktemp -d "$memory/nizwarf-XXXXXX")

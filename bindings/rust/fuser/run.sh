@@ -62,6 +62,7 @@ copy_examples() {
     fi
 }
 
+# Builds the examples of both ways in one workspace, which Debian's crates stand in for.
 build_examples() {
     local way
     rm -rf "$built/program"
@@ -105,6 +106,7 @@ use_example() {
     echo "ended $status" >> "$mount.said"
 }
 
+# Unmounts what a failure left, and removes the folder.
 clean_up() {
     local mount
     for mount in "$folder"/*-there "$folder"/*-here; do
