@@ -81,7 +81,7 @@ def ending_of(clean, part):
     if part[:2] != clean[:2] or len(part.answers) != count or len(changed) != 1 or part.now != state:
         return None
     at, size = changed[0], len(clean.calls) // count
-    calls, behind = clean.calls[: size * at], clean.calls[size * (at + 1) :]
+    calls, after = clean.calls[: size * at], clean.calls[size * (at + 1) :]
     outcome, room = part.answers[at]
     if outcome == "Err(OutOfMemory)" and room == FILL * (len(room) // 2):
         who = "the server" if state.startswith("options") else "a reader or a writer"
@@ -90,7 +90,7 @@ def ending_of(clean, part):
         calls += refused_calls(clean.calls[size * at :])
     else:
         return None
-    return who if part.calls == calls + behind else None
+    return who if part.calls == calls + after else None
 
 
 def fault_in(room):
@@ -140,17 +140,17 @@ class Refusals:
         """How a part ends, of which each allocation is refused in turn."""
         if not self.counts[at]:
             return []
-        behind, endings = self.wanted(at), []
+        after, endings = self.wanted(at), []
         for it in refused(self.program, self.stdin(), at + 1, self.clean):
-            endings.append(self.ending(at, behind, it))
+            endings.append(self.ending(at, after, it))
             if endings[-1] is None:
                 wrong(f"test_sessions, allocation {len(endings)} of {self.parts[at].name}", it)
         return endings
 
-    def ending(self, at, behind, it):
+    def ending(self, at, after, it):
         """How this part ended in a run, where all others are as they should be, or None."""
         parts = parts_of(it.output) if it.status == 0 else []
-        if parts[:at] != self.parts[:at] or parts[at + 1 :] != behind:
+        if parts[:at] != self.parts[:at] or parts[at + 1 :] != after:
             return None
         return ending_of(self.parts[at], parts[at])
 
@@ -219,7 +219,7 @@ with ThreadPoolExecutor(os.cpu_count()) as pool:
 # (cut after its header it copies no name, and inside its name it does)
 if endings[-2:] != [[], ["the server"]]:
     faults.append("LOOKUP of a")
-    print(f"LOOKUP of a, cut behind its header and in its name: {endings[-2:]}", file=sys.stderr)
+    print(f"LOOKUP of a, cut after its header and in its name: {endings[-2:]}", file=sys.stderr)
 wanting = sum(len(it) > 0 for it in endings)
 print(f"test_sessions: {len(endings)} calls, of which {wanting} want memory")
 tell("test_sessions", sum(endings, []))

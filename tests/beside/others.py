@@ -256,7 +256,7 @@ def shown(asked):
         said = "" if length == len(request) else f" that says {length}"
         body = request[40:]
         body = f"{body[:24].hex()}{'..' if len(body) > 24 else ''}" if body else "no byte"
-        made.append(f"{name} of {len(request)} bytes{said}, behind the header {body}")
+        made.append(f"{name} of {len(request)} bytes{said}, after the header {body}")
     return "; then ".join(made)
 
 
@@ -288,7 +288,7 @@ def counts(peers, found, what, draw):
     for peer in peers:
         asked, handed = (sum(one.handed[at] for one in found[peer]) for at in (0, 1))
         if asked:
-            yield f"\n{of_one(peer)}: of {asked} requests, with those before and behind, {handed} were handed on."
+            yield f"\n{of_one(peer)}: of {asked} requests, with those before and after, {handed} were handed on."
 
 
 def broken(peers, found, names):

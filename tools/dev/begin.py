@@ -211,7 +211,7 @@ def interrupt(found):
 
 Below `INTERRUPT: no call and no reply`:
 
-{block(("request", [*request, (it.request[40:].hex(), "behind", "not looked at")]), ("room", f"0 x {it.room}"),
+{block(("request", [*request, (it.request[40:].hex(), "rest", "not looked at")]), ("room", f"0 x {it.room}"),
        ("form_of", form_of(opcode)), ("ask", "Ends NoReply"), ("events", "[]"), ("outcome", it.outcome),
        ("room_after", "room"), ("after", "options"))}"""
 

@@ -25,10 +25,10 @@ def fault(text):
 
 def table(path, head):
     """The rows of a document's table whose first line begins with these cells."""
-    before, found, behind = read(path).partition(f"\n{head}")
+    before, found, after = read(path).partition(f"\n{head}")
     if not found:
         fault(f"{path} has no table that begins {head}")
-    first, _, *lines = (head + behind).split("\n\n")[0].rstrip().split("\n")
+    first, _, *lines = (head + after).split("\n\n")[0].rstrip().split("\n")
     for number, line in enumerate(lines, before.count("\n") + 4):
         if line.count("|") != first.count("|"):
             fault(f"{path}:{number}: not as many cells as in the head")

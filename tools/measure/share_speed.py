@@ -256,7 +256,7 @@ def appends(server):
     for jobs in JOBS:
         pairs = [[server.time(what, jobs)[0] for what in ("write-1m", "overwrite-1m")] for _ in range(rounds)]
         cells.append(statistics.median(one / other for one, other in pairs))
-    return "\nOf the tree, 1 MiB written behind a file's end takes {:.2f} of the time of 1 MiB over bytes that are there; by four\n" \
+    return "\nOf the tree, 1 MiB written after a file's end takes {:.2f} of the time of 1 MiB over bytes that are there; by four\n" \
         "jobs {:.2f}.".format(*cells)
 
 
