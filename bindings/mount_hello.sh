@@ -6,6 +6,8 @@
 # user, who may open /dev/fuse here alone, and mounts by fusermount3.
 # Status 0: the file was read, and the program ended when it was unmounted.
 set -euo pipefail
+. "$(dirname "$0")/../tools/lib/usage.sh"
+[ $# -ge 2 ] || { echo "Usage: bindings/mount_hello.sh FOLDER USER.." >&2 && exit 2; }
 cd "$1"
 shift
 # The folder is another user's, and the device is of the machine: both are mounted in this namespace alone.

@@ -6,7 +6,8 @@ Each page of docs/generated, and each section of docs/SPEED.md, names the comman
 that they are of. If files that they measure are not as they were at the oldest of these, comments and imports aside, a
 line says how many: `Older: PAGE ..`. That is no fault: the command makes the page anew.
 Without the history, as in a shallow clone, it says so, and looks at the commands alone.
-Status 0: there is no fault; 1: a page names no commit, one that is not in the history, or no command that is there.
+Status 0: there is no fault; 1: a page names no commit, one that is not in the history, or no command that is there; 2:
+it was started otherwise.
 """
 import glob
 import os
@@ -115,4 +116,7 @@ def main():
 
 
 if __name__ == "__main__":
+    if len(sys.argv) > 1:
+        print(__doc__.strip())
+        sys.exit(0 if sys.argv[1:] in (["-h"], ["--help"]) else 2)
     sys.exit(main())

@@ -145,6 +145,9 @@ def main(words):
     words = [word for word in words if word != "--all"]
     if words[:1] == ["--most"] and len(words) > 1 and words[1].isdecimal():
         most, words = int(words[1]), words[2:]
+    if words in (["-h"], ["--help"]):
+        print(__doc__.strip())
+        return 0
     if not words or any(word.startswith("-") for word in words):
         print(__doc__.strip(), file=sys.stderr)
         return 2
