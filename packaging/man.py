@@ -85,6 +85,7 @@ class Header:
         return [*(f"{name} ," for name in names[:-1]), names[-1]]
 
     def made_prototypes(self):
+        """The lines of @PROTOTYPES@: of each function its type, its name and its parameters."""
         for _, returned, name, words, *_ in self.functions:
             yield f".Ft {returned}"
             yield f".Fn {name} " + " ".join(f'"{word}"' for word in words.split(", "))
@@ -103,6 +104,7 @@ class Header:
         yield ".El"
 
     def made_functions(self):
+        """The lines of @FUNCTIONS@: of each the call that it is of, what its comment says, and its field."""
         for comment, _, name, _, reads, field, sets in self.functions:
             call, text = self.call_of(name), plain(comment)
             yield f".Ss {name}"
@@ -114,6 +116,7 @@ class Header:
             yield f".Fa {field} ."
 
     def made_structs(self):
+        """The lines of @STRUCTS@, as they stand in the header."""
         yield ".Bd -literal"
         for line in self.structs.split("\n"):
             # In roff `\` begins a command, and so does a line with `.` or `'` at its beginning.
@@ -122,6 +125,7 @@ class Header:
         yield ".Ed"
 
     def fill(self, page):
+        """A page with what stands in place of its lines @..@."""
         lines = []
         for line in page.splitlines():
             wanted = re.fullmatch(r"@([A-Z]+)@", line)

@@ -39,6 +39,7 @@ ROOT, HELLO, TEXT, LONGEST = 1, 2, b"Hello, world!\n", (1 << 20) + 4096
 
 
 def set_attr(entry, node):
+    """Fills in the attributes of an entry: of the root those of a folder, else of the file."""
     entry.attr_seconds = 1
     entry.attr = Attr(ino=node, nlink=1, mode=stat.S_IFDIR | 0o555, size=0)
     if node != ROOT:
@@ -85,6 +86,7 @@ def serve(library, slot, session, request):
 
 
 def mount_on(folder):
+    """Mounts on a folder, and gives the descriptor that requests come by."""
     device = os.open("/dev/fuse", os.O_RDWR)
     # As fuse(4) has them; 040000 says that the root is a directory. The 6 below is MS_NOSUID and MS_NODEV.
     options = f"fd={device},rootmode=40000,user_id=0,group_id=0,default_permissions"

@@ -198,6 +198,7 @@ def try_demo(program, lines, stored):
 
 
 def tell(what, endings):
+    """Prints how many runs ended in which way."""
     counts = collections.Counter(endings)
     told = ", ".join(f"{it} {counts[it]}" for it in sorted(counts, key=str))
     print(f"{what}: {len(endings)} allocations refused in turn; answered by {told}", flush=True)

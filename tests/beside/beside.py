@@ -135,6 +135,7 @@ def outcome(reply):
 
 
 def without(reply, places):
+    """A reply with zeros in these places."""
     for start, end in places:
         reply = reply[:start] + bytes(end - start) + reply[end:]
     return reply

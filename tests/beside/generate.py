@@ -50,6 +50,7 @@ def broken(made, chance):
 
 
 def some_request(chance):
+    """A request of any opcode, or of a number that is none; three of four are broken."""
     opcode = chance.choice((*BODIES, *BODIES, 0, 7, 26, 38, 48, 49, 99, 4096, 2**32 - 1))
     if opcode == 26:
         made = requests.init(7, chance.choice((45, 38, 36, 31, 27)), flags2=11)

@@ -116,12 +116,14 @@ class Client:
         return bytes(reply)
 
     def entry(self, reply, at):
+        """Learns the entry in a reply at this place, and takes out of it what depends on the folder."""
         part = reply[at:at + 128]
         self.take(part, struct.unpack_from("<I", part, 100)[0])
         reply[at:at + 128] = part
         hide(reply, at + 40)
 
     def listing(self, reply, plus):
+        """Takes out of each record of a directory what depends on it; `plus` has entries before them."""
         at = 16
         while at < len(reply):
             if plus:
@@ -150,11 +152,13 @@ class Maker:
         return self.rng.choice(of)
 
     def node(self):
+        """A node that is known, or seldom a number that may be none."""
         if self.rng.random() < .04:
             return self.some(*INODES)
         return Ref("node", self.rng.randrange(len(self.client.had["node"])))
 
     def folder(self):
+        """A node that is known as a folder, or seldom any."""
         if self.rng.random() < .1:
             return self.node()
         return Ref("node", self.some(*sorted(self.client.folders)))
@@ -190,6 +194,7 @@ class Maker:
             yield self.make()
 
     def make(self):
+        """One request, by how often its opcode is asked, with its room and its cuts."""
         opcode = self.rng.choices(list(OPCODES), OPCODES.values())[0]
         node, parts, room = self.body(opcode)
         extensions = self.extensions() if opcode in SHAPES and "extensions" in SHAPES[opcode].parts else b""
@@ -201,6 +206,7 @@ class Maker:
         return Request(opcode, node, [*parts, extensions], self.cut(room), cuts, (uid, uid), len(extensions))
 
     def cut(self, room):
+        """A room of so many bytes in pieces, as `16+8`."""
         pieces = []
         for _ in range(self.some(0, 0, 1, 1, 2, 5)):
             pieces.append(self.some(16, self.rng.randint(1, room)) if room else 0)
@@ -257,6 +263,7 @@ class Maker:
         return node
 
     def part(self, what):
+        """What follows a record: the bytes of a name, a text or a value."""
         if what == "name":
             return self.name()
         if what == "attribute":

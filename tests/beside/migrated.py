@@ -42,6 +42,7 @@ class Daemon:
                                        stdout=subprocess.PIPE, text=True)
 
     def say(self, line):
+        """What ask.c prints of a line."""
         with contextlib.suppress(BrokenPipeError):
             self.asking.stdin.write(line + "\n")
             self.asking.stdin.flush()
@@ -68,6 +69,7 @@ class Daemon:
         return struct.unpack_from("<Q", reply)[0]
 
     def end(self):
+        """Ends both, of which the daemon may hang."""
         for process, how in ((self.asking, signal.SIGTERM), (self.process, signal.SIGKILL)):
             process.send_signal(how)
             process.wait()
@@ -82,6 +84,7 @@ def written(path):
 
 
 def names_of(items):
+    """The names in the records of a directory."""
     found, at = set(), 0
     while at + 24 <= len(items):
         length = struct.unpack_from("<I", items, at + 16)[0]
@@ -93,6 +96,7 @@ def names_of(items):
 def begin(source, folder):
     """A session of the source: nodes and handles by name."""
     had = {}
+    # (all options of `flags`, and those of `flags2` with groups)
     error, _ = source.ask(Op.INIT, requests.init(flags=0x7BFFFFFB, flags2=15)[40:])
     if error:
         raise RuntimeError(f"INIT came to {error}")
@@ -145,6 +149,7 @@ def go_on(target, had, folder, is_here, mode):
     for of in ("file", "made"):
         hold("RELEASE", target.ask(Op.RELEASE, record(Op.RELEASE, handle=had[of + " opened"]), node=had[of])[0], 0)
     hold("RELEASEDIR", target.ask(Op.RELEASEDIR, record(Op.RELEASEDIR, handle=had["d opened"]), node=had["d"])[0], 0)
+    # (EBADF)
     hold("READ of what is released", transfer(Op.READ, "file", 1)[0], 9)
     # The machine starts again.
     hold("INIT", target.ask(Op.INIT, requests.init(flags=0x7BFFFFFB, flags2=15)[40:])[0], 0)
@@ -157,6 +162,7 @@ def migrate(mode, source_words, target_words, is_here):
     with tempfile.TemporaryDirectory(dir=FOLDER) as at:
         folder, state = at + "/share", at + "/state"
         os.makedirs(folder + "/d")
+        # (the user of MKDIR goes through it)
         os.chmod(at, 0o755)
         for name, data in (("file", b"0123456789"), ("other", b"")):
             with open(f"{folder}/d/{name}", "wb") as file:
@@ -181,6 +187,7 @@ def migrate(mode, source_words, target_words, is_here):
 
 
 def main():
+    """Moves sessions in each mode from each daemon to each."""
     faults = 0
     for mode in MODES:
         for source, target in ((True, True), (True, False), (False, True), (False, False)):

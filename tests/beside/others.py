@@ -137,7 +137,9 @@ def ask_pair(peer, asked):
     ours, theirs = socket.socketpair(socket.AF_UNIX, socket.SOCK_SEQPACKET)
     with ours, tempfile.TemporaryFile("w+", encoding="utf-8", errors="replace", dir=folder) as log:
         for end in (ours, theirs):
+            # (a message is sent whole or not at all)
             end.setsockopt(socket.SOL_SOCKET, socket.SO_SNDBUF, LONGEST)
+        # (the process inherits its end by the same number)
         words = [str(theirs.fileno()) if word == "DESCRIPTOR" else word for word in peer.words]
         process = subprocess.Popen(words, stdin=subprocess.DEVNULL, stdout=log, stderr=log,
                                    pass_fds=[theirs.fileno()])
@@ -153,6 +155,7 @@ def ask_pair(peer, asked):
 
 def ask_vhost(peer, asked):
     """The same, of a daemon of virtio-fs: an answer is a chain that it gave back, with bytes or without."""
+    # (those that have no reply have no room either)
     lines = [requests.line("0" if opcode(request) in (FORGET, BATCH_FORGET) else f"16+{ROOM}", request)
              for request in (*asked, LAST)]
     beside.ask, beside.folder = peer.words[0], folder
@@ -237,6 +240,7 @@ def shrink(peer, asked, wanted):
             return True
         return False
 
+    # Shorter messages first, then a length in the header that is true, then zeros in place of bytes.
     for size in SIZES:
         if size < len(last) and take(last[:size]):
             break
@@ -261,6 +265,7 @@ def shown(asked):
 
 
 def table(head, rows):
+    """The lines of a table in markdown."""
     yield "| " + " | ".join(head) + " |"
     yield "|" + "---|" * len(head)
     for row in rows:
@@ -268,6 +273,7 @@ def table(head, rows):
 
 
 def plain(head, rows):
+    """The lines of a table in columns."""
     rows = [head, *([str(cell) for cell in row] for row in rows)]
     widths = [max(len(row[at]) for row in rows) for at in range(len(head))]
     for row in rows:
@@ -321,6 +327,7 @@ def failures_in_short(peers, found, names):
         where = "; ".join(f"{file}, line{'s' * (len(at) > 1)} {', '.join(map(str, sorted(at)))}" if max(at) else file
                           for file, at in lines.items() if file)
         which = [name for _, of_place in by_place for name in of_place]
+        # (three of the requests: the first, and two further on)
         rows.append([of_one(peer), kind, len(which), where or "-", "; ".join(which[::max(1, len(which) // 3)][:3])])
     if rows:
         yield from table(["Server", "What came", "How many", "Where", "For example"], rows)
@@ -373,6 +380,7 @@ def is_ours(peer):
 
 
 def read_peers(path):
+    """The servers in the file, a line each."""
     with open(path, encoding="utf-8") as lines:
         for line in lines:
             how, name, version, trusts, *words = line.rstrip("\n").split("\t")

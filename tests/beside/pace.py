@@ -47,6 +47,7 @@ def fill(folder):
     """Makes what is shared: a file of 32 MiB, and a folder of 1,000 names."""
     os.makedirs(f"{folder}/names")
     with open(f"{folder}/file", "wb") as file:
+        # (bytes that no file system keeps as holes)
         file.write(os.urandom(1 << 20) * 32)
     for number in range(1000):
         with open(f"{folder}/names/name-{number}", "w", encoding="utf-8"):
@@ -73,6 +74,7 @@ class Daemon:
         self.said = open(f"{given.work}/said-{number}", "w+", encoding="utf-8")
         front, *rest = processors(pool)
         self.process = subprocess.Popen([*before, program, *words], stdout=self.said, stderr=self.said,
+                                        # (before the program starts, so that its threads have the same processors)
                                         stdin=subprocess.DEVNULL, preexec_fn=lambda: os.sched_setaffinity(0, rest))
         self.front = subprocess.Popen([given.pace, self.socket, str(self.process.pid)], text=True,
                                       stdin=subprocess.PIPE, stdout=subprocess.PIPE,
@@ -100,6 +102,7 @@ class Daemon:
         except subprocess.TimeoutExpired:
             self.process.terminate()
             self.process.wait()
+        # (virtiofsd leaves it)
         if os.path.exists(self.socket):
             os.remove(self.socket)
         self.said.seek(0)
@@ -139,6 +142,7 @@ def figures(rounds, which, what):
     column = [answers[which][what] for answers in rounds]
     ratios = sorted(answers[which][what] / answers[0][what] for answers in rounds)
     quarter = len(ratios) // 4
+    # Of nine or more rounds a quarter is cut off at each end.
     return statistics.median(column), min(column), statistics.median(ratios), ratios[quarter], ratios[-1 - quarter]
 
 
@@ -193,6 +197,7 @@ def show(ratios, given, load, counts):
 
 def keep(lines, path, load, counts):
     """Writes all figures: a line for each setting, class and daemon."""
+    # The columns of one kind of time.
     part = "{0}_median\t{0}_least\t{0}_ratio\t{0}_ratio_low\t{0}_ratio_high"
     with open(path, "w", encoding="utf-8") as file:
         file.write(f"# the load of the machine was {load}; times in nanoseconds a request\n")
@@ -205,6 +210,7 @@ def keep(lines, path, load, counts):
 
 
 def count_instructions(given, number, kind, count):
+    """All instructions of a daemon that serves so many requests under valgrind."""
     daemon = Daemon(given, number, 0, ("valgrind", "--tool=callgrind", "--callgrind-out-file=/dev/null"))
     daemon.ask(kind, 1, count)
     said = daemon.end()
@@ -233,6 +239,7 @@ def load_now():
 
 
 def main():
+    """Measures, writes all figures to a file, and prints the page."""
     given = options()
     fill(f"{given.work}/shared")
     load = load_now()

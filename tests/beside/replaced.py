@@ -58,6 +58,7 @@ class Daemon:
         self.client = generated.Client()
 
     def ask(self, line):
+        """What ask.c prints of a line; nothing once it is gone."""
         try:
             self.asking.stdin.write(line + "\n")
             self.asking.stdin.flush()
@@ -70,6 +71,7 @@ class Daemon:
         return len(os.listdir(f"/proc/{self.process.pid}/fd"))
 
     def end(self):
+        """Ends both, whatever state they are in."""
         for pipe in (self.asking.stdin, self.asking.stdout):
             try:
                 pipe.close()
@@ -284,6 +286,7 @@ def in_sessions(seed, count):
 
 
 def show(rows, head):
+    """Prints a table of two columns."""
     print(f"\n| {head} | How many |\n|---|---|")
     for name, count in rows:
         print(f"| {name} | {count} |")

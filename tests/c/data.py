@@ -72,6 +72,7 @@ if KERNEL.returncode:
 
 
 def hold_number(names, value, what):
+    """Asserts that the first of these names that the header has is this number."""
     name = next((it for it in names if it in NAMES), None)
     if name:
         hold(f"{name} == {value}", f"{what}: {name} is {value}")

@@ -29,6 +29,7 @@ if words[len(FOLDER):] not in ([], ["--print"]):
 
 
 def compiled(words, text):
+    """What the compiler makes of a text, with these words and the headers that are asked for."""
     try:
         return subprocess.run(["cc", *FOLDER, "-x", "c", *words, "-"], input=text, text=True, capture_output=True, check=False)
     except FileNotFoundError:

@@ -97,6 +97,7 @@ def table(rng, size, first, indirect):
 
 
 def make(seed, count):
+    """All cases: those of upstream, and so many by the seed."""
     rng = random.Random(seed)
     yield from of_upstream()
     for _ in range(count):
@@ -152,6 +153,7 @@ def judge(one, ours, theirs):
     total = 0
     for it in pieces:
         total += int(it.split(":")[1], 16)
+        # (upstream counts the bytes of a chain in 32 bits; here 2^32 are as many as fit)
         if total == 1 << 32:
             return "exactly 2^32 bytes, which upstream refuses", True
     if code == LAST:
@@ -201,6 +203,7 @@ def compare(cases, ours, theirs):
 
 
 def main():
+    """Does what the first word says."""
     if len(sys.argv) == 4 and sys.argv[1] == "make":
         for one in make(int(sys.argv[2]), int(sys.argv[3])):
             sys.stdout.buffer.write(one)

@@ -31,12 +31,14 @@ path, faults = folder + "/news", 0
 
 
 def step(what, got, wanted):
+    """Tells of a step, and counts it if it came to something else."""
     global faults
     faults += got != wanted
     print("ok" if got == wanted else "WRONG", what, got if got == wanted else f"{got!r} in place of {wanted!r}", flush=True)
 
 
 def wait_for(fact):
+    """Whether it comes to be a fact soon."""
     until = time.monotonic() + SOON
     while not fact() and time.monotonic() < until:
         time.sleep(0.01)
@@ -46,12 +48,14 @@ def wait_for(fact):
 class Server:
     """news.c, mounted on the folder."""
     def __init__(self):
+        """Starts the program, and waits until it serves."""
         # pylint: disable-next=consider-using-with
         self.process = subprocess.Popen([program, *words, folder], stdin=subprocess.PIPE, stdout=subprocess.PIPE, text=True)
         wait_for(lambda: os.path.ismount(folder))
         os.stat(folder)
 
     def waits(self):
+        """How many lock requests wait in the program, as it says by its line `show`."""
         self.process.stdin.write("show\n")
         self.process.stdin.flush()
         said = []
@@ -60,6 +64,7 @@ class Server:
         return said.count("waits")
 
     def ended(self, what, wanted):
+        """Waits for the end, which must be this status; what hangs is killed."""
         try:
             came = self.process.wait(SOON)
         except subprocess.TimeoutExpired:

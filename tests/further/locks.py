@@ -33,6 +33,7 @@ class Alarm(Exception):
 
 
 def step(what, got, wanted):
+    """Tells of a step, and counts it as right or wrong."""
     word = "ok" if got == wanted else "WRONG"
     counts[word] += 1
     if as_cases:
@@ -53,13 +54,16 @@ def started(path, does):
         said = does(os.open(path, os.O_RDWR), lambda: os.write(writes, b"w"))
     except OSError as error:
         said = errno.errorcode[error.errno]
+    # (after a blank: before it may stand the byte by which it told that it waits)
     os.write(writes, f" {said}".encode())
     os._exit(0)
 
 
 def ended(process):
+    """What a process told, once it ended."""
     pid, reads = process
     said = b""
+    # (up to the end, which is that of the process, also of one that is killed)
     while some := os.read(reads, 100):
         said += some
     os.close(reads)
@@ -68,6 +72,7 @@ def ended(process):
 
 
 def named(does):
+    """`got`, or the name of the error."""
     try:
         does()
         return "got"
@@ -89,18 +94,21 @@ def setlk(fd, kind, start=0, length=0, command=fcntl.F_SETLK):
 
 
 def getlk(fd, kind, start, length):
+    """What is in the way of a lock, by F_GETLK: kind, start, length, and whose it is. (Asked by a child of its holder)"""
     found = fcntl.fcntl(fd, fcntl.F_GETLK, packed(kind, start, length))
     kind, _, start, length, pid = struct.unpack("hhqqi4x", found)
     return kind, start, length, "mine" if pid == os.getppid() else "other" if kind != NONE else ""
 
 
 def timed(does):
+    """What it came to, and whether that took as long as something that waits."""
     begun = time.time()
     said = does()
     return f"{said} {'late' if LATER < time.time() - begun < LONG else 'at once'}"
 
 
 def waits(lock):
+    """What a process does that waits for a lock, for `started`."""
     def does(fd, tell):
         tell()
         return timed(lambda: lock(fd))
@@ -114,6 +122,7 @@ def interrupted(lock):
 
     def does(fd, _):
         signal.signal(signal.SIGALRM, ring)
+        # (late enough to count as waiting)
         signal.setitimer(signal.ITIMER_REAL, 2 * LATER)
 
         def until_alarm():
@@ -194,7 +203,9 @@ class Locks:
         step("after the killed one", self.other(lambda fd: setlk(fd, WRITE)), "got")
 
     def closes(self):
+        """What a close of any descriptor of the file gives up."""
         step("all", setlk(self.fd, WRITE), "got")
+        # POSIX: any close of the file by a process gives up its locks of fcntl(2).
         os.close(os.open(self.path, os.O_RDONLY))
         step("unlocked by another descriptor's close", self.other(lambda fd: setlk(fd, WRITE)), "got")
         step("all", setlk(self.fd, WRITE), "got")
@@ -205,6 +216,7 @@ class Locks:
         step("fcntl after a close", self.other(lambda fd: setlk(fd, WRITE)), "got")
 
     def descriptions(self, with_close):
+        """Locks of an open file description, by F_OFD_SETLK."""
         one, other = os.open(self.path, os.O_RDWR), os.open(self.others, os.O_RDWR)
         step("a description's lock", setlk(one, WRITE, command=OFD_SETLK), "got")
         step("by another description", setlk(other, WRITE, 5, 1, OFD_SETLK), "EAGAIN")

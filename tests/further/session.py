@@ -23,6 +23,7 @@ faults = 0
 
 
 def step(what, got, wanted):
+    """Tells of a step, and counts it if it came to something else."""
     global faults
     faults += got != wanted
     print("ok" if got == wanted else "WRONG", what, got if got == wanted else f"{got!r} in place of {wanted!r}", flush=True)
@@ -31,6 +32,7 @@ def step(what, got, wanted):
 class News:
     """news.c, mounted: its file is `news`, and it does what it is told by lines."""
     def __init__(self, program, folder, *words):
+        """Starts the program, and waits until it serves, ten seconds at most."""
         self.folder = folder
         self.file = os.path.join(folder, "news")
         self.process = subprocess.Popen([program, *words, folder], stdin=subprocess.PIPE, stdout=subprocess.PIPE, text=True)
@@ -50,6 +52,7 @@ class News:
         return said
 
     def read(self, name="news"):
+        """The text of a file of the mount, or why there is none."""
         try:
             with open(os.path.join(self.folder, name), encoding="utf-8") as file:
                 return file.read().strip()
@@ -57,6 +60,7 @@ class News:
             return error.strerror
 
     def end(self):
+        """Unmounts, and gives the status of the program, or that it did not end."""
         subprocess.run(["umount", self.folder], check=False)
         self.process.stdin.close()
         try:

@@ -19,6 +19,7 @@ class Monitor:
     """QEMU, by its protocol QMP."""
 
     def __init__(self, path):
+        """Connects, and takes QEMU out of the state in which it only tells what it can."""
         self.socket = socket.socket(socket.AF_UNIX)
         self.socket.settimeout(SECONDS)
         self.socket.connect(path)
@@ -27,6 +28,7 @@ class Monitor:
         self.ask("qmp_capabilities")
 
     def ask(self, command, **arguments):
+        """What a command returns; an error is raised."""
         self.lines.write(json.dumps({"execute": command, "arguments": arguments}) + "\n")
         self.lines.flush()
         while True:

@@ -79,6 +79,7 @@ Shape = collections.namedtuple("Shape", "often about reply fields parts")
 
 
 def field(word):
+    """A field of a row: NAME:SIZE=VALUE,VALUE.."""
     name, _, rest = word.partition(":")
     size, _, values = rest.partition("=")
     return Field(name, int(size), [int(value, 0) for value in values.split(",") if value])

@@ -95,6 +95,7 @@ def generate(random):
 
 
 def check(status):
+    """The status of a call of the C library; one below 0 is raised as the error."""
     if status < 0:
         number = ctypes.get_errno()
         raise OSError(number, os.strerror(number))
@@ -121,6 +122,7 @@ class Side:
     # An operation has the function of its name. What it answers is held beside that of the other side.
 
     def creat(self, path, flags, mode):
+        # (O_NONBLOCK: who opens a FIFO waits for nobody)
         os.close(os.open(self.at(path), flags | os.O_CREAT | os.O_NONBLOCK, mode))
 
     def mkdir(self, path, mode):
@@ -159,6 +161,7 @@ class Side:
         os.chmod(self.at(path), mode)
 
     def chown(self, path, user, group):
+        # (a chown of nothing clears set-user-ID bits in some kernels; a link has none)
         is_link = stat.S_ISLNK(os.lstat(self.at(path)).st_mode)
         act = lambda: os.chown(self.at(path), user, group, follow_symlinks=False)
         return self.bits_after(path, act) if user == group == -1 and not is_link else act()
@@ -197,6 +200,7 @@ class Side:
         return came, oct(after)
 
     def opened(self, path, flags, act):
+        """Does something with a file that is open meanwhile."""
         # (who opens a FIFO waits for nobody)
         file = os.open(self.at(path), flags | os.O_NONBLOCK)
         try:
@@ -222,11 +226,13 @@ class Side:
     def shown(self, is_so):
         """What is compared of a node: a time that is of now counts as such."""
         is_directory = stat.S_ISDIR(is_so.st_mode)
+        # (from ten seconds before this side began until eleven days later)
         time_of = "now" if self.began < is_so.st_mtime_ns < self.began + 10**15 else is_so.st_mtime_ns
         return {"mode": oct(is_so.st_mode), "nlink": is_so.st_nlink, "uid": is_so.st_uid, "gid": is_so.st_gid,
                 "rdev": is_so.st_rdev, "size": 0 if is_directory else is_so.st_size, "mtime": time_of}
 
     def list(self, path):
+        """The names of a directory, each with its kind as the directory tells it."""
         with os.scandir(self.at(path)) as entries:
             return sorted((entry.name, entry.is_symlink(), entry.is_dir(follow_symlinks=False),
                            entry.is_file(follow_symlinks=False)) for entry in entries)
@@ -283,6 +289,7 @@ class Side:
         os.mknod(self.at(path), stat.S_IFREG | mode)
 
     def mknod_special(self, path, kind, mode):
+        """Makes a node that is no file, and tells its attributes."""
         kind = {"FIFO": stat.S_IFIFO, "socket": stat.S_IFSOCK, "device": stat.S_IFCHR}[kind]
         os.mknod(self.at(path), kind | mode, os.makedev(1, 3))
         return self.shown(os.lstat(self.at(path)))
@@ -323,6 +330,7 @@ class Side:
         self.slots[slot] = os.open(self.at(path), flags | os.O_NONBLOCK, mode)
 
     def held(self, slot):
+        """The descriptor in a slot."""
         if self.slots[slot] is None:
             # (EBADF)
             raise OSError(9, "nothing is open")
@@ -348,6 +356,7 @@ class Side:
         return self.shown(os.fstat(self.held(slot)))
 
     def fd_truncate(self, slot, size):
+        """Sets the size of an open file."""
         # (what is of the same size already is a case of `truncate`)
         is_so = os.fstat(self.held(slot))
         if is_so.st_size != size or not stat.S_ISREG(is_so.st_mode):
@@ -406,6 +415,7 @@ def allocate(file, mode, at, length):
 
 
 def become(user, group):
+    """Asks as this user and group from here on, by the ids that file systems look at."""
     LIBC.setfsuid(0)
     LIBC.setfsgid(group)
     LIBC.setfsuid(user)
@@ -442,9 +452,11 @@ class Session:
 
     def __init__(self, folders, number):
         os.umask(0)
+        # (or root's groups would count as those of each user)
         os.setgroups([])
         self.sides = []
         for folder in folders:
+            # (by the process and a number, so that no two runs meet)
             own = f"{folder}/mirror-{os.getpid()}-{number}"
             os.mkdir(own, 0o777)
             self.sides.append(Side(own))
@@ -469,6 +481,7 @@ class Session:
         return [f"{name}: {told(first)}, {told(second)}"]
 
     def check(self):
+        """The names of what differs in all that is seen."""
         first, second = (side.whole() for side in self.sides)
         if first.keys() != second.keys():
             return ["a name that one has alone"]
@@ -511,6 +524,7 @@ def shown(operation):
 
 
 def short(word):
+    """A word of an operation, cut if it is long."""
     if isinstance(word, (str, bytes)) and len(word) > 40:
         return f"{word[-1:]!r} at the end of {len(word)}"
     return repr(word)

@@ -19,11 +19,13 @@ class Mirror:
     """Random sessions of two sides, what is known to differ, and what is not."""
     def __init__(self, way, kind, known, places):
         self.way, self.places = {"calls": calls, "requests": requests}[way], places
+        # (of the kind with its words, as `fuse.nizwarf writeback`, or of the kind alone)
         self.known = [line for line in known if any(fnmatch.fnmatchcase(it, line[0]) for it in (kind, kind.split()[0]))]
         self.came, self.unknown = Counter(), {}
         self.sessions = 0
 
     def reason(self, what):
+        """The row of what is known that this difference fits, or None."""
         for _, pattern, why in self.known:
             if fnmatch.fnmatchcase(what, pattern):
                 return f"{pattern} | {why}"
@@ -93,6 +95,7 @@ class Mirror:
         """The smallest part of them that still differs so, as far as leaving out pieces finds it."""
         if not self.differs(operations, what):
             return None
+        # Halves first, then quarters, down to single operations.
         size = len(operations) // 2
         while size:
             at = 0
@@ -121,6 +124,7 @@ class Mirror:
 
 
 def main():
+    """Asks by the words of the command. Status 1: something differs that isn't known."""
     way, kind, seed, count, known, *places = sys.argv[1:]
     with open(known, encoding="utf-8") as lines:
         known = [tuple(map(str.strip, line.split("|", 2))) for line in lines if line.strip() and line[0] != "#"]

@@ -32,12 +32,14 @@ IOCTL, STATX = 39, 52
 COMMANDS = [(0x80086601, bytes(8), 4), (0x801C581F, bytes(28), 28), (0x40086602, b"\4" + bytes(7), 0),
             (0x401C5820, b"\1" + bytes(27), 0), (0x8004FF7F, bytes(4), 4)]
 CLOCK_REALTIME_COARSE = 5
+# How often each comes.
 OPERATIONS = {
     "LOOKUP": 8, "CREATE": 8, "MKNOD": 4, "MKDIR": 8, "SYMLINK": 4, "LINK": 7, "UNLINK": 8, "RMDIR": 6, "RENAME": 14,
     "TMPFILE": 4, "SETATTR": 10, "READ": 6, "WRITE": 10, "OPEN": 4, "READLINK": 2, "READDIR": 4, "SETXATTR": 5, "GETXATTR": 3,
     "LISTXATTR": 2, "REMOVEXATTR": 3, "FALLOCATE": 3, "LSEEK": 4, "FORGET": 5, "GETATTR": 3,
     "STATX": 3, "IOCTL": 2,
 }
+# Kinds of nodes that are no files: the bits of the mode, and a device's number.
 SPECIAL = {"FIFO": (stat.S_IFIFO, 0), "socket": (stat.S_IFSOCK, 0), "device": (stat.S_IFCHR, os.makedev(1, 3))}
 WATCHED = {"d": "a directory", "f": "a file", "l": "a symbolic link", "s": "a FIFO, socket or device"}
 
@@ -86,6 +88,7 @@ def generate(random):
 
 
 def shown(operation):
+    """An operation in words."""
     group, name, *words = operation
     words = [f"a node of {word[0]} ({word[1]})" if isinstance(word, tuple) and isinstance(word[0], str)
              else calls.short(word) for word in words]
@@ -135,6 +138,7 @@ class Library:
         at = ctypes.addressof(buffer)
         pieces = (Segment * 2)(Segment(at, cut), Segment(at + cut, len(message) - cut))
         server = ctypes.byref(self.server)
+        # (a second later at each request, so that times that move are seen)
         self.of.nizwarf_tell_time_at(server, 1000 + self.unique, self.unique % 1000)
         code = self.of.nizwarf_message_at(server, pieces, 2, room, ctypes.byref(self.length))
         if code:
@@ -144,6 +148,7 @@ class Library:
             return b""
         self.of.nizwarf_copy_at(server, 0, self.room, length)
         reply = ctypes.string_at(self.room, length)
+        # (the header of a reply)
         told, error, unique = struct.unpack_from("<IiQ", reply)
         if told != length or unique != self.unique:
             raise RuntimeError(f"a header of {told} bytes, to {unique}, in a reply of {length} to {self.unique}")
@@ -153,6 +158,7 @@ class Library:
 
     @staticmethod
     def attributes(bytes_, at=0):
+        """A struct fuse_attr at this place of a reply."""
         of = struct.unpack_from("<QQQQQQIIIIIIII", bytes_, at)
         return {"size": of[1], "atime": (of[3], of[6]), "mtime": (of[4], of[7]), "ctime": (of[5], of[8]),
                 "mode": of[9], "nlink": of[10], "uid": of[11], "gid": of[12], "rdev": of[13]}
@@ -190,6 +196,7 @@ def look(directory, name):
 
 
 def opened(file, flags, act):
+    """Does something with a file that is opened meanwhile by its descriptor of O_PATH."""
     opened_ = os.open(way(file), flags)
     try:
         return act(opened_)
@@ -220,7 +227,9 @@ class Session:
         self.found, self.is_slow, self.held = [], False, set()
 
     def pick(self, of):
+        """The node that a choice of `generate` stands for: by a number, among those of these kinds."""
         kinds, number = of
+        # (the root, if there is none of these kinds)
         fit = [node for node, is_so in self.nodes.items() if is_so.kind in kinds] or [1]
         return fit[number % len(fit)]
 
@@ -228,6 +237,7 @@ class Session:
         return self.nodes[node].file
 
     def step(self, operation):
+        """Does an operation on both sides, and gives what differed."""
         group, name, *words = operation
         self.found, self.operation, self.library.group = [], name, group
         # (of the operation itself, so that a part of a session is as slow as the whole)
@@ -285,6 +295,7 @@ class Session:
             time.sleep(0.001)
 
     def times(self, node):
+        """Times of change, of status and of access, ours and those of the tmpfs."""
         ours, theirs = self.library.getattr(node), os.fstat(self.file(node))
         return (tuple(ours[which] for which in ("mtime", "ctime", "atime")),
                 (theirs.st_mtime_ns, theirs.st_ctime_ns, theirs.st_atime_ns))
@@ -293,6 +304,7 @@ class Session:
         """Attributes side by side; what differs is then made the same."""
         ours, theirs, of = ours or self.library.getattr(node), os.fstat(self.file(node)), self.nodes[node]
         for key in ("mode", "nlink", "uid", "gid", "size", "rdev"):
+            # (a tmpfs counts 20 bytes for each name of a directory)
             if ours[key] != getattr(theirs, "st_" + key) and (key != "size" or of.kind != "d"):
                 self.note(f"{key} of {WATCHED[of.kind]}")
                 if key == "mode" and of.kind != "l":
@@ -328,12 +340,14 @@ class Session:
     # A request each.
 
     def lookup(self, of, name):
+        """LOOKUP, and open(2) with O_PATH."""
         parent = self.pick(of)
         if answers := self.both(lambda: self.library.entry(Op.LOOKUP, parent, name + b"\0"),
                                 lambda: look(self.file(parent), name), (parent,)):
             self.learn(answers)
 
     def make(self, of, name, opcode, body, call):
+        """A request that makes a name, and the call that does so in a directory."""
         parent = self.pick(of)
 
         def made():
@@ -345,11 +359,13 @@ class Session:
             self.compare(parent)
 
     def create(self, of, name, mode):
+        """CREATE, and open(2) with O_CREAT and O_EXCL."""
         flags = os.O_CREAT | os.O_WRONLY | os.O_EXCL
         self.make(of, name, Op.CREATE, record(Op.CREATE, flags=flags, mode=0o100000 | mode) + name + b"\0",
                   lambda directory: os.close(os.open(name, flags, mode, dir_fd=directory)))
 
     def tmpfile(self, of, mode, is_alone):
+        """TMPFILE, and open(2) with O_TMPFILE."""
         parent = self.pick(of)
         flags = os.O_TMPFILE | os.O_RDWR | (os.O_EXCL if is_alone else 0)
         body = record(Op.TMPFILE, flags=flags, mode=0o100000 | mode) + b"/\0"
@@ -358,6 +374,7 @@ class Session:
             self.learn(answers)
 
     def mknod(self, of, name, kind, mode):
+        """MKNOD, and mknod(2)."""
         bits, device = SPECIAL.get(kind, (stat.S_IFREG, 0))
         self.make(of, name, Op.MKNOD, record(Op.MKNOD, mode=bits | mode, rdev=device) + name + b"\0",
                   lambda directory: os.mknod(name, bits | mode, device, dir_fd=directory))
@@ -384,6 +401,7 @@ class Session:
             self.compare(node)
 
     def remove(self, of, name, opcode, call):
+        """UNLINK or RMDIR, and the call for that."""
         parent = self.pick(of)
         victim = self.known(parent, name)
         watched = (parent, victim) if victim else (parent,)
@@ -453,6 +471,7 @@ class Session:
                 self.note("another time")
 
     def write(self, of, at, length, byte):
+        """WRITE, and pwrite(2)."""
         node = self.pick(of)
         body = record(Op.WRITE, offset=at, size=length) + bytes([byte]) * length
         call = self.on_file(node, os.O_WRONLY, lambda file: os.pwrite(file, bytes([byte]) * length, at))
@@ -463,6 +482,7 @@ class Session:
             self.compare(node)
 
     def on_file(self, node, flags, act):
+        """A call on a file that is opened for it. What a kernel would not send, of a link, is EINVAL."""
         def call():
             if self.nodes[node].kind == "l":
                 raise OSError(errno.EINVAL, "")
@@ -470,6 +490,7 @@ class Session:
         return call
 
     def read(self, of, at, length):
+        """READ, and pread(2)."""
         node = self.pick(of)
         body = record(Op.READ, offset=at, size=length)
         call = self.on_file(node, os.O_RDONLY, lambda file: os.pread(file, length, at))
@@ -479,6 +500,7 @@ class Session:
             self.note("other bytes")
 
     def open(self, of, flags):
+        """OPEN, and open(2)."""
         node = self.pick(of)
         if self.nodes[node].kind == "f":
             if self.both(lambda: self.library.ask(Op.OPEN, node, record(Op.OPEN, flags=flags)),
@@ -503,6 +525,7 @@ class Session:
         return self.nodes[node].kind in ("df" if key.startswith(b"user.") else "dfs")
 
     def setxattr(self, of, key, length, byte, flags):
+        """SETXATTR, and setxattr(2)."""
         node = self.pick(of)
         if self.may_have(node, key):
             value = bytes([byte]) * length
@@ -511,6 +534,7 @@ class Session:
                       lambda: os.setxattr(way(self.file(node)), key, value, flags), (node,))
 
     def getxattr(self, of, key):
+        """GETXATTR, and getxattr(2)."""
         node = self.pick(of)
         if self.may_have(node, key):
             if answers := self.both(lambda: self.value(node, key, 1000),
@@ -525,6 +549,7 @@ class Session:
         return sorted(self.library.ask(Op.LISTXATTR, node, record(Op.LISTXATTR, size=60000)).split(b"\0")[:-1])
 
     def listxattr(self, of):
+        """LISTXATTR, and listxattr(2), in the order of names."""
         node = self.pick(of)
         if self.nodes[node].kind != "l":
             answers = self.both(lambda: self.keys(node), lambda: keys_of(self.file(node)), (node,))
@@ -532,6 +557,7 @@ class Session:
                 self.note("other names")
 
     def removexattr(self, of, key):
+        """REMOVEXATTR, and removexattr(2)."""
         node = self.pick(of)
         if self.may_have(node, key):
             self.both(lambda: self.library.ask(Op.REMOVEXATTR, node, key + b"\0"),
@@ -591,6 +617,7 @@ class Session:
             self.note(f"birth of {kind}")
 
     def ioctl(self, of, command):
+        """IOCTL, and ioctl(2)."""
         node, (number, given, length) = self.pick(of), command
         body = struct.pack("<QIIQII", 0, 0, number, 0, 0 if length else len(given), length) + (b"" if length else given)
         call = self.on_file(node, os.O_RDONLY, lambda file: fcntl.ioctl(file, number, given)[:length])
@@ -699,7 +726,9 @@ class Session:
             for key in keys if keys == keys_of(of.file) else []:
                 if self.value(node, key, 60000) != os.getxattr(way(of.file), key):
                     self.note("value of an attribute")
+        # (a loop of directories would be a fault, and must come to an end)
         if of.kind == "d" and depth < 40:
+            # (READDIRPLUS and READDIR by turns)
             for name, _ in self.listing(node, depth % 2 == 0):
                 if name not in (b".", b".."):
                     child = self.library.entry(Op.LOOKUP, node, name + b"\0")
@@ -728,6 +757,7 @@ class Session:
         shutil.rmtree(self.folder)
 
     def empty(self, node):
+        """Removes all below a node."""
         for name, kind in self.pieces(node, False, 60000):
             if name not in (b".", b".."):
                 if kind == 4:

@@ -19,6 +19,7 @@ def made(flags=0, mode=0o640):
 def link(file):
     """Gives a file a name, and answers why not."""
     try:
+        # (by /proc it needs no capability, as linkat(2) says)
         os.link(f"/proc/self/fd/{file}", named, src_dir_fd=file)
     except OSError as error:
         return errno.errorcode[error.errno]
@@ -48,6 +49,7 @@ os.close(file)
 file = made(os.O_EXCL)
 step("a name with O_EXCL", link(file), "ENOENT")
 os.close(file)
+# In a directory that is removed, but open, a file without a name can be made all the same.
 os.mkdir(named)
 directory = os.open(named, os.O_RDONLY)
 os.rmdir(named)

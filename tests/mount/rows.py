@@ -14,8 +14,10 @@ import time
 sys.path.append(str(pathlib.Path(__file__).resolve().parents[1] / "lib"))
 from held import faults, step  # noqa: E402
 
+# FS_IOC_ of linux/fs.h, and a number that is no command.
 GETFLAGS, SETFLAGS, FSGETXATTR, FSSETXATTR = 0x80086601, 0x40086602, 0x801c581f, 0x401c5820
 UNKNOWN = 0x8004ff7f
+# FS_IMMUTABLE_FL, FS_COMPR_FL; STATX_BTIME, and all basic fields with it; AT_SYMLINK_NOFOLLOW.
 IMMUTABLE, COMPRESSED = 0x10, 0x4
 BTIME, ALL = 0x800, 0xfff
 NO_FOLLOW = 0x100
@@ -25,9 +27,11 @@ libc = ctypes.CDLL(None, use_errno=True)
 def statx(path, mask=ALL):
     """What is told: the mask, and blksize, nlink, uid, gid, mode, size, blocks, the times, and a device's numbers."""
     of = ctypes.create_string_buffer(256)
+    # (-100 is AT_FDCWD, and 256 the size of a struct statx)
     if libc.statx(-100, os.fsencode(path), NO_FOLLOW, mask, of):
         raise OSError(ctypes.get_errno(), path)
     told, blksize, _, nlink, uid, gid, mode, ino, size, blocks, _ = struct.unpack_from("<IIQIIIHxxQQQQ", of)
+    # (seconds, and nanoseconds beyond)
     times = [struct.unpack_from("<qI", of, at) for at in (64, 80, 96, 112)]
     atime, btime, ctime, mtime = (seconds * 10**9 + beyond for seconds, beyond in times)
     major, minor = struct.unpack_from("<II", of, 128)
@@ -88,6 +92,7 @@ def shown(path):
 def births(folder):
     """The time of birth of each node is that of its making, and stays."""
     made = nodes(folder)
+    # Nanoseconds: the clock of a file system goes by ticks of up to 10 ms.
     slack = 20 * 10**6
     for path, (before, after) in made.items():
         at = born(path)
@@ -95,6 +100,7 @@ def births(folder):
         step(f"{path} has its times", (statx(path)["mtime"], statx(path)["ctime"]), (at, at))
     file, other = f"{folder}/file", f"{folder}/other"
     times = {path: born(path) for path in made}
+    # (longer than a tick, so that a birth that moved would show)
     time.sleep(0.05)
     with open(file, "wb") as to:
         to.write(b"hello")
@@ -145,6 +151,7 @@ folder, tmpfs = sys.argv[1:]
 step("what statx tells of each node", births(folder), births(tmpfs))
 step("what commands come to", flags(folder), flags(tmpfs))
 step("a flag that tmpfs keeps", ioctl(f"{folder}/file", SETFLAGS, struct.pack("<l", IMMUTABLE)), "ENOTSUP")
+# (GETFLAGS puts out an int, though its number says a long)
 kept = array.array("i", [-1])
 with open(f"{folder}/file", "rb") as of:
     fcntl.ioctl(of, GETFLAGS, kept)

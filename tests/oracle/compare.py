@@ -63,6 +63,7 @@ def blocks_of(way, output):
 
 
 def wanted_blocks(way, output):
+    """What must be said to each request; with rooms three lines are of each."""
     if way != "refusals":
         return blocks_of(way, output)
     lines = output.splitlines()
@@ -99,6 +100,7 @@ def outcome_of(block):
 
 
 def count(counts, lines, blocks):
+    """Counts answers by opcode and outcome."""
     for line, block in zip(lines, blocks):
         outcome = outcome_of(block)
         counts["bad line" if outcome == "bad line" else opcode_of(line), outcome] += 1
@@ -175,6 +177,7 @@ def tasks_for(seed, total, oracle, paths):
     for way, (program, files, _) in WAYS.items():
         chosen = sessions.numbers(halves[files])
         chosen += [(f"recorded-{name}", "\n".join(lines) + "\n") for name, lines in sessions.recorded()]
+        # (every parts-th session, so that each task has some of each kind)
         parts = len(chosen) // SESSIONS + 1
         tasks += [(way, path_of[program], seed, chosen[at::parts], oracle) for at in range(parts)]
     return tasks
@@ -196,6 +199,7 @@ def shown(text, most=1500):
 
 
 def tell_difference(differences, folder):
+    """Prints the smallest request that differs, and keeps the session up to it."""
     smallest = min(differences, key=lambda it: (len(it.request), it.session))
     folder.mkdir(parents=True, exist_ok=True)
     file = folder / "difference.lines"
@@ -217,6 +221,7 @@ def main(args):
     with FORK.Pool(jobs) as pool:
         results = [pool.apply_async(work, [task]) for task in tasks_for(seed, total, oracle, paths)]
         for result in results:
+            # (progress: each second on a terminal, else every twenty)
             while not result.ready():
                 result.wait(1)
                 if sys.stderr.isatty() or time.monotonic() - last > 20:

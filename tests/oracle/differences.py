@@ -15,6 +15,7 @@ PROGRAMS = ("raw", "mended", "later")
 
 
 def blocks():
+    """The sessions of differences.txt: the file system, and its lines by their first words."""
     for text in (HERE / "differences.txt").read_text().split("\nfiles ")[1:]:
         files, *lines = text.splitlines()
         parts = [line.split(None, 1) for line in lines if line and not line.startswith("#")]

@@ -119,6 +119,7 @@ def sum_of(text):
 
 
 def edit(texts, edits):
+    """Makes these edits, each as often as its place must be there."""
     for name, times, old, new in edits:
         found = texts[name].count(old)
         if found != times:
@@ -140,6 +141,7 @@ def wrong_bodies():
 
 
 def edit_wrong(texts, number):
+    """Puts the wrong body of this number in its place."""
     line, name, which, old, new = wrong_bodies()[number - 1]
     # A place without a number must be there once; the third of three is between parts[2] and parts[3].
     parts = texts[name].split(old)

@@ -6,6 +6,7 @@ import sys
 
 import edits
 
+# (shorter ones are in any two programs of the same protocol)
 RUN = 12
 
 
@@ -18,10 +19,12 @@ for text in edits.read_source(pathlib.Path(sys.argv[1])).values():
     theirs.update(runs(re.findall(r"\w+", text)))
 read = found = 0
 for name in sys.stdin.read().split("\0"):
+    # (licences are the same words everywhere)
     if pathlib.Path(name).is_file() and not name.startswith("LICENSE"):
         text = pathlib.Path(name).read_bytes().decode("latin-1")
         for number, line in enumerate(text.split("\n"), 1):
             read += 1
+            # (of the texts in edits.py, where an end of a line is two signs)
             words = re.findall(r"\w+", line.replace("\\n", " "))
             if any(run in theirs for run in runs(words)):
                 found += 1

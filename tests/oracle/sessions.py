@@ -91,16 +91,19 @@ class Session:
     # Numbers and names, odd ones often.
 
     def odd64(self):
+        """A number of 8 bytes, at an edge of something or any."""
         r = self.rng
         return r.choice([0, 1, 2, 3, 5, 7, 255, 4096, 65534, 65535, 65536, 1 << 20, 1 << 32, (1 << 63) - 1,
                          1 << 63, EVERY_BIT - 8, EVERY_BIT - 1, EVERY_BIT, r.getrandbits(64), r.getrandbits(16)])
 
     def odd32(self):
+        """A number of 4 bytes, likewise."""
         r = self.rng
         return r.choice([0, 1, 2, 3, 4, 5, 6, 7, 8, 64, 100, 0o644, 0x1000, 0xffff, 1 << 20, (1 << 20) + 1,
                          0x7fffffff, 0x80000000, 0xffffffff, r.getrandbits(32), r.getrandbits(12)])
 
     def node(self):
+        """A node: those that the files have, or any."""
         if self.files == "memory":
             return self.rng.choice([1, 1, 1, 1, 2, 2, 2, 3, 3, 4, 5, 0, 6, self.odd64()])
         return self.rng.choice([1, 1, 1, 2, 3, 1005, 0, self.odd64()])
@@ -109,6 +112,7 @@ class Session:
         return 1 if self.rng.random() < 0.85 else self.node()
 
     def name(self):
+        """The bytes of a name, which may be none."""
         r = self.rng
         if self.files == "memory":
             return r.choice([b"a", b"a", b"b", b"c", b"d", b"file", b".", b"..", b"", b"x" * r.randrange(1, 40)])
@@ -150,6 +154,7 @@ class Session:
         return u32(8 + len(body)) + u32(count) + body
 
     def group_block(self, good=True):
+        """A block with a group, or one that is wrong."""
         r = self.rng
         body = u32(1) + u32(r.choice([0, 1000, 0xffffffff])) + r.randbytes(r.choice([0, 0, 8, 1]))
         if not good:
@@ -197,6 +202,7 @@ class Session:
             blocks[i] = bytes(changed)
 
     def field(self, it):
+        """The bytes of a field of a record."""
         if it.name == "-":
             return bytes(it.size)
         if it.name == "umask":
@@ -258,6 +264,7 @@ class Session:
         return made, self.reply(opcode) if shape.reply is None else shape.reply
 
     def setxattr_body(self):
+        """The body of SETXATTR, whose record is longer if that was agreed on."""
         r = self.rng
         value = r.randbytes(r.choice([0, 1, 5, 300]))
         size = len(value) if r.random() < 0.9 else self.odd32()
@@ -267,12 +274,14 @@ class Session:
         return u32(size) + flags + self.name() + b"\0" + value
 
     def pairs(self):
+        """The body of BATCH_FORGET, whose count may not be that of its pairs."""
         r = self.rng
         pairs = r.choice([0, 1, 2, 3, 20])
         count = pairs if r.random() < 0.85 else r.choice([pairs + 1, 65536, 65537, 0xffffffff, 0x10000000])
         return u32(count) + u32(0) + b"".join(u64(self.node()) + u64(self.odd64()) for _ in range(pairs))
 
     def transfer(self, opcode):
+        """The body of a READ or WRITE, and how long its reply is."""
         r = self.rng
         size = r.choice([0, 1, 2, 3, 5, 8, 16, 64, 100])
         offset = r.choice([0, 0, 0, 1, 2, 3, 5, 60, self.odd64()])
@@ -283,6 +292,7 @@ class Session:
         return record + r.randbytes(r.choice([size, size, size, 0, max(0, size - 1), size + 1, size + 7])), 24
 
     def init_body(self):
+        """The body of INIT."""
         r = self.rng
         flags = r.choice([KNOWN, EVERY_BIT, r.getrandbits(64), INIT_EXT | SECURITY_CTX, SETXATTR_EXT, 0,
                           INIT_EXT | CREATE_SUPP_GROUP, ALL_EXTENSIONS | SETXATTR_EXT, SUPPORTED])
@@ -338,6 +348,7 @@ class Session:
         self.lines.append("+".join(map(str, rooms)) + " " + "+".join(it.hex() for it in segments))
 
     def line(self, message, room, wild=0.35):
+        """Adds a request, with its message and its room cut with this chance."""
         segments, at = [], 0
         for length in self.cutting(len(message), wild):
             segments.append(message[at:at + length])
@@ -345,6 +356,7 @@ class Session:
         self.put(self.cutting(room, wild), segments)
 
     def room(self, reply):
+        """A room for a reply of so many bytes: mostly that, else more or less."""
         r = self.rng
         more = [reply + r.randrange(1, 40)] * 2
         less = [reply - 1, 16, 15, 0, r.randrange(0, reply + 2)]
@@ -392,6 +404,7 @@ class Session:
                 self.agree()
 
     def mixed(self):
+        """Any requests, of which many are changed, in rooms of any size."""
         r = self.rng
         if r.random() < 0.8:
             self.agree()
@@ -420,18 +433,21 @@ class Session:
         return message
 
     def truncated(self):
+        """Each beginning of a message."""
         self.agree()
         message, reply = self.message(self.rng.choice(OPCODES))
         for length in range(min(len(message), 300) + 1):
             self.line(message[:length], reply, 0.1)
 
     def lengths(self):
+        """Each `len` in a message's header."""
         self.agree()
         message, reply = self.message(self.rng.choice(OPCODES))
         for length in [*range(min(len(message), 300) + 2), 1052672, 1052673, 0x80000000, 0xffffffff]:
             self.line(u32(length) + message[4:], reply, 0.1)
 
     def rooms(self):
+        """Each room for a message's reply."""
         self.agree()
         message, reply = self.message(self.rng.choice(OPCODES))
         for room in range(min(reply, 200) + 2):
@@ -486,6 +502,7 @@ class Session:
             self.read_directory(r.choice(DIRECTORY), 60_000, 60_016, 0, 8 * (30 + 62 * r.randrange(9)))
 
     def read_directory(self, opcode, size, room, offset, process=None):
+        """Adds a READDIR or READDIRPLUS."""
         node = 1 if self.rng.random() < 0.9 else self.node()
         process = self.a_process() if process is None else process
         body = u64(0) + u64(offset) + u32(size) + bytes(20)
@@ -514,6 +531,7 @@ class Session:
             self.line(message, reply if r.random() < 0.8 else self.room(reply), 0.6)
 
     def entries(self):
+        """Requests that are answered an entry, in rooms that it fits or not, and some FORGETs."""
         r = self.rng
         self.agree(r.choice([None, 0]))
         for _ in range(100):
@@ -627,6 +645,7 @@ class Session:
         self.lines.append(f"answer {answer}")
 
     def told_fault(self):
+        """An answer that is a fault, of a number at an edge."""
         r = self.rng
         return "fault " + str(r.choice(["none", 1, 2, 133, 134, 135, 511, 512, 4095, 4096, 65535, 65536, (1 << 31) - 2,
                                         (1 << 31) - 1, r.randrange(1, 1 << 31)]))
@@ -694,6 +713,7 @@ class Session:
         ]))
 
     def text(self, kind):
+        """The text of a session of this kind."""
         add = self.extensions_of_all_sorts if kind == "extensions" else getattr(self, kind)
         while len(self.lines) < self.size:
             add()
@@ -742,6 +762,7 @@ def flat(text):
 
 
 def main(args):
+    """Writes the sessions into a folder."""
     if len(args) != 4 or args[3] not in ("script", "memory") or not args[1].isdigit():
         sys.exit(__doc__)
     seed, count, folder, files = args

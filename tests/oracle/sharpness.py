@@ -50,6 +50,7 @@ def answers(program, stage, way, into):
     where it does not end well."""
     shutil.rmtree(into, ignore_errors=True)
     into.mkdir(parents=True)
+    # (a body that goes round for ever is ended by its processor time)
     limit = lambda: resource.setrlimit(resource.RLIMIT_CPU, (SECONDS, SECONDS))
     if subprocess.run([program, way, stage / WAYS[way], into], preexec_fn=limit).returncode:
         return None
@@ -72,6 +73,7 @@ def build(number, source, oracle, folder):
     if ran.returncode:
         return None, ran.stderr
     stand_ins = oracle / "build" / "stand_ins"
+    # (quick to compile: it is run a few seconds)
     rustc = ["rustc", "--edition", "2021", "-C", "opt-level=0", "-C", f"incremental={folder}/incremental",
              "--cap-lints", "allow", "-L", stand_ins]
     for name in STAND_INS:

@@ -58,6 +58,7 @@ class Run:
         self.folder, self.second, self.there, self.quick = Path(folder), Path(second), Path(there), quick
         root = self.there / "root"
         programs = [f"{root}/{folder}" for folder in ("usr/bin", "usr/sbin", "bin", "sbin")]
+        # (what was unpacked comes before what the machine has)
         path = ":".join([*programs, os.environ["PATH"], "/usr/sbin", "/sbin"])
         self.env = dict(os.environ, LC_ALL="C", TMPDIR=str(self.folder), HOME=str(self.folder), PATH=path)
         self.env["LD_LIBRARY_PATH"] = f"{root}/usr/lib/x86_64-linux-gnu:{root}/lib/x86_64-linux-gnu"
@@ -66,6 +67,7 @@ class Run:
         """The status and what it said of a command, or of a line of the shell. Who is late is ended."""
         words = ["bash", "-c", words] if isinstance(words, str) else [str(word) for word in words]
         more = {"cwd": self.folder, "env": self.env} | more
+        # (a session of its own, by which all that it started is ended)
         with subprocess.Popen(words, stdin=subprocess.DEVNULL, stdout=subprocess.PIPE, stderr=subprocess.STDOUT,
                               start_new_session=True, **more) as process:
             try:
@@ -109,6 +111,7 @@ def cpython(run, modules=None, those=()):
     modules = modules or (CPYTHON_QUICK if run.quick else CPYTHON)
     cases = run.folder / "cases.xml"
     env = dict(run.env)
+    # (the unpacked interpreter finds its libraries by itself)
     del env["LD_LIBRARY_PATH"]
     _, text = run.call([python, "-m", "test", "-j2", "--timeout=200", f"--tempdir={run.folder}", "-u",
                         "all,-largefile,-network,-urlfetch,-audio,-gui,-cpu", "--ignore", "*LargeMmapTests*",
@@ -152,6 +155,7 @@ def coreutils(run):
     env["PATH"] = f"{built}/src:{run.env['PATH']}"
     root = run.there / "root/usr/lib/x86_64-linux-gnu"
     env["LD_LIBRARY_PATH"] = str(root)
+    # The scripts name files beside them, and write into their folder: links give each run a folder of its own.
     for entry in built.iterdir():
         (run.folder / entry.name).symlink_to(entry)
     scripts = []
@@ -180,6 +184,7 @@ def coreutils(run):
 
 
 def test_syscalls(run):
+    """libfuse's test of system calls, a case for each of its tests."""
     (run.folder / "folder").mkdir()
     _, text = run.call([run.there / "test_syscalls", run.folder / "folder"], 50, said="always")
     for line in text.splitlines():
@@ -190,6 +195,7 @@ def test_syscalls(run):
 
 
 def posixtest(run):
+    """go-fuse's test, a case for each of its tests."""
     _, text = run.call([run.there / "posixtest", "-test.v"], 110, said="always")
     for line in text.splitlines():
         words = line.split()
@@ -263,6 +269,7 @@ def sqlite(run):
         wait; sqlite3 w.db 'SELECT count(*) FROM q; PRAGMA integrity_check'""", "100\nok")
     run.call(["sqlite3", "k.db", "PRAGMA journal_mode=DELETE; CREATE TABLE a(i); INSERT INTO a VALUES(1)"])
     with subprocess.Popen(["sqlite3", "k.db"], stdin=subprocess.PIPE, cwd=run.folder, env=run.env) as writer:
+        # (a small cache, so that pages are written before the commit)
         writer.stdin.write(b"PRAGMA cache_size=10; BEGIN;")
         writer.stdin.write(b"".join(b"INSERT INTO a VALUES(%d);\n" % i for i in range(20000)))
         writer.stdin.flush()
@@ -294,6 +301,7 @@ class Postgres:
         self.sockets = Path(self.kept.name)
         for folder in (self.own, self.sockets):
             os.chown(folder, 65534, 65534)
+        # (the newest of those that are there)
         bins = [*Path("/usr/lib/postgresql").glob("*/bin"), *(run.there / "root/usr/lib/postgresql").glob("*/bin")]
         run.env |= {"PATH": f"{sorted(bins)[-1]}:{run.env['PATH']}", "PGHOST": str(self.sockets), "PGUSER": "postgres",
                     "PGDATABASE": "postgres"}
@@ -323,6 +331,7 @@ class Postgres:
                                 stdin=subprocess.DEVNULL, **self.client)
 
     def sums(self):
+        """The sums of each table are those of the history, as pgbench keeps them."""
         for table in ("accounts", "branches", "tellers"):
             self.query(f"sum of {table}", f"SELECT (SELECT sum({table[0]}balance) FROM pgbench_{table}) = "
                        "(SELECT coalesce(sum(delta), 0) FROM pgbench_history)", "t")
@@ -381,11 +390,13 @@ def locks_py(run, *words):
 def ping_pong(run, name, words, one, other):
     """Two processes that hand a lock of fcntl(2) on to each other, by two paths of a file, until they are told to end."""
     one.touch()
+    # (3: one more lock than there are processes)
     line = "timeout -s INT {} {} {} '{}' 3"
     texts = []
     with ThreadPoolExecutor(2) as pool:
         for status, text in pool.map(lambda path: run.call(line.format(4, run.there / "ping_pong", words, path), 20,
                                                            said="always"), (one, other)):
+            # (`N locks/sec` each second; 124 is the status of timeout)
             rates = [int(part.split()[-1]) for part in text.split(" locks/sec")[:-1]]
             texts.append(text if status == 124 and any(rates) and "failed" not in text else "")
     ok = all(texts) and ("w" not in words or all("increment = 2" in text for text in texts))
@@ -411,6 +422,7 @@ LOCKING = "flock lease locka lockf lockofd lockmix fd-race".split()
 
 
 def locks(run):
+    """Locks of one mount, as each of several programs tests them."""
     locks_py(run, run.folder / "file")
     ping_pong(run, "ping_pong", "-c", run.folder / "ping", run.folder / "ping")
     ping_pong(run, "ping_pong, data", "-rw", run.folder / "pong", run.folder / "pong")
@@ -481,6 +493,7 @@ def two_postgres(run):
 
 
 def two_mounts(run):
+    """Locks and databases by two mounts of one folder."""
     locks_py(run, run.folder / "file", run.second / "file")
     ping_pong(run, "ping_pong", "-c", run.folder / "ping", run.second / "ping")
     ping_pong(run, "ping_pong, data", "-rw", run.folder / "pong", run.second / "pong")
@@ -528,6 +541,7 @@ def make_sample(folder):
         (folder / f"d{i}" / "below").mkdir(parents=True)
         for j in range(60):
             file = folder / f"d{i}" / ("below" if j % 2 else ".") / f"file {j}"
+            # (of no bytes up to half a megabyte)
             file.write_bytes(b"%d " % (i * j) * (j * j * (40 if j % 20 == 19 else 1)))
             os.chown(file, j % 5, i % 7)
             file.chmod((0o644, 0o755, 0o600, 0o4755, 0o2755, 0o444, 0, 0o6711)[j % 8])
@@ -554,6 +568,7 @@ def make_sample(folder):
 
 
 def make_trusted(folder):
+    """Files with attributes that only CAP_SYS_ADMIN sees."""
     folder.mkdir()
     for i in range(5):
         (folder / f"file{i}").touch()
@@ -561,6 +576,7 @@ def make_trusted(folder):
 
 
 def make_special(folder):
+    """A FIFO, a socket and devices."""
     folder.mkdir()
     os.mkfifo(folder / "fifo")
     os.mknod(folder / "character", 0o020640, os.makedev(1, 3))
@@ -744,6 +760,7 @@ class Column:
         return wrong
 
     def left(self, folder):
+        """Removes what a suite made, and says what is left."""
         try:
             subprocess.run(["rm", "-rf", folder], timeout=300, stderr=subprocess.DEVNULL)
         except subprocess.TimeoutExpired:
@@ -798,6 +815,7 @@ def run_one(column, suite, options):
                 process.wait(30)
             except subprocess.TimeoutExpired:
                 print(f"{suite} on {column.name} can't be killed.", file=sys.stderr)
+    # (a case that is told twice is what it came to last)
     cases = dict(line.split("\t", 1) for line in came.read_text(errors="replace").splitlines() if "\t" in line)
     if not ended:
         cases["the suite"] = "did not end"
@@ -820,6 +838,7 @@ def reasons(file):
 
 
 def short(cases):
+    """How many cases came to what, in a few words."""
     counts = Counter(cases.values())
     order = sorted(counts, key=lambda word: (word != "ok", word != "skipped", word))
     shown = [f"{counts[word]} {word}" for word in order]

@@ -67,9 +67,11 @@ class Stored:
 
     def __init__(self, room, request, answers, outcome, told):
         self.room, self.request, self.answers, self.told = room, bytes.fromhex(request), answers, told
+        # An outcome: ok with a length, or err with a name; and the room's bytes.
         said, what, left = re.fullmatch(r"(ok|err) (.*?)(?: ((?:[0-9a-f]{2})*))?", outcome).groups()
         self.fits = said == "ok"
         self.outcome = f"{said.capitalize()} {what}"
+        # (what it left in the room)
         self.left = bytes.fromhex(left or "")
 
 
@@ -130,6 +132,7 @@ def opcodes():
 
 
 def request_cells(request, *tables):
+    """The opcode of a request, and its bytes by the fields of its header and of these tables."""
     rows = cells(request, "in_header", *tables)
     opcode = opcodes()[little(request[4:8])]
     return opcode, [(piece, name, f"{number}, {opcode}" if name == "opcode" else number) for piece, name, number in rows]
@@ -170,6 +173,7 @@ def lookup(found):
     expect(it.left[16:24] == node.to_bytes(8, "little") and it.fits, "the stored LOOKUP's reply is another")
     expect(cut.request == it.request and cut.told == [*it.told, f"call forget ctx=0,0,0 inode={node} count=1"]
            and cut.left == it.left[:cut.room], "the stored LOOKUP in a smaller room is another")
+    # The law of this very request: header of 42 bytes, opcode 1, unique 9, node 1, and `a` with its nul.
     proved = re.search(r"^lookup_of_a : ask usual 0 144 \(header 42 1 9 1 \+\+ \(0x61 ∷ 0 ∷ \[\]\)\) ≡ WithMemory \(Asks \(echo 9\) "
                        r"\(call\.Lookup nobody 1 \(0x61 ∷ \[\]\)\)\)$", crate(EXAMPLES), re.M)
     expect(proved and it.room == 144, f"{EXAMPLES} has no such lookup_of_a")
@@ -192,6 +196,7 @@ That `ask` gives this is proved (`lookup_of_a`, `crates/{EXAMPLES}`). The next s
 
 
 def memory():
+    """The section of a request that lacks memory."""
     tried = re.search(r"a LOOKUP of `a` twice, cut after its header, which wants no memory, and inside\n# its name",
                       read("tests/allocations/check.sh"))
     expect(tried, "tests/allocations/check.sh refuses another allocation")
@@ -315,6 +320,7 @@ def answers():
 
 
 def answer_of(row, kinds, kind_of):
+    """What a row of form_of is answered, as the table of the protocol says it."""
     called = re.search(r"call\.(\w+)", row)
     if called:
         kind = kind_of[called[1]]

@@ -20,6 +20,8 @@ def git(*words):
 
 
 def changed():
+    """The files that changed since the branch left main, new ones too."""
+    # (a clone has the first; where there is no such branch, what isn't committed is taken)
     for main in ("origin/main", "main"):
         base = git("merge-base", "HEAD", main)
         if base:
@@ -50,6 +52,7 @@ def crates_above(crates):
     """How many crates stand on these."""
     uses = crates_used()
     above = set(crates)
+    # (until no crate comes to it)
     while True:
         more = {name for name, used in uses.items() if used & above} - above
         if not more:

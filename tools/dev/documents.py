@@ -105,12 +105,14 @@ said_of = {}
 
 
 def anchors(document):
+    """The headings of a page, as links name them."""
     headings = re.findall(r"^#+ (.*)", read(document), re.M)
     # (as GitHub makes the anchor of a heading)
     return {re.sub(r"[^\w\- ]", "", heading.lower()).replace(" ", "-") for heading in headings}
 
 
 def check_link(fault, document, target):
+    """Whether the file of a link is there, and its heading."""
     path, _, anchor = target.partition("#")
     path = os.path.normpath(os.path.join(os.path.dirname(document), path)) if path else document
     if path not in paths:
@@ -145,6 +147,7 @@ def check_path(fault, document, path, beside):
 
 
 def check_below(fault, line):
+    """Whether a line that counts the crates below one counts right."""
     for match in BELOW.finditer(line):
         said, crate = match.groups()
         named = [it for it in CODE.findall(line[:match.start()]) if it in below]

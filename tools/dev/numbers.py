@@ -147,6 +147,7 @@ hold(RUST, constants(RUST, "code", "i32"), HEADER, CODE, "code", False)
 
 # ---- fields: the records of the crates, of the header and of the bindings, in order
 
+# What a type of Rust is called in C.
 WIDTH = {"u64": "uint64_t", "u32": "uint32_t", "i32": "int32_t", "usize": "size_t"}
 
 
@@ -157,6 +158,7 @@ def of_rust(path, name):
 
 
 def of_c(name):
+    """The fields of a struct of the header, each with its type."""
     found = re.search(rf"struct(?: nizwarf_{name} \{{([^{{}}]*)\}}| \{{([^{{}}]*)\}} nizwarf_{name});", header)
     if not found:
         faults.append(f"{HEADER}: there is no nizwarf_{name}")
@@ -173,6 +175,7 @@ def hold_fields(path, name, c_name, other=(), without=()):
     for at in range(max(len(found), len(wanted))):
         field = found[at][0] if at < len(found) else "nothing"
         there = wanted[at][0] if at < len(wanted) else "nothing"
+        # (of structs in structs the names differ: only numbers are compared)
         types = {found[at][1], wanted[at][1]} if "nothing" not in (field, there) else set()
         if other.get(field, field) != there or len(types) == 2 and types <= set(WIDTH.values()):
             faults.append(f"{path}: in {name} {field} stands where nizwarf_{c_name} in {HEADER} has {there}")

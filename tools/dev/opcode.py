@@ -45,6 +45,7 @@ def read(path):
 
 
 def tracked():
+    """The files that git knows or would."""
     words = ["git", "ls-files", "--cached", "--others", "--exclude-standard"]
     said = subprocess.run(words, cwd=HERE, stdout=subprocess.PIPE, text=True, check=True).stdout
     return [path for path in said.splitlines() if os.path.isfile(os.path.join(HERE, path))]

@@ -67,6 +67,7 @@ class Picture:
         self.parts.append(f"<text{attributes(dict(x=x, y=y, **more))}>{escaped(words)}</text>")
 
     def drawn(self, width, height):
+        """The picture as a file of this width and height."""
         return "\n".join([
             f'<svg xmlns="http://www.w3.org/2000/svg" width="{width}" height="{height}" '
             f'viewBox="0 0 {width} {height}" font-family="system-ui, sans-serif" '
@@ -96,6 +97,7 @@ def dependencies():
 
 
 def all_below(stands_on):
+    """Of each crate all that it stands on."""
     below = {}
     for crate, names in stands_on.items():
         below[crate] = set(names).union(*[below[name] for name in names])
@@ -139,6 +141,7 @@ def layers(stands_on, below):
 
 
 def crossings(rows, lines):
+    """How many lines cross."""
     count = 0
     for at in range(1, len(rows)):
         ends = [(rows[at - 1].index(low), rows[at].index(up)) for row, low, up in lines if row == at]
@@ -222,6 +225,7 @@ def crates():
     x = {name: left + middle for name, middle in middles.items()}
     y = {name: top + step * (len(rows) - 1 - at) for at, row in enumerate(rows) for name in row}
     for _, low, up in lines:
+        # (boxes are 44 high: a line leaves the lower one's top, and bends half way)
         bend = (y[low] + y[up] + 44) // 2
         through = f" V{y[up]}" if up[0] == "|" else ""
         picture.shape("path", d=f"M{x[low]} {y[low]} C{x[low]} {bend} {x[up]} {bend} "
@@ -278,6 +282,7 @@ def lookup():
 
 def bar(picture, x, y, scale, cell, colour, column):
     """The least of a cell's figures as a bar, up to the greatest in a lighter one, and the text."""
+    # (a bar ends at the edge; the text says how much it is)
     figures = [min(float(figure), 1.1) for figure in re.findall(r"\d+\.\d+", cell)]
     least, most = scale * figures[0], scale * figures[-1]
     picture.box(x, y, least, 9, fill=colour, stroke="none")
@@ -286,6 +291,7 @@ def bar(picture, x, y, scale, cell, colour, column):
 
 
 def grid(picture, x, scale, top, bottom, whole="virtiofsd's Rust", last=10):
+    """Lines at each second tenth, with their numbers below and the word for 1 above."""
     for tenth in range(0, last + 1, 2):
         at = x + scale * tenth / 10
         picture.shape("line", x1=at, y1=top - 6, x2=at, y2=bottom,
@@ -392,6 +398,7 @@ def lines_of(picture, left, rows, names, which, words, scales):
     picture.text(left, top - 14, words)
     for column, (name, colour) in enumerate(names.items(), 1):
         points = [(int(row[0].replace(",", "")), row[column].split(", ")[which]) for row in rows if row[column] != "-"]
+        # (what is below the scale is drawn on its line)
         places = [place(files, max(float(figure.replace(",", "")), scales[1][0])) for files, figure in points]
         picture.shape("polyline", points=" ".join(f"{x:.1f},{y:.1f}" for x, y in places), fill="none", stroke=colour,
                       stroke_width=2)

@@ -30,6 +30,7 @@ SOURCES = {path: read(path) for path in sorted(glob.glob("crates/fuse_wire*/src/
 def fields_of(name):
     """The fields of a struct with their types. None: there is no such struct."""
     for text in SOURCES.values():
+        # (up to the brace alone on its line)
         found = re.search(rf"pub struct {name} \{{(.*?)\n\}}", text, re.S)
         if found:
             return re.findall(r"pub (\w+): ([^,]+),", found[1])
@@ -38,6 +39,7 @@ def fields_of(name):
 
 def table_of(name):
     """The name of a record's table."""
+    # (SetattrIn is setattr_in)
     return re.sub(r"(?<=[a-z0-9])(?=[A-Z])", "_", name).lower()
 
 
@@ -92,6 +94,7 @@ def plain(text):
 
 
 def check():
+    """Derives all records, and prints how many stand so."""
     stands = plain("".join(SOURCES.values()) + "".join(map(read, glob.glob("crates/fuse_wire*/specs/*.antt"))))
     names = [it for text in SOURCES.values() for it in re.findall(r"impl ByteValued for ([A-Z]\w+)", text)]
     same = 0

@@ -23,6 +23,7 @@ CALLS, LOCKS = "floor with calls", "nizwarf-share with locks"
 CLASSES = {"unknown": ("an unknown opcode", 4000), "getattr": ("GETATTR", 4000), "lookup": ("LOOKUP of a known file", 4000),
            "read-4k": ("READ of 4 KiB", 4000), "write-4k": ("WRITE of 4 KiB", 4000), "read-1m": ("READ of 1 MiB", 60),
            "write-1m": ("WRITE of 1 MiB", 60), "readdir": ("READDIR of 1,000", 60), "readdirplus": ("READDIRPLUS of 1,000", 20)}
+# (odd, so that the median is one of them)
 ROUNDS = 31
 
 HEAD = """# What grows with what is served
@@ -85,6 +86,7 @@ class Daemon:
             return next(int(line.split()[1]) * 1024 for line in file if line.startswith("RssAnon"))
 
     def end(self):
+        """Ends both: the front end by the end of its input, the daemon by that or by a signal."""
         self.front.stdin.close()
         self.front.wait()
         try:
@@ -125,6 +127,7 @@ def fill():
 
 
 def table(head, rows):
+    """Prints a table."""
     print("\n| " + " | ".join(head) + " |\n|" + "---|" * len(head))
     for row in rows:
         print("| " + " | ".join(row) + " |")
@@ -180,10 +183,12 @@ def rate(asked):
     for daemon, depth in asked:
         daemon.send("getattr", depth, REQUESTS)
     taken = [daemon.take() for daemon, _ in asked]
+    # (nanoseconds: times a million is thousands a second; all are done once the slowest is)
     return len(asked) * REQUESTS / max(wall for wall, _ in taken) * 1e6, sum(ran for _, ran in taken) / len(asked) / REQUESTS / 1000
 
 
 def in_flight(name, queues, pool):
+    """Of each depth thousands of requests a second, and the microseconds of each."""
     daemon = Daemon(name, words_of(name, pool), queues)
     cells = ["{:,.0f} ({:.1f})".format(*rate([(daemon, depth)])) for depth in DEPTHS]
     daemon.end()
@@ -191,6 +196,7 @@ def in_flight(name, queues, pool):
 
 
 def machines(name, count):
+    """The same of so many daemons at once, each with its own front end."""
     daemons = [Daemon(name, words_of(name)) for _ in range(count)]
     cells = "{:,.0f} ({:.1f})".format(*rate([(daemon, 4) for daemon in daemons]))
     for daemon in daemons:
@@ -229,6 +235,7 @@ def parts():
         taken = [[daemon.ask(kind, 16, count)[1] / count / 1000 for daemon in daemons] for _ in range(ROUNDS)]
         rows.append([what, *(f"{statistics.median(column):,.2f}" for column in list(zip(*taken))[:2])])
         for at in (2, 3):
+            # (its part beyond the transport with the calls, in the same round)
             low, own, high = statistics.quantiles([(them[at] - them[1]) / them[at] for them in taken], n=4)
             rows[-1] += [f"{statistics.median(them[at] for them in taken):,.2f}", f"{own:.2f} ({low:.2f} to {high:.2f})"]
     for daemon in daemons:

@@ -25,6 +25,7 @@ def sum_of(crate):
     for part in ("src", "specs", "proofs"):
         for path, _, files in sorted(os.walk(f"crates/{crate}/{part}")):
             for it in sorted(files):
+                # (with its name, so that a file that moves counts as changed)
                 total.update(f"{path}/{it}\n{read(f'{path}/{it}')}".encode())
     return total.hexdigest()[:16]
 

@@ -98,6 +98,7 @@ class Server:
         self.words = [word.format(folder=self.folder, mount=self.mount) for word in words]
 
     def begin(self):
+        """Starts it, and waits until it is mounted."""
         # (libfuse's example warns of its own default)
         self.process = subprocess.Popen(self.words, stdout=subprocess.DEVNULL, stderr=subprocess.DEVNULL)
         while not os.path.ismount(self.mount):
@@ -140,6 +141,7 @@ class Server:
         os.mkdir(self.folder)
         os.mkdir(self.mount)
         self.set_out(what, jobs)
+        # (without a count, an empty one)
         counted = self.count() if counts else dict
         ran = subprocess.run([speed, class_of(what), self.mount, str(jobs), self.pid(), *COMMANDS.get(what, [])],
                              stdout=subprocess.PIPE, text=True, env=dict(os.environ, GIT_OPTIONAL_LOCKS="0"))
@@ -195,9 +197,11 @@ def class_of(what):
 
 
 def fill(folder, what, jobs):
+    """Puts what a class wants into a folder."""
     subprocess.run([speed, class_of(what), folder, str(jobs)], check=True)
     if what == "git status":
         for job in range(jobs):
+            # (a copy for each job)
             shutil.copytree(work + "/clone", f"{folder}/job-{job}/clone", symlinks=True)
 
 
@@ -223,8 +227,10 @@ def rows_of(servers, own, what):
         for turn in range(min(rounds, FEW.get(what, rounds))):
             for i in range(len(names)):
                 name = names[(i + turn) % len(names)]
+                # Each round begins with another one, so that none always finds the machine warm.
                 times[name].append(servers[name].time(what, jobs))
         for it in own:
+            # (of the share a class that can't be done is shown as a line)
             if None in times[it] and kind == "tree":
                 sys.exit(f"{it} could not do {what}")
             beside = {}

@@ -41,6 +41,7 @@ def imports(path):
         found = USE.match(line.rstrip())
         if found and found[2] is not None:
             for name in re.split(r"\s*,\s*", found[2].strip()):
+                # (by the name that it has here)
                 names[name.split(" as ")[-1]] = (found[1], name.split(" as ")[0])
         elif found:
             modules[found[4] or found[1].split(".")[-1]] = found[1]
@@ -89,6 +90,7 @@ class Specs:
 
     def reach(self, starts):
         """What is reached from these, with those that name each."""
+        # (a definition is followed once, whoever names it)
         by, todo = collections.defaultdict(set), list(starts)
         for it in starts:
             by[it] = set()
@@ -102,6 +104,7 @@ class Specs:
 
 
 def start_of(specs, word):
+    """The definition that a word CRATE/FILE.NAME names."""
     found = re.fullmatch(r"(\w+)/(\w+)\.(\w+)", word)
     at = found and (f"{found[1]}.specs.{found[2]}", found[3])
     if not at or at[1] not in specs.of.get(at[0], {}):

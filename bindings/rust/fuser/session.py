@@ -34,6 +34,7 @@ def show(name, call, *words):
 
 
 def attributes(path):
+    """What lstat(2) says, but for times."""
     of = os.lstat(path)
     return [oct(of.st_mode), of.st_ino, of.st_nlink, of.st_uid, of.st_gid, of.st_size, of.st_blocks, of.st_blksize,
             of.st_rdev]
@@ -50,6 +51,7 @@ def statistics(path):
 
 
 def read(path, size=1 << 20, offset=0):
+    """So many bytes of a file, by a descriptor of its own."""
     descriptor = os.open(path, os.O_RDONLY)
     try:
         return os.pread(descriptor, size, offset)
@@ -58,6 +60,7 @@ def read(path, size=1 << 20, offset=0):
 
 
 def write(path, data, offset=0, flags=os.O_WRONLY | os.O_CREAT, mode=0o644):
+    """Writes bytes to a file, by a descriptor of its own, which may make it."""
     descriptor = os.open(path, flags, mode)
     try:
         return os.pwrite(descriptor, data, offset)
@@ -91,6 +94,7 @@ def hello():
 
 
 def simple():
+    """All that the example serves."""
     show("statistics", statistics, ".")
     directories()
     files()
@@ -167,6 +171,7 @@ def files():
 
 
 def copy(old, new):
+    """Copies a part of a file by copy_file_range(2): how much, and a checksum of what came of it."""
     source, target = os.open(old, os.O_RDONLY), os.open(new, os.O_CREAT | os.O_RDWR)
     try:
         copied = os.copy_file_range(source, target, 70_000, 1000, 10)
@@ -232,6 +237,7 @@ def as_other(user):
 
 
 def ioctl():
+    """The size of the example's file, told and set by ioctl(2)."""
     descriptor = os.open("fioc", os.O_RDWR)
     # FIOC_GET_SIZE and FIOC_SET_SIZE of the example: _IOR and _IOW of 'E', 0 and 1, 8 bytes each.
     get_size, set_size = 0x80084500, 0x40084501
@@ -262,6 +268,7 @@ def poll():
 
 
 def notify_inval_entry():
+    """A name that the server changes is no longer kept once it is told so."""
     (old,) = os.listdir(".")
     attributes(old)
     time.sleep(1.2)
@@ -270,6 +277,7 @@ def notify_inval_entry():
 
 
 def notify_inval_inode():
+    """Nor are data."""
     old = read("current_time")
     time.sleep(1.2)
     print("there are new data", read("current_time") != old)
@@ -279,6 +287,7 @@ EXAMPLES = {call.__name__: call for call in [hello, simple, ioctl, poll, notify_
 
 
 def main():
+    """Makes the calls of an example in a folder."""
     if len(sys.argv) == 3 and sys.argv[1] in EXAMPLES:
         os.chdir(sys.argv[2])
         EXAMPLES[sys.argv[1]]()
