@@ -15,6 +15,7 @@ build_programs text_demo text_decode
 
 answers=$(mktemp)
 trap 'rm -f "$answers"' EXIT
+# (told after what it wrote)
 status=0
 # shellcheck disable=SC2154
 "$(path_of text_demo)" < "$crate/stdin" > "$answers" || status=$?

@@ -32,6 +32,7 @@ done
 lines=$(realpath "$1")
 expected=${2:+$(realpath "$2")}
 
+# (only what shows messages needs text_decode)
 programs=(text_demo)
 if [ -z "$expected" ] && [ -z "$bytes" ]; then
     programs+=(text_decode)

@@ -20,6 +20,7 @@ set -euo pipefail
 . "$(dirname "$0")/lib/usage.sh"
 . "$(dirname "$0")/lib/transport.sh"
 
+# (words that stand alone; all others are the program's, which says what can't be)
 case $#:${1:-} in
     1:--words) set -- --help ;;
     1:--check) exec "$here/tests/share/check.sh" ;;
@@ -30,4 +31,5 @@ case $#:${1:-} in
         ;;
 esac
 build_transport share nizwarf_door
+# (in its place, so that signals are the program's)
 exec "$transport" "$@"

@@ -33,6 +33,7 @@ cd "$(dirname "$0")/../.."
 
 folder=$(mktemp -d)
 trap 'rm -rf "$folder"' EXIT
+# (put before the C library by LD_PRELOAD: it counts and refuses)
 "${CC:-cc}" -shared -fPIC -O2 -o "$folder/refuse_allocation.so" tests/allocations/refuse_allocation.c -ldl
 
 python3 -B tests/allocations/refuse.py "$folder"

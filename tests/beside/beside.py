@@ -95,6 +95,7 @@ def ask_new(daemon, lines):
     with tempfile.TemporaryDirectory(dir=folder) as at:
         share, socket = at + "/share", at + "/socket"
         os.mkdir(share)
+        # (only a whole word is one of these)
         words = [{"SOCKET": socket, "SHARE": share}.get(word, word) for word in daemon]
         with open(at + "/log", "w+", encoding="utf-8", errors="replace") as log:
             process = subprocess.Popen(words, stdin=subprocess.DEVNULL, stdout=log, stderr=log)
@@ -102,6 +103,7 @@ def ask_new(daemon, lines):
                 with subprocess.Popen([ask, socket], stdin=subprocess.PIPE, stdout=subprocess.PIPE,
                                       text=True) as asking:
                     asked, answers = talk(asking, lines)
+                # (a second to end by itself, since what it prints then is looked at)
                 process.terminate()
             finally:
                 end(process, 1)
@@ -192,6 +194,7 @@ def judge(session):
     for at in range(skipped, len(items) - 1):
         answers = [said[at] if at < len(said) else "not asked" for said in (there, here)]
         kind, part = kind_of(asked[at], *answers, log) if at < len(asked) else (None, "")
+        # (all that is known of what has no kind)
         came = "" if kind else f"{items[at][0]}\n  virtiofsd {answers[0]}\n  here      {answers[1]}\n{log}"
         found.append((items[at][0], kind, part, came))
     return found, here[-1] == ENOSYS, there[-1] == ENOSYS

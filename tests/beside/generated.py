@@ -198,6 +198,7 @@ class Maker:
         opcode = self.rng.choices(list(OPCODES), OPCODES.values())[0]
         node, parts, room = self.body(opcode)
         extensions = self.extensions() if opcode in SHAPES and "extensions" in SHAPES[opcode].parts else b""
+        # (more room than the reply needs; FORGET and BATCH_FORGET have none)
         if self.rng.random() < .03 and opcode not in (2, 42):
             room += self.some(8, 100)
         uid = self.some(0, 0, 0, 1000)
@@ -236,6 +237,7 @@ class Maker:
         if not shape or shape.about == "unread":
             return self.node(), [bytes(64)], 16 + 40
         if opcode == Op.BATCH_FORGET:
+            # (two pairs, of a node and how many lookups are given back)
             return 0, [struct.pack("<II", 2, 0), self.node(), self.some(0, 1), self.node(), 1], 0
         if opcode in (Op.GETATTR, Op.SETATTR):
             return self.attributes(opcode)
@@ -243,6 +245,7 @@ class Maker:
         node = self.refer(shape.about, values)
         after = [self.part(it) for it in shape.parts if it != "extensions"]
         if opcode in (Op.WRITE, Op.SETXATTR):
+            # (the size of what follows the record)
             values["size"] = len(after[-1])
         record = [values[it.name] if it.size == 8 else struct.pack("<I", values[it.name]) for it in shape.fields]
         if opcode == Op.SETXATTR and self.long_setxattr:

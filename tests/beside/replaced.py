@@ -31,6 +31,7 @@ from shapes import Op, record
 
 DAEMON = ["--socket-path", "SOCKET", "--shared-dir", "SHARE", "--sandbox", "none", "--seccomp", "none",
           "--no-announce-submounts", "--xattr"]
+# Words that change what a session is like; a session has those of its seed.
 OPTIONS = ([], ["--cache=always", "--writeback"], ["--posix-acl", "--security-label"], ["--thread-pool-size=4"],
            ["--allow-direct-io", "--cache=never"], ["--no-readdirplus"])
 LENGTH = 1000
@@ -134,6 +135,7 @@ def compare(session):
             for n, request in enumerate(maker.session(count)):
                 try:
                     answers = [daemon.ask(daemon.client.build(request)) for daemon in (there, here)]
+                # (it is of a node or handle that only the other daemon gave out)
                 except IndexError:
                     shown.append(f"session {seed}, {n}: the daemons gave out different numbers before")
                     break
@@ -147,8 +149,10 @@ def compare(session):
                     shown.append(f"session {seed} {options}, {n}: {requests.NAMES.get(request.opcode)} "
                                  f"{there.client.build(request)[:200]}\n  virtiofsd {answers[0][:300]}\n"
                                  f"  replaced  {answers[1][:300]}")
+                    # (one of them is gone, so what follows says nothing)
                     if "none" in alike or "" in alike:
                         break
+            # What the sessions did to the folders, and how many nodes are held open at the end.
             trees = [generated.tree(daemon.folder) for daemon in (there, here)]
             found["sessions whose folders are equal" if trees[0] == trees[1] else "folders differ"] += 1
             counts = [daemon.descriptors() for daemon in (there, here)]
@@ -200,6 +204,7 @@ def survive(session):
             maker = generated.Maker(rng, here.client, options_of(here.ask(INIT)))
             for n, request in enumerate(maker.session(count)):
                 line = here.client.build(request)
+                # (after those by which the session gets nodes and handles)
                 is_broken = n >= generated.FIRST and rng.random() < .6
                 line = broken(rng, line) if is_broken else line
                 answer = here.ask(line)

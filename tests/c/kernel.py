@@ -43,6 +43,7 @@ HEADER = compiled(["-E", "-dD"], INCLUDED)
 if HEADER.returncode:
     print("Missing: <linux/fuse.h>: apt-get install linux-libc-dev.", file=sys.stderr)
     sys.exit(2)
+# Of each struct of the header the names of its fields, and the header's constants: macros and enumerators.
 STRUCTS = {name: re.findall(r"(\w+)(?:\[\w*\])?;", body)
            for name, body in re.findall(r"struct (fuse_\w+) \{(.*?)\n\}", HEADER.stdout, re.S)}
 NAMES = {it for them in re.findall(r"^#define (\w+) |^\s*(FUSE_\w+) = ", HEADER.stdout, re.M) for it in them if it}

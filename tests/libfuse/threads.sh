@@ -30,6 +30,7 @@ work() {
     for _ in 1 2 3 4 5; do
         ls -l mnt > "list.$1" 2>&1 || true
         cmp mnt/large src/large || return 1
+        # (names of its own, so that only the server's own state is shared)
         for j in $(seq 30); do
             echo x > "mnt/new.$1.$j" && rm "mnt/new.$1.$j" || return 1
         done

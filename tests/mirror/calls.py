@@ -12,13 +12,17 @@ import time
 LIBC = ctypes.CDLL(None, use_errno=True)
 NAMES = ["a", "b", "c", "d", "e", "f", "g", "h", "n" * 255]
 MODES = [0o644, 0o755, 0o600, 0o4755, 0o777, 0o711, 0o1777, 0o2775, 0]
+# User and group: mostly root, root in another group, and users.
 WHO = [(0, 0)] * 12 + [(0, 5), (0, 6), (1000, 5), (1000, 0), (1001, 6)]
 LENGTHS = [0, 1, 5, 100, 4096, 9000, 20000]
 PLACES = [0, 1, 4095, 4096, 10000, 30000]
+# Times of access and of change, in nanoseconds.
 TIMES = [(10**9 + 7, 5), (1234567890123456789, 2**31 * 10**9 - 1), (0, 987654321)]
+# Texts of symbolic links, of which 4095 bytes are the most.
 TEXTS = ["a", "b/c", "c", "nope", "x" * 300, "", "y" * 4095, "z" * 4096, "h"]
 ATTRIBUTES = ["user.a", "trusted.b", "security.k", "user." + "n" * 250, "user." + "n" * 251, "user.", "other.a",
               *(f"trusted.{i}" for i in range(8))]
+# How many files are held open at most.
 SLOTS = 5
 # FALLOC_FL_ of fallocate(2), the second with KEEP_SIZE; of renameat2(2) RENAME_NOREPLACE and RENAME_WHITEOUT.
 KEEP_SIZE, PUNCH_HOLE, ZERO_RANGE, WHITEOUT_NEW = 1, 3, 16, 5

@@ -56,6 +56,7 @@ EXTENDED = shapes.having(lambda it: "extensions" in it.parts)
 DIRECTORY = [Op.READDIR, Op.READDIRPLUS]
 # What makes no call that is answered.
 UNANSWERED = [Op.FORGET, Op.INTERRUPT, Op.DESTROY, Op.BATCH_FORGET]
+# Numbers that are no opcode.
 NO_OPCODES = [0, 7, 19, 52, 0xffffffff]
 
 
@@ -319,6 +320,7 @@ class Session:
         body, reply = self.body(opcode)
         ids = u32(r.choice([0, 1000, 0xffffffff])) + u32(r.choice([0, 100, 0xffffffff]))
         unique = self.unique if r.random() < 0.95 else self.odd64()
+        # The length of extensions in units of 8 bytes, which nobody looks at, and padding.
         tail = u16(r.choice([0, 0, len(body) // 8, 0xffff])) + u16(r.choice([0, 0, 0xffff]))
         head = u32(40 + len(body)) + u32(opcode) + u64(unique) + u64(node) + ids + u32(process) + tail
         return head + body, reply
@@ -329,6 +331,7 @@ class Session:
         if r.random() >= wild:
             return [length]
         pieces, left = [], length
+        # (many pieces of no byte would come to no end)
         while left > 0 and len(pieces) < 400:
             piece = min(left, r.choice([0, 0, 1, 1, 2, 3, 8, 16, 39, 40, 41, r.randrange(0, left + 1)]))
             pieces.append(piece)
@@ -374,6 +377,7 @@ class Session:
         if flags is None:
             flags = r.choice([EVERY_BIT, KNOWN, INIT_EXT | SECURITY_CTX, INIT_EXT | CREATE_SUPP_GROUP, SETXATTR_EXT,
                               ALL_EXTENSIONS | SETXATTR_EXT])
+        # What the file system wants: that in memory DO_READDIRPLUS.
         wanted = 1 << 13
         if self.files == "script":
             self.line(self.header(Op.GETATTR, 56, 1, q * 8) + bytes(16), 120, 0)
@@ -382,6 +386,7 @@ class Session:
         body = u32(7) + u32(38) + u32(131072) + u32(flags)
         if flags & INIT_EXT:
             body += u32(flags >> 32) + bytes(44)
+        # (without INIT_EXT there is no upper half)
         capable = flags & KNOWN if flags & INIT_EXT else flags & KNOWN & 0xffffffff
         self.options = capable & (wanted | SUPPORTED)
         self.line(self.header(Op.INIT, 40 + len(body), 0, 0) + body, 80, 0)
@@ -521,6 +526,7 @@ class Session:
             if opcode == Op.WRITE:
                 data = r.randbytes(r.choice([size if size < 1000 else 50, r.randrange(0, 60), 0]))
                 if r.random() < 0.005:
+                    # (seldom: it takes as much of a session as many others)
                     data = r.randbytes(70000)
             body = u64(self.odd64()) + u64(offset) + u32(size) + u32(self.odd32()) + u64(self.odd64())
             body += u32(self.odd32()) + u32(0) + data
@@ -589,6 +595,7 @@ class Session:
         start = r.randrange(len(RECORDED_LINES))
         for line in RECORDED_LINES[start:start + 60]:
             rooms, segments = line.split(" ")
+            # (shorter, so that a session has more of them)
             rooms = [min(int(it), 600) for it in rooms.split("+")]
             message = bytearray(bytes.fromhex(segments.replace("+", "")))
             for _ in range(r.choice([0, 1, 1, 2])):

@@ -30,6 +30,7 @@ while [ $# -gt 0 ]; do
     shift "$taken"
 done
 "$here/build.sh" "${source[@]}"
+# (sessions, answers and what is compiled: some hundred MB)
 folder=$(mktemp -d)
 trap 'rm -rf "$folder"' EXIT
 python3 -B "$here/sharpness.py" "${numbers[0]:-1}" "${numbers[1]:-40000}" "$jobs" "$here/../../out/oracle" "$folder" "$only"

@@ -61,6 +61,7 @@ class Run:
         # (what was unpacked comes before what the machine has)
         path = ":".join([*programs, os.environ["PATH"], "/usr/sbin", "/sbin"])
         self.env = dict(os.environ, LC_ALL="C", TMPDIR=str(self.folder), HOME=str(self.folder), PATH=path)
+        # (for what was unpacked, and is not where it would be installed)
         self.env["LD_LIBRARY_PATH"] = f"{root}/usr/lib/x86_64-linux-gnu:{root}/lib/x86_64-linux-gnu"
 
     def call(self, words, seconds=600, said=True, **more):
@@ -139,6 +140,7 @@ def cpython(run, modules=None, those=()):
                 break
 
 
+# The folders of coreutils' checks, of the last one only those of COREUTILS_MISC.
 COREUTILS = ("cp mv rm ls touch ln mkdir rmdir install du dd chmod chown chgrp misc").split()
 # Beside those of other matters, what takes minutes or wants a file system of its own.
 COREUTILS_BUT = """*big* *abuse* *capability* *selinux* *chcon* *smack* dd/no-allocate* dd/stderr* du/long-from*
@@ -418,6 +420,7 @@ def perl(run, module, libraries):
             run.case(f"{module} {test.name}", "ok" if status == 0 else "failed")
 
 
+# Stressors of locks.
 LOCKING = "flock lease locka lockf lockofd lockmix fd-race".split()
 
 
@@ -433,6 +436,7 @@ def locks(run):
     cpython(run, ["test_fcntl", "test_mailbox"], ["test_fcntl*", "*lock*"])
 
 
+# A turn of a writer: a number that counts all turns, and rows that are made and removed by it.
 TRANSFER = """BEGIN IMMEDIATE; UPDATE n SET i=i+1; INSERT INTO a SELECT i, hex(randomblob(200)) FROM n;
 DELETE FROM a WHERE i%7=0; COMMIT;"""
 

@@ -37,15 +37,18 @@ def read(path):
         return file.read()
 
 
+# All files and folders, but git's and what is built.
 paths = set()
 for folder, folders, files in os.walk("."):
     folders[:] = [name for name in folders if name not in (".git", "out")]
     paths |= {os.path.normpath(os.path.join(folder, name)) for name in folders + files}
+# What names are looked for in; the words of these and of paths; what each defines, and which clauses it has.
 sources = {path: read(path) for path in paths if re.search(r"\.(rt|antt|sh|rs|py|c|h)$", path)}
 CRATE_NAMES = set(os.listdir("crates"))
 words = {word for text in [*paths, *sources.values()] for word in re.findall(r"\w+", text)}
 definitions = {path: set(DEFINITION.findall(text)) for path, text in sources.items()}
 clauses = {path: set(CLAUSE.findall(text)) for path, text in sources.items()}
+# The must-fail edits: crate and name.
 edits = {(path.split("/")[1], path.split("/")[3][:-5]) for path in paths if path.endswith(".edit")}
 # The crates of this repository that each names in crates.txt, and all that it stands on.
 named = {name: CRATE_NAMES.intersection(uses.split())
@@ -236,6 +239,7 @@ def check_block(fault, language, comment, block):
         fault("no comment <!-- FILE --> above this block says where it stands")
 
 
+# Line by line: `crates` are those of the heading, `comment` the line before, `block` the code since ```, if there is one.
 for document in DOCUMENTS:
     crates, comment, block = CRATES.get(document, []), "", None
     for number, line in enumerate(read(document).splitlines(), 1):
@@ -248,6 +252,7 @@ for document in DOCUMENTS:
         elif block is not None:
             block += line + "\n"
         elif line.startswith("    "):
+            # (indented: a command, whose first word may be a path)
             command = line.split()[0]
             if re.match(r"[\w.]+/", command) and not os.access(command, os.X_OK):
                 fault(f"{command} is no file that can be run")
@@ -260,6 +265,7 @@ for document in LINKED:
     for number, line in enumerate(read(document).splitlines(), 1):
         for target in re.findall(r"\]\(([^)\s:]+)\)", line):
             check_link(lambda text, at=f"{document}:{number}": faults.append(f"{at}: {text}"), document, target)
+# The promise is what is quoted; the table after it explains words of it.
 promise = "\n".join(re.findall(r"^> ?(.*)", read("docs/PROMISE.md"), re.M))
 for said in re.findall(r"^\| (?!Words )(\w[^|`]*) \|", read("docs/PROMISE.md"), re.M):
     if said.lower() not in promise.lower():
@@ -267,6 +273,7 @@ for said in re.findall(r"^\| (?!Words )(\w[^|`]*) \|", read("docs/PROMISE.md"), 
 order = read("docs/PROMISE.md").split("## Reading order")[1].split("\n## ")[0]
 # The last item is the trait's contract, a premise.
 check_order(lambda text: faults.append(f"docs/PROMISE.md: {text}"), "\n".join(re.findall(r"^\d\. .*", order, re.M)[:-1]))
+# What is reached from IsSession, a line for each file; the count, and what is held otherwise.
 *reached, counted, decoded = subprocess.run(["tools/measure/statement.sh", "--files"], capture_output=True, text=True,
                                             check=True).stdout.splitlines()
 COUNTS = re.compile(r"(\d+) definitions,? (?:of )?([\d,]+) lines")
@@ -319,6 +326,7 @@ for page in ("README.md", "docs/PROMISE.md"):
     said = [it.replace(",", "") for it in re.search(COUNT, read(page)).groups() if it]
     if said != re.findall(r"\d+(?= (?:definitions|lines|files|types))", counted)[:len(said)]:
         faults.append(f"{page}: tools/measure/statement.sh counts otherwise: {counted}")
+# Each crate has a place and a README.
 families = re.findall(r"^\| ([a-z][^|]*) \| ([^|]*) \|$",
                       read("docs/ARCHITECTURE.md").split("| Family |")[1].split("\n\n")[0], re.M)
 placed = {crate for _, crates in families for crate in CODE.findall(crates)}
@@ -327,6 +335,7 @@ for crate in sorted(named):
         faults.append(f"docs/ARCHITECTURE.md: no family has {crate}")
     if not os.path.exists(f"crates/{crate}/README.md"):
         faults.append(f"crates/{crate}: it has no README.md")
+# Crates of the toolchain that any crate here stands on are named as trusted.
 trusted = read("README.md").partition("**Trusted**")[2]
 kit_crates = {name for line in re.findall(r"^\w+.*: (.*)", read("crates.txt"), re.M) for name in line.split()}
 for name in sorted(kit_crates - CRATE_NAMES - {"core", "std_alloc"} - set(CODE.findall(trusted))):
@@ -367,6 +376,7 @@ for path in filter(os.path.exists, VERSIONS):
     version = version or said
     if said != version and f"{said}.0" != version:
         faults.append(f"{path}: the version is {said or 'not there'}, and that of CHANGELOG.md {version}")
+# (these print a line for each page or picture that is old)
 for maker in ("tools/dev/pictures.sh", "tools/dev/begin.py"):
     faults += subprocess.run([maker, "--check"], stdout=subprocess.PIPE, stderr=subprocess.STDOUT, text=True).stdout.splitlines()
 

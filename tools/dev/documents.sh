@@ -39,4 +39,5 @@ need rt "Put the folder bin of the Rattle toolchain on the PATH."
 need python3 "Install it: apt-get install python3."
 cd "$(dirname "$0")/../.."
 
+# (documents.py holds README.md's toolchain against it)
 kit=$(rt version) exec python3 -B tools/dev/documents.py

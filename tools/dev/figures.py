@@ -75,6 +75,7 @@ def begins_of(what, named):
 def changed_since(commit, seen={}):
     """The files that are not as they were, but for lines that change nothing."""
     if commit not in seen:
+        # (a file that only moved is none, however many moved)
         told = git("-c", "diff.renameLimit=9999", "diff", "--numstat", "-z", "-M", "--ignore-blank-lines",
                    f"-I{NOTHING}", commit, "--", *ALL).stdout
         # (of what has another name: the counts, nothing, the old name and the new one)

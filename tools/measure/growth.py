@@ -10,6 +10,7 @@ import subprocess
 import sys
 import time
 
+# Numbers of files and of names in a folder; of queues, of requests in flight, of machines.
 SIZES = 1_000, 10_000, 100_000, 1_000_000, 3_000_000
 FOLDERS = 10, 1_000, 100_000, 1_000_000
 QUEUES, DEPTHS, MACHINES = (1, 2, 4, 8), (1, 4, 16, 64), 8
@@ -122,6 +123,7 @@ def fill():
             say(f"file {number:,} of {most:,}")
     for size in FOLDERS:
         os.mkdir(f"{shared}/list-{size}")
+        # (links of one file, since only names are listed)
         for number in range(min(size, most)):
             os.link(shared + "/file", f"{shared}/list-{size}/{number:07}")
 

@@ -18,6 +18,7 @@ import subprocess
 import sys
 import time
 
+# The classes of share_speed.c, in the order of the page.
 CLASSES = ("stat", "stat-missing", "open-close", "create-unlink", "readdir", "ls-l", "write-1m", "read-1m", "write-4k",
            "read-4k", "git status", "untar")
 # Those of the tree.
@@ -328,6 +329,7 @@ def main():
         ours_of = [it for it in of if it not in others]
         cells = rows_of(of, ours_of, what)
         print(row_of(of, cells[ours_of[0]], what) if kind == "tree" else quickest_of(cells, [it for it in ours_of if it != PASSED], what), flush=True)
+        # (of what Linux passes through only the span is told)
         passed += [max(both[0][0] for both in beside.values()) for _, beside in cells.get(PASSED, ())]
         lines += [(SAID[what], it, jobs, other, *(f"{at:.2f}" for one in both for at in one))
                   for it in ours_of for jobs, beside in cells[it] for other, both in beside.items()]

@@ -10,4 +10,5 @@ set -eu
 take_none "$@"
 folder=$(cd "$(dirname "${BASH_SOURCE[0]}")/../../docs/speed" && pwd)
 
+# (growth.awk has the scales)
 awk -F '\t' -f "${BASH_SOURCE[0]%/*}/growth.awk" "$folder/growth.tsv" > "$folder/growth.svg"

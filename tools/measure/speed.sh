@@ -76,6 +76,7 @@ if [ -n "$growth" ]; then
     exit
 fi
 rustc "${rust[@]}" -o "$folder/beside" "$here/tests/oracle/src/bin/beside.rs"
+# The replies of both, by checksums: what differs is not the same work.
 if ! "$folder/beside" "${flags[@]}" --digests > "$folder/digests"; then
     grep DIFFER "$folder/digests" >&2 || echo "The replies can't be compared." >&2
     exit 1

@@ -29,6 +29,7 @@ set -euo pipefail
 . "$(dirname "$0")/../lib/transport.sh"
 . "$(dirname "$0")/../lib/front.sh"
 
+# Tells how it is used, and stops.
 refuse() {
     echo "$1" >&2
     echo "Usage: tools/measure/virtiofsd-speed.sh [--rounds N] [--ms N] [--pools LIST] [--depths LIST] [--classes LIST]" >&2
@@ -64,6 +65,7 @@ while [ $# -gt 0 ]; do
     shift
 done
 need_front it
+# (asked for by its own word, or by --page)
 case " ${words[*]} " in
     *" --instructions "*) need valgrind "Install it: apt-get install valgrind." ;;
 esac
@@ -83,6 +85,7 @@ memory=/dev/shm
 [ -w "$memory" ] || memory=${TMPDIR:-/tmp}
 work=$(mktemp -d "$memory/nizwarf-XXXXXX")
 trap 'rm -rf "$work"' EXIT
+# Prints the page; all figures go to speed.tsv.
 measure() {
     python3 -B "$here/tests/beside/pace.py" "${words[@]}" --of "$of" "$folder/pace" "$work" "$folder/speed.tsv" \
         "$folder/virtiofsd" "$folder/nizwarf-virtiofsd" "$transport"
@@ -91,6 +94,7 @@ if [ -z "$page" ]; then
     measure
     exit
 fi
+# (first aside: a run that fails leaves the old page)
 measure > "$folder/page.md"
 cp "$folder/page.md" "$here/docs/generated/end-to-end.md"
 cp "$folder/speed.tsv" "$here/docs/speed/end-to-end.tsv"
