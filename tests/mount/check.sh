@@ -23,6 +23,8 @@ if [ ! -e /dev/fuse ]; then
 fi
 need mountpoint "Install util-linux."
 need python3 "Install it: apt-get install python3."
+# What is mounted here is in no other namespace, where it would stay in use, and the server with it.
+own_mounts "$@"
 build_transport vhost
 vhost=$transport
 build_transport mount
