@@ -79,26 +79,51 @@ static const struct held *in_the_way(uint64_t owner, const nizwarf_lock *wanted,
 	return NULL;
 }
 
-static int add(uint64_t owner, const nizwarf_lock *wanted, int flock)
+/* There is a place. */
+static void add(uint64_t owner, const nizwarf_lock *wanted, int flock)
 {
-	for (int i = 0; i < MOST_LOCKS; i++)
-		if (!held[i].is_used) {
-			held[i] = (struct held){ owner, *wanted, flock, 1 };
-			return 0;
-		}
-	return ENOLCK;
+	int i = 0;
+
+	while (held[i].is_used)
+		i++;
+	held[i] = (struct held){ owner, *wanted, flock, 1 };
 }
 
-/* Takes a range from an owner's locks, and gives it a new one unless that is F_UNLCK. */
+/* Whether a lock is an owner's, of this kind, and has a part of the range. */
+static int is_cut(const struct held *h, uint64_t owner, const nizwarf_lock *wanted, int flock)
+{
+	return h->is_used && h->flock == flock && h->owner == owner && h->lock.start <= wanted->end &&
+	       wanted->start <= h->lock.end;
+}
+
+/* Whether there are places for what a change leaves: nothing of a lock is lost for want of one. */
+static int has_places(uint64_t owner, const nizwarf_lock *wanted, int flock)
+{
+	int places = 0, needed = wanted->type != F_UNLCK;
+
+	for (int i = 0; i < MOST_LOCKS; i++) {
+		const struct held *h = &held[i];
+
+		places += !h->is_used;
+		if (is_cut(h, owner, wanted, flock))
+			needed += (h->lock.start < wanted->start) + (h->lock.end > wanted->end) - 1;
+	}
+	return needed <= places;
+}
+
+/* Takes a range from an owner's locks, and gives it a new one unless that is F_UNLCK. ENOLCK: nothing was changed, since
+ * there are not as many places. */
 static int change(uint64_t owner, const nizwarf_lock *wanted, int flock)
 {
+	if (!has_places(owner, wanted, flock))
+		return ENOLCK;
 	for (int i = 0; i < MOST_LOCKS; i++) {
 		nizwarf_lock before = held[i].lock, after = held[i].lock;
 
-		if (!held[i].is_used || held[i].flock != flock || held[i].owner != owner ||
-		    before.start > wanted->end || wanted->start > before.end)
+		if (!is_cut(&held[i], owner, wanted, flock))
 			continue;
 		held[i].is_used = 0;
+		/* (of a range that begins at 0, or has no end, these wrap around, and are not used) */
 		before.end = wanted->start - 1;
 		after.start = wanted->end + 1;
 		if (before.start < wanted->start)
@@ -106,7 +131,9 @@ static int change(uint64_t owner, const nizwarf_lock *wanted, int flock)
 		if (after.end > wanted->end)
 			add(owner, &after, flock);
 	}
-	return wanted->type == F_UNLCK ? 0 : add(owner, wanted, flock);
+	if (wanted->type != F_UNLCK)
+		add(owner, wanted, flock);
+	return 0;
 }
 
 static const nizwarf_ops ops;
@@ -296,11 +323,12 @@ static int news_ioctl(const nizwarf_req *req, uint64_t ino, uint32_t cmd, uint64
 	uint32_t count;
 
 	(void)req, (void)arg, (void)fi, (void)flags;
-	if (cmd == _IOR('n', 1, uint32_t))
-		count = (uint32_t)size_of(ino);
-	else if (cmd == _IOWR('n', 2, char[64]))
+	pthread_mutex_lock(&lock);
+	count = (uint32_t)size_of(ino);
+	pthread_mutex_unlock(&lock);
+	if (cmd == _IOWR('n', 2, char[64]))
 		count = (uint32_t)strnlen(in, in_size);
-	else
+	else if (cmd != _IOR('n', 1, uint32_t))
 		return ENOTTY;
 	if (out_size < sizeof(count))
 		return EINVAL;
@@ -380,6 +408,9 @@ static int news_write(const nizwarf_req *req, uint64_t ino, const void *buf, siz
 	if (ino != UNNAMED || off > sizeof(unnamed) || size > sizeof(unnamed) - off)
 		return ENOSPC;
 	pthread_mutex_lock(&lock);
+	/* (what an earlier file had there is none of a hole's) */
+	if (off > unnamed_len)
+		memset(unnamed + unnamed_len, 0, off - unnamed_len);
 	memcpy(unnamed + off, buf, size);
 	if (off + size > unnamed_len)
 		unnamed_len = off + size;
@@ -637,8 +668,13 @@ int main(int count, char **words)
 	sigemptyset(&ending);
 	sigaddset(&ending, SIGTERM);
 	pthread_sigmask(SIG_BLOCK, &ending, NULL);
-	if (device < 0 || pthread_create(&lines, NULL, obey_each, NULL))
+	if (device < 0)
 		return 1;
+	if (pthread_create(&lines, NULL, obey_each, NULL)) {
+		/* (nobody would serve what is mounted) */
+		fuse_device_detach(&by, words[1 + by_ring]);
+		return 1;
+	}
 	/* (it ends with the process) */
 	pthread_detach(lines);
 	status = fuse_device_serve(&by, device, words[1 + by_ring]);

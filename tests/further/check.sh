@@ -32,10 +32,15 @@ else
     echo "Linux offers no io_uring here: it was left out." >&2
 fi
 
-# A session with the program, compiled with these flags.
-run() {
+# Compiles the program with these flags.
+compile() {
     cc -std=c11 -Wall -Wextra -Werror -pthread -I "$here/include" -I "$here/programs/transport" -o "$folder/news" "$here/examples/c/news.c" \
         "$here"/programs/transport/{fuse_device,fuse_mount,fuse_ring,later,uring}.c "${library[@]}" "$@"
+}
+
+# A session with the program, compiled with these flags.
+run() {
+    compile "$@"
     for way in "${ways[@]}"; do
         for part in session kept; do
             # shellcheck disable=SC2086
@@ -52,6 +57,19 @@ say() {
     echo "$1 of 3: $2 .." >&2
 }
 
+# Where there is no thread for its lines it ends, and leaves no mount.
+run_without_threads() {
+    local status=0
+    echo 'int no_thread(void) { return 11; }' > "$folder/no_thread.c"
+    compile -Dpthread_create=no_thread "$folder/no_thread.c"
+    timeout 20 "$folder/news" "$folder/mounted" < /dev/null || status=$?
+    if [ $status != 1 ] || grep -F " $folder/mounted " /proc/mounts >&2; then
+        echo "Without a thread it ended by $status, or what it mounted stayed." >&2
+        return 1
+    fi
+}
+
+run_without_threads
 say 1 "plain"
 run -O2
 say 2 "address and undefined sanitizers"

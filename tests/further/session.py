@@ -7,6 +7,7 @@ Everything is kept for a day: so a change is seen after its notice, and not befo
 O_TMPFILE, and locks.py. It prints a line a step. Status 0: all came as Linux says.
 """
 import ctypes
+import errno
 import fcntl
 import os
 import select
@@ -18,6 +19,7 @@ import time
 
 # Commands of ioctl(2): Linux's FIBMAP, and two of news.c: _IOR('n', 1, int) and _IOWR('n', 2) of 64 bytes.
 FIBMAP, LENGTH, COUNT = 1, 0x80046E01, 0xC0406E02
+LOCKS = 256
 HERE = os.path.dirname(os.path.abspath(__file__))
 faults = 0
 
@@ -140,6 +142,50 @@ def others(news):
     os.write(unnamed, b"no name")
     step("O_TMPFILE", (os.pread(unnamed, 100, 0), os.fstat(unnamed).st_nlink), (b"no name", 0))
     os.close(unnamed)
+    unnamed = os.open(news.folder, os.O_TMPFILE | os.O_RDWR, 0o600)
+    os.pwrite(unnamed, b"end", 4)
+    step("a hole of the next one", os.pread(unnamed, 100, 0), b"\0\0\0\0end")
+    os.close(unnamed)
+
+
+def refused(does, *words):
+    try:
+        does(*words)
+    except OSError as error:
+        return errno.errorcode[error.errno]
+    return "done"
+
+
+def lock_of_other(fd, at):
+    """The kind and the range of the lock that another process finds in its way there."""
+    reads, writes = os.pipe()
+    pid = os.fork()
+    if not pid:
+        asked = fcntl.fcntl(fd, fcntl.F_GETLK, struct.pack("hhqqi4x", fcntl.F_WRLCK, 0, at, 1, 0))
+        os.write(writes, asked)
+        os._exit(0)
+    os.close(writes)
+    kind, _, start, length, _ = struct.unpack("hhqqi4x", os.read(reads, 32))
+    os.close(reads)
+    os.waitpid(pid, 0)
+    return kind, start, length
+
+
+def full(news):
+    """With as many locks as are kept, what would make more of them is refused, and changes none."""
+    fd = os.open(news.file, os.O_RDWR)
+    fcntl.lockf(fd, fcntl.LOCK_EX, 10, 10000)
+    for i in range(LOCKS - 1):
+        fcntl.lockf(fd, fcntl.LOCK_EX, 1, 2 * i)
+    held = [line for line in news.say("show") if line.startswith("held")]
+    step("locks are full", len(held), LOCKS)
+    step("one more", refused(fcntl.lockf, fd, fcntl.LOCK_EX, 1, 20000), "ENOLCK")
+    step("unlocked in the middle", refused(fcntl.lockf, fd, fcntl.LOCK_UN, 1, 10004), "ENOLCK")
+    step("another kind in the middle", refused(fcntl.lockf, fd, fcntl.LOCK_SH, 1, 10004), "ENOLCK")
+    step("its end is held", lock_of_other(fd, 10007), (fcntl.F_WRLCK, 10000, 10))
+    step("unlocked at its end", refused(fcntl.lockf, fd, fcntl.LOCK_UN, 1, 10009), "done")
+    step("and now all", refused(fcntl.lockf, fd, fcntl.LOCK_UN), "done")
+    os.close(fd)
 
 
 def notices(news):
@@ -157,7 +203,7 @@ def main():
         return 0 if sys.argv[1:] in (["-h"], ["--help"]) else 2
     news = News(*sys.argv[1:])
     try:
-        for part in (texts, names, others, notices):
+        for part in (texts, names, others, full, notices):
             part(news)
         # (the file has no write: a lock wants a descriptor that may)
         ran = subprocess.run([os.path.join(HERE, "locks.py"), "--no-ofd-close", news.file], check=False, timeout=120)
