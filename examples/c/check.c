@@ -53,7 +53,7 @@ static nizwarf_session session = { 0, 4096, PAYLOAD };
 static nizwarf_slot slot = NIZWARF_NONE;
 static int peer, behind;
 /* Before an INIT; the program has one; it agreed; a DESTROY was handed on. */
-static enum { NEW, ASKED, AGREED, OVER } state;
+static enum state { NEW, ASKED, AGREED, OVER } state;
 
 static _Noreturn void stop(const char *what)
 {
@@ -117,13 +117,16 @@ static ssize_t judge(size_t size)
 	return HAND_ON;
 }
 
-/* Takes what was agreed on from the reply to an INIT. After a refusal there may be another INIT. */
+/* Takes what was agreed on from the reply to an INIT. After a refusal there may be another INIT. A notice, whose code
+ * stands where a reply has an error below 0, is no reply. */
 static void agree(const unsigned char *reply, size_t size)
 {
 	struct fuse_init_out agreed = { 0 };
 	struct fuse_out_header head = { 0 };
 
 	memcpy(&head, reply, size < sizeof(head) ? size : sizeof(head));
+	if (head.error > 0)
+		return;
 	size -= size < sizeof(head) ? size : sizeof(head);
 	memcpy(&agreed, reply + sizeof(head), size < sizeof(agreed) ? size : sizeof(agreed));
 	session.options = agreed.flags | (uint64_t)agreed.flags2 << 32;
@@ -188,6 +191,8 @@ static int hand_on(size_t size)
 static int take(unsigned long *asked, unsigned long *handed)
 {
 	const ssize_t size = recv(peer, request, sizeof(request), MSG_TRUNC);
+	/* (judge() counts a request as handed on) */
+	const enum state before = state;
 	struct fuse_in_header head;
 	ssize_t made;
 	int given;
@@ -204,6 +209,9 @@ static int take(unsigned long *asked, unsigned long *handed)
 			return -1;
 		memcpy(&head, request, sizeof(head));
 		made = given ? 0 : refuse(&head, EIO);
+		/* (no reply would come to an INIT that the program doesn't have) */
+		if (!given)
+			state = before;
 		*handed += (unsigned)given;
 	}
 	if (made > 0)

@@ -2,9 +2,9 @@
 # Builds examples/c/serve.c with the library for C, and runs it: it answers an INIT, a MKDIR and a LOOKUP, and
 # checks the replies. Then tests/c/tree.c holds the library against what the header says, also where each
 # allocation is refused in turn. tests/c/hello.c asks a few requests of examples/c/hello.c, a file system over the
-# library nizwarf_door; door.c, door-cases.c, door-threads.c, init.c, notices.c, offered.c, ops.c, ops-threads.c and text.c
-# hold that library against what the headers say, and largest.c asks both for as much memory as they are ever asked for;
-# as root mounted.c mounts a table of wrong answers. All that runs under
+# library nizwarf_door, and checked.py of examples/c/check.c; door.c, door-cases.c, door-threads.c, init.c, notices.c,
+# offered.c, ops.c, ops-threads.c and text.c hold that library against what the headers say, and largest.c asks both
+# for as much memory as they are ever asked for; as root mounted.c mounts a table of wrong answers. All that runs under
 # the sanitizers of the compiler too, if it has them. The structs are laid out as in version 0.2, and a program of that
 # version runs with what is built and what is packed: tests/c/version-0.2. All names that the libraries define begin with
 # `nizwarf_`, and none that C calls takes 64 KiB of stack.
@@ -92,6 +92,9 @@ run_all() {
     make_program "$folder" hello "$@"
     compile tests/c/hello.c "$@"
     timeout 60 "$folder/program" "$folder/hello"
+    echo 'int __wrap_setsockopt(void) { return 0; }' > "$folder/narrow.c"
+    compile examples/c/check.c "$folder/narrow.c" "$@" -Wl,--wrap=setsockopt
+    timeout 120 "$here/tests/c/checked.py" "$folder/program"
     run_mounted "$@"
     compile tests/c/ops.c "$@" "${counted[@]}"
     "$folder/program"
