@@ -728,7 +728,8 @@ static inline int nizwarf_take_interrupt(nizwarf_interrupts *kept, uint64_t uniq
 {
 	int i;
 
-	for (i = 0; i < NIZWARF_MOST_INTERRUPTS; i++)
+	/* (0 is where none is kept, and no request of Linux) */
+	for (i = 0; unique && i < NIZWARF_MOST_INTERRUPTS; i++)
 		if (kept->unique[i] == unique) {
 			kept->unique[i] = 0;
 			return 1;

@@ -585,6 +585,22 @@ static void agreed_besides(void)
 	session.options = 0;
 }
 
+/* An interrupt that came too early is told once, the oldest goes, and no call is taken for one whose number is 0. */
+static void kept_interrupts(void)
+{
+	nizwarf_interrupts kept = { { 0 }, 0 };
+
+	CHECK(!nizwarf_take_interrupt(&kept, 0));
+	nizwarf_keep_interrupt(&kept, 5);
+	CHECK(!nizwarf_take_interrupt(&kept, 6) && nizwarf_take_interrupt(&kept, 5));
+	CHECK(!nizwarf_take_interrupt(&kept, 5));
+	for (uint64_t i = 1; i <= NIZWARF_MOST_INTERRUPTS + 1; i++)
+		nizwarf_keep_interrupt(&kept, i);
+	CHECK(!nizwarf_take_interrupt(&kept, 1) && nizwarf_take_interrupt(&kept, 2));
+	CHECK(nizwarf_take_interrupt(&kept, NIZWARF_MOST_INTERRUPTS + 1) &&
+	      !nizwarf_take_interrupt(&kept, 0));
+}
+
 int main(void)
 {
 	size_t i;
@@ -598,6 +614,7 @@ int main(void)
 	called_as_told();
 	text_in_room();
 	agreed_besides();
+	kept_interrupts();
 	nizwarf_end_slot(&slot);
 	return 0;
 }
