@@ -240,6 +240,8 @@ static _Noreturn void run_job(size_t which, int job, const int ready[2], const i
 	enter(job);
 	close(go[1]);
 	need(write(ready[1], "", 1) == 1, "a pipe");
+	/* (so that the pipe has an end, if another job has failed before it wrote) */
+	close(ready[1]);
 	need(read(go[0], &byte, 1) == 0, "a pipe");
 	classes[which].act();
 	_exit(0);
