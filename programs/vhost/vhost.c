@@ -9,9 +9,11 @@
  * Status 0: a signal ended it, and the socket is gone; 1: something failed; 2: it was started
  * wrongly. */
 #define _GNU_SOURCE
+#include <fcntl.h>
 #include <stdbool.h>
 #include <stdio.h>
 #include <string.h>
+#include <sys/stat.h>
 #include <time.h>
 #include <unistd.h>
 #include "heap.h"
@@ -63,10 +65,20 @@ static int32_t serve(void *user, unsigned worker, const nizwarf_segment *request
 
 static const char *path;
 
+/* The socket's file, open so that its number is no other file's until the process ends. -1: it can't be had. */
+static int made = -1;
+
+/* Removes the socket. Who has started another server on this path, as soon as this one listened no more, has
+ * removed it, and made another one there, which stays. (So does this one where it isn't known which it is: the next
+ * server takes its place.) */
 static void remove_socket(void *user)
 {
+	struct stat own, there;
+
 	(void)user;
-	unlink(path);
+	if (made >= 0 && !fstat(made, &own) && !lstat(path, &there) && own.st_dev == there.st_dev &&
+	    own.st_ino == there.st_ino)
+		unlink(path);
 }
 
 /* Prints what a word asks for. Whether it asks for something. */
@@ -116,7 +128,8 @@ int main(int count, char **words)
 	listener = vhost_user_listen(&by, path);
 	if (listener < 0)
 		return -listener;
+	made = open(path, O_PATH | O_NOFOLLOW | O_CLOEXEC);
 	status = vhost_user_serve(&by, listener);
-	unlink(path);
+	remove_socket(NULL);
 	return status;
 }
