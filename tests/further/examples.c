@@ -546,8 +546,13 @@ int main(int count, char **words)
 		used.poll = NULL;
 	tick();
 	device = fuse_device_mount(&by, name, folder, MS_NOSUID | MS_NODEV, "");
-	if (device < 0 || (kind->tell && pthread_create(&changes, NULL, change_each, NULL)))
+	if (device < 0)
 		return 2;
+	if (kind->tell && pthread_create(&changes, NULL, change_each, NULL)) {
+		/* (nobody would serve what is mounted) */
+		fuse_device_detach(&by, folder);
+		return 2;
+	}
 	/* (it ends with the process) */
 	if (kind->tell)
 		pthread_detach(changes);
