@@ -33,6 +33,7 @@
 #include <unistd.h>
 #include "nizwarf.h"
 
+/* In bytes: the largest payload of libfuse, and the longest message, which has records and a header besides. */
 enum { PAYLOAD = 1 << 20, LONGEST = PAYLOAD + 4096 };
 
 /* The rows that the program may have besides: it answers ENOSYS itself to others. */
@@ -48,20 +49,25 @@ enum { HAND_ON = -1 };
 static const char usage[] = "Usage: check DESCRIPTOR PROGRAM [WORD..]\n"
 			    "Hands requests of FUSE that are whole on to the program, which serves the\n"
 			    "descriptor that is its last word, and answers the others itself.\n";
+/* A copy of the peer's message, and the reply that is made or handed back: the peer can't change either while it is
+ * looked at. */
 static unsigned char request[LONGEST], room[LONGEST];
-static nizwarf_session session = { 0, 4096, PAYLOAD };
+static nizwarf_session session = { 0, 4096, PAYLOAD }; /* options, the size of a page, the payload */
 static nizwarf_slot slot = NIZWARF_NONE;
+/* The sockets to the peer, and to the program. */
 static int peer, behind;
 /* Before an INIT; the program has one; it agreed; a DESTROY was handed on. */
 static enum state { NEW, ASKED, AGREED, OVER } state;
 
+/* Ends with status 1, and says why by errno. */
 static _Noreturn void stop(const char *what)
 {
 	fprintf(stderr, "check: %s: %s\n", what, strerror(errno));
 	exit(1);
 }
 
-/* Puts an error into the room, if a reply is due. */
+/* Puts an error into the room, if a reply is due. How many bytes the reply has, or 0. FORGETs and INTERRUPTs have
+ * none, as Linux says. */
 static ssize_t refuse(const struct fuse_in_header *asked, int error)
 {
 	const struct fuse_out_header reply = { sizeof(reply), -error, asked->unique };
@@ -73,7 +79,8 @@ static ssize_t refuse(const struct fuse_in_header *asked, int error)
 	return sizeof(reply);
 }
 
-/* Answers a request of that many bytes that needs no file system. */
+/* Answers a request of that many bytes that needs no file system. How many bytes the reply has, which is in the room,
+ * or 0. */
 static ssize_t finish(size_t size)
 {
 	const nizwarf_segment piece = { request, size };
@@ -81,11 +88,13 @@ static ssize_t finish(size_t size)
 	nizwarf_call call;
 	nizwarf_told told;
 
+	/* (it makes no call, so there is none to answer: that was looked at before) */
 	nizwarf_ask(&slot, &session, &piece, 1, &whole, 1, &call, &told);
 	return (ssize_t)told.len;
 }
 
-/* Judges a request of that many bytes. */
+/* Judges a request of that many bytes. HAND_ON, or how many bytes of reply there are to it in the room, or 0. It may
+ * be more bytes than `request` has. */
 static ssize_t judge(size_t size)
 {
 	struct fuse_in_header asked;
@@ -99,15 +108,19 @@ static ssize_t judge(size_t size)
 	memcpy(&asked, request, sizeof(asked));
 	if (asked.len != size || size > sizeof(request))
 		return refuse(&asked, EIO);
+	/* (`interrupts` is what an INTERRUPT wants to end, which the program has to see) */
 	code = nizwarf_check_offered(&session, OFFERS, request, size, LONGEST, &call, &interrupts);
 	if (code == NIZWARF_OK)
 		return interrupts && state == AGREED ? HAND_ON : finish(size);
 	if (code != NIZWARF_ASKED)
 		return refuse(&asked, EIO);
+	/* (no program that has the offered rows serves these) */
 	if (call.answer == NIZWARF_FAULT || call.answer == NIZWARF_FAULT_OR_SILENCE)
 		return refuse(&asked, ENOSYS);
+	/* (libfuse would give its file system what is after the message) */
 	if (call.call == NIZWARF_WRITE && call.size > call.data.len)
 		return refuse(&asked, EIO);
+	/* (libfuse judges by its own `got_init`, which is set before the reply) */
 	if (state != (call.call == NIZWARF_INIT ? NEW : AGREED))
 		return refuse(&asked, EIO);
 	if (call.call == NIZWARF_INIT)
@@ -118,7 +131,8 @@ static ssize_t judge(size_t size)
 }
 
 /* Takes what was agreed on from the reply to an INIT. After a refusal there may be another INIT. A notice, whose code
- * stands where a reply has an error below 0, is no reply. */
+ * stands where a reply has an error below 0, is no reply. A reply may be shorter than the record: what it lacks is
+ * 0. */
 static void agree(const unsigned char *reply, size_t size)
 {
 	struct fuse_init_out agreed = { 0 };
@@ -130,16 +144,19 @@ static void agree(const unsigned char *reply, size_t size)
 	size -= size < sizeof(head) ? size : sizeof(head);
 	memcpy(&agreed, reply + sizeof(head), size < sizeof(agreed) ? size : sizeof(agreed));
 	session.options = agreed.flags | (uint64_t)agreed.flags2 << 32;
+	/* (`size` is now that of the record alone) */
 	state = size && !head.error ? AGREED : NEW;
 }
 
-/* Gives what is in the room to the peer, or an error where that is longer than a message can be. */
+/* Gives what is in the room to the peer, or an error where that is longer than a message can be. A peer that has gone
+ * is found by the next look at its socket. One that takes no replies holds up nobody but itself. */
 static void reply(size_t size)
 {
 	struct fuse_out_header head;
 
 	if (send(peer, room, size, MSG_NOSIGNAL) >= 0 || errno == EPIPE || errno == ECONNRESET)
 		return;
+	/* (so it calls itself once at most) */
 	if (errno != EMSGSIZE || size <= sizeof(head))
 		stop("a reply");
 	memcpy(&head, room, sizeof(head));
@@ -152,6 +169,7 @@ static void reply(size_t size)
 /* Gives a reply of the program to the peer. 0: the program has gone. */
 static int hand_back(void)
 {
+	/* (with MSG_TRUNC it's the message's size, also where that is more than the room's) */
 	const ssize_t size = recv(behind, room, sizeof(room), MSG_TRUNC);
 
 	if (size < 0 && errno != ECONNRESET)
@@ -162,6 +180,7 @@ static int hand_back(void)
 		errno = EMSGSIZE;
 		stop("the program's reply");
 	}
+	/* (nothing else was handed on meanwhile: what is no notice is the reply to INIT) */
 	if (state == ASKED)
 		agree(room, (size_t)size);
 	reply((size_t)size);
@@ -172,6 +191,7 @@ static int hand_back(void)
  * has it; 0: it is longer than a message can be; -1: the program has gone. */
 static int hand_on(size_t size)
 {
+	/* (not to wait here: the program may wait for its replies to be taken) */
 	while (send(behind, request, size, MSG_NOSIGNAL | MSG_DONTWAIT) < 0) {
 		struct pollfd wait = { behind, POLLIN | POLLOUT, 0 };
 
@@ -181,6 +201,7 @@ static int hand_on(size_t size)
 			return -1;
 		if (errno != EAGAIN || (poll(&wait, 1, -1) < 0 && errno != EINTR))
 			stop("a request");
+		/* (a reply in `room`, which `take` has not filled yet) */
 		if (wait.revents & POLLIN && !hand_back())
 			return -1;
 	}
@@ -207,6 +228,7 @@ static int take(unsigned long *asked, unsigned long *handed)
 		given = hand_on((size_t)size);
 		if (given < 0)
 			return -1;
+		/* (it has a header: judge() hands on no shorter one) */
 		memcpy(&head, request, sizeof(head));
 		made = given ? 0 : refuse(&head, EIO);
 		/* (no reply would come to an INIT that the program doesn't have) */
@@ -219,15 +241,18 @@ static int take(unsigned long *asked, unsigned long *handed)
 	return 1;
 }
 
-/* Serves until one of the two has gone. 1: it was the peer. */
+/* Serves until one of the two has gone. 1: it was the peer. While an INIT is with the program, the peer waits: what
+ * it may ask after that depends on the reply. */
 static int serve(unsigned long *asked, unsigned long *handed)
 {
 	for (;;) {
+		/* (poll lets -1 pass) */
 		struct pollfd wait[] = { { behind, POLLIN, 0 }, { state == ASKED ? -1 : peer, POLLIN, 0 } };
 		int taken = 1;
 
 		if (poll(wait, 2, -1) < 0 && errno != EINTR)
 			stop("poll");
+		/* (first the program's: what it said before it went comes to the peer) */
 		if (wait[0].revents && !hand_back())
 			return 0;
 		if (wait[1].revents)
@@ -237,7 +262,9 @@ static int serve(unsigned long *asked, unsigned long *handed)
 	}
 }
 
-/* Makes a message as long as a request of the largest payload, if that is allowed. */
+/* Makes a message as long as a request of the largest payload, if that is allowed. The kernel counts what it needs
+ * besides too, hence twice. SO_SNDBUFFORCE wants CAP_NET_ADMIN; without that the system's limit holds, and what is
+ * longer is refused. */
 static void widen(int fd)
 {
 	const int size = 2 * LONGEST;
@@ -247,12 +274,14 @@ static void widen(int fd)
 		stop("the descriptor");
 }
 
-/* Starts the program with the other end of `behind`. */
+/* Starts the program with the other end of `behind`. It has no other descriptor of ours, so the program can't reach
+ * the peer beside the check. */
 static void start(int count, char **words)
 {
 	char **program = calloc((size_t)count + 2, sizeof(*program)), number[16];
 	int ends[2];
 
+	/* (no SOCK_CLOEXEC: the program is to have its end) */
 	if (!program || socketpair(AF_UNIX, SOCK_SEQPACKET, 0, ends))
 		stop("a socket");
 	widen(ends[0]);
@@ -267,7 +296,7 @@ static void start(int count, char **words)
 		close(peer);
 		close(ends[0]);
 		execvp(program[0], program);
-		stop(program[0]);
+		stop(program[0]); /* in the child: the parent finds its end closed */
 	}
 	free(program);
 	close(ends[1]);
@@ -284,11 +313,12 @@ int main(int count, char **words)
 	if (count < 3 || words[1][strspn(words[1], "0123456789")])
 		return fputs(usage, stderr), 2;
 	peer = atoi(words[1]);
-	widen(peer);
+	widen(peer); /* which also finds out if it is a socket */
 	start(count - 2, words + 2);
 	gone = serve(&asked, &handed);
 	fprintf(stderr, "check: %lu requests, %lu handed on; the %s has gone\n", asked, handed,
 		gone ? "peer" : "program");
+	/* (by which a program that serves still learns to end) */
 	close(behind);
 	close(peer);
 	nizwarf_end_slot(&slot);

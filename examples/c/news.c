@@ -28,45 +28,50 @@
 enum {
 	ROOT = 1,
 	NEWS = 2,
-	UNNAMED = 3,
-	MOST_LOCKS = 256,
-	DAY = 86400,
+	UNNAMED = 3,	  /* the file of O_TMPFILE */
+	MOST_LOCKS = 256, /* of all owners, and as many that wait */
+	DAY = 86400,	  /* seconds */
 	WORKERS = 2,
-	KEPT = 4,
-	MESSAGE = TRANSPORT_PAYLOAD + 4096,
-	ITEMS = 8,
-	LONGEST = 4096
+	KEPT = 4,			    /* requests of a processor that wait, over io_uring */
+	MESSAGE = TRANSPORT_PAYLOAD + 4096, /* bytes: a reply's most, with its header */
+	ITEMS = 8,     /* of a listing; a larger directory would be listed in several replies all the same */
+	LONGEST = 4096 /* bytes of a text, and of a line */
 };
 
 static char text[LONGEST] = "old\n", name[64] = "news", unnamed[LONGEST];
 static size_t unnamed_len;
-static uint64_t forgotten;
-static _Atomic uint64_t polled;
+static uint64_t forgotten;	/* lookups that were given back */
+static _Atomic uint64_t polled; /* the number that wakes who polls, or 0 */
 
-/* Of all that is here. */
+/* Of all that is here. It is never held while a notice is sent, for which the kernel may wait for a request. `text`
+ * and `name` change on one thread alone, which reads them without it. */
 static pthread_mutex_t lock = PTHREAD_MUTEX_INITIALIZER;
 static transport_notices notices = TRANSPORT_NO_NOTICES;
 static nizwarf_session session = { 0, 4096, TRANSPORT_PAYLOAD };
+/* A slot has one caller at a time: each worker has its own, and the last one is used under the lock. */
 static nizwarf_slot slots[TRANSPORT_MOST_WORKERS], late_slot = NIZWARF_NONE;
 
 /* ---- locks */
 
-/* A lock of an owner, of one of two kinds. */
+/* A lock of an owner, of one of two kinds. `is_used` says whether there is one here. */
 static struct held {
-	uint64_t owner;
-	nizwarf_lock lock;
-	int flock, is_used;
+	uint64_t owner;	    /* as the kernel tells it apart */
+	nizwarf_lock lock;  /* from `start` to `end`, both within */
+	int flock, is_used; /* of flock(2), or else of fcntl(2) */
 } held[MOST_LOCKS];
 
-/* Of those that came before their calls. */
+/* Of those that came before their calls. (Over io_uring an INTERRUPT comes by read(2), and can be earlier than what
+ * it ends.) */
 static nizwarf_interrupts early;
 
 /* A lock that is waited for. */
 static struct waiting {
-	nizwarf_call call;
-	transport_later *later;
+	nizwarf_call call;	/* a copy: the request's own is gone once `serve` comes back */
+	transport_later *later; /* NULL: nobody waits here */
 } waiting[MOST_LOCKS];
 
+/* A lock that keeps the owner from this one, or NULL. Those of the two kinds don't see each other. The lock of all
+ * that is here is held, also in the next ones. */
 static const struct held *in_the_way(uint64_t owner, const nizwarf_lock *wanted, int flock)
 {
 	for (int i = 0; i < MOST_LOCKS; i++) {
@@ -138,7 +143,8 @@ static int change(uint64_t owner, const nizwarf_lock *wanted, int flock)
 
 static const nizwarf_ops ops;
 
-/* Answers a call that waited. */
+/* Answers a call that waited. It may be a reply before the call's own `serve` has come back: the transport has room
+ * for that. */
 static void finish(struct waiting *w, int error)
 {
 	transport_later *later = w->later;
@@ -148,6 +154,7 @@ static void finish(struct waiting *w, int error)
 	int32_t code;
 
 	answer.error = error;
+	/* (a reply without a record, so there is room) */
 	code = nizwarf_finish_ops(&ops, NULL, &late_slot, &session, &w->call, &answer, room, &len);
 	w->later = NULL;
 	transport_complete(later, code, room, len);
@@ -162,11 +169,13 @@ static void wake(void)
 		const int flock = (call->has & NIZWARF_HAS_FLOCK) != 0;
 
 		if (waiting[i].later && !in_the_way(call->lock_owner, &wanted, flock))
+			/* (the next one is held against it: so of two that want the same one goes on waiting) */
 			finish(&waiting[i], change(call->lock_owner, &wanted, flock));
 	}
 }
 
-/* The call waits, and holds no thread. */
+/* The call waits, and holds no thread. NIZWARF_LATER: it's answered then. EINTR: it was interrupted before it came.
+ * ENOLCK: as many wait already. */
 static int wait_for(const nizwarf_call *call)
 {
 	if (nizwarf_take_interrupt(&early, call->unique))
@@ -181,6 +190,7 @@ static int wait_for(const nizwarf_call *call)
 	return ENOLCK;
 }
 
+/* EAGAIN: it's held by another, and the caller doesn't wait. */
 static int set_lock(const nizwarf_call *call, const nizwarf_lock *wanted, int waits, int flock)
 {
 	int error;
@@ -196,6 +206,7 @@ static int set_lock(const nizwarf_call *call, const nizwarf_lock *wanted, int wa
 	return error;
 }
 
+/* The lock that is in the way, or F_UNLCK in its place. */
 static int news_getlk(const nizwarf_req *req, uint64_t ino, const nizwarf_file_info *fi, nizwarf_lock *asked)
 {
 	const struct held *other;
@@ -210,6 +221,7 @@ static int news_getlk(const nizwarf_req *req, uint64_t ino, const nizwarf_file_i
 	return 0;
 }
 
+/* Of the process, as fcntl(2) has it; `sleep` is F_SETLKW. */
 static int news_setlk(const nizwarf_req *req, uint64_t ino, const nizwarf_file_info *fi,
 		      const nizwarf_lock *wanted, int sleep)
 {
@@ -219,7 +231,7 @@ static int news_setlk(const nizwarf_req *req, uint64_t ino, const nizwarf_file_i
 
 static int news_flock(const nizwarf_req *req, uint64_t ino, const nizwarf_file_info *fi, int op)
 {
-	const nizwarf_lock all = { 0, INT64_MAX,
+	const nizwarf_lock all = { 0, INT64_MAX, /* from 0 to the last byte of any file */
 				   op & LOCK_UN ? F_UNLCK :
 				   op & LOCK_SH ? F_RDLCK :
 						  F_WRLCK,
@@ -229,6 +241,7 @@ static int news_flock(const nizwarf_req *req, uint64_t ino, const nizwarf_file_i
 	return set_lock(req->call, &all, !(op & LOCK_NB), 1);
 }
 
+/* Called for an INTERRUPT, of any call. One that doesn't wait here ends soon by itself, or has ended. */
 static void news_interrupt(void *user, uint64_t unique)
 {
 	int is_found = 0;
@@ -258,12 +271,14 @@ static int unlock(uint64_t owner, int flock)
 	return error;
 }
 
+/* At each close(2) of a descriptor the process gives its locks of the file up, as POSIX says. */
 static int news_flush(const nizwarf_req *req, uint64_t ino, const nizwarf_file_info *fi)
 {
 	(void)req, (void)ino;
 	return unlock(fi->lock_owner, 0);
 }
 
+/* With the last descriptor its flock(2) lock goes, if the kernel says that there is one. */
 static int news_release(const nizwarf_req *req, uint64_t ino, const nizwarf_file_info *fi)
 {
 	(void)ino;
@@ -272,6 +287,7 @@ static int news_release(const nizwarf_req *req, uint64_t ino, const nizwarf_file
 
 /* ---- the file */
 
+/* In bytes. The lock is held. */
 static size_t size_of(uint64_t ino)
 {
 	return ino == ROOT ? 0 : ino == UNNAMED ? unnamed_len : strlen(text);
@@ -284,7 +300,7 @@ static int news_getattr(const nizwarf_req *req, uint64_t ino, const nizwarf_file
 	attr_timeout->tv_sec = DAY;
 	attr->ino = ino;
 	attr->mode = ino == ROOT ? S_IFDIR | 0755 : S_IFREG | 0644;
-	attr->nlink = ino != UNNAMED;
+	attr->nlink = ino != UNNAMED; /* no name leads to it */
 	pthread_mutex_lock(&lock);
 	attr->size = size_of(ino);
 	pthread_mutex_unlock(&lock);
@@ -300,13 +316,14 @@ static int news_statx(const nizwarf_req *req, uint64_t ino, uint32_t flags, uint
 	statx->ino = ino;
 	statx->mode = ino == ROOT ? S_IFDIR | 0755 : S_IFREG | 0644;
 	statx->nlink = ino != UNNAMED;
-	statx->btime.tv_sec = 1234567890;
+	statx->btime.tv_sec = 1234567890; /* what no other call tells */
 	pthread_mutex_lock(&lock);
 	statx->size = size_of(ino);
 	pthread_mutex_unlock(&lock);
 	return 0;
 }
 
+/* Some number, by which it can be seen that the call came. */
 static int news_bmap(const nizwarf_req *req, uint64_t ino, size_t blocksize, uint64_t idx, uint64_t *block)
 {
 	(void)req, (void)ino, (void)blocksize;
@@ -334,10 +351,11 @@ static int news_ioctl(const nizwarf_req *req, uint64_t ino, uint32_t cmd, uint64
 		return EINVAL;
 	memcpy(out_buf, &count, sizeof(count));
 	*len = sizeof(count);
-	out->result = 7;
+	out->result = 7; /* what ioctl(2) returns */
 	return 0;
 }
 
+/* With `notify` the kernel wants a notice with this number, once there is something to read. */
 static int news_poll(const nizwarf_req *req, uint64_t ino, const nizwarf_file_info *fi, uint32_t events,
 		     uint64_t kh, int notify, uint32_t *revents)
 {
@@ -367,6 +385,7 @@ static int news_lookup(const nizwarf_req *req, uint64_t parent, const char *want
 static int news_open(const nizwarf_req *req, uint64_t ino, nizwarf_file_info *fi)
 {
 	(void)req, (void)ino;
+	/* (what the kernel has of the text stays, from one open to the next) */
 	fi->open_flags = FOPEN_KEEP_CACHE;
 	return 0;
 }
@@ -376,6 +395,7 @@ static int news_readdir(const nizwarf_req *req, uint64_t ino, uint64_t off, cons
 {
 	(void)req, (void)fi;
 	pthread_mutex_lock(&lock);
+	/* (`off` is where a listing goes on, and so the number of the item after) */
 	while (off < 3 && nizwarf_add_direntry(dir,
 					       off == 2 ? name :
 					       off	? ".." :
@@ -405,6 +425,7 @@ static int news_write(const nizwarf_req *req, uint64_t ino, const void *buf, siz
 		      const nizwarf_file_info *fi, size_t *len)
 {
 	(void)req, (void)fi;
+	/* (no overflow: `off` was looked at first) */
 	if (ino != UNNAMED || off > sizeof(unnamed) || size > sizeof(unnamed) - off)
 		return ENOSPC;
 	pthread_mutex_lock(&lock);
@@ -435,6 +456,7 @@ static int news_tmpfile(const nizwarf_req *req, uint64_t parent, uint32_t mode, 
 static int news_conn(const nizwarf_req *req, nizwarf_conn_info *conn)
 {
 	(void)req;
+	/* POSIX_LOCKS, FLOCK_LOCKS and HAS_RESEND, of which older headers of Linux lack the last. */
 	conn->want |= UINT64_C(1) << 1 | UINT64_C(1) << 10 | UINT64_C(1) << 39;
 	conn->max_background = 20;
 	conn->time_gran = 1;
@@ -449,6 +471,7 @@ static void news_forget(const nizwarf_req *req, uint64_t ino, uint64_t nlookup)
 	pthread_mutex_unlock(&lock);
 }
 
+/* It comes as a request of its own, after the notice was sent, on any worker. */
 static void news_retrieve_reply(const nizwarf_req *req, uint64_t cookie, uint64_t ino, uint64_t offset,
 				const void *data, size_t size)
 {
@@ -481,6 +504,7 @@ static const nizwarf_ops ops = { .conn = news_conn,
 
 /* ---- lines that change it */
 
+/* ENOENT is no fault: the kernel has nothing of that node or name. */
 static void tell(const void *notice, size_t len, const void *data, size_t data_len, const char *what)
 {
 	const int error = fuse_device_notify(&notices, notice, len, data, data_len);
@@ -497,6 +521,7 @@ static void tell_entry(const char *of)
 	     "inval_entry");
 }
 
+/* Cut, if it's longer than there is room for. */
 static void set_text(const char *to)
 {
 	pthread_mutex_lock(&lock);
@@ -525,6 +550,7 @@ static void show(void)
 	pthread_mutex_unlock(&lock);
 }
 
+/* `set` has the kernel ask again, `store` gives it the text, and with `quiet` it keeps what it has. */
 static void obey_text(const char *word, const char *rest)
 {
 	uint8_t notice[64];
@@ -544,6 +570,7 @@ static void obey_name(const char *word, const char *rest)
 	uint8_t notice[256];
 
 	if (!strcmp(word, "delete")) {
+		/* (no file has it: so the root is empty) */
 		set_name("");
 		tell(notice, nizwarf_notice_delete(ROOT, NEWS, rest, strlen(rest), notice, sizeof(notice)),
 		     NULL, 0, "delete");
@@ -572,7 +599,8 @@ static void obey_notice(const char *word)
 		len = nizwarf_notice_prune(1, notice, sizeof(notice));
 		tell(notice, len, &node, sizeof(node), word);
 	} else if (!strcmp(word, "retrieve")) {
-		len = nizwarf_notice_retrieve(77, NEWS, 0, sizeof(text), notice, sizeof(notice));
+		len = nizwarf_notice_retrieve(77, NEWS, 0, sizeof(text), notice,
+					      sizeof(notice)); /* any number, which comes back */
 		tell(notice, len, NULL, 0, word);
 	}
 }
@@ -593,6 +621,7 @@ static void obey(char *line)
 	fflush(stdout);
 }
 
+/* The thread of the lines, which ends with standard input. */
 static void *obey_each(void *none)
 {
 	char line[LONGEST];
@@ -604,7 +633,7 @@ static void *obey_each(void *none)
 	return none;
 }
 
-/* Memory for a reply in one piece, of each worker. */
+/* Memory for a reply in one piece, of each worker. By the worker's number, which alone uses it. */
 static uint8_t *replies[TRANSPORT_MOST_WORKERS];
 
 static int begin(void *user, unsigned worker)
@@ -621,7 +650,7 @@ static void end(void *user, unsigned worker)
 	free(replies[worker]);
 }
 
-/* (over io_uring a reply is in two pieces) */
+/* (over io_uring a reply is in two pieces) `size` is no more than MESSAGE: the header, and a payload. */
 static int32_t serve(void *user, unsigned worker, const nizwarf_segment *request, size_t segments,
 		     const nizwarf_room *room, size_t rooms, size_t *len)
 {
@@ -632,6 +661,7 @@ static int32_t serve(void *user, unsigned worker, const nizwarf_segment *request
 	(void)segments;
 	for (size_t i = 0; i < rooms; i++)
 		size += room[i].len;
+	/* (the request is in one segment, as the transport of /dev/fuse says) */
 	code = nizwarf_serve_ops(&ops, user, &slots[worker], &session, request->at, request->len,
 				 rooms > 1 ? replies[worker] : room->at, size, items, ITEMS, len);
 	for (size_t i = 0; rooms > 1 && i < rooms && copied < *len; i++) {
@@ -650,6 +680,7 @@ int main(int count, char **words)
 			       .workers = WORKERS,
 			       .ring = by_ring ? &fuse_ring : NULL,
 			       .ring_workers = 2,
+			       /* (its requests have memory of their own for each that may be kept) */
 			       .most_kept = KEPT,
 			       .wants_ring = 1,
 			       .notices = &notices,
@@ -664,7 +695,7 @@ int main(int count, char **words)
 		return fputs("Usage: news [--io_uring] MOUNTPOINT\n", stderr), 2;
 	device = fuse_device_mount(&by, "news", words[1 + by_ring], MS_NOSUID | MS_NODEV,
 				   ",default_permissions");
-	/* (a signal is for who serves) */
+	/* (a signal is for who serves) (blocked here, since threads have the mask of who starts them) */
 	sigemptyset(&ending);
 	sigaddset(&ending, SIGTERM);
 	pthread_sigmask(SIG_BLOCK, &ending, NULL);

@@ -6,6 +6,7 @@
 #include <stdio.h>
 #include "nizwarf.h"
 
+/* Ends the program with status 1 at what isn't so. */
 #define CHECK(fact)                                                                     \
 	do {                                                                            \
 		if (!(fact)) {                                                          \
@@ -19,12 +20,12 @@ int main(void)
 	struct {
 		struct fuse_in_header header;
 		struct fuse_init_in body;
-	} init = { .header = { .len = sizeof(init), .opcode = FUSE_INIT, .unique = 1 },
+	} init = { .header = { .len = sizeof(init), .opcode = FUSE_INIT, .unique = 1 }, /* of 7.27 at least */
 		   .body = { .major = 7, .minor = 38, .flags = FUSE_DO_READDIRPLUS } };
 	struct {
 		struct fuse_in_header header;
 		struct fuse_mkdir_in body;
-	} make = { .header = { .len = sizeof(make) + 2,
+	} make = { .header = { .len = sizeof(make) + 2, /* `+ 2`: the name after the record, with its 0 */
 			       .opcode = FUSE_MKDIR,
 			       .unique = 2,
 			       .nodeid = FUSE_ROOT_ID },
@@ -42,17 +43,21 @@ int main(void)
 	const nizwarf_segment asked[] = { { &init, sizeof(init) } };
 	const nizwarf_room told[] = { { &header, sizeof(header) }, { &agreed, sizeof(agreed) } };
 
+	/* (no server was made yet; a page of 100 bytes is none) */
 	CHECK(nizwarf_message(&server, asked, 1, told, 2, &len) == NIZWARF_NO_SERVER && len == 0);
 	CHECK(nizwarf_new(&server, 100, 1 << 20, NULL) == NIZWARF_WRONG_SIZE);
+	/* The size of a page and the largest payload, in bytes; without settings. */
 	CHECK(nizwarf_new(&server, 4096, 1 << 20, NULL) == NIZWARF_OK);
 	CHECK(nizwarf_message(&server, asked, 1, told, 2, &len) == NIZWARF_OK && len == 80);
 	CHECK(header.len == len && header.error == 0 && header.unique == 1 && agreed.minor == 38);
+	/* (what is agreed on here stays below the 32 bits of `flags`) */
 	CHECK(nizwarf_options(&server) == agreed.flags && agreed.max_write == 1 << 20);
 
 	/* MKDIR of `a`, at second 7. */
 	const nizwarf_segment made[] = { { &make, sizeof(make) }, { "a", 2 } };
 	const nizwarf_room found[] = { { &header, sizeof(header) }, { &entry, sizeof(entry) } };
 
+	/* (a library asks no clock) */
 	CHECK(nizwarf_tell_time(&server, 7, 0) == NIZWARF_OK);
 	CHECK(nizwarf_message(&server, made, 2, found, 2, &len) == NIZWARF_OK && len == 144);
 	CHECK(header.len == len && header.error == 0 && header.unique == 2 && entry.nodeid == 2);
@@ -63,8 +68,10 @@ int main(void)
 
 	CHECK(nizwarf_message(&server, name, 3, found, 2, &len) == NIZWARF_OK && len == 144);
 	CHECK(header.len == len && header.error == 0 && header.unique == 3 && entry.nodeid == 2);
+	/* (the lookup isn't counted then: the client has no entry) */
 	CHECK(nizwarf_message(&server, name, 3, found, 1, &len) == NIZWARF_ENCODE_MESSAGE && len == 0);
 	CHECK(header.len == 144 && nizwarf_message(NULL, name, 3, found, 2, &len) == NIZWARF_NULL);
+	/* (a second end finds none, and does nothing) */
 	CHECK(nizwarf_end(&server) == NIZWARF_OK && nizwarf_end(&server) == NIZWARF_NO_SERVER);
 	puts("INIT, MKDIR and LOOKUP were answered.");
 	return 0;
