@@ -25,9 +25,10 @@ static const char usage[] =
 	"to one front end, as QEMU, after another, until SIGINT or SIGTERM. --trace prints each request\n"
 	"and reply to standard error, or their bytes to a new FILE for nizwarf-decode.\n";
 
+/* The files: the worker's alone, from its begin to its end. With the process they are gone. */
 static nizwarf_server server = NIZWARF_NONE;
 
-/* A new server over new files. */
+/* A new server over new files. Not 0: it failed, and the transport ends. */
 static int begin(void *user, unsigned worker)
 {
 	nizwarf_settings settings = NIZWARF_SETTINGS;
@@ -49,6 +50,8 @@ static void end(void *user, unsigned worker)
 	nizwarf_end(&server);
 }
 
+/* Answers a request in a guest's own memory. (The server reads the request once, and none of the reply: what a guest
+ * changes meanwhile is its own loss. Requests are copied before.) */
 static int32_t serve(void *user, unsigned worker, const nizwarf_segment *request, size_t segments,
 		     const nizwarf_room *room, size_t rooms, size_t *len)
 {
@@ -57,14 +60,15 @@ static int32_t serve(void *user, unsigned worker, const nizwarf_segment *request
 
 	(void)user, (void)worker;
 	clock_gettime(CLOCK_REALTIME, &now);
+	/* (a library asks no clock: what this request changes has this time) */
 	nizwarf_tell_time(&server, (uint64_t)now.tv_sec, (uint32_t)now.tv_nsec);
 	code = nizwarf_message(&server, request, segments, room, rooms, len);
+	/* (on the only worker, so by one thread at a time) */
 	heap_look();
 	return code;
 }
 
 static const char *path;
-
 /* The socket's file, open so that its number is no other file's until the process ends. -1: it can't be had. */
 static int made = -1;
 
@@ -100,6 +104,7 @@ int main(int count, char **words)
 {
 	transport by = { .program = "nizwarf-vhost",
 			 .workers = 1,
+			 /* (the files have no handles: an OPEN need not come, and so not cut them either) */
 			 .withheld = FUSE_ATOMIC_O_TRUNC | TRANSPORT_ALLOW_IDMAP,
 			 .begin = begin,
 			 .end = end,
@@ -109,7 +114,7 @@ int main(int count, char **words)
 	int listener, status;
 
 	if (count == 2 && prints(words[1]))
-		return fflush(stdout) != 0;
+		return fflush(stdout) != 0; /* what could not be written is an error */
 	if (count > 1 && (!strcmp(words[1], "--trace") || !strncmp(words[1], "--trace=", 8))) {
 		trace = words[1] + strlen("--trace");
 		count--;
@@ -121,13 +126,14 @@ int main(int count, char **words)
 			count == 2 ? words[1] : "", usage);
 		return 2;
 	}
+	/* (before the socket is there: who connects is served with the trace) */
 	if (trace && trace_begin(&by, *trace ? trace + 1 : NULL))
 		return 1;
 	heap_begin();
 	path = words[1];
 	listener = vhost_user_listen(&by, path);
 	if (listener < 0)
-		return -listener;
+		return -listener; /* 1: it failed; 2: the path can't be */
 	made = open(path, O_PATH | O_NOFOLLOW | O_CLOEXEC);
 	status = vhost_user_serve(&by, listener);
 	remove_socket(NULL);
