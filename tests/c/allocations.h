@@ -12,6 +12,7 @@ void __real_free(void *at);
 /* How many were asked for; which one is refused, where 0 is none; how many pieces are not given back. */
 static long asked, refused, live;
 
+/* (calloc isn't counted: the libraries don't call it) */
 void *__wrap_malloc(size_t size)
 {
 	void *at = ++asked == refused ? NULL : __real_malloc(size);
@@ -20,6 +21,7 @@ void *__wrap_malloc(size_t size)
 	return at;
 }
 
+/* (where it is refused the old piece stays, and so does `live`) */
 void *__wrap_realloc(void *old, size_t size)
 {
 	void *at = ++asked == refused ? NULL : __real_realloc(old, size);

@@ -15,7 +15,7 @@ enum { INTERRUPT = 36, READDIRPLUS = 44, RENAME2 = 45, SETUPMAPPING = 48, REMOVE
 #define CREATE_SUPP_GROUP (UINT64_C(1) << 34)
 
 /* The fields of fuse_setattr_in that `valid` can name, but for `fh`. */
-enum { KNOWN_VALID = 0xdbf };
+enum { KNOWN_VALID = 0xdbf }; /* all of them but bits 6, FH, and 9, LOCKOWNER */
 
 /* Of each opcode: the length of its record, and the kind of its answer. */
 static const struct {
@@ -39,17 +39,17 @@ static const struct {
 	[NIZWARF_STATFS] = { 0, NIZWARF_STATISTICS },
 	[NIZWARF_RELEASE] = { 24, NIZWARF_DONE },
 	[NIZWARF_FSYNC] = { 16, NIZWARF_DONE },
-	[NIZWARF_SETXATTR] = { 8, NIZWARF_DONE },
+	[NIZWARF_SETXATTR] = { 8, NIZWARF_DONE }, /* or 16 with SETXATTR_EXT */
 	[NIZWARF_GETXATTR] = { 8, NIZWARF_TEXT_OR_COUNT },
 	[NIZWARF_LISTXATTR] = { 8, NIZWARF_TEXT_OR_COUNT },
 	[NIZWARF_REMOVEXATTR] = { 0, NIZWARF_DONE },
 	[NIZWARF_FLUSH] = { 24, NIZWARF_DONE },
-	[NIZWARF_INIT] = { 16, NIZWARF_WANT },
+	[NIZWARF_INIT] = { 16, NIZWARF_WANT }, /* what each client has: a longer one is taken too */
 	[NIZWARF_OPENDIR] = { 8, NIZWARF_OPENED },
 	[NIZWARF_READDIR] = { 40, NIZWARF_DIRECTORY },
 	[NIZWARF_RELEASEDIR] = { 24, NIZWARF_DONE },
 	[NIZWARF_FSYNCDIR] = { 16, NIZWARF_DONE },
-	[NIZWARF_GETLK] = { 0, NIZWARF_FAULT_OR_SILENCE },
+	[NIZWARF_GETLK] = { 0, NIZWARF_FAULT_OR_SILENCE }, /* nothing is offered: no record is read */
 	[NIZWARF_SETLK] = { 0, NIZWARF_FAULT_OR_SILENCE },
 	[NIZWARF_SETLKW] = { 0, NIZWARF_FAULT_OR_SILENCE },
 	[NIZWARF_ACCESS] = { 8, NIZWARF_DONE },
@@ -66,7 +66,7 @@ static const struct {
 	[NIZWARF_LSEEK] = { 24, NIZWARF_OFFSET },
 	[NIZWARF_COPY] = { 56, NIZWARF_WRITTEN },
 	[NIZWARF_SYNCFS] = { 0, NIZWARF_DONE },
-	[NIZWARF_TMPFILE] = { 0, NIZWARF_FAULT },
+	[NIZWARF_TMPFILE] = { 0, NIZWARF_FAULT }, /* the same */
 };
 
 /* In a record below, the node and the handle of a file that is open. */
@@ -84,6 +84,7 @@ static const struct {
 	{ NIZWARF_SYNCFS, { 0 } },
 };
 
+/* Numbers that may lie at any place. */
 static inline uint32_t u32(const uint8_t *at)
 {
 	uint32_t n;
@@ -109,20 +110,21 @@ static inline void set_if(nizwarf_call *c, int set, uint32_t has, uint64_t *to, 
 	}
 }
 
-/* What the record says, which is after the header. */
+/* What the record says, which is after the header: `r` is where it begins, and the numbers added to it are the places of
+ * fields in the structs of linux/fuse.h. */
 static inline void set_record(nizwarf_call *c, const uint8_t *r, uint32_t opcode)
 {
 	switch (opcode) {
 	case NIZWARF_FORGET:
-		c->length = u64(r);
+		c->length = u64(r); /* nlookup */
 		break;
 	case NIZWARF_GETATTR:
-		set_if(c, u32(r) & 1, NIZWARF_HAS_HANDLE, &c->handle, u64(r + 8));
+		set_if(c, u32(r) & 1, NIZWARF_HAS_HANDLE, &c->handle, u64(r + 8)); /* FUSE_GETATTR_FH */
 		break;
 	case NIZWARF_SETATTR:
 		memcpy(&c->attr, r, sizeof(c->attr));
-		c->flags = u32(r) & KNOWN_VALID;
-		set_if(c, u32(r) >> 6 & 1, NIZWARF_HAS_HANDLE, &c->handle, u64(r + 8));
+		c->flags = u32(r) & KNOWN_VALID;					/* valid */
+		set_if(c, u32(r) >> 6 & 1, NIZWARF_HAS_HANDLE, &c->handle, u64(r + 8)); /* FATTR_FH */
 		break;
 	case NIZWARF_MKNOD:
 		c->mode = u32(r);
@@ -134,27 +136,31 @@ static inline void set_record(nizwarf_call *c, const uint8_t *r, uint32_t opcode
 		c->umask = u32(r + 4);
 		break;
 	case RENAME2:
+		/* RENAME_NOREPLACE .. RENAME_WHITEOUT */
 		c->flags = u32(r + 8) & 7;
 		/* fall through */
 	case NIZWARF_RENAME:
-		c->other_node = u64(r);
+		c->other_node = u64(r); /* newdir */
 		break;
 	case NIZWARF_LINK:
-		c->other_node = c->node;
-		c->node = u64(r);
+		c->other_node = c->node; /* the directory, which the header names */
+		c->node = u64(r);	 /* oldnodeid */
 		break;
 	case NIZWARF_OPEN:
+		/* FUSE_OPEN_KILL_SUIDGID */
 		c->has |= u32(r + 4) & 1 ? NIZWARF_KILL_PRIV : 0;
 		/* fall through */
 	case NIZWARF_OPENDIR:
 		c->flags = u32(r);
 		break;
 	case NIZWARF_WRITE:
-		c->has |= u32(r + 20) & 1 ? NIZWARF_DELAYED : 0;
+		c->has |= u32(r + 20) & 1 ? NIZWARF_DELAYED : 0; /* FUSE_WRITE_CACHE */
+		/* FUSE_WRITE_KILL_SUIDGID */
 		c->has |= u32(r + 20) & 4 ? NIZWARF_KILL_PRIV : 0;
 		/* fall through */
 	case NIZWARF_READ:
 		c->flags = u32(r + 32);
+		/* FUSE_READ_LOCKOWNER, and a WRITE's */
 		set_if(c, u32(r + 20) & 2, NIZWARF_HAS_OWNER, &c->lock_owner, u64(r + 24));
 		/* fall through */
 	case NIZWARF_READDIR:
@@ -164,8 +170,9 @@ static inline void set_record(nizwarf_call *c, const uint8_t *r, uint32_t opcode
 		c->size = u32(r + 16);
 		break;
 	case NIZWARF_RELEASE:
-		c->has |= u32(r + 12) & 1 ? NIZWARF_FLUSHES : 0;
-		c->has |= u32(r + 12) & 2 ? NIZWARF_FLOCK_RELEASE : 0;
+		c->has |= u32(r + 12) & 1 ? NIZWARF_FLUSHES : 0;       /* FUSE_RELEASE_FLUSH */
+		c->has |= u32(r + 12) & 2 ? NIZWARF_FLOCK_RELEASE : 0; /* FUSE_RELEASE_FLOCK_UNLOCK */
+		/* either has an owner */
 		set_if(c, u32(r + 12) & 3, NIZWARF_HAS_OWNER, &c->lock_owner, u64(r + 16));
 		/* fall through */
 	case NIZWARF_RELEASEDIR:
@@ -175,11 +182,12 @@ static inline void set_record(nizwarf_call *c, const uint8_t *r, uint32_t opcode
 	case NIZWARF_FSYNC:
 	case NIZWARF_FSYNCDIR:
 		c->handle = u64(r);
-		c->has |= u32(r + 8) & 1 ? NIZWARF_DATASYNC : 0;
+		c->has |= u32(r + 8) & 1 ? NIZWARF_DATASYNC : 0; /* FUSE_FSYNC_FDATASYNC */
 		break;
 	case NIZWARF_SETXATTR:
 		c->flags = u32(r + 4);
-		c->more = c->options & SETXATTR_EXT ? u32(r + 8) & 1 : 0;
+		c->more = c->options & SETXATTR_EXT ? u32(r + 8) & 1 :
+						      0; /* setxattr_flags, of the longer record */
 		break;
 	case NIZWARF_GETXATTR:
 	case NIZWARF_LISTXATTR:
@@ -190,24 +198,24 @@ static inline void set_record(nizwarf_call *c, const uint8_t *r, uint32_t opcode
 		c->lock_owner = u64(r + 16);
 		break;
 	case NIZWARF_INIT:
-		c->readahead = u32(r + 8);
-		c->length = u32(r + 12);
-		if (c->length & 1 << 30)
-			c->length |= (uint64_t)u32(r + 16) << 32;
+		c->readahead = u32(r + 8);			  /* max_readahead */
+		c->length = u32(r + 12);			  /* flags */
+		if (c->length & 1 << 30)			  /* FUSE_INIT_EXT */
+			c->length |= (uint64_t)u32(r + 16) << 32; /* flags2 */
 		c->length &= KNOWN_OPTIONS;
 		break;
 	case NIZWARF_ACCESS:
-		c->more = u32(r);
+		c->more = u32(r); /* mask */
 		break;
 	case NIZWARF_CREATE:
 		c->flags = u32(r);
 		c->mode = u32(r + 4);
 		c->umask = u32(r + 8);
-		c->has |= u32(r + 12) & 1 ? NIZWARF_KILL_PRIV : 0;
+		c->has |= u32(r + 12) & 1 ? NIZWARF_KILL_PRIV : 0; /* open_flags: FUSE_OPEN_KILL_SUIDGID */
 		break;
 	case NIZWARF_BATCH_FORGET:
-		c->node = 0;
-		c->length = u32(r);
+		c->node = 0;	    /* of the request none: each pair has one */
+		c->length = u32(r); /* count */
 		break;
 	case NIZWARF_FALLOCATE:
 		c->handle = u64(r);
@@ -218,7 +226,7 @@ static inline void set_record(nizwarf_call *c, const uint8_t *r, uint32_t opcode
 	case NIZWARF_LSEEK:
 		c->handle = u64(r);
 		c->offset = u64(r + 8);
-		c->more = u32(r + 16);
+		c->more = u32(r + 16); /* whence */
 		break;
 	case NIZWARF_COPY:
 		c->handle = u64(r);
@@ -227,7 +235,7 @@ static inline void set_record(nizwarf_call *c, const uint8_t *r, uint32_t opcode
 		c->other_handle = u64(r + 24);
 		c->other_offset = u64(r + 32);
 		c->length = u64(r + 40);
-		c->lock_owner = u64(r + 48);
+		c->lock_owner = u64(r + 48); /* flags */
 		break;
 	}
 }
@@ -240,16 +248,17 @@ static inline size_t set_name(nizwarf_range *name, const uint8_t *request, size_
 	return at + name->len + 1;
 }
 
-/* The blocks of extensions from a place to another. */
+/* The blocks of extensions from a place to another: each has its length, with its header, and its kind. They are right,
+ * since the request asks for a call. */
 static inline void set_extensions(nizwarf_call *c, const uint8_t *request, size_t at, size_t end)
 {
 	for (; at < end; at += u32(request + at)) {
 		const uint32_t type = u32(request + at + 4);
 
-		if (type == 32) {
+		if (type == 32) { /* FUSE_EXT_GROUPS */
 			c->has |= NIZWARF_HAS_GROUP;
-			c->group = u32(request + at + 12);
-		} else if (type == 1) {
+			c->group = u32(request + at + 12); /* the first of the groups */
+		} else if (type == 1) {			   /* one security context */
 			c->has |= NIZWARF_HAS_CONTEXT;
 			c->context.len = u32(request + at + 8);
 			c->context.at = set_name(&c->context_name, request, at + 16);
@@ -257,7 +266,7 @@ static inline void set_extensions(nizwarf_call *c, const uint8_t *request, size_
 	}
 }
 
-/* What is after the record. */
+/* What is after the record, at `at`: names, each up to its 0, and then what is no name. */
 static inline void set_tail(nizwarf_call *c, const uint8_t *request, size_t len, size_t at, uint32_t opcode)
 {
 	switch (opcode) {
@@ -276,7 +285,7 @@ static inline void set_tail(nizwarf_call *c, const uint8_t *request, size_t len,
 		break;
 	case NIZWARF_SETXATTR:
 		c->data.at = set_name(&c->name, request, at);
-		c->data.len = u32(request + 40);
+		c->data.len = u32(request + 40); /* the record's size */
 		break;
 	case NIZWARF_SYMLINK:
 	case NIZWARF_MKNOD:
@@ -284,7 +293,7 @@ static inline void set_tail(nizwarf_call *c, const uint8_t *request, size_t len,
 	case NIZWARF_CREATE:
 		at = set_name(&c->name, request, at);
 		if (opcode == NIZWARF_SYMLINK)
-			at = set_name(&c->other_name, request, at);
+			at = set_name(&c->other_name, request, at); /* the link's text */
 		if (c->options & (SECURITY_CTX | CREATE_SUPP_GROUP))
 			set_extensions(c, request, at, u32(request));
 		break;
@@ -294,7 +303,7 @@ static inline void set_tail(nizwarf_call *c, const uint8_t *request, size_t len,
 		break;
 	case NIZWARF_BATCH_FORGET:
 		c->data.at = at;
-		c->data.len = 16 * c->length;
+		c->data.len = 16 * c->length; /* pairs of a node and a count */
 		break;
 	}
 }
@@ -315,6 +324,7 @@ static inline nizwarf_call call_of(const uint8_t *request, size_t len, uint64_t 
 		c.call = NIZWARF_READDIR;
 		c.has = NIZWARF_PLUS;
 	}
+	/* (of the others nobody is told who asks) */
 	if (c.answer != NIZWARF_FAULT_OR_SILENCE && c.answer != NIZWARF_FAULT && opcode != NIZWARF_INIT &&
 	    opcode != NIZWARF_DESTROY) {
 		c.node = u64(request + 16);
@@ -323,7 +333,7 @@ static inline nizwarf_call call_of(const uint8_t *request, size_t len, uint64_t 
 		c.pid = (int32_t)u32(request + 32);
 	}
 	if (opcode == NIZWARF_READ)
-		c.length = room - 16;
+		c.length = room - 16; /* what is left beside a header */
 	set_record(&c, request + 40, opcode);
 	set_tail(&c, request, len,
 		 40 + forms[opcode].record + (opcode == NIZWARF_SETXATTR && options & SETXATTR_EXT ? 8 : 0),

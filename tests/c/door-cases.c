@@ -10,7 +10,8 @@
 
 static uint8_t text[ROOM];
 
-/* Asks by hand, of a request in two pieces, what is told and right. */
+/* Asks by hand, of a request in two pieces, what is told and right. `space` is the room's length, and the first piece
+ * has `cut` bytes at most. */
 static nizwarf_call ask_call(size_t space, size_t cut)
 {
 	const size_t first = cut < request_len ? cut : request_len;
@@ -22,7 +23,8 @@ static nizwarf_call ask_call(size_t space, size_t cut)
 	return call;
 }
 
-/* Whether the reply is the error of this number, and nothing else. */
+/* Whether the reply is the error of this number, and nothing else. (a header alone: 16 bytes, of which 4 to 7 are the
+ * error below 0) */
 static int is_error(const nizwarf_told *told, int error)
 {
 	return told->len == 16 && told->put == 16 && u32(ours) == 16 && (int32_t)u32(ours + 4) == -error &&
@@ -32,9 +34,13 @@ static int is_error(const nizwarf_told *told, int error)
 /* A request that makes a name, with a security context, and a group in front of it or after it. */
 static void begin_maker(uint32_t opcode, int group_first)
 {
+	/* Blocks of extensions, as fuse_ext_header has them: how many bytes, the kind (below 32 a number of security
+	 * contexts), and then what the kind says: one group; or the length of a value, padding, a name and the
+	 * value. */
 	static const uint32_t group[] = { 16, 32, 1, 4242 }, context[] = { 30, 1, 5, 0 };
 	static const uint8_t record[16];
 
+	/* (of zeros, as long as the opcode's) */
 	begin_with(opcode, 1, record, forms[opcode].record);
 	add_name("name");
 	if (opcode == NIZWARF_SYMLINK)
@@ -50,7 +56,7 @@ static void begin_maker(uint32_t opcode, int group_first)
 static void ask_maker(uint32_t opcode, size_t cut)
 {
 	const nizwarf_answer answer = { .entry = { .node = 5 }, .has_handle = 1, .handle = 6 };
-	const size_t len = opcode == NIZWARF_CREATE ? 160 : 144;
+	const size_t len = opcode == NIZWARF_CREATE ? 160 : 144; /* of the reply: an entry, and a handle */
 	const nizwarf_call call = ask_call(4096, cut);
 	nizwarf_told told;
 
@@ -78,7 +84,7 @@ static void extensions(void)
 	session.options = 0;
 }
 
-/* What a block of security contexts is refused with, or NIZWARF_ASKED. */
+/* What a block of security contexts is refused with, or NIZWARF_ASKED. `size` is the block's, with its header. */
 static int32_t code_of_context(const uint8_t *block, size_t size, uint32_t type)
 {
 	const uint8_t *end;
@@ -87,7 +93,7 @@ static int32_t code_of_context(const uint8_t *block, size_t size, uint32_t type)
 		return NIZWARF_DECODE_MESSAGE;
 	if (type == 0)
 		return NIZWARF_ASKED;
-	if (size == 16)
+	if (size == 16) /* no byte for a name */
 		return NIZWARF_MISSING_PARAMETER;
 	end = memchr(block + 16, 0, size - 16);
 	if (!end || u32(block + 8) > (size_t)(block + size - end - 1))
@@ -101,6 +107,7 @@ static int32_t code_of_extensions(const uint8_t *at, const uint8_t *end)
 {
 	int contexts = 0, groups = 0;
 
+	/* (a block's length was looked at in the round before) */
 	for (; at < end; at += u32(at)) {
 		const size_t left = (size_t)(end - at);
 		uint32_t size, type;
@@ -112,6 +119,7 @@ static int32_t code_of_extensions(const uint8_t *at, const uint8_t *end)
 		type = u32(at + 4);
 		if (size < 8)
 			return NIZWARF_INVALID_HEADER_LENGTH;
+		/* (a second block of one kind is refused) */
 		if (type < 32 && !contexts++)
 			code = code_of_context(at, size, type);
 		else if (type != 32 || groups++ || size < 16 || u32(at + 8) != 1)
@@ -119,11 +127,12 @@ static int32_t code_of_extensions(const uint8_t *at, const uint8_t *end)
 		if (code != NIZWARF_ASKED)
 			return code;
 	}
+	/* (contexts must be there where they are agreed on, be it none; a group need not) */
 	return contexts ? NIZWARF_ASKED : NIZWARF_MISSING_EXTENSION;
 }
 
-/* What the first bytes of a request that makes a name are refused with: NIZWARF_OK where its `len`
- * is above the limit, which is answered, and NIZWARF_ASKED where it is a call. */
+/* What the first bytes of a request that makes a name are refused with: NIZWARF_OK where its `len` is above the
+ * limit, which is answered, and NIZWARF_ASKED where it is a call. The order is that of docs/PROTOCOL.md. */
 static int32_t code_of_maker(size_t len)
 {
 	const uint32_t opcode = u32(request + 4), total = u32(request);
@@ -133,7 +142,7 @@ static int32_t code_of_maker(size_t len)
 
 	if (len < 40)
 		return NIZWARF_DECODE_MESSAGE;
-	if (total > ROOM + 4096)
+	if (total > ROOM + 4096) /* more than the largest payload and its header */
 		return NIZWARF_OK;
 	if (len < 40u + forms[opcode].record)
 		return NIZWARF_DECODE_MESSAGE;
@@ -143,17 +152,19 @@ static int32_t code_of_maker(size_t len)
 		return NIZWARF_DECODE_MESSAGE;
 	if (opcode == NIZWARF_SYMLINK) {
 		name = memchr(name, 0, (size_t)(end - name));
-		if (!name++)
+		if (!name++) /* the link's text has no 0 */
 			return NIZWARF_MISSING_PARAMETER;
 	}
 	if (name == end)
 		return NIZWARF_MISSING_PARAMETER;
+	/* (without one all is the name, and there are no extensions) */
 	zero = memchr(name, 0, (size_t)(end - name));
 	code = code_of_extensions(zero ? zero + 1 : end, end);
 	return code == NIZWARF_ASKED && !zero ? NIZWARF_INVALID_C_STRING : code;
 }
 
-/* The first bytes of such a request, in two pieces, by those rules. */
+/* The first bytes of such a request, in two pieces, by those rules. (not by ask(): the server over the tree agrees on
+ * none of this) */
 static void ask_hostile(size_t len, size_t cut)
 {
 	const nizwarf_segment pieces[] = { { request, cut }, { request + cut, len - cut } };
@@ -188,6 +199,7 @@ static void hostile_extensions(void)
 			ask_hostile(len, n);
 			begin_maker(makers[i / 2], i & 1);
 		}
+		/* (mostly a byte after the header, else one of the length; up to four changes add up) */
 		for (n = 0; n < 20000; n++) {
 			const size_t at = rand() % 4 ? 40 + (size_t)rand() % (len - 40) : (size_t)rand() % 4;
 
@@ -203,7 +215,7 @@ static void hostile_extensions(void)
 /* The longer record of a SETXATTR, which the tree does not agree on. */
 static void longer_record(void)
 {
-	const uint32_t record[] = { 5, 1, 3, 0 };
+	const uint32_t record[] = { 5, 1, 3, 0 }; /* the value's length, flags, more flags, padding */
 	nizwarf_call call;
 	size_t cut;
 
@@ -219,7 +231,7 @@ static void longer_record(void)
 	session.options = 0;
 }
 
-/* The request as it is asked for a call, or answered ENOMEM without one. */
+/* The request as it is asked for a call, or answered ENOMEM without one. (the request has a room for 8192 bytes) */
 static void ask_bounded(int fits)
 {
 	const nizwarf_segment piece = { request, request_len };
@@ -235,13 +247,14 @@ static void ask_bounded(int fits)
  * isn't. */
 static void limits(void)
 {
-	uint32_t over;
+	uint32_t over; /* how many bytes above the bound */
 
 	CHECK(nizwarf_new(&server, 4096, 4096, NULL) == NIZWARF_OK);
 	session.max_buffer = 4096;
 	for (over = 0; over < 2; over++) {
 		const struct fuse_read_in read = { .size = 4096 + over };
-		const uint32_t size[] = { 4096 + over, 0 }, count[] = { 4096 / 16 + over, 0 };
+		const uint32_t size[] = { 4096 + over, 0 },
+			       count[] = { 4096 / 16 + over, 0 }; /* padding after each */
 		const uint32_t len = 8192 + over;
 
 		begin_with(NIZWARF_READDIR, 1, &read, sizeof(read));
@@ -257,6 +270,7 @@ static void limits(void)
 		add(text, 16 * count[0]);
 		ask_bounded(!over);
 		begin(NIZWARF_STATFS, 1);
+		/* (it says so alone; what lacks is found later) */
 		memcpy(request, &len, sizeof(len));
 		ask_bounded(!over);
 		/* (a READ and a WRITE are served, however long they are) */
@@ -267,7 +281,7 @@ static void limits(void)
 	CHECK(nizwarf_new(&server, 4096, ROOM, NULL) == NIZWARF_OK);
 }
 
-/* A READ of 4096 bytes with this room is answered with that many bytes. */
+/* A READ of 4096 bytes with this room is answered with that many bytes. `code` is what the answer comes to. */
 static nizwarf_told read_count(size_t space, uint64_t count, int32_t code)
 {
 	const struct fuse_read_in read = { .size = 4096 };
@@ -288,10 +302,12 @@ static void counts(void)
 {
 	const struct fuse_write_in write = { .size = 4 };
 	const uint32_t record[] = { 0, 0 };
+	/* (one more than the 32 bits of a WRITE's reply say) */
 	nizwarf_answer answer = { .count = UINT64_C(1) << 32, .has_count = 1 };
 	nizwarf_told told = read_count(8192, 4096, NIZWARF_OK);
 	nizwarf_call call;
 
+	/* (of a READ the door puts the header alone) */
 	CHECK(told.len == 4112 && told.put == 16 && u32(ours) == 4112 && ours[16] == FILL);
 	told = read_count(1000, 984, NIZWARF_OK);
 	CHECK(told.len == 1000 && told.put == 16 && !u32(ours + 4));
@@ -299,7 +315,7 @@ static void counts(void)
 	CHECK(told.len == 16 && u32(ours) == 16 && !u32(ours + 4));
 	told = read_count(8192, 4097, NIZWARF_OK);
 	CHECK(is_error(&told, EIO));
-	told = read_count(1000, 985, NIZWARF_OK);
+	told = read_count(1000, 985, NIZWARF_OK); /* one more than there is room for */
 	CHECK(is_error(&told, EIO));
 	told = read_count(8192, UINT64_MAX, NIZWARF_OK);
 	CHECK(is_error(&told, EIO));
@@ -334,7 +350,7 @@ static void errors(void)
 	CHECK(reply(&call, &answer, 3, &told) == NIZWARF_OK && is_error(&told, EIO));
 	answer.error = -1;
 	CHECK(reply(&call, &answer, 3, &told) == NIZWARF_OK && is_error(&told, EIO));
-	answer.error = INT32_MIN;
+	answer.error = INT32_MIN; /* which has no number above 0 */
 	CHECK(reply(&call, &answer, 3, &told) == NIZWARF_OK && is_error(&told, EIO));
 	answer = (nizwarf_answer)NIZWARF_NO_ANSWER;
 	CHECK(reply(&call, &answer, 3, &told) == NIZWARF_OK && is_error(&told, EIO));
@@ -343,6 +359,7 @@ static void errors(void)
 	call = ask_call(16, 0);
 	answer.error = 0;
 	CHECK(reply(&call, &answer, 3, &told) == NIZWARF_OK && is_error(&told, EIO));
+	/* (it has no reply, and ends what was agreed on) */
 	begin(NIZWARF_DESTROY, 1);
 	add("", 0);
 	session.options = KNOWN_OPTIONS;
@@ -358,13 +375,13 @@ static void options(void)
 	const struct fuse_init_in init = { .major = 7, .minor = 38, .flags = UINT32_MAX };
 	nizwarf_answer answer = { .count = FUSE_DO_READDIRPLUS | FUSE_POSIX_ACL };
 	/* (those, and what the server has by itself of what is offered) */
-	const uint64_t agreed = 0x10448449829 & UINT32_MAX;
+	const uint64_t agreed = 0x10448449829 & UINT32_MAX; /* the client offers no more than 32 */
 	nizwarf_call call;
 	nizwarf_told told;
 	size_t space;
 
 	begin_with(NIZWARF_INIT, 0, &init, sizeof(init));
-	for (space = 0; space < 81; space++) {
+	for (space = 0; space < 81; space++) { /* the reply has 80 bytes */
 		session.options = FUSE_WRITEBACK_CACHE;
 		call = ask_call(space, 50);
 		CHECK(reply(&call, &answer, 9, &told) == (space < 80 ? NIZWARF_ENCODE_MESSAGE : 0));
@@ -379,6 +396,7 @@ static void options(void)
 /* Long texts, and nanoseconds beyond a second. */
 static void long_answers(void)
 {
+	/* (with the header one more than 32 bits say: there aren't as many bytes) */
 	static const nizwarf_answer long_text = { .text = text, .text_len = UINT32_MAX - 15 };
 	static const nizwarf_answer long_time = {
 		.entry = { .node = 3, .entry_nanoseconds = UINT32_MAX, .attr_nanoseconds = 1000000000 }
@@ -401,6 +419,7 @@ static void long_answers(void)
 	add_name("a");
 	call = ask_call(144, 0);
 	CHECK(reply(&call, &long_time, 9, &told) == NIZWARF_OK && told.len == 144);
+	/* (a second has 10^9 nanoseconds, and Linux takes none above) */
 	CHECK(u32(ours + 48) == 999999999 && u32(ours + 52) == 999999999);
 }
 
@@ -429,10 +448,11 @@ static void wrong_items(void)
 	call = ask_call(8192, 0);
 	CHECK(reply(&call, &answer, 9, &told) == NIZWARF_OK && told.len == 16 + 3 * 160 && told.taken == 3);
 	for (i = 0; i < 3 * sizeof(wrong) / sizeof(*wrong); i++) {
-		const nizwarf_item right = listed[i % 3];
+		const nizwarf_item right = listed[i % 3]; /* put back after it */
 
 		listed[i % 3] = wrong[i / 3];
 		CHECK(reply(&call, &answer, 9, &told) == NIZWARF_OK && is_error(&told, EIO));
+		/* (no item came to the client) */
 		CHECK(!told.taken && !told.options);
 		listed[i % 3] = right;
 	}
@@ -488,6 +508,7 @@ static void entries(void)
 	begin_with(READDIRPLUS, 1, &read, sizeof(read));
 	call = ask_call(8192, 0);
 	CHECK(reply(&call, &answer, 9, &told) == NIZWARF_OK && told.len == 16 + 2 * 160);
+	/* (up to the item with an error: what follows is asked for again) */
 	CHECK(told.taken == 2 && !told.give_back);
 	/* (of `.` the entry is one of zeros, but for its number and its type) */
 	CHECK(!u64(ours + 16) && u64(ours + 56) == 1 && u32(ours + 116) == 040000);
@@ -498,7 +519,8 @@ static void entries(void)
 	CHECK(!told.taken && !told.give_back);
 }
 
-/* Entries whose reply does not fit, and calls that were not asked. */
+/* Entries whose reply does not fit, and calls that were not asked. A request whose client has no reply leaves a
+ * lookup that nobody gives back: so that is told. */
 static void give_back(void)
 {
 	static const struct fuse_create_in create = { .mode = 0100600 };
@@ -520,6 +542,7 @@ static void give_back(void)
 	}
 	call = ask_call(144, 0);
 	CHECK(reply(&call, &answer, 9, &told) == NIZWARF_OK && told.len == 144 && !told.give_back);
+	/* (kinds of answers that there are not) */
 	for (other = call, other.answer = NIZWARF_FAULT + 1; other.answer; other.answer <<= 1) {
 		memset(ours, FILL, 144);
 		CHECK(reply(&other, &answer, 9, &told) == NIZWARF_NOT_ASKED);
@@ -532,12 +555,14 @@ static void give_back(void)
 static void codes(void)
 {
 	const nizwarf_segment piece = { request, request_len }, null = { NULL, 0 };
-	const nizwarf_segment huge[] = { { request, SIZE_MAX / 2 },
+	const nizwarf_segment huge[] = { { request,
+					   SIZE_MAX / 2 }, /* whose lengths are together more than a size_t */
 					 { request, SIZE_MAX / 2 },
 					 { request, 2 } };
 	const nizwarf_room room = { ours, 144 }, nowhere = { NULL, 0 };
 	const nizwarf_room wide[] = { { ours, SIZE_MAX }, { ours, 1 } };
 	const nizwarf_item item = { 0 };
+	/* A page that is none, and payloads below and above what there may be. */
 	nizwarf_session wrong[] = { { 0, 4095, ROOM }, { 0, 4096, 4095 }, { 0, 4096, 134217729 } };
 	nizwarf_answer answer = { .text_len = 1 };
 	nizwarf_call call = ask_call(144, 0), none;
@@ -567,6 +592,7 @@ static void codes(void)
 	answer.items = &item;
 	CHECK(nizwarf_reply(&slot, &session, &call, &answer, &room, 1, &told) == NIZWARF_NULL);
 	answer = (nizwarf_answer){ .error = ENOENT };
+	/* (the room is another than was asked with) */
 	CHECK(nizwarf_reply(&slot, &session, &call, &answer, NULL, 0, &told) == NIZWARF_NOT_ASKED);
 	CHECK(nizwarf_reply(&slot, &session, &call, &answer, &room, 1, &told) == NIZWARF_OK);
 	for (i = 0; i < 3; i++) {
@@ -580,7 +606,7 @@ static void codes(void)
 }
 
 /* Asks and answers, also where an allocation is refused: then it is asked again. Its slot has memory for the answer;
- * another slot may lack it, and then it is answered again. */
+ * another slot may lack it, and then it is answered again. `len` is the reply's. */
 static void survive(size_t cut, size_t space, const nizwarf_answer *answer, size_t len)
 {
 	const nizwarf_segment pieces[] = { { request, cut }, { request + cut, request_len - cut } };
@@ -595,6 +621,7 @@ static void survive(size_t cut, size_t space, const nizwarf_answer *answer, size
 	memset(ours, FILL, space);
 	code = nizwarf_ask(&slot, &session, pieces, 2, &room, 1, &call, &told);
 	if (code == NIZWARF_OUT_OF_MEMORY) {
+		/* (nothing was written, and nothing is kept: it can be asked again as it was) */
 		CHECK(refused && !call.call && !told.len && !told.put && ours[0] == FILL);
 		code = nizwarf_ask(&slot, &session, pieces, 2, &room, 1, &call, &told);
 	}
@@ -605,11 +632,13 @@ static void survive(size_t cut, size_t space, const nizwarf_answer *answer, size
 	CHECK(code == NIZWARF_OK && told.len == len && !told.give_back);
 	CHECK(told.taken == answer->items_len && ours[len] == FILL);
 	asked_with = slot;
+	/* (a slot that never asked, as that of another thread) */
 	slot = none;
 	memset(ours, FILL, space);
 	code = reply(&call, answer, 5, &told);
 	if (code == NIZWARF_OUT_OF_MEMORY) {
 		CHECK(refused && !told.len && !told.put && !told.taken && ours[0] == FILL);
+		/* (for who leaves it at that; who answers again gives nothing back) */
 		CHECK(told.give_back == (has_entry(&call, answer) ? answer->entry.node : 0));
 		CHECK(told.options == session.options);
 		code = reply(&call, answer, 5, &told);
@@ -656,7 +685,9 @@ static void answers_in_flight(void)
 /* Requests that want memory, with rooms that grow, by a slot of their own. */
 static void requests_that_want_memory(void)
 {
-	static const uint32_t pairs[] = { 2, 0, 5, 0, 1, 0, 6, 0, 1, 0 };
+	static const uint32_t pairs[] = {
+		2, 0, 5, 0, 1, 0, 6, 0, 1, 0
+	}; /* two pairs of a node and a count, by halves */
 	static const nizwarf_item listed[] = {
 		{ .ino = 2, .name = (const uint8_t *)"a", .name_size = 2, .entry = { .node = 8 } },
 		{ .ino = 3, .name = (const uint8_t *)"b", .name_size = 2, .entry = { .node = 9 } },
@@ -704,6 +735,7 @@ int main(void)
 	CHECK(nizwarf_end(&server) == NIZWARF_OK && live == 0);
 	asked = 0;
 	requests_that_want_memory();
+	/* (first without a refusal, to learn how many there are) */
 	all = asked;
 	for (refused = 1; refused <= all; refused++) {
 		asked = 0;

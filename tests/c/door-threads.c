@@ -14,8 +14,11 @@
 #include <stdlib.h>
 #include "nizwarf.h"
 
+/* EACH requests for each thread; BEHIND: so many later a request is answered, by the thread before; ROOM in bytes. */
 enum { THREADS = 8, EACH = 1000, ALL = THREADS * EACH, BEHIND = 50, ROOM = 1024 };
 
+/* A request and all that becomes of it. The thread that asks writes all but `answer`; then it sets `is_asked`, and
+ * the one that answers has it. */
 struct work {
 	uint8_t request[128];
 	size_t len;
@@ -27,7 +30,9 @@ struct work {
 	atomic_int is_asked;
 };
 
+/* The same requests: on eight threads, and before on one, which says what is right. */
 static struct work works[ALL], alone[ALL];
+/* Read by all threads, and changed by none: there is no INIT. */
 static nizwarf_session session = { 0, 4096, 1 << 20 };
 
 static const nizwarf_item items[] = {
@@ -41,7 +46,9 @@ static void make(struct work *work, uint32_t number)
 	static const uint32_t opcodes[] = { FUSE_GETATTR,   FUSE_LOOKUP,   FUSE_READ,	 FUSE_OPEN,
 					    FUSE_STATFS,    FUSE_READLINK, FUSE_READDIR, FUSE_FORGET,
 					    FUSE_INTERRUPT, 9999,	   FUSE_WRITE };
-	static const uint32_t lengths[] = { 56, 45, 80, 48, 40, 40, 80, 48, 48, 40, 100 };
+	static const uint32_t lengths[] = {
+		56, 45, 80, 48, 40, 40, 80, 48, 48, 40, 100
+	}; /* of each in bytes, with its header */
 	const uint32_t kind = number % (sizeof(opcodes) / sizeof(*opcodes));
 	const struct fuse_in_header header = { .len = lengths[kind],
 					       .opcode = opcodes[kind],
@@ -66,21 +73,26 @@ static void make(struct work *work, uint32_t number)
 	work->answer.items_len = number % 3;
 }
 
+/* Asks, and lets another thread answer: what came is in `work`. */
 static void ask(nizwarf_slot *slot, struct work *work)
 {
 	const nizwarf_segment piece = { work->request, work->len };
 	const nizwarf_room room = { work->room, sizeof(work->room) };
 
 	work->code = nizwarf_ask(slot, &session, &piece, 1, &room, 1, &work->call, &work->told);
-	/* (nobody looks at it any more) */
+	/* (nobody looks at it any more) (a call doesn't point into its request: what the reply wants is in the
+	 * call) */
 	memset(work->request, 0xff, sizeof(work->request));
+	/* (after this store all of `work` is the other thread's) */
 	atomic_store_explicit(&work->is_asked, 1, memory_order_release);
 }
 
+/* Waits until it was asked, and answers, if there is a call. */
 static void answer(nizwarf_slot *slot, struct work *work)
 {
 	const nizwarf_room rooms[] = { { work->room, 10 }, { work->room + 10, ROOM - 10 } };
 
+	/* (the other thread may be late) */
 	while (!atomic_load_explicit(&work->is_asked, memory_order_acquire))
 		sched_yield();
 	if (work->code == NIZWARF_ASKED)
@@ -90,10 +102,12 @@ static void answer(nizwarf_slot *slot, struct work *work)
 /* Asks the requests of its own, and answers those of the next thread some time later. */
 static void *run(void *own)
 {
+	/* (its first request says which thread it is) */
 	const size_t thread = (size_t)((struct work *)own - works), next = (thread + 1) % THREADS;
 	nizwarf_slot slot = NIZWARF_NONE;
 	size_t i;
 
+	/* (so at most BEHIND of each thread are in flight) */
 	for (i = 0; i < EACH + BEHIND; i++) {
 		if (i < EACH)
 			ask(&slot, &works[i * THREADS + thread]);
@@ -127,6 +141,7 @@ int main(void)
 	for (i = 0; i < ALL; i++) {
 		if (works[i].code != NIZWARF_OK || alone[i].code != NIZWARF_OK ||
 		    memcmp(&works[i].told, &alone[i].told, sizeof(nizwarf_told)) ||
+		    /* (also what no reply writes: it's 0) */
 		    memcmp(works[i].room, alone[i].room, ROOM)) {
 			fprintf(stderr, "door-threads.c: request %zu has another reply\n", i);
 			return 1;

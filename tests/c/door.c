@@ -13,14 +13,15 @@
 
 enum { MOST_ITEMS = 512 };
 
-/* What an answer points to, and the server's reply to a request in a large room. */
+/* What an answer points to, and the server's reply to a request in a large room. (the answer's memory: it holds until
+ * the next one is made) */
 static nizwarf_item items[MOST_ITEMS];
 static uint8_t names[ROOM], text[ROOM], saved[ROOM];
 
 /* How many requests were compared, and how many asked for each call. */
 static long compared, told_calls[52];
 
-/* The items of a directory, out of the records of a reply. */
+/* The items of a directory, out of the records of a reply. `end` is after the last record. */
 static void read_items(nizwarf_answer *answer, const uint8_t *at, const uint8_t *end, int plus)
 {
 	uint8_t *name = names;
@@ -36,6 +37,7 @@ static void read_items(nizwarf_answer *answer, const uint8_t *at, const uint8_t 
 			memcpy(&item->entry, at, sizeof(item->entry));
 			at += sizeof(item->entry);
 		}
+		/* (all of the record but its name, which follows) */
 		memcpy(&record, at, FUSE_NAME_OFFSET);
 		memcpy(name, at + FUSE_NAME_OFFSET, record.namelen);
 		name[record.namelen] = 0;
@@ -43,12 +45,13 @@ static void read_items(nizwarf_answer *answer, const uint8_t *at, const uint8_t 
 		item->offset = record.off;
 		item->type = record.type;
 		item->name = name;
-		item->name_size = record.namelen + 1;
+		item->name_size = record.namelen + 1; /* with the 0 */
 		name += item->name_size;
 		at += FUSE_DIRENT_ALIGN(FUSE_NAME_OFFSET + record.namelen);
 	}
 }
 
+/* The next four read the record of a reply, by the kernel's structs, into an answer's fields. */
 static void read_attr(nizwarf_answer *answer, const uint8_t *body)
 {
 	struct fuse_attr_out out;
@@ -78,11 +81,11 @@ static void read_statfs(nizwarf_answer *answer, const uint8_t *body)
 /* The answer that a call had, out of the reply to it. */
 static nizwarf_answer answer_of(const nizwarf_call *call, const uint8_t *reply, size_t len)
 {
-	const uint8_t *body = reply + 16;
+	const uint8_t *body = reply + 16; /* after the header */
 	nizwarf_answer answer;
 
 	memset(&answer, 0, sizeof(answer));
-	if (!len)
+	if (!len) /* it has no reply */
 		return answer;
 	answer.error = -(int32_t)u32(reply + 4);
 	if (answer.error)
@@ -91,7 +94,7 @@ static nizwarf_answer answer_of(const nizwarf_call *call, const uint8_t *reply, 
 	case NIZWARF_DATA:
 		answer.count = len - 16;
 		break;
-	case NIZWARF_WANT:
+	case NIZWARF_WANT: /* `flags`, and with INIT_EXT `flags2` */
 		answer.count = u32(body + 12) | (uint64_t)u32(body + 32) << 32;
 		break;
 	case NIZWARF_CREATED:
@@ -110,6 +113,7 @@ static nizwarf_answer answer_of(const nizwarf_call *call, const uint8_t *reply, 
 		read_statfs(&answer, body);
 		break;
 	case NIZWARF_TEXT_OR_COUNT:
+		/* (of size 0 the length alone is asked for) */
 		answer.has_count = !call->size;
 		answer.count = u32(body);
 		/* fall through */
@@ -131,7 +135,8 @@ static nizwarf_answer answer_of(const nizwarf_call *call, const uint8_t *reply, 
 	return answer;
 }
 
-/* Whether a request is one that the tree has, where of the door nothing is offered. */
+/* Whether a request is one that the tree has, where of the door nothing is offered. (the door without offers refuses
+ * them) */
 static int is_of_tree(size_t len)
 {
 	const uint32_t opcode = len < 8 ? 0 : u32(request + 4);
@@ -139,8 +144,9 @@ static int is_of_tree(size_t len)
 	return opcode == NIZWARF_IOCTL || opcode == NIZWARF_TMPFILE || opcode == NIZWARF_STATX;
 }
 
-/* The first bytes of the request to both, in two pieces where it is cut. Gives the length of the
- * reply. */
+/* The first bytes of the request to both, in two pieces where it is cut. Gives the length of the reply. Where the
+ * door asks for a call, the answer is made of the server's reply to the same request, and must give the same bytes.
+ * Options go on from here. */
 static size_t compare(size_t len, size_t cut)
 {
 	const nizwarf_segment pieces[] = { { request, cut }, { request + cut, len - cut } };
@@ -158,13 +164,16 @@ static size_t compare(size_t len, size_t cut)
 	told_calls[call.call]++;
 	CHECK(nizwarf_message(&server, pieces, 2, &their_room, 1, &their_len) == NIZWARF_OK);
 	answer = answer_of(&call, theirs, their_len);
+	/* (one byte more is looked at below) */
 	memset(ours, FILL, their_len + 16);
 	if (call.answer == NIZWARF_DATA && !answer.error)
+		/* (data of a READ are put by who answers: the door puts the header alone) */
 		memcpy(ours + 16, theirs + 16, answer.count);
 	CHECK(reply(&call, &answer, cut, &told) == NIZWARF_OK && told.len == their_len);
 	CHECK(!memcmp(ours, theirs, their_len) && ours[their_len] == FILL);
 	CHECK(told.put == (call.answer == NIZWARF_DATA && their_len > 16 ? 16 : their_len));
 	CHECK(!told.give_back && !told.interrupts && told.taken == answer.items_len);
+	/* (both have agreed on the same) */
 	CHECK(told.options == nizwarf_options(&server));
 	session.options = told.options;
 	return their_len;
@@ -184,6 +193,7 @@ static void compare_room(size_t space, size_t full)
 	if (ask(&piece, 1, request_len, space, &call, &told) != NIZWARF_ASKED)
 		return;
 	answer = answer_of(&call, saved, full);
+	/* (a READ says fewer bytes, and so fits in any room for a header) */
 	if (call.answer == NIZWARF_DATA && !answer.error && full > space) {
 		full = space;
 		answer.count = space - 16;
@@ -196,11 +206,13 @@ static void compare_room(size_t space, size_t full)
 	}
 	CHECK(reply(&call, &answer, space / 2, &told) == NIZWARF_ENCODE_MESSAGE);
 	CHECK(!told.len && !told.put && told.options == session.options);
+	/* (the client gets no entry, so its lookup is given back) */
 	CHECK(told.give_back == (has_entry(&call, &answer) ? answer.entry.node : 0));
 	for (i = 0; i < space; i++)
 		CHECK(ours[i] == FILL);
 }
 
+/* The same numbers each time, by shifts. */
 static uint32_t random_number(void)
 {
 	static uint64_t seed = UINT64_C(88172645463325252);
@@ -218,9 +230,10 @@ static void change_bytes(size_t len)
 
 	for (i = 0; i < 300; i++) {
 		const size_t at = random_number() % len;
-		const uint8_t old = request[at];
+		const uint8_t old = request[at]; /* put back after it */
 		uint32_t opcode;
 
+		/* (any byte, or one with another bit) */
 		request[at] = (uint8_t)(i & 1 ? random_number() : old ^ 1u << (random_number() & 7));
 		opcode = u32(request + 4);
 		if (opcode != NIZWARF_INIT && opcode != NIZWARF_DESTROY)
@@ -229,17 +242,20 @@ static void change_bytes(size_t len)
 	}
 }
 
-/* The request in all forms. */
+/* The request in all forms. Its calls are made again and again: so the server's state is what the last of them left,
+ * and both see the same. */
 static void try_forms(void)
 {
 	const uint32_t opcode = u32(request + 4);
-	const size_t len = request_len < 400 ? request_len : 400;
+	const size_t len =
+		request_len < 400 ? request_len : 400; /* where it is cut: all of the record, and names */
 	const size_t full = compare(request_len, 0);
 	size_t n;
 
 	memcpy(saved, theirs, full);
 	for (n = 0; n < len; n++)
 		compare(n, n / 2);
+	/* (each more would begin or end the session) */
 	if (opcode == NIZWARF_INIT || opcode == NIZWARF_DESTROY)
 		return;
 	for (n = 0; n < 200; n++)
@@ -266,13 +282,14 @@ static void agree(uint64_t options)
 /* What a request after names ends in, where groups were agreed on. */
 static void add_extensions(void)
 {
-	static const uint32_t group[] = { 16, 32, 1, 4242 };
+	static const uint32_t group[] = { 16, 32, 1,
+					  4242 }; /* a block's size, its kind, how many groups, one */
 
 	if (session.options & CREATE_SUPP_GROUP)
 		add(group, sizeof(group));
 }
 
-/* The node that the last reply names. */
+/* The node that the last reply names. The last request had no error. */
 static uint64_t node_of_reply(void)
 {
 	CHECK(!u32(theirs + 4));
@@ -320,7 +337,7 @@ static void try_file(uint64_t node, uint64_t handle)
 {
 	static const uint8_t data[4096] = "data";
 	struct fuse_write_in write = { .fh = handle, .size = sizeof(data), .flags = 2 };
-	struct fuse_read_in read = { .fh = handle, .size = 2000, .offset = 4000 };
+	struct fuse_read_in read = { .fh = handle, .size = 2000, .offset = 4000 }; /* over the end */
 	struct fuse_getattr_in getattr = { 0 };
 	struct fuse_setattr_in setattr = { .valid = FATTR_MODE | FATTR_SIZE | FATTR_FH | FATTR_MTIME,
 					   .fh = handle,
@@ -362,7 +379,9 @@ static void try_syncs(uint64_t node, uint64_t handle)
 	const struct fuse_flush_in flush = { .fh = handle, .lock_owner = 3 };
 	const struct fuse_fsync_in sync = { .fh = handle, .fsync_flags = 1 };
 	const struct fuse_access_in access = { .mask = 4 };
-	const struct fuse_release_in release = { .fh = handle, .release_flags = 3, .lock_owner = 5 };
+	const struct fuse_release_in release = { .fh = handle,
+						 .release_flags = 3,
+						 .lock_owner = 5 }; /* both flags: FLUSH, and of flock(2) */
 
 	begin_with(NIZWARF_FLUSH, node, &flush, sizeof(flush));
 	try_forms();
@@ -379,14 +398,14 @@ static void try_syncs(uint64_t node, uint64_t handle)
 /* Requests about extended attributes. */
 static void try_attributes(uint64_t node)
 {
-	const uint32_t set[] = { 5, 0, 0, 0 };
+	const uint32_t set[] = { 5, 0, 0, 0 }; /* the length of the value, and flags */
 	uint32_t size;
 
 	begin_with(NIZWARF_SETXATTR, node, set, 8);
 	add_name("user.a");
 	add("value", 5);
 	try_forms();
-	for (size = 0; size <= 100; size += 100) {
+	for (size = 0; size <= 100; size += 100) { /* for the length, and for the value */
 		const uint32_t record[] = { size, 0 };
 
 		begin_with(NIZWARF_GETXATTR, node, record, sizeof(record));
@@ -400,8 +419,8 @@ static void try_attributes(uint64_t node)
 	try_forms();
 }
 
-/* A directory is offered whole to readings of small sizes: what is taken is what the server
- * takes. */
+/* A directory is offered whole to readings of small sizes: what is taken is what the server takes. The door's table
+ * of items is what one reading of all gave. */
 static void offer_directory(uint64_t handle, int plus)
 {
 	const uint32_t opcode = plus ? READDIRPLUS : NIZWARF_READDIR;
@@ -412,7 +431,7 @@ static void offer_directory(uint64_t handle, int plus)
 	size_t len, taken, bytes;
 
 	for (; read.size < 1200; read.size += 8) {
-		const nizwarf_segment piece = { request, 80 };
+		const nizwarf_segment piece = { request, 80 }; /* a header and its record */
 		const nizwarf_room their_room = { theirs, ROOM };
 		struct fuse_read_in whole = read;
 
@@ -426,6 +445,7 @@ static void offer_directory(uint64_t handle, int plus)
 		CHECK(!nizwarf_message(&server, &piece, 1, &their_room, 1, &len));
 		CHECK(reply(&call, &all, read.size, &told) == NIZWARF_OK && told.len == len);
 		CHECK(!memcmp(ours, theirs, len) && !told.give_back);
+		/* (the sizes of nizwarf_record_size say which items are taken) */
 		for (taken = bytes = 0; taken < all.items_len; taken++) {
 			bytes += nizwarf_record_size(all.items[taken].name_size, plus);
 			if (bytes > read.size)
@@ -464,7 +484,8 @@ static void try_names(uint64_t node)
 	const struct fuse_link_in link = { node };
 	const struct fuse_rename_in rename = { 1 };
 	const struct fuse_rename2_in rename2 = { .newdir = 1, .flags = 1 };
-	static const char *const looked_up[] = { "file", "none", "", ".", "a/b" };
+	static const char *const looked_up[] = { "file", "none", "", ".",
+						 "a/b" }; /* there, not there, and such as are refused */
 	size_t i;
 
 	for (i = 0; i < 5; i++) {
@@ -511,6 +532,7 @@ static void try_others(uint64_t node)
 					   4096 };
 	const struct fuse_open_in open = { 0 };
 	const struct fuse_interrupt_in interrupt = { 1234 };
+	/* (of nodes that there are, and that there are not) */
 	const uint64_t one = 1, pairs[] = { 9999, 1, 9998, 2, node, 1 };
 	const uint32_t count[] = { 3, 0 };
 	size_t i;
@@ -531,7 +553,7 @@ static void try_others(uint64_t node)
 	try_forms();
 }
 
-/* All requests, with a largest payload, and with these options offered. */
+/* All requests, with a largest payload, and with these options offered. The session begins and ends with it. */
 static void try_all(uint32_t max_buffer, uint64_t options)
 {
 	static const nizwarf_settings settings = { .seconds = 100,

@@ -7,8 +7,10 @@
 #include <stdlib.h>
 #include "door-call.h"
 
+/* The largest room, in bytes; and what is in a room before, so that it shows what was written. */
 enum { ROOM = 1 << 20, FILL = 0xaa };
 
+/* Ends the program with status 1 at what isn't so, and tells of the request. */
 #define CHECK(fact)                                                                                          \
 	do {                                                                                                 \
 		if (!(fact)) {                                                                               \
@@ -18,6 +20,7 @@ enum { ROOM = 1 << 20, FILL = 0xaa };
 		}                                                                                            \
 	} while (0)
 
+/* The server over the tree; and what the door is asked with, which holds what the server agreed on. */
 static nizwarf_server server = NIZWARF_NONE;
 static nizwarf_session session = { 0, 4096, ROOM };
 static nizwarf_slot slot = NIZWARF_NONE;
@@ -25,8 +28,9 @@ static nizwarf_slot slot = NIZWARF_NONE;
 /* The request, and the replies of the server and of the door. */
 static uint8_t request[1 << 17], theirs[ROOM], ours[ROOM];
 static size_t request_len;
-static uint64_t unique;
+static uint64_t unique; /* of the last request */
 
+/* Begins a request, whose header lacks its length until something is added, be it nothing. */
 static inline void begin(uint32_t opcode, uint64_t node)
 {
 	const struct fuse_in_header header = {
@@ -37,6 +41,7 @@ static inline void begin(uint32_t opcode, uint64_t node)
 	request_len = sizeof(header);
 }
 
+/* Adds bytes, for which there is room, and says the length in the header. */
 static inline void add(const void *bytes, size_t len)
 {
 	const uint32_t total = (uint32_t)(request_len + len);
@@ -51,7 +56,7 @@ static inline void add_name(const char *name)
 	add(name, strlen(name) + 1);
 }
 
-/* Begins a request with a record. */
+/* Begins a request with a record. Of nobody's right to anything: the door judges none. */
 static inline void begin_with(uint32_t opcode, uint64_t node, const void *record, size_t len)
 {
 	begin(opcode, node);
@@ -64,8 +69,8 @@ static inline int has_entry(const nizwarf_call *call, const nizwarf_answer *answ
 	return !answer->error && (call->answer == NIZWARF_ENTRY || call->answer == NIZWARF_CREATED);
 }
 
-/* Asks, and holds what comes of it against the rules, and against the server where it is
- * finished. */
+/* Asks, and holds what comes of it against the rules, and against the server where it is finished. `len` is that of
+ * all pieces, of which `request` has the bytes. */
 static inline int32_t ask(const nizwarf_segment *pieces, size_t count, size_t len, size_t space,
 			  nizwarf_call *call, nizwarf_told *told)
 {
@@ -78,10 +83,12 @@ static inline int32_t ask(const nizwarf_segment *pieces, size_t count, size_t le
 	int32_t code;
 	size_t their_len;
 
+	/* (what stays 1 was not set) */
 	memset(call, 1, sizeof(*call));
 	memset(told, 1, sizeof(*told));
 	memset(ours, FILL, space < 4096 ? space : 4096);
 	code = nizwarf_ask(&slot, &session, pieces, count, rooms, 2, call, told);
+	/* (an ask changes no options, and so far nothing is to be given back) */
 	CHECK(told->options == session.options && !told->give_back && !told->taken);
 	if (code == NIZWARF_ASKED) {
 		expected = call_of(request, len, session.options, space);
@@ -89,12 +96,15 @@ static inline int32_t ask(const nizwarf_segment *pieces, size_t count, size_t le
 		CHECK(!told->len && !told->put && !told->interrupts);
 		return code;
 	}
+	/* (finished, or refused: the server does the same, and has no call) */
 	CHECK(code == nizwarf_message(&server, pieces, count, &their_room, 1, &their_len));
 	CHECK(told->len == their_len && told->put == their_len && !memcmp(ours, theirs, their_len));
 	CHECK(!memcmp(call, &none, sizeof(none)));
+	/* (40 is where the header ends; what has a reply was refused) */
 	if (len >= 48 && u32(request + 4) == INTERRUPT && !their_len)
 		interrupts = u64(request + 40);
 	CHECK(told->interrupts == interrupts);
+	/* (no byte after the reply was written) */
 	CHECK(their_len >= space || their_len >= 4096 || ours[their_len] == FILL);
 	return code;
 }
@@ -103,7 +113,7 @@ static inline int32_t ask(const nizwarf_segment *pieces, size_t count, size_t le
 static inline int32_t reply(const nizwarf_call *call, const nizwarf_answer *answer, size_t cut,
 			    nizwarf_told *told)
 {
-	const size_t first = cut < call->room ? cut : call->room;
+	const size_t first = cut < call->room ? cut : call->room; /* the second piece is empty */
 	const nizwarf_room rooms[] = { { ours, first }, { ours, 0 }, { ours + first, call->room - first } };
 
 	memset(told, 1, sizeof(*told));

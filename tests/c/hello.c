@@ -23,17 +23,18 @@
 	} while (0)
 
 static const char text[] = "Hello, world!\n";
-static int server;
+static int server; /* the socket to it */
 
 static struct {
 	struct fuse_out_header header;
 	uint8_t body[8192];
 } reply;
 
-/* Asks with a record, and gives how many bytes of reply there are after the header. */
+/* Asks with a record, and gives how many bytes of reply there are after the header. The record has 256 bytes at most.
+ * A FORGET and a DESTROY have no reply here. */
 static size_t ask(uint32_t opcode, uint64_t node, const void *record, size_t len)
 {
-	static uint64_t unique;
+	static uint64_t unique; /* another one for each request */
 	struct {
 		struct fuse_in_header header;
 		uint8_t body[256];
@@ -71,8 +72,9 @@ static void look(void)
 	CHECK(ask(FUSE_OPEN, entry.nodeid, &open, sizeof(open)) == 16 && !reply.header.error);
 	CHECK(ask(FUSE_READ, entry.nodeid, &read, sizeof(read)) == strlen(text) - 7);
 	CHECK(!memcmp(reply.body, text + 7, strlen(text) - 7));
-	read.offset = UINT64_MAX;
+	read.offset = UINT64_MAX; /* after the end: none, and no overflow */
 	CHECK(ask(FUSE_READ, entry.nodeid, &read, sizeof(read)) == 0 && !reply.header.error);
+	/* (the table has no function for it) */
 	CHECK(ask(FUSE_WRITE, entry.nodeid, &read, sizeof(read)) == 0);
 	CHECK(reply.header.error == -ENOSYS);
 }
@@ -83,9 +85,10 @@ static void list(void)
 	struct fuse_read_in read = { .size = 4096 };
 	int i;
 
+	/* (a record of a name of up to 8 bytes has 32) */
 	CHECK(ask(FUSE_READDIR, FUSE_ROOT_ID, &read, sizeof(read)) == 3 * 32);
 	CHECK(!memcmp(reply.body + 64 + FUSE_NAME_OFFSET, "hello", 5));
-	read.size = 40;
+	read.size = 40; /* one record, and not two */
 	for (i = 0; i < 3; i++) {
 		read.offset = (uint64_t)i;
 		CHECK(ask(FUSE_READDIR, FUSE_ROOT_ID, &read, sizeof(read)) == 32);
@@ -108,6 +111,7 @@ int main(int count, char **words)
 	child = fork();
 	CHECK(child >= 0);
 	if (!child) {
+		/* (so that it sees when the test has gone) */
 		close(ends[0]);
 		execl(words[1], "hello", "--fd", number, (char *)NULL);
 		_exit(127);
@@ -118,9 +122,11 @@ int main(int count, char **words)
 	look();
 	list();
 	ask(FUSE_FORGET, 2, &one, sizeof(one));
+	/* (no such opcode) */
 	CHECK(ask(9999, 1, "", 0) == 0 && reply.header.error == -ENOSYS);
 	ask(FUSE_DESTROY, 0, "", 0);
 	close(server);
+	/* (it ends by itself with status 0, once the other end is closed) */
 	CHECK(waitpid(child, &status, 0) == child && status == 0);
 	puts("hello was found, listed and read.");
 	return 0;

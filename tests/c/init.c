@@ -25,7 +25,7 @@
 #define ALL (EXPIRE_ONLY | PASSTHROUGH | NO_EXPORT_SUPPORT | RESEND | OVER_IO_URING | REQUEST_TIMEOUT)
 enum { FOPEN_PASSED = 1 << 7 };
 
-/* struct fuse_init_out of 7.43. */
+/* struct fuse_init_out of 7.43. (older headers have the last fields as unused bytes) */
 struct init_out {
 	uint32_t major, minor, max_readahead, flags;
 	uint16_t max_background, congestion_threshold;
@@ -47,11 +47,13 @@ struct reply {
 	struct init_out init;
 };
 
+/* Which of the options besides are offered by the first `len` bytes of an INIT. */
 static uint64_t offered(const struct request *request, size_t len)
 {
 	return nizwarf_init_offered_at((const uint8_t *)request, len);
 }
 
+/* Options besides are bits of `flags2`, from 32 on, and count with INIT_EXT alone. */
 static void hold_offered(void)
 {
 	struct request request = { { .len = sizeof(request), .opcode = FUSE_INIT },
@@ -60,17 +62,18 @@ static void hold_offered(void)
 	int bit;
 
 	CHECK(offered(&request, sizeof(request)) == ALL);
-	for (len = 0; len < sizeof(request); len++)
+	for (len = 0; len < sizeof(request); len++) /* cut short, it offers none */
 		CHECK(offered(&request, len) == 0);
+	/* (each bit alone: only those that are known count) */
 	for (bit = 32; bit < 64; bit++) {
 		request.init.flags2 = 1U << (bit - 32);
 		CHECK(offered(&request, sizeof(request)) == (ALL & UINT64_C(1) << bit));
 	}
 	request.init.flags2 = UINT32_MAX;
-	request.init.flags = ~(uint32_t)FUSE_INIT_EXT;
+	request.init.flags = ~(uint32_t)FUSE_INIT_EXT; /* without it `flags2` isn't looked at */
 	CHECK(offered(&request, sizeof(request)) == 0);
 	request.init.flags = FUSE_INIT_EXT;
-	request.header.opcode = FUSE_GETATTR;
+	request.header.opcode = FUSE_GETATTR; /* no INIT */
 	CHECK(offered(&request, sizeof(request)) == 0);
 }
 
@@ -85,6 +88,7 @@ static struct reply agreed(void)
 	return reply;
 }
 
+/* Adds to a reply what `more` wants of what is offered besides (`further`); tells which options were agreed on. */
 static uint64_t add(struct reply *reply, uint64_t further, const nizwarf_init_more *more)
 {
 	return nizwarf_add_to_init_at((uint8_t *)reply, sizeof(*reply), further, more);
@@ -97,19 +101,22 @@ static int is_added(struct reply reply, const struct reply *wanted, uint64_t fur
 	return add(&reply, further, more) == on && !memcmp(&reply, wanted, sizeof(reply));
 }
 
+/* Each number that is wanted, in the field of its own, and 0, which leaves what the reply has. */
 static void hold_numbers(void)
 {
 	const nizwarf_init_more none = { 0 };
+	/* (want, max_readahead, max_write, time_gran, max_stack_depth, request_timeout, max_background,
+	 * congestion_threshold) */
 	nizwarf_init_more more = { ALL, 1 << 16, 1, 1000, 2, 100000, 12, 9, 0 };
 	struct reply reply = agreed(), wanted = reply;
 
 	CHECK(is_added(reply, &wanted, ALL, &none, 0));
 	wanted.init.flags2 |= (uint32_t)(ALL >> 32);
 	wanted.init.max_readahead = 1 << 16;
-	wanted.init.max_write = 4096;
+	wanted.init.max_write = 4096; /* 1 was wanted: a page is the least */
 	wanted.init.time_gran = 1000;
 	wanted.init.max_stack_depth = 2;
-	wanted.init.request_timeout = 65535;
+	wanted.init.request_timeout = 65535; /* of 100,000 seconds: the most of 16 bits */
 	wanted.init.max_background = 12;
 	wanted.init.congestion_threshold = 9;
 	CHECK(is_added(reply, &wanted, UINT64_MAX, &more, ALL));
@@ -117,7 +124,7 @@ static void hold_numbers(void)
 	more.max_readahead = more.max_write = UINT32_MAX;
 	wanted.init.max_readahead = 1 << 17;
 	wanted.init.max_write = 1 << 20;
-	wanted.init.flags2 = 1 | (uint32_t)(RESEND >> 32);
+	wanted.init.flags2 = 1 | (uint32_t)(RESEND >> 32); /* 1 is what the reply had */
 	wanted.init.max_stack_depth = wanted.init.request_timeout = 0;
 	CHECK(is_added(reply, &wanted, RESEND, &more, RESEND));
 	/* a reply without INIT_EXT agrees on none, which are in `flags2` */
@@ -126,6 +133,8 @@ static void hold_numbers(void)
 	CHECK(is_added(reply, &wanted, ALL, &more, 0));
 }
 
+/* Replies to which nothing is added: one that is an error, that says another length, that agrees on nothing, or that
+ * is cut. */
 static void hold_others(void)
 {
 	const nizwarf_init_more more = { ALL, 0, 0, 1000, 2, 60, 12, 9, 0 };
@@ -145,14 +154,15 @@ static void hold_others(void)
 		      !memcmp(&reply, &was, sizeof(was)));
 }
 
-/* A reply to OPEN, or with an entry before to CREATE, names a backing file in its last four bytes. */
+/* A reply to OPEN, or with an entry before to CREATE, names a backing file in its last four bytes. `entry` is how
+ * many bytes of an entry there are: 0 with OPEN. */
 static void hold_backing(size_t entry)
 {
 	struct fuse_out_header header = { .unique = 9 };
 	const struct fuse_open_out opened = { .fh = 3, .open_flags = FOPEN_KEEP_CACHE };
 	uint8_t reply[16 + 128 + 16] = { 0 }, was[sizeof(reply)];
 	const size_t len = 16 + entry + 16;
-	const int32_t id = -2;
+	const int32_t id = -2; /* any 32 bits */
 	uint32_t flags;
 	size_t cut;
 
@@ -166,7 +176,7 @@ static void hold_backing(size_t entry)
 	CHECK(nizwarf_add_backing_at(reply, len, id) == 1 && !memcmp(reply, was, len - 8));
 	memcpy(&flags, reply + len - 8, 4);
 	CHECK(flags == (FOPEN_KEEP_CACHE | FOPEN_PASSED) && !memcmp(reply + len - 4, &id, 4));
-	header.error = -ENOENT;
+	header.error = -ENOENT; /* an error names no file */
 	memcpy(was, &header, 16);
 	memcpy(reply, was, sizeof(was));
 	CHECK(nizwarf_add_backing_at(reply, len, id) == 0 && !memcmp(reply, was, sizeof(was)));

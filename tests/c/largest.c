@@ -13,7 +13,8 @@
 #include "nizwarf.h"
 
 /* WIDE is what the largest requests and replies here carry: 16,384 pages. MOST is the largest payload that a session
- * has. */
+ * has. NAME is the longest name without its 0, NAMES how many a directory gets, PAGE a page: in bytes. CUTS is the
+ * most pieces of a request or a room. */
 enum { WIDE = 1 << 26, MOST = 1 << 27, NAME = 255, NAMES = 70000, PAGE = 4096, CUTS = 8192 };
 
 #define SECURITY_CTX (UINT64_C(1) << 32)
@@ -29,14 +30,14 @@ enum { WIDE = 1 << 26, MOST = 1 << 27, NAME = 255, NAMES = 70000, PAGE = 4096, C
 
 static union {
 	struct fuse_in_header header;
-	uint8_t bytes[WIDE + (1 << 17)];
+	uint8_t bytes[WIDE + (1 << 17)]; /* WIDE, and what is before and after it */
 } request;
 static struct fuse_in_header *const header = &request.header;
 static union {
 	struct fuse_out_header header;
 	uint8_t bytes[WIDE + PAGE];
 } reply;
-static nizwarf_segment pieces[CUTS];
+static nizwarf_segment pieces[CUTS]; /* of the request: the first `count` */
 static size_t count;
 static nizwarf_session session = { 0, PAGE, MOST };
 static nizwarf_slot slot = NIZWARF_NONE;
@@ -57,6 +58,7 @@ static void begin(uint32_t opcode, uint64_t node, const void *record, size_t len
 	count = 1;
 }
 
+/* (before it is cut) */
 static void add(const void *bytes, size_t len)
 {
 	CHECK(header->len + len <= sizeof(request));
@@ -89,10 +91,10 @@ static void cut_in_many(void)
 
 	for (count = 0; count < most; count++)
 		pieces[count] = (nizwarf_segment){ request.bytes + count, 1 };
-	pieces[count - 1].len = header->len - (count - 1);
+	pieces[count - 1].len = header->len - (count - 1); /* the last has the rest */
 }
 
-/* Puts empty pieces before it, as many as there are but one. */
+/* Puts empty pieces before it, as many as there are but one. (an empty piece costs as much memory as another) */
 static void put_behind_empty(void)
 {
 	for (count = 0; count < CUTS - 1; count++)
@@ -109,7 +111,7 @@ static void set_name(unsigned number)
 
 /* ---- The door: a request asks, and is answered. */
 
-/* Asks, with so much room. */
+/* Asks, with so much room. The slot keeps memory for an answer in that room. */
 static nizwarf_call ask(size_t space)
 {
 	const nizwarf_room room = { reply.bytes, space };
@@ -121,7 +123,7 @@ static nizwarf_call ask(size_t space)
 	return call;
 }
 
-/* Answers what was asked: how many items were taken. */
+/* Answers what was asked: how many items were taken. `len` is the reply's. */
 static uint64_t answer(const nizwarf_call *call, const nizwarf_answer *with, size_t len)
 {
 	const nizwarf_room room = { reply.bytes, call->room };
@@ -154,7 +156,7 @@ static void nothing_is_allocated(void)
 		CHECK(nizwarf_reply(&slot, &session, &call, &none, &room, 1, &told) == NIZWARF_OK);
 		CHECK(asked == before);
 	}
-	begin(99, 1, record, sizeof(record));
+	begin(99, 1, record, sizeof(record)); /* no such opcode */
 	CHECK(nizwarf_ask(&slot, &session, pieces, count, &room, 1, &call, &told) == NIZWARF_OK);
 	CHECK(reply.header.error == -ENOSYS && asked == before);
 }
@@ -164,7 +166,8 @@ static void long_replies(void)
 {
 	const struct fuse_getxattr_in get = { .size = WIDE };
 	const struct fuse_read_in read = { .size = WIDE };
-	const size_t record = 24 + NAME + 1, most = WIDE / record;
+	const size_t record = 24 + NAME + 1,
+		     most = WIDE / record; /* bytes of an item, and how many there is room for */
 	nizwarf_item *items = malloc((most + 1) * sizeof(*items));
 	nizwarf_answer with = { .text = request.bytes, .text_len = WIDE };
 	nizwarf_call call;
@@ -182,8 +185,9 @@ static void long_replies(void)
 		};
 	begin(FUSE_READDIR, 1, &read, sizeof(read));
 	call = ask(WIDE + 16);
-	with = (nizwarf_answer){ .items = items, .items_len = most + 1 };
+	with = (nizwarf_answer){ .items = items, .items_len = most + 1 }; /* one too many */
 	CHECK(answer(&call, &with, most * record + 16) == most);
+	/* (the slot has seen the largest room) */
 	nothing_is_allocated();
 	CHECK(nizwarf_end_slot(&slot) == NIZWARF_OK);
 	free(items);
@@ -196,7 +200,8 @@ static void long_requests(void)
 	const struct fuse_setxattr_in set = { .size = WIDE };
 	const struct fuse_batch_forget_in forget = { .count = WIDE / 16 };
 	const struct fuse_mkdir_in make = { .mode = 0755 };
-	const uint32_t context[] = { 8 + 8 + 16 + (1 << 20), 1, 1 << 20, 0 };
+	const uint32_t context[] = { 8 + 8 + 16 + (1 << 20), 1, 1 << 20,
+				     0 }; /* the block, one context; the value, padding */
 	nizwarf_call call, checked;
 	uint64_t interrupts;
 	size_t names;
@@ -213,6 +218,7 @@ static void long_requests(void)
 	call = ask(0);
 	CHECK(call.data.len == WIDE && !memcmp(&call, &checked, sizeof(call)));
 	session.options = SECURITY_CTX;
+	/* First the value is long, and the name short, then the other way round. */
 	for (names = 0; names < 2; names++) {
 		begin(FUSE_MKDIR, 1, &make, sizeof(make));
 		add(name, sizeof(name));
@@ -220,7 +226,8 @@ static void long_requests(void)
 		fill(names ? (1 << 20) - 1 : 15);
 		add("", 1);
 		fill(names ? 16 : 1 << 20);
-		((uint32_t *)(void *)(request.bytes + 48 + sizeof(name)))[2] = names ? 16 : 1 << 20;
+		((uint32_t *)(void *)(request.bytes + 48 + sizeof(name)))[2] =
+			names ? 16 : 1 << 20; /* the value's length */
 		CHECK(nizwarf_check(&session, request.bytes, header->len, 160, &checked, &interrupts) ==
 		      NIZWARF_ASKED);
 		cut_in_two(header->len / 2);
@@ -245,7 +252,7 @@ static void many_pieces(void)
 	begin(FUSE_WRITE, 2, &write, sizeof(write));
 	fill(PAGE);
 	cut_in_many();
-	CHECK(count == header->len);
+	CHECK(count == header->len); /* a piece for each byte */
 	for (i = 0; i < CUTS; i++)
 		rooms[i] = (nizwarf_room){ reply.bytes + i, 1 };
 	CHECK(nizwarf_ask(&slot, &session, pieces, count, rooms, CUTS, &call, &told) == NIZWARF_ASKED);
@@ -257,7 +264,7 @@ static void many_pieces(void)
 
 /* ---- The tree: a request is served. */
 
-/* Serves a request: the error, as the reply has it. */
+/* Serves a request: the error, as the reply has it. `space` is the room's length. */
 static int serve(size_t space)
 {
 	const nizwarf_room room = { reply.bytes, space };
@@ -268,7 +275,7 @@ static int serve(size_t space)
 	return -reply.header.error;
 }
 
-/* Makes a file of this name. Gives its node. */
+/* Makes a file of this name. Gives its node. In the root. */
 static uint64_t make_file(void)
 {
 	const struct fuse_mknod_in make = { .mode = 0100644 };
@@ -298,6 +305,7 @@ static void long_files(void)
 	CHECK(serve(16) == 0);
 	begin(FUSE_READ, file, &read, sizeof(read));
 	CHECK(serve(WIDE + 16) == 0 && reply.header.len == WIDE + 16);
+	/* (where the WRITE ends, and what is held begins) */
 	CHECK(reply.bytes[15 + PAGE] == 'x' && reply.bytes[16 + PAGE] == 0);
 	before = asked;
 	begin(FUSE_STATFS, 1, NULL, 0);
@@ -317,6 +325,7 @@ static void long_replies_taken(void)
 	begin(FUSE_READDIR, 1, &read, sizeof(read));
 	for (i = 0; i < 4; i++) {
 		CHECK(nizwarf_message_take(&server, pieces, 1, WIDE + 16, &taken, &at, &len) == NIZWARF_OK);
+		/* (all names, of which each is longer than NAME with its record) */
 		CHECK(len > NAMES * NAME && ((const struct fuse_out_header *)at)->len == len);
 	}
 	begin(FUSE_STATFS, 1, NULL, 0);
@@ -346,7 +355,7 @@ static void long_names(void)
 	CHECK(serve(144) == 0);
 	node = ((struct fuse_entry_out *)(reply.bytes + 16))->nodeid;
 	begin(FUSE_READLINK, node, NULL, 0);
-	CHECK(serve(2 * PAGE) == 0 && reply.header.len == 16 + PAGE - 1);
+	CHECK(serve(2 * PAGE) == 0 && reply.header.len == 16 + PAGE - 1); /* without a 0 */
 	CHECK(!memcmp(reply.bytes + 16, text, PAGE - 1));
 	set_name(3);
 	begin(FUSE_MKDIR, 1, &make, sizeof(make));
@@ -375,7 +384,7 @@ static void long_names(void)
 static void long_attributes(void)
 {
 	const struct fuse_getxattr_in get = { .size = 1 << 16 };
-	struct fuse_setxattr_in set = { .size = (1 << 16) - 128 - 6 };
+	struct fuse_setxattr_in set = { .size = (1 << 16) - 128 - 6 }; /* less an attribute, and its name */
 	const unsigned most = (1 << 16) / (128 + NAME);
 	unsigned i;
 
@@ -392,10 +401,11 @@ static void long_attributes(void)
 	set.size = 0;
 	for (i = 0; i <= most; i++) {
 		set_name(i);
-		memmove(name + 5, name, NAME - 5);
+		memmove(name + 5, name, NAME - 5); /* `user.` goes before it */
 		memcpy(name, "user.", 5);
 		begin(FUSE_SETXATTR, 1, &set, FUSE_COMPAT_SETXATTR_IN_SIZE);
 		add(name, sizeof(name));
+		/* (one more than there may be is refused, and not for want of memory) */
 		CHECK(serve(16) == (i < most ? 0 : ENOSPC));
 	}
 	begin(FUSE_LISTXATTR, 1, &get, sizeof(get));
@@ -407,7 +417,7 @@ static void many_names(void)
 {
 	struct fuse_read_in read = { .size = WIDE };
 	const size_t record = 24 + NAME + 1;
-	size_t i, before;
+	size_t i, before; /* bytes of the listing without them */
 
 	begin(FUSE_READDIR, 1, &read, sizeof(read));
 	CHECK(serve(WIDE + 16) == 0);
@@ -441,7 +451,8 @@ static void pieces_of_the_tree(void)
 	begin(FUSE_BATCH_FORGET, 0, &forget, sizeof(forget));
 	fill(1 << 20);
 	cut_in_many();
-	CHECK(nizwarf_message(&server, pieces, count, &none, 1, &len) == NIZWARF_OK && !len);
+	CHECK(nizwarf_message(&server, pieces, count, &none, 1, &len) == NIZWARF_OK &&
+	      !len); /* it has no reply */
 	begin(FUSE_TMPFILE, 1, &create, sizeof(create));
 	add("/", 2);
 	put_behind_empty();

@@ -6,10 +6,12 @@
 #include "nizwarf.h"
 
 #define HOLDS(fact) _Static_assert(fact, #fact)
+/* A field is where it was, and as long. */
 #define AT(type, field, at, size) \
 	HOLDS(offsetof(type, field) == (at) && sizeof(((type *)0)->field) == (size));
 /* (a list lacks no field, if its sizes add up to the struct's) */
 #define ADD(type, field, at, size) +(size)
+/* All of a struct's fields. */
 #define LAID_OUT(list, type, size) list(AT, type) HOLDS(sizeof(type) == (size) && (size) == 0 list(ADD, type))
 
 /* clang-format off */

@@ -19,6 +19,8 @@
 #include "nizwarf_ops.h"
 #include "../../programs/transport/transport.h"
 
+/* Nodes: of BAD each answer says more bytes than were asked for. TOO_LONG is more than a link has for Linux, and
+ * NO_ERROR no number of an error. */
 enum { ROOT = 1, FILE_ = 2, LINK = 3, BAD = 4, WORKERS = 3, TOO_LONG = 5000, NO_ERROR = 600 };
 
 static char folder[] = "/tmp/mounted-XXXXXX";
@@ -36,15 +38,18 @@ static char folder[] = "/tmp/mounted-XXXXXX";
 
 /* ---- the file system */
 
+/* The file. The client is one process, which asks for one thing after another: so no lock guards it. */
 static char content[64];
 static size_t content_len;
-static int is_spoilt, destroyed;
+static int is_spoilt, destroyed; /* whether replies are; how often `destroy` came */
 
+/* Of the number of the request that was interrupted last. */
 static pthread_mutex_t lock = PTHREAD_MUTEX_INITIALIZER;
 static pthread_cond_t change = PTHREAD_COND_INITIALIZER;
 static uint64_t interrupted;
 static nizwarf_slot slots[WORKERS];
 
+/* (of BAD it says 100 bytes, so that Linux asks for some) */
 static int on_getattr(const nizwarf_req *req, uint64_t ino, const nizwarf_file_info *fi, nizwarf_attr *attr,
 		      struct timespec *attr_timeout)
 {
@@ -55,10 +60,11 @@ static int on_getattr(const nizwarf_req *req, uint64_t ino, const nizwarf_file_i
 	attr->mode = modes[ino];
 	attr->nlink = 1;
 	attr->size = ino == FILE_ ? content_len : ino == BAD ? 100 : 0;
+	/* (the client is of the same user: another one would be told) */
 	return req->call->uid == getuid() && req->call->gid == getgid() ? 0 : EOVERFLOW;
 }
 
-/* Waits until this request is interrupted, for ten seconds. */
+/* Waits until this request is interrupted, for ten seconds. EINTR, or ETIMEDOUT. */
 static int wait_for_interrupt(uint64_t unique)
 {
 	struct timespec end;
@@ -73,6 +79,7 @@ static int wait_for_interrupt(uint64_t unique)
 	return error ? error : EINTR;
 }
 
+/* (on another worker than the one that waits) */
 static void on_interrupt(void *user, uint64_t unique)
 {
 	(void)user;
@@ -82,6 +89,7 @@ static void on_interrupt(void *user, uint64_t unique)
 	pthread_mutex_unlock(&lock);
 }
 
+/* `slow` waits, `fault` answers no error; the other names are those of the nodes. */
 static int on_lookup(const nizwarf_req *req, uint64_t parent, const char *name, nizwarf_entry_param *e)
 {
 	static const char *const names[] = { "", ".", "file", "link", "bad" };
@@ -91,9 +99,11 @@ static int on_lookup(const nizwarf_req *req, uint64_t parent, const char *name, 
 	for (e->ino = FILE_; e->ino <= BAD; e->ino++)
 		if (parent == ROOT && !strcmp(name, names[e->ino]))
 			return on_getattr(req, e->ino, NULL, &e->attr, &e->attr_timeout);
+	/* (which Linux would refuse, and the table makes EIO) */
 	return strcmp(name, "fault") ? ENOENT : NO_ERROR;
 }
 
+/* A file only becomes shorter, by O_TRUNC. */
 static int on_setattr(const nizwarf_req *req, uint64_t ino, const nizwarf_setattr *set, uint32_t to_set,
 		      const nizwarf_file_info *fi, nizwarf_attr *attr, struct timespec *attr_timeout)
 {
@@ -102,6 +112,7 @@ static int on_setattr(const nizwarf_req *req, uint64_t ino, const nizwarf_setatt
 	return on_getattr(req, ino, fi, attr, attr_timeout);
 }
 
+/* (as many bytes as it may, and it says more) */
 static int on_readlink(const nizwarf_req *req, uint64_t ino, char *link, size_t size, size_t *len)
 {
 	(void)req, (void)ino;
@@ -110,6 +121,7 @@ static int on_readlink(const nizwarf_req *req, uint64_t ino, char *link, size_t 
 	return 0;
 }
 
+/* What is there, and of BAD a byte more than was asked for. */
 static int on_read(const nizwarf_req *req, uint64_t ino, size_t size, uint64_t off,
 		   const nizwarf_file_info *fi, void *buf, size_t *len)
 {
@@ -123,6 +135,7 @@ static int on_read(const nizwarf_req *req, uint64_t ino, size_t size, uint64_t o
 	return 0;
 }
 
+/* What was asked for, and of BAD a byte more. */
 static int on_write(const nizwarf_req *req, uint64_t ino, const void *buf, size_t size, uint64_t off,
 		    const nizwarf_file_info *fi, size_t *len)
 {
@@ -135,6 +148,7 @@ static int on_write(const nizwarf_req *req, uint64_t ino, const void *buf, size_
 	return 0;
 }
 
+/* A byte more than the caller has room for. */
 static int on_getxattr(const nizwarf_req *req, uint64_t ino, const char *name, size_t size, void *value,
 		       size_t *len)
 {
@@ -149,6 +163,7 @@ static int on_listxattr(const nizwarf_req *req, uint64_t ino, size_t size, char 
 	return on_getxattr(req, ino, NULL, size, list, len);
 }
 
+/* Linux sends no DESTROY: nizwarf_end_ops calls it. */
 static void on_destroy(const nizwarf_req *req)
 {
 	(void)req;
@@ -169,7 +184,8 @@ static const nizwarf_ops ops = {
 };
 static nizwarf_session session = { 0, 4096, TRANSPORT_PAYLOAD };
 
-/* Makes of some replies what Linux refuses. */
+/* Makes of some replies what Linux refuses. `room` has a whole reply, of which the transport is told another length
+ * or error. */
 static void spoil(const void *request, unsigned char *room, size_t *len)
 {
 	struct fuse_out_header reply = { .error = 0 };
@@ -179,9 +195,9 @@ static void spoil(const void *request, unsigned char *room, size_t *len)
 	reply.unique = asked.unique;
 	if (asked.opcode == FUSE_LOOKUP && !strcmp((const char *)request + sizeof(asked), "fault"))
 		reply.error = -NO_ERROR, *len = sizeof(reply);
-	else if (asked.opcode == FUSE_GETATTR && asked.nodeid == LINK)
+	else if (asked.opcode == FUSE_GETATTR && asked.nodeid == LINK) /* half a record */
 		*len = sizeof(reply) + 4;
-	else if (asked.opcode == FUSE_LISTXATTR)
+	else if (asked.opcode == FUSE_LISTXATTR) /* an error above 0 */
 		reply.error = EIO, *len = sizeof(reply);
 	else if (asked.opcode == FUSE_READLINK || asked.opcode == FUSE_GETXATTR)
 		*len = sizeof(reply) + TOO_LONG;
@@ -210,12 +226,14 @@ static int32_t serve(void *user, unsigned worker, const nizwarf_segment *request
 
 static char path[64];
 
+/* The path of a name, until the next one. */
 static const char *at(const char *name)
 {
 	snprintf(path, sizeof(path), "%s/%s", folder, name);
 	return path;
 }
 
+/* Writes the file anew; the next compares what it has with this text. */
 static void put(int flags, const char *text)
 {
 	const int fd = open(at("file"), O_WRONLY | flags);
@@ -223,6 +241,7 @@ static void put(int flags, const char *text)
 	CHECK(fd >= 0 && write(fd, text, strlen(text)) == (ssize_t)strlen(text) && !close(fd));
 }
 
+/* The file has this text, and the mount still answers. */
 static void expect(const char *text)
 {
 	const int fd = open(at("file"), O_RDONLY);
@@ -232,15 +251,17 @@ static void expect(const char *text)
 	CHECK(!memcmp(got, text, strlen(text)) && !close(fd));
 }
 
+/* Whether a call failed, by this error. */
 static int is_error(ssize_t result, int error)
 {
 	return result == -1 && errno == error;
 }
 
-/* Each wrong answer, and after it one that is right. */
+/* Each wrong answer, and after it one that is right. (a mount that a wrong reply had ended would answer ENOTCONN from
+ * then on) */
 static void ask_wrong(void)
 {
-	const int too_long = is_spoilt ? EIO : ERANGE;
+	const int too_long = is_spoilt ? EIO : ERANGE; /* the table sees it, or Linux */
 	char text[10];
 	struct stat st;
 	int fd;
@@ -261,21 +282,25 @@ static void ask_wrong(void)
 	expect("ab\n");
 }
 
+/* (that there is a handler makes the signal interrupt, and not end it) */
 static void caught(int number)
 {
 	(void)number;
 }
 
+/* A signal while a LOOKUP waits: Linux sends an INTERRUPT, and stat(2) answers EINTR. */
 static void interrupt_one(void)
 {
 	const struct sigaction catches = { .sa_handler = caught };
-	const struct itimerval soon = { .it_value = { 0, 100000 } };
+	const struct itimerval soon = { .it_value = { 0, 100000 } }; /* 0.1 s */
 	struct stat st;
 
 	CHECK(!sigaction(SIGALRM, &catches, NULL) && !setitimer(ITIMER_REAL, &soon, NULL));
 	CHECK(is_error(stat(at("slow"), &st), EINTR));
 }
 
+/* What a program does there. It has errno from Linux alone: what the server answered wrongly must not reach it as
+ * success. */
 static void client(void)
 {
 	put(0, "0123456789");
@@ -285,7 +310,7 @@ static void client(void)
 	ask_wrong();
 	interrupt_one();
 	expect("ab\n");
-	CHECK(!umount2(folder, 0));
+	CHECK(!umount2(folder, 0)); /* by which the server ends too */
 }
 
 /* Mounts it with these options, and has a client ask. */
@@ -298,8 +323,10 @@ static int run(const char *options)
 
 	if (device < 0)
 		return 2;
+	/* (before there are threads) */
 	child = fork();
 	if (!child) {
+		/* (or the mount would go on with nobody who serves it, if the server fails) */
 		close(device);
 		client();
 		_exit(0);

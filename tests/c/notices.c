@@ -23,22 +23,25 @@ struct prune_out {
 	uint64_t spare;
 };
 
+/* Numbers of which no byte is like another: what is put at a wrong place shows. */
 #define NODE UINT64_C(0x1112131415161718)
 #define PARENT UINT64_C(0x2122232425262728)
 #define OFFSET UINT64_C(0x3132333435363738)
 #define UNIQUE UINT64_C(0x4142434445464748)
 
-enum { COUNT = 0x51525354, FEW = 0x10 };
+enum { COUNT = 0x51525354, FEW = 0x10 }; /* bytes of data that follow, and nodes */
 
 static const char name[] = "a name that is not cut";
 enum { NAME_LEN = sizeof(name) - 1 };
-static char longest[4095];
+static char longest[4095]; /* bytes, of which no 0 is one */
 
+/* Each of the following puts one notice, as nizwarf.h does: how many bytes, or 0, where `size` is too little. */
 static size_t put_poll(void *out, size_t size)
 {
 	return nizwarf_notice_poll(UNIQUE, out, size);
 }
 
+/* (an offset below 0 is for attributes alone, a length below 0 for all) */
 static size_t put_inode(void *out, size_t size)
 {
 	return nizwarf_notice_inval_inode(NODE, INT64_MIN, -1, out, size);
@@ -49,6 +52,7 @@ static size_t put_entry(void *out, size_t size)
 	return nizwarf_notice_inval_entry(PARENT, NIZWARF_EXPIRE_ONLY, name, NAME_LEN, out, size);
 }
 
+/* A name longer than Linux takes: the header has room for it. */
 static size_t put_longest(void *out, size_t size)
 {
 	return nizwarf_notice_inval_entry(PARENT, 0, longest, sizeof(longest), out, size);
@@ -74,7 +78,8 @@ static size_t put_prune(void *out, size_t size)
 	return nizwarf_notice_prune(FEW, out, size);
 }
 
-/* A notice by its number is this record and then a name, if it has one, and `follow` bytes after it. */
+/* A notice by its number is this record and then a name, if it has one, and `follow` bytes after it. `follow` is what
+ * the header counts, though the notice has no byte of it. */
 static void hold(int code, size_t (*put)(void *out, size_t size), const void *record, size_t record_len,
 		 const char *text, size_t text_len, uint32_t follow)
 {
@@ -89,20 +94,22 @@ static void hold(int code, size_t (*put)(void *out, size_t size), const void *re
 		memcpy(wanted + sizeof(header), record, record_len);
 	if (text)
 		memcpy(wanted + sizeof(header) + record_len, text, text_len);
+	/* (each in memory of its own, so that a sanitizer sees a byte after it) */
 	for (size = 0; size <= len + 9; size++) {
 		out = malloc(size + 1);
 		CHECK(out);
 		memset(out, 0xa5, size + 1);
 		CHECK(put(out, size) == (size < len ? 0 : len));
 		CHECK(size < len || !memcmp(out, wanted, len));
-		for (size_t i = size < len ? 0 : len; i <= size; i++)
+		for (size_t i = size < len ? 0 : len; i <= size; i++) /* nothing else was written */
 			CHECK(out[i] == 0xa5);
 		free(out);
 	}
-	CHECK(put(NULL, len) == 0);
+	CHECK(put(NULL, len) == 0); /* no memory is no fault */
 	free(wanted);
 }
 
+/* Notices without a name, by their records. */
 static void hold_records(void)
 {
 	const struct fuse_notify_poll_wakeup_out poll = { UNIQUE };
@@ -120,6 +127,7 @@ static void hold_records(void)
 	hold(PRUNE, put_prune, &prune, sizeof(prune), NULL, 0, FEW * sizeof(uint64_t));
 }
 
+/* Those with a name, which a 0 ends that the record's length doesn't count. */
 static void hold_names(void)
 {
 	struct fuse_notify_inval_entry_out entry = { .parent = PARENT, .namelen = NAME_LEN };
@@ -137,7 +145,8 @@ static void hold_names(void)
 /* What no header can tell of is not put, and no name is read from NULL. */
 static void hold_limits(void)
 {
-	const uint32_t most_bytes = UINT32_MAX - 40, most_nodes = (UINT32_MAX - 32) / 8;
+	const uint32_t most_bytes = UINT32_MAX - 40,
+		       most_nodes = (UINT32_MAX - 32) / 8; /* with the header and the record 32 bits */
 	const int code = 0;
 	unsigned char out[64];
 

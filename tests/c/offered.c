@@ -10,20 +10,24 @@
 #include "nizwarf_ops.h"
 #include "door.h"
 
-enum { ALL = 0xff, LONGEST = 200 };
+enum { ALL = 0xff, LONGEST = 200 }; /* each row is offered */
 
-/* What newer headers than some have. */
+/* What newer headers than some have. As Linux 6.6 has it. */
 struct statx_in {
 	uint32_t getattr_flags, reserved;
 	uint64_t fh;
 	uint32_t sx_flags, sx_mask;
 };
 
+/* The records that follow have a number in each field that is no other's. */
 static const struct fuse_lk_in lock = {
 	.fh = 4, .owner = 5, .lk = { .start = 6, .end = 7, .type = F_WRLCK, .pid = 8 }, .lk_flags = 0
 };
-static const struct fuse_lk_in whole = {
-	.fh = 4, .owner = 5, .lk = { .end = INT64_MAX, .type = F_RDLCK, .pid = 8 }, .lk_flags = FUSE_LK_FLOCK
+static const struct fuse_lk_in whole = { /* of flock(2) */
+					 .fh = 4,
+					 .owner = 5,
+					 .lk = { .end = INT64_MAX, .type = F_RDLCK, .pid = 8 },
+					 .lk_flags = FUSE_LK_FLOCK
 };
 static const struct fuse_bmap_in bmap = { .block = 6, .blocksize = 512 };
 static const struct fuse_ioctl_in ioctl = {
@@ -45,7 +49,7 @@ static const struct {
 	const void *record;
 	size_t len;
 	const char *rest;
-	nizwarf_call told;
+	nizwarf_call told; /* but for what its header says */
 } rows[] = {
 	{ NIZWARF_GETLK,
 	  NIZWARF_OFFER_LOCKS,
@@ -98,7 +102,13 @@ static const struct {
 	  &ioctl,
 	  sizeof(ioctl),
 	  "four",
-	  { .handle = 4, .flags = 2, .more = 9, .offset = 10, .length = 4, .data = { 72, 4 }, .size = 100 } },
+	  { .handle = 4,
+	    .flags = 2,
+	    .more = 9,
+	    .offset = 10,
+	    .length = 4,
+	    .data = { 72, 4 },
+	    .size = 100 } }, /* `data`: 32 bytes after the header */
 	{ NIZWARF_POLL,
 	  NIZWARF_OFFER_POLL,
 	  NIZWARF_WRITTEN,
@@ -136,17 +146,18 @@ static const struct {
 };
 enum { ROWS = sizeof(rows) / sizeof(*rows) };
 
-/* Asks what is in `request`, in two pieces. */
+/* Asks what is in `request`, in two pieces. `len` bytes of it, of which the first piece has `cut`. */
 static int32_t ask_cut(uint32_t offers, size_t cut, size_t len, nizwarf_call *call, nizwarf_told *told)
 {
 	const nizwarf_segment pieces[] = { { request, cut }, { request + cut, len - cut } };
 	const nizwarf_room room = { ours, 4096 };
 
-	memset(call, 1, sizeof(*call));
+	memset(call, 1, sizeof(*call)); /* what stays 1 was not set */
 	memset(told, 1, sizeof(*told));
 	return nizwarf_ask_offered(&slot, &session, offers, pieces, 2, &room, 1, call, told);
 }
 
+/* A request of a row, as it comes from Linux. */
 static void begin_row(size_t i)
 {
 	begin_with(rows[i].opcode, 2, rows[i].record, rows[i].len);
@@ -154,7 +165,7 @@ static void begin_row(size_t i)
 }
 
 /* What is told of a row, however it is cut; one without its end is refused; and where it is not offered it is what it
- * is without any. */
+ * is without any. A check says the same as an ask. */
 static void told_as_asked(size_t i)
 {
 	nizwarf_call call, expected = rows[i].told, before;
@@ -180,13 +191,13 @@ static void told_as_asked(size_t i)
 	CHECK(nizwarf_check_offered(&session, rows[i].offer, request, request_len, 4096, &call,
 				    &interrupts) == NIZWARF_ASKED);
 	CHECK(!memcmp(&call, &expected, sizeof(call)) && !interrupts);
-	for (cut = 40; cut < request_len; cut++) {
+	for (cut = 40; cut < request_len; cut++) { /* a whole header, and less than a whole record or data */
 		CHECK(ask_cut(ALL, cut / 2, cut, &call, &told) == NIZWARF_DECODE_MESSAGE);
 		CHECK(!told.len && !told.put);
 		CHECK(nizwarf_check_offered(&session, ALL, request, cut, 4096, &call, &interrupts) ==
 		      NIZWARF_DECODE_MESSAGE);
 	}
-	code = ask_cut(0, 41, request_len, &before, &told);
+	code = ask_cut(0, 41, request_len, &before, &told); /* nothing is offered */
 	CHECK(ask_cut(ALL & ~rows[i].offer, 41, request_len, &call, &told) == code);
 	CHECK(!memcmp(&call, &before, sizeof(call)));
 }
@@ -245,7 +256,7 @@ static void data_that_lack(void)
 	size_t i;
 
 	for (i = 0; i < sizeof(sizes) / sizeof(*sizes); i++) {
-		long_one.in_size = many.size = sizes[i];
+		long_one.in_size = many.size = sizes[i]; /* of 4 that are there */
 		begin_with(NIZWARF_IOCTL, 2, &long_one, sizeof(long_one));
 		add("four", 4);
 		CHECK(ask_cut(ALL, 50, request_len, &call, &told) == NIZWARF_DECODE_MESSAGE);
@@ -255,7 +266,7 @@ static void data_that_lack(void)
 	}
 	/* (a request that says to be longer than any is left to the table) */
 	begin_row(0);
-	memset(request, 0xff, 4);
+	memset(request, 0xff, 4); /* its length */
 	CHECK(ask_cut(ALL, 50, request_len, &call, &told) == NIZWARF_OK &&
 	      u32(ours + 4) == (uint32_t)-ENOMEM);
 }
@@ -274,17 +285,18 @@ static void unnamed_files(void)
 		CHECK(ask_cut(ALL, 57, request_len, &other, &others) ==
 			      (i == 3 ? NIZWARF_INVALID_C_STRING : NIZWARF_ASKED) ||
 		      i == 3);
-		request[4] = NIZWARF_TMPFILE;
+		request[4] = NIZWARF_TMPFILE; /* the opcode, and nothing else */
 		CHECK((ask_cut(ALL, 57, request_len, &call, &told) == NIZWARF_ASKED) == (i != 3));
 		if (i != 3)
 			other.call = NIZWARF_TMPFILE;
 		CHECK(!memcmp(&call, &other, sizeof(call)) && !memcmp(&told, &others, sizeof(told)));
 	}
-	begin_with(NIZWARF_TMPFILE, 2, &unnamed, 15);
+	begin_with(NIZWARF_TMPFILE, 2, &unnamed, 15); /* a byte less than a record */
 	CHECK(ask_cut(ALL, 50, request_len, &call, &told) == NIZWARF_DECODE_MESSAGE);
 }
 
-/* Answers a row by that many bytes of text: the error of the reply, 0 if it has these bytes after its header. */
+/* Answers a row by that many bytes of text: the error of the reply, 0 if it has these bytes after its header. (it
+ * must be one of the two) */
 static int answered(size_t i, const void *text, size_t len)
 {
 	nizwarf_answer answer = NIZWARF_NO_ANSWER;
@@ -316,6 +328,7 @@ static void records(void)
 	size_t len;
 
 	for (len = 0; len < 400; len++) {
+		/* (a lock has 24 bytes, a STATX 288, an IOCTL 16 and as many as were asked for, 100) */
 		CHECK(answered(0, text, len) == (len == 24 ? 0 : EIO));
 		CHECK(answered(7, text, len) == (len == 288 ? 0 : EIO));
 		CHECK(answered(4, text + 16, len) == (len >= 16 && len <= 116 ? 0 : EIO));
@@ -329,15 +342,17 @@ static void records(void)
 			for (len = 0; len < 100; len++)
 				CHECK(answered(4, retry, len) == (len == 16 + 16 * (in + out) ? 0 : EIO));
 		}
-	memcpy(retry + 8, &(uint32_t){ 256 }, 4);
+	memcpy(retry + 8, &(uint32_t){ 256 }, 4); /* 257 pairs: one more than both may have */
 	memcpy(retry + 12, &(uint32_t){ 1 }, 4);
 	CHECK(answered(4, retry, sizeof(retry)) == EIO);
 }
 
 /* ---- a table */
 
+/* What was called, in words and numbers, each of which is one of the record's. */
 static char said[512];
 
+/* Adds to what is said. Answers 0, as most functions do here. */
 static int say(const char *format, ...)
 {
 	const size_t len = strlen(said);
@@ -353,6 +368,7 @@ static int say(const char *format, ...)
 #define FI const nizwarf_file_info *fi
 #define INO ((void)req, (unsigned)ino)
 
+/* The functions say what they are called with, and answer something that the reply must show. */
 static int note_getlk(REQ, FI, nizwarf_lock *asked)
 {
 	say("getlk %u %u %u %u %u %u %u", INO, (unsigned)fi->fh, (unsigned)fi->lock_owner,
@@ -447,6 +463,7 @@ static int note_conn(const nizwarf_req *req, nizwarf_conn_info *conn)
 {
 	(void)req;
 	say("conn %u", (unsigned)(conn->capable >> 35 & 1));
+	/* NO_EXPORT_SUPPORT, REQUEST_TIMEOUT, and POSIX_LOCKS. */
 	conn->want |= UINT64_C(1) << 38 | UINT64_C(1) << 42 | UINT64_C(1) << 1;
 	conn->request_timeout = 30;
 	conn->max_background = 7;
@@ -470,7 +487,8 @@ static const nizwarf_ops ops = { .conn = note_conn,
 				 .copy_file_range = note_copy,
 				 .retrieve_reply = note_retrieve_reply };
 
-/* Serves what is in `request`: what is called is these words, and the reply has this length. */
+/* Serves what is in `request`: what is called is these words, and the reply has this length. Without a reply it's one
+ * that has none, or that doesn't fit. */
 static void expect(const char *words, size_t space, size_t len)
 {
 	size_t reply_len;
@@ -486,6 +504,7 @@ static void expect(const char *words, size_t space, size_t len)
 	CHECK(!strcmp(said, words) && reply_len == len);
 }
 
+/* Each row by the table: what its function is called with, and what its reply has. (16 is where a record begins.) */
 static void called_as_told(void)
 {
 	static const char *const words[ROWS] = {
@@ -493,8 +512,10 @@ static void called_as_told(void)
 		"bmap 2 512 6",		"ioctl 2 9 10 4 2 four 100", "poll 2 4 1 11 1",
 		"retrieved 1 2 6 four", "statx 2 3 2048 4",	     "copy 2 6 3 7 5 9 15"
 	};
-	static const size_t lengths[ROWS] = { 40, 16, 16, 24, 35, 24, 0, 304, 24 };
-	uint64_t pairs[2 * 70 + 1] = { 70 };
+	static const size_t lengths[ROWS] = {
+		40, 16, 16, 24, 35, 24, 0, 304, 24
+	};				     /* of the replies, with the header */
+	uint64_t pairs[2 * 70 + 1] = { 70 }; /* how many, and then each node and its count */
 	size_t i;
 
 	for (i = 0; i < ROWS; i++) {
@@ -530,6 +551,7 @@ static void called_as_told(void)
 		pairs[2 + 2 * i] = i + 100;
 	}
 	begin_with(NIZWARF_BATCH_FORGET, 0, pairs, sizeof(pairs));
+	/* (a table is told of at most 64 pairs at once) */
 	expect("forget_multi 64 1 163 forget_multi 6 65 169 ", 4096, 0);
 }
 

@@ -9,17 +9,20 @@
 #include <stdlib.h>
 #include "nizwarf_ops.h"
 
-enum { THREADS = 4, EACH = 2000, ROOM = 4096 };
+enum { THREADS = 4, EACH = 2000, ROOM = 4096 }; /* EACH: rounds of a thread */
 
+/* All threads serve by this one; INIT and DESTROY change its options. */
 static nizwarf_session session = { 0, 4096, 1 << 20 };
-static unsigned long looked, interrupted;
+static unsigned long looked, interrupted; /* calls, of all threads */
 
+/* Called on three threads, beside an INIT or a DESTROY. */
 static int look_up(const nizwarf_req *req, uint64_t parent, const char *name, nizwarf_entry_param *e)
 {
 	const uint64_t options = req->call->options;
 
 	__atomic_add_fetch(&looked, 1, __ATOMIC_RELAXED);
 	e->ino = 2;
+	/* (before INIT and after DESTROY none, else what was agreed on: nothing that is half written) */
 	if (options && options != FUSE_ASYNC_READ) {
 		fprintf(stderr, "ops-threads.c: options %#llx\n", (unsigned long long)options);
 		exit(1);
@@ -35,12 +38,13 @@ static void interrupt(void *user, uint64_t unique)
 
 static const nizwarf_ops ops = { .lookup = look_up, .interrupt = interrupt };
 
+/* Serves a request, which must be answered without an error. */
 static void serve(nizwarf_slot *slot, uint32_t opcode, const void *record, size_t len)
 {
 	const struct fuse_in_header header = {
 		.len = (uint32_t)(sizeof(header) + len), .opcode = opcode, .unique = 2, .nodeid = FUSE_ROOT_ID
 	};
-	uint8_t request[128], room[ROOM];
+	uint8_t request[128], room[ROOM]; /* of the thread alone, as is its slot */
 	size_t reply_len;
 
 	memcpy(request, &header, sizeof(header));
@@ -53,6 +57,7 @@ static void serve(nizwarf_slot *slot, uint32_t opcode, const void *record, size_
 	}
 }
 
+/* The first thread: one session after another. */
 static void *begin_and_end(void *none)
 {
 	const struct fuse_init_in init = { .major = 7, .minor = 38, .flags = FUSE_ASYNC_READ };
@@ -66,6 +71,7 @@ static void *begin_and_end(void *none)
 	return none;
 }
 
+/* The other threads: names, and interrupts, which have no reply. */
 static void *look(void *none)
 {
 	const struct fuse_interrupt_in number = { 2 };

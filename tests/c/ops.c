@@ -10,10 +10,12 @@
 #include "allocations.h"
 #include "door.h"
 
-/* What was called since the last request, and what each function answers. */
+/* What was called since the last request, and what each function answers. The functions say it in words and numbers;
+ * `failure` is the number of an error, or 0. */
 static char said[512];
 static int failure;
 
+/* Adds to what is said. Answers what a function is to answer. */
 static int say(const char *format, ...)
 {
 	const size_t len = strlen(said);
@@ -34,9 +36,11 @@ static int say(const char *format, ...)
 /* What `init` takes out, and what it adds. */
 static uint64_t declined, added = FUSE_WRITEBACK_CACHE;
 
+/* The functions of a table in which each is there say their own name, and what they are handed: the node first. */
 static int note_init(const nizwarf_req *req, uint64_t capable, uint64_t *want)
 {
 	*want = (*want & ~declined) | added;
+	/* (READDIRPLUS, of two bits, is what a client offers here) */
 	return say("init %d %x", req->user == said, (unsigned)capable & 3 << 13);
 }
 
@@ -45,6 +49,7 @@ static void note_destroy(const nizwarf_req *req)
 	say("destroy %d", req->user == said);
 }
 
+/* Whatever its times and numbers are, each is another one, so that none can come in another's place. */
 static int entry(nizwarf_entry_param *e)
 {
 	const nizwarf_attr attr = { .ino = 50, .mode = 0100644 };
@@ -74,12 +79,14 @@ static int note_getattr(REQ, FI, nizwarf_attr *attr, struct timespec *attr_timeo
 	return say("getattr %u %d", INO, fi ? (int)FH : -1);
 }
 
+/* (a time below 0 is none) */
 static int note_setattr(REQ, const nizwarf_setattr *set, uint32_t to_set, FI, nizwarf_attr *attr,
 			struct timespec *attr_timeout)
 {
 	(void)attr;
+	/* (the bits of the record mean something else) */
 	CHECK(!fi || (!fi->flags && !fi->lock_owner));
-	attr_timeout->tv_sec = -1;
+	attr_timeout->tv_sec = -1; /* no time: 0 is replied */
 	attr_timeout->tv_nsec = 5;
 	return say("setattr %u %x %o %d", INO, to_set, set->mode, fi ? (int)FH : -1);
 }
@@ -176,14 +183,16 @@ static int note_opendir(REQ, nizwarf_file_info *fi)
 	return say("opendir %u", INO);
 }
 
+/* Two items, and how many of them found room. */
 static int note_readdir(REQ, uint64_t off, FI, nizwarf_dir *dir)
 {
-	int added = nizwarf_add_direntry(dir, ".", 1, 4, 1);
+	int added = nizwarf_add_direntry(dir, ".", 1, 4, 1); /* it tells whether there was room */
 
 	added += nizwarf_add_direntry(dir, "name", 50, 8, 2);
 	return say("readdir %u %u %u %d", INO, (unsigned)off, FH, added);
 }
 
+/* Four items: `..` is none that is looked up, and `c` has no node. */
 static int note_readdirplus(REQ, uint64_t off, FI, nizwarf_dir *dir)
 {
 	nizwarf_entry_param e;
@@ -195,7 +204,7 @@ static int note_readdirplus(REQ, uint64_t off, FI, nizwarf_dir *dir)
 	added += nizwarf_add_direntry_plus(dir, "..", &e, 2);
 	e.ino = 6;
 	added += nizwarf_add_direntry_plus(dir, "b", &e, 3);
-	e.ino = 0;
+	e.ino = 0; /* a name that was not looked up: it has no lookup to give back */
 	added += nizwarf_add_direntry_plus(dir, "c", &e, 4);
 	return say(" %d", added);
 }
@@ -265,6 +274,7 @@ static int note_lseek(REQ, uint64_t off, uint32_t whence, FI, uint64_t *found)
 	return say("lseek %u %u %u %u", INO, (unsigned)off, whence, FH);
 }
 
+/* (flags and owner of an open file are none of a copy's) */
 static int note_copy(REQ, uint64_t off_in, FI, uint64_t ino_out, uint64_t off_out,
 		     const nizwarf_file_info *fi_out, uint64_t size, uint64_t flags, size_t *len)
 {
@@ -323,6 +333,7 @@ static const nizwarf_ops ops = {
 	.syncfs = note_syncfs,
 	.interrupt = note_interrupt,
 };
+/* A table without a function; and the one that is asked. */
 static const nizwarf_ops no_ops;
 static const nizwarf_ops *table = &ops;
 
@@ -332,7 +343,7 @@ static size_t space = 8192, most = 8;
 /* Serves the request: what is called is these words, and the reply has this length. */
 static void expect(const char *words, size_t len)
 {
-	nizwarf_item items[8];
+	nizwarf_item items[8]; /* `most` of them are told of */
 	size_t reply_len;
 
 	said[0] = 0;
@@ -342,6 +353,7 @@ static void expect(const char *words, size_t len)
 	if (strcmp(said, words) || reply_len != len)
 		fprintf(stderr, "%s, and %zu bytes\n", said, reply_len);
 	CHECK(!strcmp(said, words) && reply_len == len);
+	/* (the header says the same, of this request) */
 	CHECK(!len || (u32(ours) == len && u64(ours + 8) == unique));
 }
 
@@ -357,7 +369,8 @@ static void expect_record(uint32_t opcode, const void *record, size_t record_len
 	expect(words, len);
 }
 
-/* The replies of the functions that answer more than that it was done. */
+/* The replies of the functions that answer more than that it was done. The bytes that are looked at: 16 is where a
+ * record begins; an entry has its times at 32 to 55, and its attributes from 56 on. */
 static void answers(void)
 {
 	const struct fuse_setattr_in set = {
@@ -375,11 +388,12 @@ static void answers(void)
 	CHECK(u64(ours + 16) == 8 && u32(ours + 24) == 9 && u64(ours + 40) == 7);
 	expect_record(NIZWARF_GETATTR, handle, 16, NULL, NULL, "getattr 2 7", 120);
 	expect_record(NIZWARF_SETATTR, &set, 88, NULL, NULL, "setattr 2 1 644 3", 120);
-	CHECK(!u64(ours + 16) && !u32(ours + 24));
+	CHECK(!u64(ours + 16) && !u32(ours + 24)); /* of a time that is none */
+	/* (Linux takes no longer text) */
 	expect_record(NIZWARF_READLINK, zeros, 0, NULL, NULL, "readlink 2 4095", 22);
 	CHECK(!memcmp(ours + 16, "target", 6));
 	expect_record(NIZWARF_MKNOD, mknod, 16, "a", NULL, "mknod 2 a 644 9 22", 144);
-	expect_record(NIZWARF_MKDIR, open, 8, "a", NULL, "mkdir 2 a 2", 144);
+	expect_record(NIZWARF_MKDIR, open, 8, "a", NULL, "mkdir 2 a 2", 144); /* its mode is 2 */
 	expect_record(NIZWARF_SYMLINK, zeros, 0, "a", "text", "symlink text 2 a", 144);
 	expect_record(NIZWARF_LINK, sizes, 8, "a", NULL, "link 100 2 a", 144);
 	expect_record(NIZWARF_OPEN, open, 8, NULL, NULL, "open 2 2", 32);
@@ -396,7 +410,7 @@ static void answers(void)
 	CHECK(u32(ours + 16) == 5);
 	expect_record(NIZWARF_LISTXATTR, sizes, 8, NULL, NULL, "listxattr 2 100", 23);
 	expect_record(NIZWARF_LISTXATTR, zeros, 8, NULL, NULL, "listxattr 2 0", 24);
-	expect_record(NIZWARF_LISTXATTR, open, 8, NULL, NULL, "listxattr 2 2", 16);
+	expect_record(NIZWARF_LISTXATTR, open, 8, NULL, NULL, "listxattr 2 2", 16); /* 2 bytes are too few */
 	CHECK(u32(ours + 4) == (uint32_t)-ERANGE);
 }
 
@@ -409,6 +423,7 @@ static void done(void)
 	const uint32_t interrupt[] = { 9, 0 };
 
 	expect_record(NIZWARF_FORGET, two, 8, NULL, NULL, " forget 2 3", 0);
+	/* (without `forget_multi` by one call for each pair) */
 	expect_record(NIZWARF_BATCH_FORGET, pairs, 40, NULL, NULL, " forget 5 1 forget 6 2", 0);
 	expect_record(INTERRUPT, interrupt, 8, NULL, NULL, "interrupt 1 9", 0);
 	expect_record(NIZWARF_UNLINK, two, 0, "a", NULL, "unlink 2 a", 16);
@@ -424,7 +439,7 @@ static void done(void)
 	expect_record(NIZWARF_REMOVEXATTR, two, 0, "user.a", NULL, "removexattr 2 user.a", 16);
 	expect_record(NIZWARF_ACCESS, set, 8, NULL, NULL, "access 2 3", 16);
 	expect_record(NIZWARF_SYNCFS, two, 0, NULL, NULL, "syncfs 2", 16);
-	expect_record(NIZWARF_TMPFILE, two, 0, NULL, NULL, "", 16);
+	expect_record(NIZWARF_TMPFILE, two, 0, NULL, NULL, "", 16); /* no function is called */
 	expect_record(NIZWARF_IOCTL, two, 0, NULL, NULL, "", 16);
 	CHECK(u32(ours + 4) == (uint32_t)-ENOSYS);
 }
@@ -440,9 +455,10 @@ static void data(void)
 
 	expect_record(NIZWARF_READ, &read, 40, NULL, NULL, "read 2 100 6 4", 20);
 	CHECK(!memcmp(ours + 16, "data", 4) && ours[20] == FILL);
-	space = 50;
+	space = 50; /* so 34 bytes of data are asked for */
 	expect_record(NIZWARF_READ, &read, 40, NULL, NULL, "read 2 34 6 4", 20);
 	space = 8192;
+	/* (there are more bytes than it says) */
 	expect_record(NIZWARF_WRITE, &write, 40, "xyz", NULL, "write 2 xy 6 4", 24);
 	CHECK(u32(ours + 16) == 2);
 	expect_record(NIZWARF_LSEEK, &lseek, 24, NULL, NULL, "lseek 2 6 3 4", 24);
@@ -529,6 +545,7 @@ static void handles_that_do_not_fit(void)
 	const struct fuse_create_in created = { .flags = O_RDWR, .mode = 0644 };
 
 	begin_with(NIZWARF_OPEN, 2, &opened, sizeof(opened));
+	/* (else nobody would ever close it) */
 	expect_unfit("open 2 2release 2 11 2", 32);
 	failure = ENOENT;
 	space = 16;
@@ -557,12 +574,13 @@ static void sessions(const char *begins, const char *ends, uint32_t wanted)
 						    FUSE_WRITEBACK_CACHE };
 
 	expect_record(NIZWARF_INIT, &init, 16, NULL, NULL, begins, 80);
-	CHECK(session.options == wanted && u32(ours + 28) == wanted);
+	CHECK(session.options == wanted && u32(ours + 28) == wanted); /* `flags` of the reply */
 	expect_record(NIZWARF_DESTROY, &init, 0, NULL, NULL, ends, 0);
 	CHECK(!session.options);
 }
 
-/* INIT with these options offered: just these are agreed on, and told. */
+/* INIT with these options offered: just these are agreed on, and told. 28 is where a reply has its `flags`, and 48
+ * its `flags2`. */
 static void expect_options(uint64_t offered, uint64_t agreed)
 {
 	const struct fuse_init_in init = {
@@ -590,6 +608,7 @@ static void options(void)
 
 	added = 0;
 	expect_options(UINT64_MAX, usual);
+	/* (a client that offers all gets what one gets that offers just these: nothing else is told) */
 	memcpy(told + 16, ours + 16, 64);
 	expect_options(usual, usual);
 	CHECK(!memcmp(told + 16, ours + 16, 64));
@@ -598,12 +617,13 @@ static void options(void)
 	added = NIZWARF_WANT_ALLOW_IDMAP | locks;
 	expect_options(UINT64_MAX, (usual & ~declined) | NIZWARF_WANT_ALLOW_IDMAP);
 	expect_options(usual, usual & ~declined);
-	declined = UINT64_MAX;
+	declined = UINT64_MAX; /* what `init` adds is agreed on, INIT_EXT with it, since it's above 32 bits */
 	expect_options(UINT64_MAX, NIZWARF_WANT_ALLOW_IDMAP | FUSE_INIT_EXT);
 	added = 0;
 	expect_options(UINT64_MAX, 0);
 	declined = 0;
 	added = usual | FUSE_WRITEBACK_CACHE | FUSE_SETXATTR_EXT;
+	/* (cutting by OPEN wants `open`, WRITEBACK_CACHE wants `write`, SETXATTR_EXT `setxattr`) */
 	some.init = note_init;
 	table = &some;
 	expect_options(UINT64_MAX, NIZWARF_WANT_USUAL & ~trunc);
@@ -642,7 +662,7 @@ static void wrong_answers(void)
 	const struct fuse_read_in read = { .fh = 4, .size = 100 };
 	const struct fuse_write_in write = { .fh = 4, .size = 2 };
 	const struct fuse_copy_file_range_in copy = { .len = 9 };
-	static const int none[] = { 512, 600, INT32_MAX, -1, -ENOENT, INT32_MIN };
+	static const int none[] = { 512, 600, INT32_MAX, -1, -ENOENT, INT32_MIN }; /* numbers of no error */
 	const uint32_t sizes[] = { 100, 0 };
 	size_t i;
 
@@ -658,7 +678,7 @@ static void wrong_answers(void)
 	EXPECT_FAULT(EIO, NIZWARF_COPY, &copy, 56, NULL, NULL, "copy 2 0 0 0 0 0 9 0");
 	EXPECT_FAULT(ERANGE, NIZWARF_GETXATTR, sizes, 8, "user.a", NULL, "getxattr 2 user.a 100");
 	EXPECT_FAULT(ERANGE, NIZWARF_LISTXATTR, sizes, 8, NULL, NULL, "listxattr 2 100");
-	space = 66;
+	space = 66; /* the room has 50 bytes for a value */
 	EXPECT_FAULT(ERANGE, NIZWARF_GETXATTR, sizes, 8, "user.a", NULL, "getxattr 2 user.a 50");
 	space = 8192;
 	excess = 0;
@@ -672,7 +692,8 @@ static void wrong_answers(void)
 #undef EXPECT_FAULT
 }
 
-/* Where an allocation is refused, no call is made. */
+/* Where an allocation is refused, no call is made. Each allocation is refused in turn, of a slot that has none yet,
+ * until none is left: `refused` is then how many there were, and one. */
 static void expect_unmade(uint32_t opcode, const void *record, size_t record_len, const char *name)
 {
 	const long kept = live;
@@ -690,6 +711,7 @@ static void expect_unmade(uint32_t opcode, const void *record, size_t record_len
 					 NULL, 0, &len);
 		CHECK(code == NIZWARF_OK || (code == NIZWARF_OUT_OF_MEMORY && !len));
 		CHECK((code == NIZWARF_OK) == (said[0] != 0));
+		/* (the session ends where DESTROY was called, and else not) */
 		CHECK((opcode != NIZWARF_DESTROY || !said[0]) == (session.options == FUSE_BIG_WRITES));
 		nizwarf_end_slot(&fresh);
 		CHECK(live == kept);
@@ -699,6 +721,7 @@ static void expect_unmade(uint32_t opcode, const void *record, size_t record_len
 	session.options = 0;
 }
 
+/* A call with a name, one without, one that makes a file, and one that ends the session. */
 static void no_memory(void)
 {
 	const struct fuse_create_in created = { .flags = O_RDWR, .mode = 0644 };
@@ -712,6 +735,7 @@ static void no_memory(void)
 /* A room that overlaps the request is refused, and nothing is called. */
 static void overlaps(void)
 {
+	/* The room is 144 bytes from 50 on; the request goes past it, byte by byte. */
 	static uint8_t both[300];
 	size_t at, len;
 
@@ -759,7 +783,7 @@ static void conversions(void)
 	const nizwarf_statfs held = { 1, 2, 3, 4, 5, 6, 7, 8 };
 	const nizwarf_attr got = nizwarf_attr_of(&st);
 	const nizwarf_statfs holds = nizwarf_statfs_of(&fs);
-	const double zero = 0;
+	const double zero = 0; /* so that 0 / 0 isn't computed by the compiler */
 
 	CHECK(!entry.attr_seconds && !entry.attr_nanoseconds);
 	CHECK(entry.entry_seconds == 3 && !entry.entry_nanoseconds);

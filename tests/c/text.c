@@ -22,14 +22,15 @@
 		}                                                                                       \
 	} while (0)
 
-enum { MOST = 1 << 16 };
+enum { MOST = 1 << 16 }; /* bytes of a request */
 
 static unsigned long requests, lines;
-static size_t length;
+static size_t length; /* of the request that is held now */
 static nizwarf_slot slot = NIZWARF_NONE;
-static unsigned char space[(1 << 20) + 4096];
+static unsigned char space[(1 << 20) + 4096]; /* a room of the largest size */
 
-/* A line in memory of each of some sizes is the beginning of the whole one, and nothing after it changes. */
+/* A line in memory of each of some sizes is the beginning of the whole one, and nothing after it changes. `print`
+ * writes the line of `of` as snprintf(3) does, and tells its whole length. */
 static void hold_line(size_t (*print)(const void *of, char *text, size_t size), const void *of)
 {
 	const size_t len = print(of, NULL, 0), sizes[] = { 0, 1, 2, len / 2, len, len + 1, len + 9 };
@@ -38,14 +39,14 @@ static void hold_line(size_t (*print)(const void *of, char *text, size_t size), 
 
 	CHECK(whole && print(of, whole, len + 1) == len && strlen(whole) == len && len > 0);
 	for (i = 0; i < len; i++)
-		CHECK(whole[i] >= ' ' && whole[i] <= '~');
+		CHECK(whole[i] >= ' ' && whole[i] <= '~'); /* a terminal obeys no byte of a message */
 	for (i = 0; i < sizeof(sizes) / sizeof(*sizes); i++) {
 		const size_t size = sizes[i], shown = size && size - 1 < len ? size - 1 : len;
 		char *text = malloc(size + 1);
 
 		CHECK(text);
 		memset(text, 1, size + 1);
-		CHECK(print(of, text, size) == len && text[size] == 1);
+		CHECK(print(of, text, size) == len && text[size] == 1); /* the byte after the memory stays */
 		if (size) {
 			CHECK(!memcmp(text, whole, shown) && text[shown] == 0);
 			CHECK(shown + 1 >= size || text[shown + 1] == 1);
@@ -56,6 +57,7 @@ static void hold_line(size_t (*print)(const void *of, char *text, size_t size), 
 	lines++;
 }
 
+/* A request, what is taken for its reply, their lengths, and what was agreed on. */
 struct messages {
 	const void *request, *reply;
 	size_t len, reply_len;
@@ -88,21 +90,24 @@ static void hold_check(const struct messages *m, size_t size)
 	nizwarf_told told;
 	int32_t code;
 
-	memset(&call, 0, sizeof(call));
+	memset(&call, 0, sizeof(call)); /* so that both are equal in bytes that neither sets */
 	memset(&checked, 0, sizeof(checked));
 	code = nizwarf_ask(&slot, &session, &piece, 1, &room, 1, &call, &told);
 	before = asked;
 	CHECK(nizwarf_check(&session, m->request, m->len, size, &checked, &interrupts) == code);
 	CHECK(!memcmp(&call, &checked, sizeof(call)) && interrupts == told.interrupts);
+	/* (a check allocates for nothing else) */
 	CHECK(asked == before || checked.call == NIZWARF_BATCH_FORGET || checked.has & NIZWARF_HAS_CONTEXT ||
 	      code != NIZWARF_ASKED);
 }
 
+/* (in memory of just its length, so that a sanitizer sees a byte read after it) */
 static void hold(const unsigned char *request, size_t len, uint64_t options)
 {
 	static const size_t rooms[] = { 0, 15, 16, 79, 80, 4096, sizeof(space) };
 	unsigned char *own = malloc(len ? len : 1);
-	const struct messages m = { own, request, len, len, options };
+	const struct messages m = { own, request, len, len,
+				    options }; /* the reply is the request: bytes of no sense */
 	size_t i;
 
 	length = len;
@@ -172,6 +177,7 @@ static int has_words(const unsigned char *request, size_t len, uint64_t options,
  * SECURITY_CTX (bit 32) and CREATE_SUPP_GROUP (bit 34) what is after a name. */
 static void hold_options(void)
 {
+	/* (blocks as in door-cases.c) */
 	static const uint32_t group[] = { 16, 32, 1, 4242 }, context[] = { 32, 1, 5, 0 };
 	static const uint32_t set[] = { 5, 0, 1, 0 };
 	const uint64_t ext = UINT64_C(1) << 29, contexts = UINT64_C(1) << 32, groups = UINT64_C(1) << 34;
@@ -214,10 +220,10 @@ int main(int count, char **words)
 	hold_options();
 	while (fgets(line, sizeof(line), file)) {
 		len = read_request(line, request);
-		if (!len || requests++ % 16)
+		if (!len || requests++ % 16) /* one of sixteen, of which there are enough */
 			continue;
 		for (i = 0; i < 2; i++)
-			for (at = len < 200 ? 0 : len; at <= len; at++)
+			for (at = len < 200 ? 0 : len; at <= len; at++) /* a long one is not cut */
 				hold(request, at, options[i]);
 	}
 	fclose(file);

@@ -42,16 +42,16 @@ static struct {
 	struct fuse_getattr_in body;
 } getattr = { .header = { .len = sizeof(getattr), .opcode = FUSE_GETATTR, .unique = 3, .nodeid = 2 } };
 
-static uint8_t reply[1 << 16], large[8 << 20];
+static uint8_t reply[1 << 16], large[8 << 20]; /* rooms, in bytes */
 
-/* Asks with a request in two pieces, of which the first has that many bytes, after that many empty ones,
- * and with two pieces of room. What is refused for want of memory, by the server or in the file system's
- * reply, is asked again, and the outcome told. */
+/* Asks with a request in two pieces, of which the first has that many bytes, after that many empty ones, and with two
+ * pieces of room. What is refused for want of memory, by the server or in the file system's reply, is asked again,
+ * and the outcome told. `space` is both pieces' room; the first has a header's. */
 static int ask(nizwarf_server *server, void *request, size_t cut, size_t empty, size_t space, size_t *len)
 {
 	const struct fuse_out_header *header = (const struct fuse_out_header *)reply;
 	size_t total = ((struct fuse_in_header *)request)->len, i;
-	nizwarf_segment pieces[8];
+	nizwarf_segment pieces[8]; /* up to six are empty */
 	const nizwarf_room room[] = { { reply, 16 }, { reply + 16, space - 16 } };
 	int code, again;
 
@@ -63,7 +63,7 @@ static int ask(nizwarf_server *server, void *request, size_t cut, size_t empty, 
 		memset(reply, 0xaa, sizeof(reply));
 		code = nizwarf_message(server, pieces, empty + 2, room, 2, len);
 		if (code == NIZWARF_OK && *len == 16 && header->error == -ENOMEM) {
-			CHECK(refused && again == 0);
+			CHECK(refused && again == 0); /* once, and only where one was refused */
 			continue;
 		}
 		if (code != NIZWARF_OUT_OF_MEMORY)
@@ -71,10 +71,12 @@ static int ask(nizwarf_server *server, void *request, size_t cut, size_t empty, 
 		CHECK(refused && again == 0 && *len == 0 && reply[0] == 0xaa);
 	}
 	for (i = *len; i < sizeof(reply); i++)
+		/* (after a reply nothing is written; one that doesn't fit may leave its begin) */
 		CHECK(code == NIZWARF_ENCODE_MESSAGE || reply[i] == 0xaa);
 	return code;
 }
 
+/* One session, in which each thing that wants memory comes. Cuts lie in a header, in a record, in a name. */
 static void session(void)
 {
 	nizwarf_server server = NIZWARF_NONE;
@@ -90,18 +92,21 @@ static void session(void)
 	CHECK(ask(&server, &init, 40, 0, 80, &len) == NIZWARF_OK && len == 80 && header->len == 80);
 	CHECK(nizwarf_tell_time(&server, 7, 9) == NIZWARF_OK);
 	CHECK(ask(&server, &make, 49, 2, 144, &len) == NIZWARF_OK && len == 144 && header->error == 0);
+	/* (all in the first piece) */
 	CHECK(ask(&server, &getattr, 56, 0, 8192, &len) == NIZWARF_OK && len == 120 && header->unique == 3);
 	CHECK(((struct fuse_attr_out *)(reply + 16))->attr.mtime == 7);
 	CHECK(ask(&server, &lookup, 41, 5, 144, &len) == NIZWARF_OK && len == 144 && header->error == 0);
 	CHECK(ask(&server, &getattr, 50, 6, 1 << 16, &len) == NIZWARF_OK && len == 120 &&
 	      header->unique == 3);
 	CHECK(ask(&server, &lookup, 40, 0, 20, &len) == NIZWARF_ENCODE_MESSAGE && len == 0);
+	/* (20 bytes were written, as many as there was room for) */
 	CHECK(header->len == 144 && reply[16] == 2 && reply[20] == 0xaa);
 	CHECK(ask(&server, &getattr, 39, 1, 120, &len) == NIZWARF_OK && len == 120);
 	CHECK(nizwarf_end(&server) == NIZWARF_OK && !server.at && live == 0);
 }
 
-/* Asks with a request in one piece, whose reply is taken out. What is refused for want of memory is asked again. */
+/* Asks with a request in one piece, whose reply is taken out. What is refused for want of memory is asked again.
+ * `*head` is the reply, or NULL. */
 static int take(nizwarf_server *server, void *request, size_t space, nizwarf_taken *taken,
 		const struct fuse_out_header **head, size_t *len)
 {
@@ -118,7 +123,8 @@ static int take(nizwarf_server *server, void *request, size_t space, nizwarf_tak
 	return code;
 }
 
-/* Replies that are taken out: which they are, what they outlive, and what has none. */
+/* Replies that are taken out: which they are, what they outlive, and what has none. What is taken belongs to the
+ * caller, until it's given back or taken with anew: so it outlives the server. */
 static void takes(void)
 {
 	static struct {
@@ -141,8 +147,10 @@ static void takes(void)
 	while (nizwarf_new(&server, 4096, 4096, NULL) != NIZWARF_OK)
 		CHECK(refused && !server.at);
 	CHECK(take(&server, &init, 80, &one, &first, &len) == NIZWARF_OK && len == 80 && first->len == 80);
-	CHECK(take(&server, &lookup, 144, &other, &second, &more) == NIZWARF_OK && more == 16);
+	CHECK(take(&server, &lookup, 144, &other, &second, &more) == NIZWARF_OK &&
+	      more == 16); /* no such name */
 	CHECK(second->error == -ENOENT && second->unique == 2);
+	/* (the first one is what it was, after a second one) */
 	CHECK(first->len == 80 && first->unique == 1 &&
 	      ((const struct fuse_init_out *)(first + 1))->major == 7);
 	CHECK(take(&server, &lookup, 15, &other, &second, &more) == NIZWARF_ENCODE_MESSAGE && !second);
@@ -158,7 +166,9 @@ static void takes(void)
 static void codes(void)
 {
 	nizwarf_server server = NIZWARF_NONE;
-	const nizwarf_segment huge[] = { { &init, SIZE_MAX / 2 }, { &init, SIZE_MAX / 2 }, { &init, 2 } };
+	const nizwarf_segment huge[] = { { &init, SIZE_MAX / 2 },
+					 { &init, SIZE_MAX / 2 },
+					 { &init, 2 } }; /* more than a size_t together */
 	const nizwarf_segment whole = { &init, sizeof(init) }, null = { NULL, 0 };
 	const nizwarf_room nowhere = { NULL, 0 }, small = { reply, 15 }, ample = { large, sizeof(large) };
 	const nizwarf_room wide[] = { { reply, SIZE_MAX }, { reply, 1 } };
@@ -173,8 +183,10 @@ static void codes(void)
 	CHECK(nizwarf_message(&server, &whole, 1, NULL, 0, &len) == NIZWARF_NO_SERVER && len == 0);
 	CHECK(nizwarf_new(&server, 4095, 4096, NULL) == NIZWARF_WRONG_SIZE);
 	CHECK(nizwarf_new(&server, 4096, 4095, NULL) == NIZWARF_WRONG_SIZE);
-	CHECK(nizwarf_new(&server, 4096, 134217729, NULL) == NIZWARF_WRONG_SIZE && !server.at);
+	CHECK(nizwarf_new(&server, 4096, 134217729, NULL) == NIZWARF_WRONG_SIZE &&
+	      !server.at); /* above 128 MiB */
 	CHECK(nizwarf_new(&server, 4096, 4096, NULL) == NIZWARF_OK);
+	/* (in place of the one that was there, which is freed) */
 	CHECK(nizwarf_new(&server, 4096, 8192, NULL) == NIZWARF_OK);
 	CHECK(nizwarf_max_buffer(&server) == 8192);
 	CHECK(nizwarf_message(&server, NULL, 1, NULL, 0, &len) == NIZWARF_NULL && len == 0);
@@ -198,7 +210,7 @@ static void settings(void)
 {
 	const nizwarf_settings set = { .seconds = 5,
 				       .nanoseconds = 6,
-				       .nodes = 1,
+				       .nodes = 1, /* the root's */
 				       .bytes = 4096,
 				       .file = 512,
 				       .uid = 7,
@@ -217,12 +229,13 @@ static void settings(void)
 	CHECK(ask(&server, &getattr, 40, 0, 120, &len) == NIZWARF_OK && len == 120 && header->error == 0);
 	CHECK(attr->mode == 041711 && attr->uid == 7 && attr->gid == 8);
 	CHECK(attr->mtime == 5 && attr->mtimensec == 6 && attr->ctime == 5 && attr->atime == 5);
+	/* (a directory would be a second node) */
 	CHECK(ask(&server, &make, 49, 0, 144, &len) == NIZWARF_OK && len == 16 && header->error == -ENOSPC);
 	CHECK(nizwarf_new(&server, 4096, 4096, NULL) == NIZWARF_OK);
 	CHECK(ask(&server, &getattr, 40, 0, 120, &len) == NIZWARF_OK && len == 120 && header->error == 0);
 	CHECK(attr->mode == 040755 && attr->uid == 0 && attr->gid == 0 && attr->mtime == 0);
 	CHECK(nizwarf_end(&server) == NIZWARF_OK && live == 0);
-	getattr.header.nodeid = 2;
+	getattr.header.nodeid = 2; /* as session() has it */
 }
 
 int main(void)
@@ -235,6 +248,7 @@ int main(void)
 	session();
 	takes();
 	all = asked;
+	/* (as many as were counted without a refusal; a second attempt counts on) */
 	for (refused = 1; refused <= all; refused++) {
 		asked = 0;
 		session();
