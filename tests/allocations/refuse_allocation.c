@@ -19,9 +19,9 @@
 
 static const char begins[] = "request ";
 
-static unsigned long asked[MOST_PARTS];
-static unsigned long parts, part;
-static int has_ended;
+static unsigned long asked[MOST_PARTS]; /* of each part */
+static unsigned long parts, part;	/* how many there were, and which one it is now */
+static int has_ended;			/* what is allocated to write the counts is none of the program's */
 
 /* The number in a variable of the environment, 0 where it is not there. */
 static unsigned long number_in(const char *name)
@@ -39,6 +39,7 @@ static int is_refused(void)
 
 	if (has_ended)
 		return 0;
+	/* (once: getenv is no thing for each allocation) */
 	if (!is_read) {
 		of_part = number_in("REFUSE_PART");
 		number = number_in("REFUSE_ALLOCATION");
@@ -73,6 +74,7 @@ ssize_t write(int file, const void *bytes, size_t size)
 
 	if (!next)
 		next = dlsym(RTLD_NEXT, "write");
+	/* (a line that begins with other words ends the part) */
 	if (file == 1) {
 		part = 0;
 		if (size >= strlen(begins) && !memcmp(bytes, begins, strlen(begins)) &&

@@ -7,13 +7,17 @@
 #include "contracts.h"
 #include "__fc_builtin.h"
 
+/* Bytes of a region, and of the log of a migration. */
 enum { SHARED = 1 << 22, MARKS = 1 << 12 };
 static unsigned char memory[REGIONS][SHARED], marks[MARKS];
+/* Each read of it is any number. */
 static volatile int any;
 static struct guest front_end;
 static struct worker worker;
 static transport with;
 
+/* What is behind the transport, at its worst: while it has the request the front end may hang up; it may say any
+ * length, of more than the room too; and what it kept it may complete before it comes back, with bytes or without. */
 static int32_t serve(void *user, unsigned number, const nizwarf_segment *request, size_t segments,
 		     const nizwarf_room *room, size_t rooms, size_t *len)
 {
@@ -23,7 +27,7 @@ static int32_t serve(void *user, unsigned number, const nizwarf_segment *request
 	(void)user, (void)number, (void)request, (void)segments, (void)room, (void)rooms;
 	front_end.gone = any;
 	*len = Frama_C_unsigned_long_interval(0, LONGEST);
-	kept = any ? transport_keep() : NULL;
+	kept = any ? transport_keep() : NULL; /* NULL too, if it can't be kept */
 	if (!kept)
 		return any;
 	if (any)
@@ -33,6 +37,7 @@ static int32_t serve(void *user, unsigned number, const nizwarf_segment *request
 	return NIZWARF_ASKED;
 }
 
+/* (nothing that was kept has to be completed at once) */
 static void recall(void *user)
 {
 	(void)user;
@@ -42,6 +47,8 @@ static void recall(void *user)
 static void share(struct guest *g)
 {
 	for (size_t i = 0; i < REGIONS; i++) {
+		/* (told is where the guest and the front end have it; their addresses are anything, and may be the
+		 * same) */
 		g->region[i] = (struct region){ memory[i] + Frama_C_unsigned_long_interval(0, SHARED - 1),
 						memory[i], SHARED };
 		g->told[i].size = g->shared[i].size = Frama_C_unsigned_long_interval(1, SHARED);
@@ -52,11 +59,13 @@ static void share(struct guest *g)
 	g->logs = any;
 	if (any)
 		g->log = (struct log){ marks, marks, MARKS, Frama_C_unsigned_long_interval(0, MARKS), 0 };
-	g->log.event = Frama_C_interval(-1, 1000);
+	g->log.event = Frama_C_interval(-1, 1000); /* a descriptor, or none */
 }
 
+/* A queue with any places, as the front end's numbers say: which are looked up in the regions. */
 static void tell_queue(struct queue *q)
 {
+	/* (the proved library lets no other size through) */
 	q->size = Frama_C_unsigned_int_interval(1, 32768);
 	q->descriptors_user = Frama_C_unsigned_long_interval(0, SIZE_MAX);
 	q->available_user = Frama_C_unsigned_long_interval(0, SIZE_MAX);
@@ -70,6 +79,7 @@ static void tell_queue(struct queue *q)
 	q->calls = any;
 	q->has_log_address = any;
 	q->log_address = Frama_C_unsigned_long_interval(0, SIZE_MAX);
+	/* (which finds where the rings are, or that they are nowhere) */
 	queue_place(q);
 }
 
@@ -91,6 +101,7 @@ int main(void)
 	pthread_mutex_init(&guests, NULL);
 	share(&front_end);
 	tell_queue(q);
+	/* (a turn each: what is late, the next chain, its answer; the third begins with all that two can leave) */
 	for (int i = 0; i < 3; i++) {
 		front_end.gone = any;
 		front_end.wanted = any;
@@ -101,7 +112,7 @@ int main(void)
 		if (len < 0)
 			head = NO_CHAIN;
 		else
-			mark_rooms(&front_end, worker.room, worker.rooms);
+			mark_rooms(&front_end, worker.room, worker.rooms); /* for a migration */
 	}
 	return 0;
 }

@@ -19,18 +19,19 @@
 #include "nizwarf.h"
 #include "nizwarf_ops.h"
 
-enum { PIECES = 3, LONGEST = 1 << 20 };
+enum { PIECES = 3, LONGEST = 1 << 20 }; /* of a request or a room; and the bytes of each at most */
 
-static volatile int any;
+static volatile int any; /* each read is any number */
 
+/* All of a variable is anything; and a length up to one. */
 #define ANY(of) Frama_C_make_unknown((char *)&(of), sizeof(of))
 #define ANY_LENGTH(most) Frama_C_unsigned_long_interval(0, most)
 
 /* ---- the library */
 
-static volatile uint8_t seen;
+static volatile uint8_t seen; /* where what is read goes, so that no read is left out */
 
-/* Reads the first byte and the last. */
+/* Reads the first byte and the last. What the header hands to the library may be empty, but is never NULL. */
 static void look_at(const uint8_t *at, size_t len)
 {
 	//@ assert given: at != \null;
@@ -67,11 +68,13 @@ static void look_at_request(const nizwarf_segment *request, size_t segments)
 		look_at(request[i].at, request[i].len);
 }
 
+/* Each code that the library has. */
 static int32_t any_code(void)
 {
 	return Frama_C_interval(NIZWARF_OK, NIZWARF_NOT_ASKED);
 }
 
+/* (what it hands in is cleared: so nothing of an earlier call is left where the library says nothing) */
 int32_t nizwarf_ask_at(nizwarf_slot *slot, const nizwarf_session *session, const nizwarf_segment *request,
 		       size_t segments, size_t room, nizwarf_call *call, nizwarf_told *told)
 {
@@ -121,6 +124,7 @@ int32_t nizwarf_answer_offered_at(nizwarf_slot *slot, const nizwarf_session *ses
 	return nizwarf_answer_at(slot, session, call, answer, text, text_len, items, items_len, told);
 }
 
+/* Writes all of the memory, and tells any part of it. */
 static size_t fill(uint8_t *piece, size_t len)
 {
 	//@ assert given: piece != \null;
@@ -244,7 +248,7 @@ size_t nizwarf_notice_prune_at(uint32_t count, uint8_t *out, size_t size)
 
 /* Of the server over a tree. */
 
-static uint8_t taken_reply[LONGEST];
+static uint8_t taken_reply[LONGEST]; /* memory of the library */
 
 int32_t nizwarf_new_at(nizwarf_server *server, uint32_t page_size, uint32_t max_buffer,
 		       const nizwarf_settings *settings)
@@ -281,7 +285,7 @@ int32_t nizwarf_take_at(nizwarf_server *server, nizwarf_taken *taken, nizwarf_pl
 	if (any)
 		return NIZWARF_OUT_OF_MEMORY;
 	place->at = taken_reply;
-	place->start = ANY_LENGTH(LONGEST / 2);
+	place->start = ANY_LENGTH(LONGEST / 2); /* so that the two together are within it */
 	place->len = ANY_LENGTH(LONGEST / 2);
 	return NIZWARF_OK;
 }
@@ -310,7 +314,7 @@ int32_t nizwarf_end_at(nizwarf_server *server)
 
 /* ---- what is handed in */
 
-static uint8_t bytes[PIECES][LONGEST], memory[PIECES][LONGEST];
+static uint8_t bytes[PIECES][LONGEST], memory[PIECES][LONGEST]; /* requests, and rooms */
 
 /* Pieces of any lengths, of which any may be NULL. */
 static void any_segments(nizwarf_segment *list)
@@ -330,11 +334,12 @@ static void any_items(nizwarf_item *items)
 	for (size_t i = 0; i < PIECES; i++) {
 		ANY(items[i]);
 		items[i].name = any ? bytes[0] : NULL;
-		items[i].name_size = ANY_LENGTH(LONGEST);
+		items[i].name_size = ANY_LENGTH(LONGEST); /* with or without a 0 in it */
 	}
 }
 
-/* (each pointer is NULL in one round, and none in the last; lists have each number of pieces) */
+/* (each pointer is NULL in one round, and none in the last; lists have each number of pieces) `gone` is which
+ * pointer. */
 #define ROUNDS(most) for (int gone = most; gone >= 0; gone--)
 #define OR_NULL(number, at) (gone == (number) ? NULL : (at))
 #define COUNTS for (size_t count = 0; count <= PIECES; count++)
@@ -391,6 +396,7 @@ static void replies(void)
 		ANY(answer);
 		call.call = any_number(range);
 		answer.text = OR_NULL(7, bytes[1]);
+		/* (a text that is NULL has any length too: the header refuses it) */
 		answer.text_len = count ? Frama_C_unsigned_long_interval(1, LONGEST) : 0;
 		answer.items = OR_NULL(8, items);
 		answer.items_len = count;
@@ -478,6 +484,8 @@ static void servers(void)
 
 /* ---- a table */
 
+/* The functions of the table answer anything, in all that they are handed to fill, and any number of an error or of
+ * none. */
 static int make_entry(nizwarf_entry_param *e)
 {
 	ANY(*e);
@@ -522,6 +530,7 @@ static int op_setattr(const nizwarf_req *req, uint64_t ino, const nizwarf_setatt
 	return op_getattr(req, ino, fi, attr, attr_timeout);
 }
 
+/* As many bytes as it may; and it says any length, of more than that too. */
 static int fill_all(void *buf, size_t size, size_t *len)
 {
 	if (size)
@@ -769,7 +778,7 @@ static nizwarf_ops any_table(void)
 {
 	nizwarf_ops ops;
 
-#define OR_NONE(name, function) ops.name = any ? function : NULL
+#define OR_NONE(name, function) ops.name = any ? function : NULL /* each is there, or isn't */
 	OR_NONE(init, op_init);
 	OR_NONE(destroy, op_destroy);
 	OR_NONE(lookup, op_lookup);
@@ -844,6 +853,7 @@ static void tables(void)
 	answer.error = any;
 	answer.handle = ANY_LENGTH(UINT64_MAX);
 	answer.has_handle = (uint32_t)any;
+	/* (a call that was answered later, though it may never have been asked) */
 	nizwarf_finish_ops(&ops, NULL, &slot, &session, &call, &answer, memory[0], &len);
 	nizwarf_end_ops(&ops, NULL, &session);
 }
@@ -857,7 +867,7 @@ static void values(void)
 	ANY(held);
 	nizwarf_attr_of(&st);
 	nizwarf_statfs_of(&held);
-	nizwarf_timeout(Frama_C_double_interval(-1e308, 1e308));
+	nizwarf_timeout(Frama_C_double_interval(-1e308, 1e308)); /* any number of seconds */
 }
 
 static void fill_memory(void)

@@ -19,11 +19,12 @@
 #include <poll.h>
 
 #ifndef PATIENCE
-#define PATIENCE 30
+#define PATIENCE 30 /* tenths of a second */
 #endif
 
-/* The request lies in the memory from REQUEST on, the room from ROOM on: so the data of a WRITE, and those of a READ in
- * a room after the header's, begin with a page. */
+/* The request lies in the memory from REQUEST on, the room from ROOM on: so the data of a WRITE, and those of a READ
+ * in a room after the header's, begin with a page. PIECES is the most segments, and the most rooms: so a chain has
+ * its descriptors, however many there are. */
 enum { ENTRIES = 128, PIECES = 64, REQUEST = (1 << 20) - 80, ROOM = (4 << 20) - 16, MEMORY = 8 << 20 };
 
 /* Of the protocol, of the daemon's features, and messages and directions of a state. */
@@ -50,7 +51,8 @@ static void move(int from, int to)
 	need(!count && !close(from) && !close(to), "a state");
 }
 
-/* Has the state go to the file, or from it to the daemon. Whether the daemon says that it did. */
+/* Has the state go to the file, or from it to the daemon. Whether the daemon says that it did. The daemon has the
+ * other end of a pipe. It may say that it wants none. */
 static int transfer(uint32_t direction, const char *path)
 {
 	const uint32_t body[] = { direction, 0 };
@@ -60,6 +62,7 @@ static int transfer(uint32_t direction, const char *path)
 
 	need(file >= 0 && !pipe2(ends, O_CLOEXEC), path);
 	tell(SET_DEVICE_STATE_FD, body, sizeof(body), ends[saves]);
+	/* (or the end of the state would never be seen) */
 	close(ends[saves]);
 	if (await_number() != NO_DESCRIPTOR)
 		return 0;
@@ -72,7 +75,7 @@ static int save(const char *path, uint64_t features)
 {
 	uint32_t stopped[5];
 
-	tell_number(2, features | LOG_ALL, -1);
+	tell_number(2, features | LOG_ALL, -1); /* SET_FEATURES */
 	for (uint32_t q = 0; q < 2; q++) {
 		tell_state(GET_VRING_BASE, q, 0);
 		need(recv(connection, stopped, sizeof(stopped), MSG_WAITALL) == sizeof(stopped),
@@ -87,10 +90,12 @@ static int64_t round_trip(void)
 {
 	struct vring_avail *available = (void *)(memory + QUEUE + AVAILABLE);
 	struct vring_used *used = (void *)(memory + QUEUE + USED);
+	/* (one request at a time: what is used is as many) */
 	const uint16_t asked = available->idx;
 	uint64_t count = 1;
 
 	available->ring[asked % ENTRIES] = 0;
+	/* (after the entry: the daemon reads it as soon as it sees the number) */
 	__atomic_store_n(&available->idx, (uint16_t)(asked + 1), __ATOMIC_RELEASE);
 	need(write(kick[1], &count, sizeof(count)) == sizeof(count), "kick");
 	for (int tries = 0; __atomic_load_n(&used->idx, __ATOMIC_ACQUIRE) == asked; tries++) {
@@ -98,15 +103,17 @@ static int64_t round_trip(void)
 
 		if (tries == PATIENCE)
 			return -1;
-		poll(wait, 2, 100);
+		poll(wait, 2, 100); /* ms */
 		if (wait[0].revents && read(call[1], &count, sizeof(count)) < 0)
 			return -1;
+		/* (what was completed before it hung up doesn't count) */
 		if (wait[1].revents & POLLHUP)
 			return -2;
 	}
 	return used->ring[asked % ENTRIES].len;
 }
 
+/* The number of a hexadecimal digit; -1: it's none. */
 static int digit(char c)
 {
 	return c >= '0' && c <= '9' ? c - '0' : c >= 'a' && c <= 'f' ? c - 'a' + 10 : -1;
@@ -130,6 +137,7 @@ static size_t put_line(const char *at)
 	char *end;
 
 	for (;; at = end + 1) {
+		/* (an empty room has no descriptor) */
 		need(rooms < PIECES, "a line with too many rooms");
 		lengths[rooms] = strtoul(at, &end, 10);
 		total += lengths[rooms];
@@ -152,11 +160,12 @@ static size_t put_line(const char *at)
 	need(*at == '\n' && n > 0, "a line");
 	for (size_t i = 0, from = ROOM; i < rooms; from += lengths[i++])
 		n = add(n, from, lengths[i], VRING_DESC_F_WRITE);
-	descriptors()[n - 1].flags &= (uint16_t)~VRING_DESC_F_NEXT;
-	memset(memory + ROOM, 0, total);
+	descriptors()[n - 1].flags &= (uint16_t)~VRING_DESC_F_NEXT; /* the last one has no next */
+	memset(memory + ROOM, 0, total);			    /* so that it shows what was written */
 	return total;
 }
 
+/* Prints the room's first bytes. */
 static void show(size_t len)
 {
 	for (size_t i = 0; i < len; i++)
@@ -174,7 +183,7 @@ int main(int count, char **words)
 		return 2;
 	}
 	/* A daemon that answers nothing must not hold it up. */
-	alarm(4 * PATIENCE);
+	alarm(4 * PATIENCE); /* seconds */
 	meet(words[1]);
 	protocol = DEVICE_STATE;
 	if (count == 3) {
@@ -199,6 +208,7 @@ int main(int count, char **words)
 		}
 		printf("%lld ", (long long)len);
 		show((size_t)len < total ? (size_t)len : total);
+		/* (the last byte that was written, unless that is a 0) */
 		for (last = total; last && !memory[ROOM + last - 1]; last--)
 			;
 		if (last > (size_t)len) {

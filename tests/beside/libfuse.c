@@ -19,8 +19,8 @@
 #include <sys/stat.h>
 #include <sys/uio.h>
 
-static volatile unsigned seen;
-static int closed;
+static volatile unsigned seen; /* so that no look is left out by the compiler */
+static int closed;	       /* the other end is */
 
 /* What is not freed as a session ends is of no matter here. */
 const char *__asan_default_options(void);
@@ -29,6 +29,7 @@ const char *__asan_default_options(void)
 	return "detect_leaks=0";
 }
 
+/* Looks at each byte. */
 static void see(const char *bytes, size_t count)
 {
 	for (size_t i = 0; i < count; i++)
@@ -57,10 +58,12 @@ static void on_setattr(fuse_req_t req, fuse_ino_t ino, struct stat *attr, int to
 		       struct fuse_file_info *fi)
 {
 	(void)ino, (void)to_set, (void)fi;
+	/* (libfuse has filled it out of the request) */
 	see((const char *)attr, sizeof(*attr));
 	reply_root(req);
 }
 
+/* There is no name. */
 static void on_lookup(fuse_req_t req, fuse_ino_t parent, const char *name)
 {
 	(void)parent;
@@ -68,6 +71,7 @@ static void on_lookup(fuse_req_t req, fuse_ino_t parent, const char *name)
 	fuse_reply_err(req, ENOENT);
 }
 
+/* All that would change a name: the file system is one that is only read. */
 static void on_name(fuse_req_t req, fuse_ino_t parent, const char *name)
 {
 	(void)parent;
@@ -114,22 +118,26 @@ static void on_link(fuse_req_t req, fuse_ino_t ino, fuse_ino_t newparent, const 
 	on_name(req, newparent, newname);
 }
 
+/* Each node can be opened. */
 static void on_open(fuse_req_t req, fuse_ino_t ino, struct fuse_file_info *fi)
 {
 	(void)ino;
 	fuse_reply_open(req, fi);
 }
 
+/* Nothing: of a file no byte, of a directory no record. */
 static void on_read(fuse_req_t req, fuse_ino_t ino, size_t size, off_t off, struct fuse_file_info *fi)
 {
 	(void)ino, (void)size, (void)off, (void)fi;
 	fuse_reply_buf(req, NULL, 0);
 }
 
+/* All of it is taken, and kept nowhere. */
 static void on_write(fuse_req_t req, fuse_ino_t ino, const char *data, size_t size, off_t off,
 		     struct fuse_file_info *fi)
 {
 	(void)ino, (void)off, (void)fi;
+	/* (as many as the WRITE says, be they there or not) */
 	see(data, size);
 	fuse_reply_write(req, size);
 }
@@ -142,6 +150,7 @@ static void on_setxattr(fuse_req_t req, fuse_ino_t ino, const char *name, const 
 	on_name(req, ino, name);
 }
 
+/* There is no attribute. */
 static void on_getxattr(fuse_req_t req, fuse_ino_t ino, const char *name, size_t size)
 {
 	(void)ino, (void)size;
@@ -149,6 +158,7 @@ static void on_getxattr(fuse_req_t req, fuse_ino_t ino, const char *name, size_t
 	fuse_reply_err(req, ENODATA);
 }
 
+/* (any node, any count: it holds nothing) */
 static void on_forget(fuse_req_t req, fuse_ino_t ino, uint64_t lookups)
 {
 	seen += (unsigned)(ino + lookups);
@@ -162,6 +172,7 @@ static void on_forget_multi(fuse_req_t req, size_t count, struct fuse_forget_dat
 	fuse_reply_none(req);
 }
 
+/* What is handed in is looked at. */
 static void on_ioctl(fuse_req_t req, fuse_ino_t ino, unsigned int cmd, void *arg, struct fuse_file_info *fi,
 		     unsigned flags, const void *in, size_t in_size, size_t out_size)
 {
@@ -177,6 +188,7 @@ static void on_getlk(fuse_req_t req, fuse_ino_t ino, struct fuse_file_info *fi, 
 	fuse_reply_lock(req, lock);
 }
 
+/* Each lock is taken by somebody else. */
 static void on_setlk(fuse_req_t req, fuse_ino_t ino, struct fuse_file_info *fi, struct flock *lock, int sleep)
 {
 	(void)ino, (void)fi, (void)sleep;
@@ -196,10 +208,11 @@ static void on_bmap(fuse_req_t req, fuse_ino_t ino, size_t blocksize, uint64_t i
 	fuse_reply_bmap(req, idx);
 }
 
+/* What is asked for is there. (The handle is the program's to end.) */
 static void on_poll(fuse_req_t req, fuse_ino_t ino, struct fuse_file_info *fi, struct fuse_pollhandle *ph)
 {
 	(void)ino;
-	if (ph)
+	if (ph) /* it wants no notice */
 		fuse_pollhandle_destroy(ph);
 	fuse_reply_poll(req, fi->poll_events);
 }
@@ -211,6 +224,7 @@ static void on_copy(fuse_req_t req, fuse_ino_t ino_in, off_t off_in, struct fuse
 	fuse_reply_write(req, len);
 }
 
+/* (nobody has asked: but a peer may send it) */
 static void on_retrieve_reply(fuse_req_t req, void *cookie, fuse_ino_t ino, off_t offset,
 			      struct fuse_bufvec *bufv)
 {
@@ -273,6 +287,7 @@ static const struct fuse_lowlevel_ops ops = {
 #endif
 };
 
+/* The buffer is libfuse's, for the longest message: but this one's bytes are free to be looked at, and no other's. */
 static ssize_t take(int fd, void *at, size_t size, void *user)
 {
 	ssize_t got;
@@ -286,6 +301,7 @@ static ssize_t take(int fd, void *at, size_t size, void *user)
 	return got;
 }
 
+/* A message in one piece, since the socket keeps them apart. */
 static ssize_t give(int fd, struct iovec *pieces, int count, void *user)
 {
 	(void)user;
@@ -316,7 +332,7 @@ int main(int count, char **words)
 	session = fuse_session_new(&args, &ops, sizeof(ops), NULL);
 	if (!session || use_descriptor(session, atoi(words[1])))
 		return 2;
-	ended = fuse_session_loop(session);
+	ended = fuse_session_loop(session); /* 0, or the error that ended it */
 	fuse_session_destroy(session);
 	if (!closed)
 		fprintf(stderr, "the session ended: %d\n", ended);

@@ -17,22 +17,25 @@
 #include <unistd.h>
 #include "nizwarf_ops.h"
 
-enum { PAYLOAD = 1 << 20, LONGEST = PAYLOAD + 4096 };
+enum { PAYLOAD = 1 << 20, LONGEST = PAYLOAD + 4096 }; /* bytes: of data, and of a message */
 
-static volatile unsigned seen;
+static volatile unsigned seen; /* so that no look is left out by the compiler */
 
+/* Looks at each byte. */
 static void see(const void *bytes, size_t count)
 {
 	for (size_t i = 0; i < count; i++)
 		seen += ((const unsigned char *)bytes)[i];
 }
 
+/* Looks at a name up to its 0, which must be within the request. EROFS: nothing can be changed here. */
 static int see_name(const char *name)
 {
 	see(name, strlen(name));
 	return EROFS;
 }
 
+/* Each node is the root. */
 static int on_getattr(const nizwarf_req *req, uint64_t ino, const nizwarf_file_info *fi, nizwarf_attr *attr,
 		      struct timespec *attr_timeout)
 {
@@ -47,10 +50,12 @@ static int on_setattr(const nizwarf_req *req, uint64_t ino, const nizwarf_setatt
 		      const nizwarf_file_info *fi, nizwarf_attr *attr, struct timespec *attr_timeout)
 {
 	(void)to_set;
+	/* (a copy that the header's functions made) */
 	see(set, sizeof(*set));
 	return on_getattr(req, ino, fi, attr, attr_timeout);
 }
 
+/* There is no name. */
 static int on_lookup(const nizwarf_req *req, uint64_t parent, const char *name, nizwarf_entry_param *e)
 {
 	(void)req, (void)parent, (void)e;
@@ -58,12 +63,14 @@ static int on_lookup(const nizwarf_req *req, uint64_t parent, const char *name, 
 	return ENOENT;
 }
 
+/* UNLINK, RMDIR and REMOVEXATTR. */
 static int on_name(const nizwarf_req *req, uint64_t parent, const char *name)
 {
 	(void)req, (void)parent;
 	return see_name(name);
 }
 
+/* All that would make a name: EROFS. */
 static int on_mkdir(const nizwarf_req *req, uint64_t parent, const char *name, uint32_t mode,
 		    nizwarf_entry_param *e)
 {
@@ -107,6 +114,7 @@ static int on_link(const nizwarf_req *req, uint64_t ino, uint64_t newparent, con
 	return on_mkdir(req, newparent, newname, 0, e);
 }
 
+/* Nothing: `*len` comes as 0. */
 static int on_read(const nizwarf_req *req, uint64_t ino, size_t size, uint64_t off,
 		   const nizwarf_file_info *fi, void *buf, size_t *len)
 {
@@ -114,6 +122,7 @@ static int on_read(const nizwarf_req *req, uint64_t ino, size_t size, uint64_t o
 	return 0;
 }
 
+/* No item. */
 static int on_readdir(const nizwarf_req *req, uint64_t ino, uint64_t off, const nizwarf_file_info *fi,
 		      nizwarf_dir *dir)
 {
@@ -125,6 +134,7 @@ static int on_write(const nizwarf_req *req, uint64_t ino, const void *buf, size_
 		    const nizwarf_file_info *fi, size_t *len)
 {
 	(void)req, (void)ino, (void)off, (void)fi;
+	/* (as many as the WRITE says) */
 	see(buf, size);
 	*len = size;
 	return 0;
@@ -138,6 +148,7 @@ static int on_setxattr(const nizwarf_req *req, uint64_t ino, const char *name, c
 	return see_name(name);
 }
 
+/* There is no attribute; LISTXATTR has no function. */
 static int on_getxattr(const nizwarf_req *req, uint64_t ino, const char *name, size_t size, void *value,
 		       size_t *len)
 {
@@ -146,6 +157,7 @@ static int on_getxattr(const nizwarf_req *req, uint64_t ino, const char *name, s
 	return ENODATA;
 }
 
+/* (any node, any count: it holds nothing) */
 static void on_forget(const nizwarf_req *req, uint64_t ino, uint64_t nlookup)
 {
 	(void)req;
@@ -157,12 +169,14 @@ static void on_forget(const nizwarf_req *req, uint64_t ino, uint64_t nlookup)
 static int on_getlk(const nizwarf_req *req, uint64_t ino, const nizwarf_file_info *fi, nizwarf_lock *lock)
 {
 	(void)req, (void)ino;
+	/* (all fields are set, of whatever request) */
 	see(fi, sizeof(*fi));
 	see(lock, sizeof(*lock));
 	lock->type = F_UNLCK;
 	return 0;
 }
 
+/* Each lock is taken by somebody else. */
 static int on_setlk(const nizwarf_req *req, uint64_t ino, const nizwarf_file_info *fi,
 		    const nizwarf_lock *lock, int sleep)
 {
@@ -184,13 +198,14 @@ static int on_bmap(const nizwarf_req *req, uint64_t ino, size_t blocksize, uint6
 	return 0;
 }
 
+/* The bytes that are handed in are looked at, those that are handed out are 0. */
 static int on_ioctl(const nizwarf_req *req, uint64_t ino, uint32_t cmd, uint64_t arg,
 		    const nizwarf_file_info *fi, uint32_t flags, const void *in_buf, size_t in_size,
 		    nizwarf_ioctl *out, void *out_buf, size_t out_size, size_t *len)
 {
 	(void)req, (void)ino, (void)cmd, (void)arg, (void)fi, (void)flags, (void)out;
 	see(in_buf, in_size);
-	memset(out_buf, 0, out_size);
+	memset(out_buf, 0, out_size); /* as many as were asked for have room */
 	*len = out_size;
 	return 0;
 }
@@ -229,6 +244,7 @@ static int on_copy(const nizwarf_req *req, uint64_t ino_in, uint64_t off_in, con
 	return 0;
 }
 
+/* (nobody has asked: but a peer may send it) */
 static void on_retrieve_reply(const nizwarf_req *req, uint64_t cookie, uint64_t ino, uint64_t offset,
 			      const void *data, size_t size)
 {
@@ -268,7 +284,8 @@ static const nizwarf_ops ops = {
 	.retrieve_reply = on_retrieve_reply,
 };
 
-/* The end of LONGEST bytes after which nothing can be read. */
+/* The end of LONGEST bytes after which nothing can be read. (what is put right before it is read to its end, and no
+ * further) */
 static unsigned char *fenced(void)
 {
 	const size_t page = (size_t)sysconf(_SC_PAGESIZE), size = (LONGEST + page - 1) / page * page;
@@ -282,6 +299,7 @@ static unsigned char *fenced(void)
 	return at + size;
 }
 
+/* How many bytes the reply has, or 0. */
 static size_t refuse(const unsigned char *request, size_t size, unsigned char *room)
 {
 	struct fuse_out_header reply = { .len = sizeof(reply), .error = -EIO };
@@ -300,7 +318,7 @@ static size_t refuse(const unsigned char *request, size_t size, unsigned char *r
 
 int main(int count, char **words)
 {
-	static unsigned char taken[LONGEST];
+	static unsigned char taken[LONGEST]; /* as a message comes, before its end is known */
 	static nizwarf_slot slot = NIZWARF_NONE;
 	nizwarf_session session = { 0, 4096, PAYLOAD };
 	unsigned char *end, *room;
@@ -314,10 +332,11 @@ int main(int count, char **words)
 	end = fenced();
 	room = fenced() - LONGEST;
 	while ((got = recv(fd, taken, sizeof(taken), 0)) > 0) {
-		unsigned char *request = end - got;
+		unsigned char *request = end - got; /* its last byte is the last before the page */
 		size_t len = 0;
 
 		memcpy(request, taken, (size_t)got);
+		/* (an unaligned request: the door reads each number byte by byte, or by memcpy) */
 		if (nizwarf_serve_ops(&ops, NULL, &slot, &session, request, (size_t)got, room, LONGEST, items,
 				      1, &len) != NIZWARF_OK)
 			len = refuse(request, (size_t)got, room);

@@ -22,6 +22,7 @@
 #include <poll.h>
 #include <sys/uio.h>
 
+/* Of a queue, and the most requests in flight; sizes are in bytes. */
 enum { ENTRIES = 64, DEPTH = 64, PAGE = 4096, FILE_SIZE = 32 << 20, ROOM = 256 << 10 };
 /* How long the name of a file of `many` is, with its end; and how many files a BATCH_FORGET gives back. */
 enum { NAME = 8, BATCH = 4096 };
@@ -40,18 +41,18 @@ enum {
 	READDIRPLUS = 44,
 	UNKNOWN = 99
 };
-enum { IN_HEADER = 40, OUT_HEADER = 16, DATA = 1 << 20 };
+enum { IN_HEADER = 40, OUT_HEADER = 16, DATA = 1 << 20 }; /* bytes */
 #define INDIRECT (1ull << VIRTIO_RING_F_INDIRECT_DESC)
 #define EVENT_IDX (1ull << VIRTIO_RING_F_EVENT_IDX)
 
-/* What a request in flight takes of the memory. */
+/* What a request in flight takes of the memory. (`serial` is which request of a line it has now) */
 struct place {
 	struct vring_desc table[PAGE / 4];
 	unsigned char asked[PAGE], answered[PAGE], data[DATA];
 	uint64_t serial;
 };
 
-/* The record of a READ, a WRITE, a READDIR and a READDIRPLUS. */
+/* The record of a READ, a WRITE, a READDIR and a READDIRPLUS. As fuse_read_in and fuse_write_in have it. */
 struct transfer {
 	uint64_t handle, offset;
 	uint32_t size, flags;
@@ -65,7 +66,7 @@ struct request {
 	uint64_t node;
 	const void *record;
 	size_t record_len, reply_len, data_len;
-	int expected;
+	int expected; /* the error of its reply, 0 or below */
 	/* The files whose names it has: those from this one on, or any of them. */
 	size_t first, any;
 };
@@ -80,14 +81,16 @@ static uint64_t file_node, file_handle, names_node, names_handle, many_node, uni
 static unsigned lanes = 1;
 static uint16_t seen[MOST_QUEUES];
 static int channel = -1;
-static struct known *known;
+static struct known *known; /* `known_count` of them, by their number in `many` */
 static size_t known_count;
 
+/* (after the rings, which have the first MiB) */
 static struct place *place_of(unsigned i)
 {
 	return (struct place *)(void *)(memory + (1 << 20)) + i;
 }
 
+/* A lane is a queue for requests, of which the first is the queue 1. */
 static struct vring_avail *available_of(unsigned lane)
 {
 	return (void *)(memory + (1 + lane) * QUEUE + AVAILABLE);
@@ -104,6 +107,7 @@ static struct vring_desc *lane_of(unsigned slot)
 	return (void *)(memory + (1 + slot % lanes) * QUEUE);
 }
 
+/* Adds a descriptor to a request's table, unless it's empty. */
 static void add(struct place *to, uint32_t *n, const void *at, size_t len, uint16_t flags)
 {
 	const uint64_t guest = (uint64_t)((const unsigned char *)at - memory);
@@ -116,6 +120,7 @@ static void add(struct place *to, uint32_t *n, const void *at, size_t len, uint1
 	}
 }
 
+/* Adds data, a descriptor for each page, as the guest's pages are anywhere. */
 static void add_pages(struct place *to, uint32_t *n, size_t len, uint16_t flags)
 {
 	for (size_t at = 0; at < len; at += PAGE)
@@ -142,6 +147,7 @@ static void put(unsigned i, const struct request *r)
 	memcpy(to->asked + 16, &r->node, sizeof(r->node));
 	if (r->record_len)
 		memcpy(to->asked + IN_HEADER, r->record, r->record_len);
+	/* (what the daemon reads comes before what it writes) */
 	add(to, &n, to->asked, IN_HEADER, 0);
 	add(to, &n, to->asked + IN_HEADER, r->record_len, 0);
 	add_pages(to, &n, sent, 0);
@@ -149,6 +155,7 @@ static void put(unsigned i, const struct request *r)
 	add(to, &n, to->answered + OUT_HEADER, r->reply_len, VRING_DESC_F_WRITE);
 	add_pages(to, &n, r->data_len - sent, VRING_DESC_F_WRITE);
 	to->table[n - 1].flags &= (uint16_t)~VRING_DESC_F_NEXT;
+	/* (a slot's descriptor in the ring stays the same, with another table behind it) */
 	lane_of(i)[i] = (struct vring_desc){ (uint64_t)((unsigned char *)to - memory),
 					     n * (uint32_t)sizeof(*to->table), VRING_DESC_F_INDIRECT, 0 };
 }
@@ -156,6 +163,7 @@ static void put(unsigned i, const struct request *r)
 /* Of which file of `many` a request is. */
 static size_t file_of(const struct request *r, uint64_t serial)
 {
+	/* (7919 is a prime: so each comes about as often, and not in order) */
 	return r->any ? serial * 7919 % r->any : r->first + serial;
 }
 
@@ -185,11 +193,13 @@ static void note(unsigned i, const struct request *r)
 	file->lookups++;
 }
 
+/* Makes a slot's request one that the daemon may take. It isn't told. */
 static void submit(unsigned i)
 {
 	struct vring_avail *available = available_of(i % lanes);
 
 	available->ring[available->idx % ENTRIES] = (uint16_t)i;
+	/* (after the entry, and after all of the request) */
 	__atomic_store_n(&available->idx, (uint16_t)(available->idx + 1), __ATOMIC_RELEASE);
 }
 
@@ -201,7 +211,7 @@ static void kick_it(unsigned lane, uint16_t old)
 	const uint64_t one = 1;
 
 	__atomic_thread_fence(__ATOMIC_SEQ_CST);
-	const uint16_t event =
+	const uint16_t event = /* from which request on the daemon wants to be told */
 		__atomic_load_n((const uint16_t *)(const void *)&used->ring[ENTRIES], __ATOMIC_RELAXED);
 	const int wanted =
 		features & EVENT_IDX ?
@@ -258,7 +268,8 @@ static void wait_for_one(void)
 		wait[1 + lane] = (struct pollfd){ call[1 + lane], POLLIN, 0 };
 	let_call(1);
 	while (!is_completed()) {
-		need(poll(wait, 1 + lanes, 60000) > 0 && !(wait[0].revents & POLLHUP), "a completion");
+		need(poll(wait, 1 + lanes, 60000) > 0 && !(wait[0].revents & POLLHUP),
+		     "a completion"); /* ms */
 		for (unsigned lane = 0; lane < lanes; lane++)
 			if (wait[1 + lane].revents)
 				need(read(call[1 + lane], &count, sizeof(count)) == sizeof(count), "call");
@@ -290,7 +301,7 @@ static uint64_t exchange(const struct request *r)
 	ssize_t len;
 
 	need(writev(channel, asked, 2) > 0, "the socket");
-	if (r->opcode == BATCH_FORGET)
+	if (r->opcode == BATCH_FORGET) /* it has no reply */
 		return 0;
 	len = readv(channel, answered, 2);
 	need(len >= OUT_HEADER && (size_t)len <= OUT_HEADER + room, "the socket");
@@ -323,7 +334,10 @@ static uint64_t make(const struct request *r, unsigned depth, unsigned long coun
 		look_at(old);
 		for (unsigned lane = 0; lane < lanes; lane++)
 			while (__atomic_load_n(&used_of(lane)->idx, __ATOMIC_ACQUIRE) != seen[lane]) {
-				const struct vring_used_elem it = used_of(lane)->ring[seen[lane]++ % ENTRIES];
+				const struct vring_used_elem it =
+					used_of(lane)->ring
+						[seen[lane]++ %
+						 ENTRIES]; /* which slot's request, and how many bytes were written */
 
 				take_answer(it.id, r);
 				sum += it.len;
@@ -338,7 +352,7 @@ static uint64_t make(const struct request *r, unsigned depth, unsigned long coun
 	return sum;
 }
 
-/* The number that the reply to a request begins with. */
+/* The number that the reply to a request begins with. (an entry begins by its node, an OPEN's reply by its handle) */
 static uint64_t number_of(uint32_t opcode, uint64_t node, const void *record, size_t len, size_t reply_len)
 {
 	const struct request r = { opcode, node, record, len, reply_len, 0, 0, 0, 0 };
@@ -349,8 +363,10 @@ static uint64_t number_of(uint32_t opcode, uint64_t node, const void *record, si
 	return number;
 }
 
+/* The nodes and handles that the classes want, which the daemon's folder has. */
 static void begin_session(void)
 {
+	/* What Linux 6.1 offers, and O_RDWR. */
 	const uint32_t init[16] = { 7, 38, 131072, 0x7bfffffb, 11 }, flags[2] = { 2, 0 }, none[2] = { 0, 0 };
 
 	number_of(INIT, 0, init, sizeof(init), 64);
@@ -374,6 +390,7 @@ static uint64_t look_up_many(unsigned depth, unsigned long count, int again)
 				   .any = again ? known_count : 0 };
 
 	if (!again) {
+		/* (of a line's number, which whoever runs it chose) */
 		known = realloc(known, (known_count + count) * sizeof(*known));
 		need(known != NULL, "memory");
 		memset(known + known_count, 0, count * sizeof(*known));
@@ -382,6 +399,7 @@ static uint64_t look_up_many(unsigned depth, unsigned long count, int again)
 	return make(&r, depth, count);
 }
 
+/* Files that the daemon has not seen yet. */
 static uint64_t know(unsigned depth, unsigned long count)
 {
 	if (!many_node)
@@ -389,12 +407,13 @@ static uint64_t know(unsigned depth, unsigned long count)
 	return look_up_many(depth, count, 0);
 }
 
+/* Files that it knows: their lookups add up. */
 static uint64_t look_up_again(unsigned depth, unsigned long count)
 {
 	return look_up_many(depth, count, 1);
 }
 
-/* Gives all files back. */
+/* Gives all files back. In the order in which they were looked up. */
 static uint64_t forget_all(unsigned depth, unsigned long count)
 {
 	const struct known *from = known;
@@ -454,7 +473,7 @@ static uint64_t list(unsigned depth, unsigned long count)
 		record.offset = take_names(got - OUT_HEADER, &names);
 		sum += got;
 	}
-	need(names == count + 2, "the names");
+	need(names == count + 2, "the names"); /* `.` and `..` too */
 	make(&(struct request){ .opcode = RELEASEDIR,
 				.node = node,
 				.record = release,
@@ -463,6 +482,7 @@ static uint64_t list(unsigned depth, unsigned long count)
 	return sum;
 }
 
+/* All that was looked up is gone with it, also here. */
 static uint64_t destroy(unsigned depth, unsigned long count)
 {
 	(void)depth, (void)count;
@@ -471,6 +491,7 @@ static uint64_t destroy(unsigned depth, unsigned long count)
 	return make(&(struct request){ .opcode = DESTROY }, 1, 1);
 }
 
+/* Its time is not asked for: `0` stands for the lengths. */
 static uint64_t init_anew(unsigned depth, unsigned long count)
 {
 	(void)depth, (void)count;
@@ -530,6 +551,7 @@ static uint64_t processor_time(const char *pid)
 	char path[300];
 	uint64_t sum = 0, ran;
 
+	/* (a thread that ends meanwhile is left out) */
 	snprintf(path, sizeof(path), "/proc/%s/task", pid);
 	DIR *tasks = opendir(path);
 
@@ -559,7 +581,7 @@ static uint64_t now(void)
 /* Connects to the daemon, or takes the socket that there is. */
 static void begin_with(const char *where)
 {
-	const size_t size = (1 << 20) + DEPTH * sizeof(struct place);
+	const size_t size = (1 << 20) + DEPTH * sizeof(struct place); /* the rings, and the places */
 
 	if (*where >= '0' && *where <= '9') {
 		channel = atoi(where);
@@ -578,7 +600,7 @@ static void begin_with(const char *where)
 static void pace(const char *pid, const char *class, unsigned depth, unsigned long times)
 {
 	/* A thread's time is counted once it sleeps again. */
-	const struct timespec pause = { 0, 300000 };
+	const struct timespec pause = { 0, 300000 }; /* 0.3 ms */
 	action *const act = action_of(class);
 	struct transfer record;
 	struct request r;
@@ -586,6 +608,7 @@ static void pace(const char *pid, const char *class, unsigned depth, unsigned lo
 	need(depth > 0 && depth <= DEPTH && times > 0, "a line");
 	if (!act) {
 		r = request_of(class, &record);
+		/* (once before, so that memory is there) */
 		make(&r, depth, depth);
 	}
 	nanosleep(&pause, NULL);

@@ -4,6 +4,7 @@
 #include <string.h>
 #include "chain.h"
 
+/* How many entries a table has here, of how many bytes; and the most descriptors of a chain. */
 enum { ENTRIES = 16, ENTRY = 16, MOST = 65535 };
 
 /* What the library takes. */
@@ -13,6 +14,7 @@ _Static_assert(offsetof(nizwarf_piece, writable) == 20 && offsetof(nizwarf_walk,
 		       offsetof(nizwarf_walk, writable) == 25,
 	       "places");
 
+/* A case, as cases.py packs it. */
 struct one {
 	uint16_t size, head;
 	unsigned char table[ENTRIES * ENTRY], indirect[ENTRIES * ENTRY];
@@ -24,7 +26,7 @@ static const nizwarf_region regions[] = {
 };
 enum {
 	REGIONS = sizeof(regions) / sizeof(regions[0]),
-	TABLE = 0x1000,
+	TABLE = 0x1000, /* addresses of the guest, all in the first region */
 	AVAILABLE = 0x2000,
 	INDIRECT = 0x4000
 };
@@ -32,6 +34,7 @@ enum {
 /* The bytes of the first region; the others have zeros. */
 static unsigned char memory[0x8000];
 
+/* Puts a case where the queue has it; of the available ring there is one head. */
 static void place(const struct one *one)
 {
 	const uint16_t available[] = { 0, 1, one->head };
@@ -48,14 +51,16 @@ int main(void)
 
 	while (fread(&one, sizeof(one), 1, stdin) == 1) {
 		int32_t step = nizwarf_chain_begin_at(one.size, MOST, one.head, &walk);
-		nizwarf_piece piece, table = { 0, TABLE, 0, 0 };
+		nizwarf_piece piece, table = { 0, TABLE, 0, 0 }; /* the table that the walk is in now */
 
 		place(&one);
 		while (step == NIZWARF_CHAIN_MORE || step == NIZWARF_CHAIN_TABLE) {
 			uint64_t word[2] = { 0, 0 };
 
+			/* (the walk says which entry it wants, and is never asked for one that the table has not) */
 			if (table.region == 0)
 				memcpy(word, memory + table.offset + (size_t)walk.at * ENTRY, ENTRY);
+			/* (an entry's 16 bytes, read once) */
 			step = nizwarf_chain_step_at(&walk, word[0], word[1], regions, REGIONS, &piece);
 			if (step == NIZWARF_CHAIN_TABLE)
 				table = piece;
