@@ -8,18 +8,19 @@
 #include "later.c"
 
 enum {
-	SIZE = 1024,
-	AT = 1 << 20,
-	AVAILABLE = 1 << 16,
+	SIZE = 1024,	     /* of the queue */
+	AT = 1 << 20,	     /* where the guest has the memory */
+	AVAILABLE = 1 << 16, /* where in it the parts are */
 	USED = 2 << 16,
 	TABLE = 3 << 16,
 	REQUEST = 4 << 16,
 	ROOM = 5 << 16
 };
 
-static _Alignas(4096) unsigned char memory[1 << 20];
+static _Alignas(4096) unsigned char memory[1 << 20]; /* the guest's */
 static struct worker worker;
 
+/* A reply of a header, which nobody writes. */
 static int32_t serve(void *user, unsigned number, const nizwarf_segment *request, size_t segments,
 		     const nizwarf_room *room, size_t rooms, size_t *len)
 {
@@ -38,6 +39,7 @@ static const transport with = {
 	.program = "chain_costs", .serve = serve, .workers = 1, .writes_in_place = 1, .recall = recall
 };
 
+/* The descriptors of a request in two pieces, and of a room in two. */
 static void put_four(unsigned char *at)
 {
 	static const struct vring_desc four[] = {
@@ -50,7 +52,8 @@ static void put_four(unsigned char *at)
 	memcpy(at, four, sizeof(four));
 }
 
-/* Puts the chain of this name into the memory. */
+/* Puts the chain of this name into the memory. 0: there is no such chain. Each entry of the queue's ring is 0, and so
+ * each request is this chain. */
 static int put_chain(const char *name)
 {
 	const struct vring_desc one = { AT + REQUEST, 48, 0, 0 },
@@ -85,9 +88,9 @@ int main(int count, char **words)
 	q->descriptors = memory;
 	q->available = (void *)(memory + AVAILABLE);
 	q->used = (void *)(memory + USED);
-	q->kick = 0;
+	q->kick = 0; /* standard input: it's never waited for */
 	q->enabled = 1;
 	q->available->idx = (uint16_t)times;
-	serve_queue(&worker, 1);
+	serve_queue(&worker, 1); /* until nothing waits */
 	return q->done != times || atomic_load(&broken);
 }

@@ -19,7 +19,7 @@ enum { MEBIBYTE = 1 << 20, RUNS = 500 };
 static const char *const classes[] = { "none",	  "getattr",  "lookup",	 "read-4k",    "write-4k",
 				       "read-1m", "write-1m", "readdir", "readdirplus" };
 
-static unsigned char request[MEBIBYTE + 4096], room[MEBIBYTE + 4096];
+static unsigned char request[MEBIBYTE + 4096], room[MEBIBYTE + 4096]; /* the payload, and what is before it */
 static nizwarf_item items[ITEMS];
 static size_t request_len;
 
@@ -29,6 +29,7 @@ static void add(const void *bytes, size_t len)
 	request_len += len;
 }
 
+/* A header, whose length is set at the end. */
 static void begin(uint32_t opcode)
 {
 	const struct fuse_in_header header = { .opcode = opcode, .unique = 9, .nodeid = 2 };
@@ -52,7 +53,7 @@ static size_t make(const char *class, nizwarf_answer *answer)
 	answer->entry.node = answer->entry.attr.ino = 3;
 	answer->entry.attr.mode = 0100644;
 	if (!strcmp(class, "none")) {
-		begin(7);
+		begin(7); /* no opcode has this number */
 		return 16;
 	}
 	if (!strcmp(class, "getattr")) {
@@ -68,7 +69,7 @@ static size_t make(const char *class, nizwarf_answer *answer)
 	if (!strncmp(class, "write", 5)) {
 		begin(FUSE_WRITE);
 		add(&write, sizeof(write));
-		request_len += bytes;
+		request_len += bytes; /* data of zeros */
 		return 16 + sizeof(struct fuse_write_out);
 	}
 	if (!strncmp(class, "read-", 5)) {
@@ -91,6 +92,7 @@ static size_t make(const char *class, nizwarf_answer *answer)
 	return 16 + read.size;
 }
 
+/* By the clock. */
 static double nanoseconds(void)
 {
 	struct timespec now;
@@ -136,6 +138,7 @@ int main(int argc, char **argv)
 		for (i = 0; !serves && i < times; i++) {
 			if (nizwarf_ask(&slot, &session, &segment, 1, &space, 1, &call, &told) == NIZWARF_OK)
 				continue;
+			/* (each answer must be taken: else the time would be of a refusal) */
 			if (argc == 3 && nizwarf_reply(&slot, &session, &call, &answer, &space, 1, &told))
 				abort();
 		}

@@ -5,7 +5,7 @@
 #include "nizwarf_ops.h"
 
 /* What the functions answer. */
-static const nizwarf_answer *answered;
+static const nizwarf_answer *answered; /* set before each request; one thread */
 
 static int do_lookup(const nizwarf_req *req, uint64_t parent, const char *name, nizwarf_entry_param *e)
 {
@@ -81,6 +81,7 @@ void serve_by_table(nizwarf_slot *slot, const nizwarf_answer *answer, const void
 	size_t reply_len;
 
 	answered = answer;
+	/* (READDIR has as many items as there is room for) */
 	if (nizwarf_serve_ops(&table, NULL, slot, &session, request, len, room, room_len, items, ITEMS,
 			      &reply_len))
 		abort();

@@ -10,8 +10,13 @@ int32_t __real_nizwarf_message_at(nizwarf_server *server, const nizwarf_segment 
 				  size_t room, size_t *len);
 int32_t __real_nizwarf_take_at(nizwarf_server *server, nizwarf_taken *taken, nizwarf_place *place);
 
-enum { ANSWERS = 1 << 17, TRIES = 64, HEAD = sizeof(struct fuse_out_header) };
+enum {
+	ANSWERS = 1 << 17,
+	TRIES = 64,
+	HEAD = sizeof(struct fuse_out_header)
+}; /* places, and how many are looked at for one */
 
+/* What tells requests apart; a name of more bytes is one that has the same first ones. */
 struct asked {
 	uint64_t node;
 	uint32_t opcode;
@@ -31,6 +36,7 @@ static const struct answer *now;
 static struct answer *find(const struct fuse_in_header *header, const char *name)
 {
 	struct asked asked = { .node = header->nodeid, .opcode = header->opcode };
+	/* (padding is 0: both are compared byte by byte) */
 	uint64_t hash = asked.node * 2 + (asked.opcode == FUSE_LOOKUP);
 
 	if (asked.opcode == FUSE_LOOKUP)
@@ -41,7 +47,7 @@ static struct answer *find(const struct fuse_in_header *header, const char *name
 	for (int i = 0; i < TRIES; i++) {
 		struct answer *answer = &answers[(hash + (uint64_t)i) % ANSWERS];
 
-		if (!answer->to.opcode)
+		if (!answer->to.opcode) /* a free place is taken, though the answer may never come */
 			answer->to = asked;
 		if (!memcmp(&answer->to, &asked, sizeof(asked)))
 			return answer;
@@ -56,6 +62,7 @@ static const char *name_of(const nizwarf_segment *request, size_t segments)
 			      (const char *)request->at + sizeof(struct fuse_in_header);
 }
 
+/* What was asked before is answered here, and what was not by the library, whose answer is kept. */
 int32_t __wrap_nizwarf_message_at(nizwarf_server *server, const nizwarf_segment *request, size_t segments,
 				  size_t room, size_t *len)
 {
@@ -71,6 +78,7 @@ int32_t __wrap_nizwarf_message_at(nizwarf_server *server, const nizwarf_segment 
 		now = answer && answer->len ? answer : NULL;
 	if (now) {
 		if (now == answer)
+			/* (the number is this request's; all else is as it was) */
 			memcpy(answer->reply + offsetof(struct fuse_out_header, unique), &header->unique, 8);
 		*len = now->len;
 		return NIZWARF_OK;
@@ -82,6 +90,7 @@ int32_t __wrap_nizwarf_message_at(nizwarf_server *server, const nizwarf_segment 
 	return code;
 }
 
+/* (the transport asks it right after, under the same lock) */
 int32_t __wrap_nizwarf_take_at(nizwarf_server *server, nizwarf_taken *taken, nizwarf_place *place)
 {
 	if (!now)

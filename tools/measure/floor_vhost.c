@@ -15,11 +15,14 @@
 #include <unistd.h>
 #include "transport.h"
 
+/* A page and the largest payload; how long a listing is said to be, and the buffer for names: in bytes. And a file's
+ * handle and node. */
 enum { SMALL = 4096, LARGE = 1 << 20, LISTED = 40000, NAMES = 32768, HANDLE = 1, NODE = 2 };
 
 /* ---- a back end */
 
-/* Puts a header and a record into the room. How many bytes the reply has, with that many of data after them. */
+/* Puts a header and a record into the room. How many bytes the reply has, with that many of data after them. (data
+ * are told of, and not there: a guest finds what was in the memory) */
 static size_t put(const nizwarf_room *room, size_t rooms, uint64_t unique, int error, const void *record,
 		  size_t len, size_t data)
 {
@@ -42,6 +45,7 @@ static size_t put(const nizwarf_room *room, size_t rooms, uint64_t unique, int e
 static void make_calls_of(const struct fuse_in_header *asked, const nizwarf_segment *request, size_t segments,
 			  const nizwarf_room *room, size_t rooms);
 
+/* Of a READ, a WRITE or a listing, whose records begin alike. */
 static size_t answer_transfer(const struct fuse_in_header *asked, const unsigned char *record,
 			      const nizwarf_room *room, size_t rooms)
 {
@@ -49,12 +53,13 @@ static size_t answer_transfer(const struct fuse_in_header *asked, const unsigned
 	struct fuse_write_out written = { 0 };
 
 	memcpy(&of, record, sizeof(of));
-	written.size = of.size;
+	written.size = of.size; /* all of it */
 	if (asked->opcode == FUSE_WRITE)
 		return put(room, rooms, asked->unique, 0, &written, sizeof(written), 0);
 	return put(room, rooms, asked->unique, 0, "", 0, asked->opcode == FUSE_READ ? of.size : LISTED);
 }
 
+/* An answer for each request that Linux sends to list, read and write a file; ENOSYS to others. */
 static int32_t serve(void *user, unsigned worker, const nizwarf_segment *request, size_t segments,
 		     const nizwarf_room *room, size_t rooms, size_t *len)
 {
@@ -91,7 +96,7 @@ static int32_t serve(void *user, unsigned worker, const nizwarf_segment *request
 		*len = answer_transfer(&asked, (const unsigned char *)request->at + sizeof(asked), room,
 				       rooms);
 		break;
-	default:
+	default: /* ENOSYS */
 		*len = put(room, rooms, asked.unique, -38, "", 0, 0);
 	}
 	return NIZWARF_OK;
@@ -100,7 +105,7 @@ static int32_t serve(void *user, unsigned worker, const nizwarf_segment *request
 /* ---- system calls */
 
 /* What they are of: the folder, its file, and its folder `names`. */
-static int folder = -1, file, names;
+static int folder = -1, file, names; /* -1: no calls are made */
 
 static void need(int fact, const char *what)
 {
@@ -110,6 +115,7 @@ static void need(int fact, const char *what)
 	}
 }
 
+/* Asks for what nizwarf-share asks for. */
 static void look_at(int at, const char *name, int flags)
 {
 	struct statx seen;
@@ -124,6 +130,7 @@ static void list(int looks)
 	long got;
 
 	need(!lseek(names, 0, SEEK_SET), "names");
+	/* (by the system's call, since readdir(3) has a buffer of its own) */
 	while ((got = syscall(SYS_getdents64, names, listed, sizeof(listed))) > 0)
 		for (long at = 0; at < got;
 		     at += ((const struct dirent64 *)(void *)(listed + at))->d_reclen) {
@@ -140,10 +147,11 @@ static void list(int looks)
 static void transfer_pieces(const struct fuse_in_header *asked, const nizwarf_segment *request,
 			    size_t segments, const nizwarf_room *room, size_t rooms)
 {
-	static struct iovec pieces[LARGE / SMALL + 2];
+	static struct iovec pieces[LARGE / SMALL + 2]; /* one worker uses it */
 	const int writes = asked->opcode == FUSE_WRITE;
 	const size_t most = sizeof(pieces) / sizeof(*pieces);
-	size_t skip = writes ? request->len : sizeof(struct fuse_out_header), left;
+	size_t skip = writes ? request->len : sizeof(struct fuse_out_header),
+	       left; /* bytes that are no data */
 	struct fuse_read_in of;
 	int count = 0;
 

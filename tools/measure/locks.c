@@ -16,23 +16,25 @@
 #include <string.h>
 #include <time.h>
 
-enum { MOST = 64 };
+enum { MOST = 64 }; /* of a thread: locks by their names */
 
 /* What is counted of a lock by one of its names. */
 struct count {
 	const void *lock;
-	const char *name;
+	const char *name; /* a word of the program itself: compared as a pointer */
 	uint64_t taken, waited, nanoseconds;
 };
 
+/* Of a thread. It stays when the thread has ended, for the end. */
 struct counts {
 	struct count count[MOST];
 	struct counts *next;
 };
 
-static _Atomic(struct counts *) all;
+static _Atomic(struct counts *) all; /* a list, to which each thread adds its own at the front */
 static _Thread_local struct counts *own;
 
+/* In nanoseconds. */
 static uint64_t now(void)
 {
 	struct timespec time;
@@ -47,6 +49,7 @@ static struct count *find(const void *lock, const char *name)
 	struct count *it;
 
 	if (!own) {
+		/* (allocating takes no lock that is counted) */
 		own = calloc(1, sizeof(*own));
 		if (!own)
 			abort();
@@ -70,6 +73,7 @@ static uint64_t begin(struct count *it, int error)
 	return error ? now() : 0;
 }
 
+/* Each of the three tries first: who gets the lock at once has waited for nothing, and no clock is looked at. */
 int counted_mutex(pthread_mutex_t *lock, const char *name)
 {
 	struct count *it = find(lock, name);
@@ -130,7 +134,7 @@ static const char *name_of(const struct count *of)
 	return end_of(of->name);
 }
 
-/* Adds to a line for the name, or begins one. */
+/* Adds to a line for the name, or begins one. (there are fewer names than lines) */
 static void add(struct count *lines, const struct count *of)
 {
 	const char *name = name_of(of);
@@ -143,6 +147,7 @@ static void add(struct count *lines, const struct count *of)
 	lines->nanoseconds += of->nanoseconds;
 }
 
+/* (threads that still run may count on: what they add now may lack) */
 __attribute__((destructor)) static void tell(void)
 {
 	static struct count lines[1024];

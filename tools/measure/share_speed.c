@@ -17,12 +17,14 @@
 #include <time.h>
 #include <unistd.h>
 
+/* Files of a job, or with MOST of all; how often names are read. Sizes are in bytes. */
 enum { FILES = 2000, MANY = 10000, MOST = 100000, TIMES = 5 };
 enum { BLOCK = 4096, CHUNK = 1 << 20, CHUNKS = 48, BLOCKS = 3000 };
 
-static char bytes[CHUNK];
+static char bytes[CHUNK]; /* what is written, and where what is read goes */
 static int jobs;
 
+/* What isn't so ends this process, and with it the job, with status 1. */
 static void need(int fact, const char *what)
 {
 	if (!fact) {
@@ -39,6 +41,7 @@ static int open_file(const char *name, int flags)
 	return fd;
 }
 
+/* The name of a file, until the next one. */
 static const char *name_file(int i)
 {
 	static char name[32];
@@ -74,11 +77,12 @@ static void make_large(void)
 	close(fd);
 }
 
+/* (a class that makes its files itself) */
 static void make_nothing(void)
 {
 }
 
-static char **command;
+static char **command; /* of the class `run` */
 
 /* ---- what is timed */
 
@@ -91,6 +95,7 @@ static void stat_files(void)
 		need(!statx(AT_FDCWD, name_file(i), AT_STATX_FORCE_SYNC, STATX_BASIC_STATS, &seen), "statx");
 }
 
+/* (each name is asked for once: the kernel would remember that there is none) */
 static void stat_missing(void)
 {
 	struct stat seen;
@@ -99,12 +104,14 @@ static void stat_missing(void)
 		need(stat(name_file(i), &seen) < 0, "stat");
 }
 
+/* An OPEN and a RELEASE for each, where the names are known. */
 static void open_files(void)
 {
 	for (int i = 0; i < FILES; i++)
 		close(open_file(name_file(i), O_RDONLY));
 }
 
+/* (the folder is empty again after it) */
 static void create_and_unlink(void)
 {
 	make_few();
@@ -112,6 +119,7 @@ static void create_and_unlink(void)
 		need(!unlink(name_file(i)), "unlink");
 }
 
+/* The names alone, some times, as a program that looks for one. */
 static void read_names(void)
 {
 	for (int i = 0; i < TIMES; i++) {
@@ -166,6 +174,7 @@ static int open_cold(int flags)
 	return fd;
 }
 
+/* One after another, which the kernel may read ahead. */
 static void read_large(void)
 {
 	const int fd = open_cold(O_RDONLY);
@@ -182,17 +191,19 @@ static off_t next_place(uint32_t *chance)
 	return (off_t)((*chance >> 8) % (CHUNKS * (CHUNK / BLOCK))) * BLOCK;
 }
 
+/* Here and there: each is asked for. */
 static void read_blocks(void)
 {
 	const int fd = open_cold(O_RDONLY);
 	uint32_t chance = 1;
 
-	posix_fadvise(fd, 0, 0, POSIX_FADV_RANDOM);
+	posix_fadvise(fd, 0, 0, POSIX_FADV_RANDOM); /* so that the kernel reads no more than is asked for */
 	for (int i = 0; i < BLOCKS; i++)
 		need(pread(fd, bytes, BLOCK, next_place(&chance)) == BLOCK, "pread");
 	close(fd);
 }
 
+/* Here and there; with the kernel's own writing later it is another measure. */
 static void write_blocks(void)
 {
 	const int fd = open_cold(O_WRONLY);
@@ -203,6 +214,7 @@ static void write_blocks(void)
 	close(fd);
 }
 
+/* The job becomes the command; the pipes stay open there, which no one reads any more. */
 static void run_command(void)
 {
 	execvp(command[0], command);
@@ -212,6 +224,7 @@ static void run_command(void)
 static const struct {
 	const char *name;
 	void (*before)(void), (*act)(void);
+	/* What is made before is done by another run of the program. */
 } classes[] = {
 	{ "stat", make_few, stat_files },	   { "stat-missing", make_nothing, stat_missing },
 	{ "open-close", make_few, open_files },	   { "create-unlink", make_nothing, create_and_unlink },
@@ -228,7 +241,7 @@ static void enter(int job)
 	char folder[32];
 
 	snprintf(folder, sizeof(folder), "job-%d", job);
-	mkdir(folder, 0755);
+	mkdir(folder, 0755); /* there already in the second run */
 	need(!chdir(folder), folder);
 }
 
@@ -242,11 +255,13 @@ static _Noreturn void run_job(size_t which, int job, const int ready[2], const i
 	need(write(ready[1], "", 1) == 1, "a pipe");
 	/* (so that the pipe has an end, if another job has failed before it wrote) */
 	close(ready[1]);
+	/* (all jobs wait for the same end, and so begin at once) */
 	need(read(go[0], &byte, 1) == 0, "a pipe");
 	classes[which].act();
 	_exit(0);
 }
 
+/* Makes what the jobs find: in this process, one after another. */
 static void prepare(size_t which)
 {
 	for (int i = 0; i < jobs; i++) {
@@ -256,7 +271,8 @@ static void prepare(size_t which)
 	}
 }
 
-/* The nanoseconds that the threads of a process were on a processor. */
+/* The nanoseconds that the threads of a process were on a processor. (a thread that ends meanwhile takes its time
+ * with it) */
 static unsigned long long spent_by(const char *server)
 {
 	unsigned long long sum = 0, one;
@@ -299,6 +315,7 @@ static int take_time(size_t which, const char *server)
 
 	need(!pipe(ready) && !pipe(go), "a pipe");
 	for (int i = 0; i < jobs; i++)
+		/* (one that can't be made lacks among the bytes that are read below) */
 		if (!fork())
 			run_job(which, i, ready, go);
 	/* (so that one that fails is seen) */
@@ -309,7 +326,7 @@ static int take_time(size_t which, const char *server)
 	from = now();
 	close(go[0]);
 	close(go[1]);
-	while (wait(&status) > 0)
+	while (wait(&status) > 0) /* until the last job has ended */
 		is_wrong |= status;
 	from = now() - from;
 	printf("%.6f %.6f\n", from, (double)(spent_by(server) - spent) / 1e9);

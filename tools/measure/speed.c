@@ -15,13 +15,15 @@
 #include <string.h>
 #include <time.h>
 
+/* The library's: serves a batch so many times, each request and each room cut in one way, and digests the replies;
+ * and does so many small reads or writes over pieces of a length. */
 uint64_t nizwarf_batch(const uint8_t *requests, size_t requests_len, uint8_t *replies, size_t replies_len,
 		       uint32_t rounds, uint32_t cutting);
 uint64_t nizwarf_probe(uint32_t kind, uint32_t count, uint32_t piece, uint32_t rounds);
 
 /* Allocations, counted while `counting`: the linker puts these in the places of the C library's. */
 
-static int counting;
+static int counting; /* 0 or 1: it's added */
 static unsigned long allocations;
 
 void *__real_malloc(size_t size);
@@ -29,6 +31,7 @@ void *__real_calloc(size_t n, size_t size);
 void *__real_realloc(void *old, size_t size);
 void *__real_aligned_alloc(size_t align, size_t size);
 
+/* (one thread allocates: no count is lost) */
 void *__wrap_malloc(size_t size)
 {
 	allocations += counting;
@@ -55,11 +58,13 @@ void *__wrap_aligned_alloc(size_t align, size_t size)
 
 /* Bytes that are put together. */
 
+/* `len` of `room` bytes are used. */
 struct bytes {
 	uint8_t *at;
 	size_t len, room;
 };
 
+/* Adds bytes, in twice as much memory where there is no room. */
 static void put(struct bytes *b, const void *from, size_t n)
 {
 	if (b->len + n > b->room) {
@@ -87,6 +92,7 @@ static void put_text(struct bytes *b, const char *text)
 	put(b, text, strlen(text) + 1);
 }
 
+/* Data of which no two blocks are alike. */
 static void put_data(struct bytes *b, size_t n)
 {
 	for (size_t i = 0; i < n; i++) {
@@ -110,33 +116,36 @@ static void put_request(struct bytes *batch, uint32_t room, uint32_t opcode, uin
 	put_u64(batch, node);
 	put_u32(batch, 1000);
 	put_u32(batch, 1000);
-	put_u32(batch, 4242);
+	put_u32(batch, 4242); /* the process */
 	put_u32(batch, 0);
 	put(batch, body->at, body->len);
 	free(body->at);
 }
 
+/* Each of the following adds one request of a class: `n` is how long or how many its parts are. Fields are in the
+ * order of linux/fuse.h. */
 static void init(struct bytes *batch, uint64_t unique, uint32_t n)
 {
 	static const uint8_t unused[44];
 	struct bytes body = { 0 };
 
 	(void)n;
-	put_u32(&body, 7);
+	put_u32(&body, 7); /* version 7.45 */
 	put_u32(&body, 45);
-	put_u32(&body, 0x20000);
-	put_u32(&body, 0x73fffffb);
+	put_u32(&body, 0x20000);    /* max_readahead: 128 KiB */
+	put_u32(&body, 0x73fffffb); /* flags, as Linux 6.x offers them */
 	put_u32(&body, 0x5fd);
 	put(&body, unused, sizeof(unused));
-	put_request(batch, 80, 26, unique, 0, &body);
+	put_request(batch, 80, 26, unique, 0, &body); /* INIT */
 }
 
+/* In the root. */
 static void lookup(struct bytes *batch, uint64_t unique, const char *name)
 {
 	struct bytes body = { 0 };
 
 	put_text(&body, name);
-	put_request(batch, 144, 1, unique, 1, &body);
+	put_request(batch, 144, 1, unique, 1, &body); /* LOOKUP in the root */
 }
 
 static void lookup_a(struct bytes *batch, uint64_t unique, uint32_t n)
@@ -164,7 +173,7 @@ static void getattr(struct bytes *batch, uint64_t unique, uint32_t n)
 	(void)n;
 	put_u64(&body, 0);
 	put_u64(&body, 0);
-	put_request(batch, 120, 3, unique, 2, &body);
+	put_request(batch, 120, 3, unique, 2, &body); /* GETATTR */
 }
 
 static void forget(struct bytes *batch, uint64_t unique, uint32_t n)
@@ -173,7 +182,7 @@ static void forget(struct bytes *batch, uint64_t unique, uint32_t n)
 
 	(void)n;
 	put_u64(&body, 1);
-	put_request(batch, 0, 2, unique, 2, &body);
+	put_request(batch, 0, 2, unique, 2, &body); /* FORGET, which has no reply */
 }
 
 /* A STATFS without its last byte. */
@@ -184,7 +193,7 @@ static void short_header(struct bytes *batch, uint64_t unique, uint32_t n)
 
 	(void)n;
 	put_request(&whole, 16, 17, unique, 1, &body);
-	memcpy(whole.at + 4, &len, 4);
+	memcpy(whole.at + 4, &len, 4); /* its length in the batch */
 	put(batch, whole.at, whole.len - 1);
 	free(whole.at);
 }
@@ -206,7 +215,7 @@ static void put_write(struct bytes *batch, uint64_t unique, uint64_t offset, uin
 
 	put_span(&body, offset, size);
 	put_data(&body, size);
-	put_request(batch, 24, 16, unique, 2, &body);
+	put_request(batch, 24, 16, unique, 2, &body); /* WRITE */
 }
 
 static void put_read(struct bytes *batch, uint32_t opcode, uint64_t unique, uint64_t node, uint64_t offset,
@@ -218,6 +227,7 @@ static void put_read(struct bytes *batch, uint32_t opcode, uint64_t unique, uint
 	put_request(batch, 16 + size, opcode, unique, node, &body);
 }
 
+/* Each request at another place: 64 bytes apart, or at one of 16 pages; and all at the first. */
 static void write_small(struct bytes *batch, uint64_t unique, uint32_t n)
 {
 	put_write(batch, unique, unique * 64, n);
@@ -233,6 +243,7 @@ static void write_first(struct bytes *batch, uint64_t unique, uint32_t n)
 	put_write(batch, unique, 0, n);
 }
 
+/* As the writes. */
 static void read_small(struct bytes *batch, uint64_t unique, uint32_t n)
 {
 	put_read(batch, 15, unique, 2, unique * 64, n);
@@ -250,14 +261,15 @@ static void read_first(struct bytes *batch, uint64_t unique, uint32_t n)
 
 static void readdir(struct bytes *batch, uint64_t unique, uint32_t n)
 {
-	put_read(batch, 28, unique, 1, 0, n);
+	put_read(batch, 28, unique, 1, 0, n); /* READDIR */
 }
 
 static void readdirplus(struct bytes *batch, uint64_t unique, uint32_t n)
 {
-	put_read(batch, 44, unique, 1, 0, n);
+	put_read(batch, 44, unique, 1, 0, n); /* READDIRPLUS */
 }
 
+/* `n` pairs of a node and one lookup. */
 static void batch_forget(struct bytes *batch, uint64_t unique, uint32_t n)
 {
 	struct bytes body = { 0 };
@@ -268,9 +280,10 @@ static void batch_forget(struct bytes *batch, uint64_t unique, uint32_t n)
 		put_u64(&body, i + 2);
 		put_u64(&body, 1);
 	}
-	put_request(batch, 16, 42, unique, 0, &body);
+	put_request(batch, 16, 42, unique, 0, &body); /* BATCH_FORGET */
 }
 
+/* A value of `n` bytes. */
 static void setxattr(struct bytes *batch, uint64_t unique, uint32_t n)
 {
 	struct bytes body = { 0 };
@@ -279,9 +292,10 @@ static void setxattr(struct bytes *batch, uint64_t unique, uint32_t n)
 	put_u32(&body, 0);
 	put_text(&body, "user.big");
 	put_data(&body, n);
-	put_request(batch, 16, 21, unique, 2, &body);
+	put_request(batch, 16, 21, unique, 2, &body); /* SETXATTR */
 }
 
+/* A name with one security context, as SELinux has it. */
 static void mkdir_secctx(struct bytes *batch, uint64_t unique, uint32_t n)
 {
 	static const uint8_t padding[6];
@@ -291,19 +305,21 @@ static void mkdir_secctx(struct bytes *batch, uint64_t unique, uint32_t n)
 	put_u32(&body, 0755);
 	put_u32(&body, 022);
 	put_text(&body, "directory");
-	put_u32(&body, 72);
+	put_u32(&body,
+		72); /* the block of the context: bytes, how many contexts; and then the value's length, padding */
 	put_u32(&body, 1);
 	put_u32(&body, 33);
 	put_u32(&body, 0);
 	put_text(&body, "security.selinux");
 	put_text(&body, "system_u:object_r:unlabeled_t:s0");
 	put(&body, padding, sizeof(padding));
-	put_request(batch, 144, 9, unique, 1, &body);
+	put_request(batch, 144, 9, unique, 1, &body); /* MKDIR */
 }
 
 /* What is set up after the INIT. */
 enum setup { NOTHING, FULL_FILE, FILES };
 
+/* How many requests come before those that are measured, with the INIT. */
 static uint32_t put_setup(struct bytes *batch, enum setup setup)
 {
 	switch (setup) {
@@ -323,7 +339,7 @@ static uint32_t put_setup(struct bytes *batch, enum setup setup)
 			put_u32(&body, 0);
 			put_u32(&body, 0);
 			put_text(&body, name);
-			put_request(batch, 160, 35, 1, 1, &body);
+			put_request(batch, 160, 35, 1, 1, &body); /* CREATE */
 		}
 		return 1000;
 	}
@@ -384,7 +400,7 @@ static struct bytes batch_of(const struct class *class)
 	put_u32(&batch, 0);
 	init(&batch, 1, 0);
 	setup = put_setup(&batch, class->setup);
-	memcpy(batch.at + 4, &setup, 4);
+	memcpy(batch.at + 4, &setup, 4); /* in the place that was left for it */
 	for (uint32_t i = 0; i < class->count; i++)
 		class->ask(&batch, i + 2, class->n);
 	return batch;
@@ -395,7 +411,7 @@ static const char *const cuttings[] = { "one piece", "head + rest", "of 4096", "
 /* How many bytes a request and its room have at most that are also cut into single bytes. */
 enum { CUTTINGS = 5, SMALL = 512 };
 
-/* In how many pieces n bytes are cut. */
+/* In how many pieces n bytes are cut. `head` is the length of a header: the second way to cut has it apart. */
 static size_t pieces(size_t n, size_t head, uint32_t cutting)
 {
 	switch (cutting) {
@@ -433,10 +449,11 @@ static double now(void)
 {
 	struct timespec t;
 
-	clock_gettime(CLOCK_THREAD_CPUTIME_ID, &t);
+	clock_gettime(CLOCK_THREAD_CPUTIME_ID, &t); /* what other processes take isn't counted */
 	return t.tv_sec * 1e9 + t.tv_nsec;
 }
 
+/* For qsort(3). */
 static int compare(const void *a, const void *b)
 {
 	double x = *(const double *)a, y = *(const double *)b;
@@ -453,6 +470,7 @@ struct work {
 	uint32_t kind, count, piece;
 };
 
+/* Answers a digest of what came. */
 static uint64_t perform(const struct work *work, uint32_t rounds)
 {
 	if (!work->batch)
@@ -461,16 +479,18 @@ static uint64_t perform(const struct work *work, uint32_t rounds)
 			     work->cutting);
 }
 
+/* In nanoseconds. */
 static double took(const struct work *work, uint32_t rounds)
 {
 	double start = now();
-	volatile uint64_t answer = perform(work, rounds);
+	volatile uint64_t answer = perform(work, rounds); /* so that it isn't left out */
 
 	(void)answer;
 	return now() - start;
 }
 
-/* How many rounds take some milliseconds, and four times what is done once. */
+/* How many rounds take some milliseconds, and four times what is done once. A round is a batch without what is done
+ * once, as the setup: so rounds come on top of one. */
 static uint32_t rounds_for(const struct work *work)
 {
 	double one = took(work, 1), wanted = ms * 1e6;
@@ -503,12 +523,13 @@ static void measure(const struct work *work, double *least, double *middle)
 		all[i] = took(work, 1 + rounds);
 	}
 	qsort(all, (size_t)runs, sizeof(*all), compare);
+	/* (without what is done once, of which the least is taken) */
 	*least = (all[0] - once) / rounds;
 	*middle = (all[runs / 2] - once) / rounds;
 	free(all);
 }
 
-/* Allocations of a round. */
+/* Allocations of a round. Of three rounds and of one: what is done once falls out. */
 static double allocations_of(const struct work *work)
 {
 	unsigned long before = allocations, few, more;
@@ -538,6 +559,7 @@ static int measure_class(const struct class *class)
 		double least, middle;
 		int again = 0;
 
+		/* (both numbers in one: a cutting that makes as many pieces as another is the same) */
 		seen[cutting] = pieces(len, 40, cutting) + 65536 * pieces(room, 16, cutting);
 		for (uint32_t other = 0; other < cutting; other++)
 			again |= seen[other] == seen[cutting] && cutting > 1;
@@ -584,6 +606,7 @@ static void measure_growth(void)
 		}
 }
 
+/* Writes each class's batch into a file of its own. Answers 1 where that fails. */
 static int write_batches(const char *folder)
 {
 	for (size_t i = 0; i < sizeof(classes) / sizeof(*classes); i++) {
@@ -592,7 +615,7 @@ static int write_batches(const char *folder)
 		FILE *file;
 
 		snprintf(path, sizeof(path), "%s/%s.batch", folder, classes[i].name);
-		*strrchr(path, '/') = '_';
+		*strrchr(path, '/') = '_'; /* that in the class's name */
 		file = fopen(path, "wb");
 		if (!file || fwrite(batch.at, 1, batch.len, file) != batch.len || fclose(file)) {
 			perror(path);

@@ -8,12 +8,13 @@
 #include <time.h>
 #include "nizwarf.h"
 
-enum { BYTES = 65536, ROOM = 4096 };
+enum { BYTES = 65536, ROOM = 4096 }; /* of a WRITE, and of a request or a reply */
 
 static unsigned char reply[ROOM], request[ROOM], bytes[BYTES];
-static nizwarf_segment segments[1 + BYTES] = { { request, 0 } };
+static nizwarf_segment segments[1 + BYTES] = { { request, 0 } }; /* the header and record, and data */
 static nizwarf_server server = NIZWARF_NONE;
 
+/* In milliseconds, of this process. */
 static double now(void)
 {
 	struct timespec t;
@@ -47,6 +48,7 @@ static double ask(uint32_t opcode, uint64_t node, const void *behind, size_t siz
 	return now() - start;
 }
 
+/* Makes a file, and answers its node. */
 static uint64_t make(unsigned i)
 {
 	struct {
@@ -61,6 +63,7 @@ static uint64_t make(unsigned i)
 	return node;
 }
 
+/* An INIT, which ends what was before: its time. */
 static double init(void)
 {
 	const struct fuse_init_in body = { .major = 7, .minor = 38 };
@@ -68,6 +71,7 @@ static double init(void)
 	return ask(FUSE_INIT, 0, &body, sizeof(body), 1);
 }
 
+/* A WRITE of as many segments, each as long. */
 static void write_in(size_t count)
 {
 	const struct fuse_write_in body = { .size = BYTES };
@@ -79,6 +83,7 @@ static void write_in(size_t count)
 	       ask(FUSE_WRITE, make(0), &body, sizeof(body), 1 + count));
 }
 
+/* Makes as many files, of which no lookup is left: so no client has them. */
 static void fill(unsigned count)
 {
 	const struct fuse_forget_in body = { .nlookup = 1 };
@@ -98,6 +103,7 @@ static void hold(unsigned count, unsigned held)
 	}
 }
 
+/* What INIT and DESTROY take, which give all lookups back: of files of which some are held. */
 static void release(unsigned count, unsigned held)
 {
 	hold(count, held);
@@ -106,6 +112,7 @@ static void release(unsigned count, unsigned held)
 	printf("DESTROY\t%u nodes, %u held\t%.2f\n", count, held, ask(FUSE_DESTROY, 0, "", 0, 1));
 }
 
+/* A new server, with no files. */
 static void anew(void)
 {
 	nizwarf_end(&server);
