@@ -29,11 +29,11 @@ enum {
 	ROOT = 1,
 	FIRST = 2,
 	MOST = 16,
-	LONGEST = 4096,
+	LONGEST = 4096, /* bytes of a text */
 	WORKERS = 2,
 	ITEMS = 24,
-	LONG = 500000,
-	EXPIRE_ONLY = 1
+	LONG = 500000,	/* seconds: until a notice comes */
+	EXPIRE_ONLY = 1 /* the flag of INVAL_ENTRY */
 };
 
 /* Of a file: `opened` and `lookups` are those that the kernel has, `kh` of a POLL that waits. */
@@ -48,22 +48,22 @@ struct file {
 struct kind {
 	const char *name;
 	unsigned files, may_write, open_flags, entry_timeout;
-	long nanoseconds;
+	long nanoseconds; /* between two changes; 0: it's the interval that was given */
 	void (*change)(void);
 	void (*tell)(void);
 };
 
 static struct {
-	long interval, timeout;
+	long interval, timeout; /* seconds; a timeout below 0 is the kind's own */
 	int quiet, expires, epoch;
 } given = { 1, -1, 0, 0, 0 };
 
 /* Of all that is here. It isn't held while a notice is sent, for which the kernel may wait for a request. */
 static pthread_mutex_t lock = PTHREAD_MUTEX_INITIALIZER;
 static struct file files[MOST];
-static char old_name[64];
-static uint64_t ticks, retrieved, wrong;
-static int is_asked, is_pruned;
+static char old_name[64];		 /* before the last change: that is what is told */
+static uint64_t ticks, retrieved, wrong; /* changes; what came back, and wrongly */
+static int is_asked, is_pruned;		 /* a RETRIEVE, a PRUNE was sent */
 static const struct kind *kind;
 static transport_notices notices = TRANSPORT_NO_NOTICES;
 static nizwarf_session session = { 0, 4096, TRANSPORT_PAYLOAD };
@@ -71,12 +71,14 @@ static nizwarf_slot slots[WORKERS];
 
 /* ---- what changes, under the lock */
 
+/* Of a length that stays: so what was stored can be told from its number. */
 static void change_text(void)
 {
 	snprintf(files[0].name, sizeof(files[0].name), "current_time");
 	files[0].len = (size_t)snprintf(files[0].text, LONGEST, "It is the time %020" PRIu64 "\n", ticks);
 }
 
+/* The second file grows by a byte each time, up to LONGEST. */
 static void change_both(void)
 {
 	struct file *f = &files[1];
@@ -87,6 +89,7 @@ static void change_both(void)
 	f->len = ticks < sizeof(f->text) ? (size_t)ticks : sizeof(f->text);
 }
 
+/* The kernel goes on finding the old name until it's told. */
 static void change_name(void)
 {
 	memcpy(old_name, files[0].name, sizeof(old_name));
@@ -99,6 +102,7 @@ static void change_hello(void)
 	files[0].len = (size_t)snprintf(files[0].text, LONGEST, "Hello World!\n");
 }
 
+/* Its size is what a program sets: it begins empty. */
 static void change_ioctl(void)
 {
 	snprintf(files[0].name, sizeof(files[0].name), "fioc");
@@ -107,7 +111,7 @@ static void change_ioctl(void)
 /* A byte comes into one file, or two, or four. */
 static void change_poll(void)
 {
-	const unsigned count = 1U << ticks / MOST % 3;
+	const unsigned count = 1U << ticks / MOST % 3; /* 1, 2 or 4 files */
 
 	for (unsigned i = 0; i < MOST; i++)
 		snprintf(files[i].name, sizeof(files[i].name), "%X", i);
@@ -121,6 +125,7 @@ static void change_poll(void)
 
 /* ---- what is told of it, without the lock */
 
+/* ENOENT and ENOTCONN are no faults: the kernel knows no such file, or has unmounted. */
 static int send_notice(const void *notice, size_t len, const void *data, size_t data_len, const char *what)
 {
 	const int error = fuse_device_notify(&notices, notice, len, data, data_len);
@@ -144,6 +149,7 @@ static int is_known(unsigned i)
 	return is_so;
 }
 
+/* (of a file that it doesn't know it has nothing) */
 static void tell_inodes(void)
 {
 	uint8_t notice[64];
@@ -155,6 +161,7 @@ static void tell_inodes(void)
 				    0, "INVAL_INODE");
 }
 
+/* Stores the text of now, and asks for it back: on_retrieve_reply finds which change it is by the number. */
 static void tell_stored(void)
 {
 	uint8_t notice[64];
@@ -164,6 +171,7 @@ static void tell_stored(void)
 	pthread_mutex_lock(&lock);
 	now = files[0];
 	pthread_mutex_unlock(&lock);
+	/* (what is stored is dropped, if nobody has the file open) */
 	if (!now.lookups || !now.opened)
 		return;
 	len = nizwarf_notice_store(FIRST, 0, (uint32_t)now.len, notice, sizeof(notice));
@@ -177,6 +185,7 @@ static void tell_stored(void)
 	pthread_mutex_unlock(&lock);
 }
 
+/* The kernel forgets the file then, if nobody has it open, and FORGET comes. */
 static void tell_pruned(void)
 {
 	const uint64_t node = FIRST;
@@ -193,6 +202,7 @@ static void tell_pruned(void)
 	fflush(stdout);
 }
 
+/* With --only-expire the kernel keeps the name, and looks it up again; with --inc-epoch all names. */
 static void tell_name(void)
 {
 	uint8_t notice[256];
@@ -208,6 +218,7 @@ static void tell_name(void)
 	send_notice(notice, len, NULL, 0, given.epoch ? "INC_EPOCH" : "INVAL_ENTRY");
 }
 
+/* Each number that waits is told once: the kernel asks again, and gives another one. */
 static void tell_poll(void)
 {
 	uint8_t notice[64];
@@ -236,6 +247,7 @@ static const struct kind kinds[] = {
 	{ "poll", MOST, 0, FOPEN_DIRECT_IO | FOPEN_NONSEEKABLE, 0, 250000000, change_poll, tell_poll },
 };
 
+/* One change. (The first is before the mount, so that files have names.) */
 static void tick(void)
 {
 	pthread_mutex_lock(&lock);
@@ -244,6 +256,7 @@ static void tick(void)
 	pthread_mutex_unlock(&lock);
 }
 
+/* The thread of the changes, which ends with the process. */
 static void *change_each(void *none)
 {
 	const struct timespec pause = { kind->nanoseconds ? 0 : given.interval, kind->nanoseconds };
@@ -258,11 +271,13 @@ static void *change_each(void *none)
 
 /* ---- the functions */
 
+/* NULL: it's the root, or no file. */
 static struct file *file_of(uint64_t ino)
 {
 	return ino >= FIRST && ino < FIRST + kind->files ? &files[ino - FIRST] : NULL;
 }
 
+/* It has the kind's time for all it answers: 0, and the kernel asks each time. */
 static int on_getattr(const nizwarf_req *req, uint64_t ino, const nizwarf_file_info *fi, nizwarf_attr *attr,
 		      struct timespec *attr_timeout)
 {
@@ -292,6 +307,7 @@ static int set_size(struct file *f, uint64_t size)
 	return 0;
 }
 
+/* Only the size can change. */
 static int on_setattr(const nizwarf_req *req, uint64_t ino, const nizwarf_setattr *set, uint32_t to_set,
 		      const nizwarf_file_info *fi, nizwarf_attr *attr, struct timespec *attr_timeout)
 {
@@ -308,6 +324,7 @@ static int on_setattr(const nizwarf_req *req, uint64_t ino, const nizwarf_setatt
 	return error ? error : on_getattr(req, ino, fi, attr, attr_timeout);
 }
 
+/* Counts the lookup, which on_forget takes back. */
 static int on_lookup(const nizwarf_req *req, uint64_t parent, const char *name, nizwarf_entry_param *e)
 {
 	pthread_mutex_lock(&lock);
@@ -323,6 +340,7 @@ static int on_lookup(const nizwarf_req *req, uint64_t parent, const char *name, 
 	return on_getattr(req, e->ino, NULL, &e->attr, &e->attr_timeout);
 }
 
+/* With no lookup left the kernel has dropped the file. */
 static void on_forget(const nizwarf_req *req, uint64_t ino, uint64_t nlookup)
 {
 	struct file *f = file_of(ino);
@@ -356,6 +374,7 @@ static int on_readdir(const nizwarf_req *req, uint64_t ino, uint64_t off, const 
 	return ino == ROOT ? 0 : ENOTDIR;
 }
 
+/* Notices are for files that are open, hence the count. Nothing counts it down. */
 static int on_open(const nizwarf_req *req, uint64_t ino, nizwarf_file_info *fi)
 {
 	struct file *f = file_of(ino);
@@ -396,6 +415,7 @@ static int on_read(const nizwarf_req *req, uint64_t ino, size_t size, uint64_t o
 	return 0;
 }
 
+/* What a hole has is 0. */
 static int on_write(const nizwarf_req *req, uint64_t ino, const void *buf, size_t size, uint64_t off,
 		    const nizwarf_file_info *fi, size_t *len)
 {
@@ -415,6 +435,7 @@ static int on_write(const nizwarf_req *req, uint64_t ino, const void *buf, size_
 	return 0;
 }
 
+/* As in libfuse's own example: 0 gives the size, and 1 sets it. */
 static int on_ioctl(const nizwarf_req *req, uint64_t ino, uint32_t cmd, uint64_t arg,
 		    const nizwarf_file_info *fi, uint32_t flags, const void *in_buf, size_t in_size,
 		    nizwarf_ioctl *out, void *out_buf, size_t out_size, size_t *len)
@@ -441,6 +462,7 @@ static int on_ioctl(const nizwarf_req *req, uint64_t ino, uint32_t cmd, uint64_t
 	return error;
 }
 
+/* ENOSYS of the root, which has no POLL. */
 static int on_poll(const nizwarf_req *req, uint64_t ino, const nizwarf_file_info *fi, uint32_t events,
 		   uint64_t kh, int notify, uint32_t *revents)
 {
@@ -457,6 +479,7 @@ static int on_poll(const nizwarf_req *req, uint64_t ino, const nizwarf_file_info
 	return 0;
 }
 
+/* The number is that of the change. (`wrong` makes the status 1.) */
 static void on_retrieve_reply(const nizwarf_req *req, uint64_t cookie, uint64_t ino, uint64_t offset,
 			      const void *data, size_t size)
 {
@@ -464,7 +487,8 @@ static void on_retrieve_reply(const nizwarf_req *req, uint64_t cookie, uint64_t 
 	size_t len;
 
 	(void)req;
-	len = (size_t)snprintf(wanted, sizeof(wanted), "It is the time %020" PRIu64 "\n", cookie);
+	len = (size_t)snprintf(wanted, sizeof(wanted), "It is the time %020" PRIu64 "\n",
+			       cookie); /* the text of that change */
 	pthread_mutex_lock(&lock);
 	retrieved++;
 	if (ino != FIRST || offset || size < len || memcmp(data, wanted, len)) {
@@ -490,6 +514,7 @@ static const nizwarf_ops ops = { .forget = on_forget,
 /* Those of a file system whose files have no POLL: Linux takes them for ready then, as those of a disk. */
 static nizwarf_ops used;
 
+/* By one segment and one room, as /dev/fuse has them. */
 static int32_t serve(void *user, unsigned worker, const nizwarf_segment *request, size_t segments,
 		     const nizwarf_room *room, size_t rooms, size_t *len)
 {
