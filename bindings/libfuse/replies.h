@@ -23,6 +23,8 @@ struct door_thread {
 };
 
 static pthread_key_t door_key;
+/* A process has 1024 keys. Without one no thread has memory here, since it would never be freed. */
+static int door_has_key;
 static __thread __attribute__((tls_model("initial-exec"))) struct door_thread *door_mine;
 
 static void end_req(struct door_req *req)
@@ -45,19 +47,20 @@ static void end_thread(void *at)
 
 static __attribute__((constructor)) void begin_door(void)
 {
-	pthread_key_create(&door_key, end_thread);
+	door_has_key = !pthread_key_create(&door_key, end_thread);
 }
 
 static __attribute__((destructor)) void end_door(void)
 {
-	pthread_key_delete(door_key);
+	if (door_has_key)
+		pthread_key_delete(door_key);
 }
 
 static __attribute__((noinline)) struct door_thread *make_thread(void)
 {
 	struct door_thread *t = calloc(1, sizeof(*t));
 
-	if (!t || pthread_setspecific(door_key, t)) {
+	if (!t || !door_has_key || pthread_setspecific(door_key, t)) {
 		free(t);
 		return NULL;
 	}

@@ -6,7 +6,7 @@
 #
 #   symbols    the symbols and versions of the two libraries, and what they are linked with
 #   answers    wrong answers of a file system come to their caller alone, under sanitizers
-#   memory     each allocation of some requests is refused in turn: nothing is lost
+#   memory     each allocation of some requests is refused in turn, and then the key of a thread's memory: nothing is lost
 #   hostile    the sessions of tests/beside, and 300 generated, under sanitizers: none reads past, none ends it
 #   threads    libfuse's passthrough_ll under the thread sanitizer, used by four at once; and requests that other
 #              threads answer, while they are interrupted
@@ -108,6 +108,7 @@ check_answers() {
 check_memory() {
     compile "$here/tests/libfuse/wrong.c" "$work/memory" -DREFUSE
     "$work/memory" memory 2> "$work/said" || { cat "$work/said" && return 1; }
+    "$work/memory" keys 2> "$work/said" || { cat "$work/said" && return 1; }
 }
 
 # A message of no byte is the end of what comes, to libfuse's loop: nothing else may end it.

@@ -1,13 +1,14 @@
 /* A file system over libfuse whose answers are wrong, and one whose memory is refused.
  *
- * Usage: wrong answers|memory|threads
+ * Usage: wrong answers|memory|keys|threads
  * It hands requests to a session by fuse_session_process_buf, and takes the replies by custom io. With `answers` the
  * file system answers by a number that is no error, by a text that is too long, by the record of another call: each is
  * to come to who asked as an error that Linux takes, and the next request is served; and interrupts come to their
  * requests. With `memory` each allocation of each of some requests is refused in turn, on a new thread: one reply comes,
  * of an error or of success, and each entry and each lookup that is given back is told; and what a sanitizer takes for
- * a fault of the file system, as a request that is answered twice, loses nothing. With `threads` others answer, and
- * interrupts come meanwhile. It prints how many of how many did so. Status 0: all. */
+ * a fault of the file system, as a request that is answered twice, loses nothing. With `keys` the process has no key of
+ * pthread_key_create(3) left when the library begins: a request is answered ENOMEM, and nobody else's key is used. With
+ * `threads` others answer, and interrupts come meanwhile. It prints how many of how many did so. Status 0: all. */
 #define _GNU_SOURCE
 #define FUSE_USE_VERSION 317
 #include <cuse_lowlevel.h>
@@ -1121,6 +1122,28 @@ static void try_memory(void)
 	try_many_interrupts();
 }
 
+/* ---- Without a key ----------------------------------------------------------------------------------- */
+
+/* A key that was made before the library began, which has the number that a key has which was never made. */
+static const pthread_key_t own_key;
+/* The last one that there was: libfuse wants one for each session, which it is given back for. */
+static pthread_key_t last_key;
+
+/* (before the library's own function: those without a number come later) */
+static __attribute__((constructor(101))) void take_keys(int count, char **words)
+{
+	while (count == 2 && !strcmp(words[1], "keys") && !pthread_key_create(&last_key, NULL))
+		;
+}
+
+static void try_keys(const struct request *first)
+{
+	const struct fuse_out_header out = header_of_reply();
+
+	judge(first->what, replies == 1 && out.error == -ENOMEM && out.unique == 7);
+	judge("what another has by its key", pthread_getspecific(own_key) == text);
+}
+
 /* ---- Others that answer ---------------------------------------------------------------------------- */
 
 enum { REQUESTS = 4000, ANSWERERS = 4, ASKERS = 2, FIRST = 100 };
@@ -1226,6 +1249,7 @@ static void try_threads(void)
 int main(int count, char **words)
 {
 	const int by_others = count == 2 && !strcmp(words[1], "threads");
+	const int has_no_key = count == 2 && !strcmp(words[1], "keys");
 	const struct fuse_custom_io io = { .read = give_request,
 					   .writev = by_others ? count_reply : take_reply,
 					   .splice_receive = give_to_pipe };
@@ -1237,17 +1261,23 @@ int main(int count, char **words)
 	memset(text, 'a', LONGEST);
 	if (by_others)
 		own.getattr = on_getattr_queue;
+	if (has_no_key)
+		pthread_key_delete(last_key);
 	session = fuse_session_new(&args, &own, sizeof(own), NULL);
 	if (count != 2 || !session || begin_io(&io))
 		return 2;
+	if (has_no_key)
+		pthread_setspecific(own_key, text);
 	send_request(&first);
-	if (!by_others)
+	if (has_no_key)
+		try_keys(&first);
+	else if (!by_others)
 		judge("INIT", is_answered(&first));
 	if (by_others)
 		try_threads();
 	else if (!strcmp(words[1], "answers"))
 		try_answers(&io);
-	else
+	else if (!has_no_key)
 		try_memory();
 	fuse_session_destroy(session);
 	fuse_opt_free_args(&args);
