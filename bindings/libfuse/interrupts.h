@@ -10,6 +10,7 @@ enum {
 	MOST_EVER = 8192,
 };
 
+/* Whether Linux is to send any. If not, the first is answered ENOSYS, after which no other comes. */
 static int has_interrupts(const struct fuse_session *se)
 {
 #ifdef HAVE_NO_INTERRUPT
@@ -20,11 +21,13 @@ static int has_interrupts(const struct fuse_session *se)
 #endif
 }
 
+/* How many are kept. Without the session's lock it may lack one that comes now: the next who looks finds that. */
 static unsigned int count_kept(struct fuse_session *se)
 {
 	return __atomic_load_n(&door_of(se)->kept, __ATOMIC_RELAXED);
 }
 
+/* Ends an interrupt that is in no list, without a reply, for which nobody waits. */
 static void end_interrupt(struct fuse_req *interrupt)
 {
 	fuse_chan_put(interrupt->ch);
@@ -37,13 +40,15 @@ static void end_interrupt(struct fuse_req *interrupt)
 static struct fuse_req *take_kept(struct fuse_session *se, struct fuse_req *interrupt)
 {
 	list_del_req(interrupt);
+	/* (so that its end, which takes it off a list, finds it in none) */
 	list_init_req(interrupt);
+	/* (a union: of an interrupt it has the request's number, of others what is called if they are interrupted) */
 	memset(&interrupt->u, 0, sizeof(interrupt->u));
 	__atomic_store_n(&door_of(se)->kept, count_kept(se) - 1, __ATOMIC_RELAXED);
 	return interrupt;
 }
 
-/* Ends the interrupt that is kept of a request: 0, there is none. */
+/* Ends the interrupt that is kept of a request: 0, there is none. The session is locked. */
 static int end_kept(struct fuse_session *se, uint64_t unique)
 {
 	struct fuse_req *interrupt;
@@ -63,10 +68,12 @@ static void end_oldest(struct fuse_session *se)
 	struct fuse_req *oldest = NULL;
 
 	pthread_mutex_lock(&se->lock);
+	/* (looked at again, now under the lock: another thread may have taken some) */
 	if (count_kept(se) > MOST_KEPT)
 		oldest = take_kept(se, se->interrupts.next);
 	pthread_mutex_unlock(&se->lock);
 	if (oldest)
+		/* (without the lock, which the reply takes) */
 		fuse_reply_err(oldest, EAGAIN);
 }
 
@@ -76,6 +83,7 @@ static void interrupt(fuse_req_t req, uint64_t unique)
 	struct fuse_session *se = req->se;
 
 	req->u.i.unique = unique;
+	/* (libfuse's function gives the lock up while it calls what the file system set for that, and takes it again) */
 	pthread_mutex_lock(&se->lock);
 	if (find_interrupted(se, req)) {
 		end_interrupt(req);
@@ -88,6 +96,7 @@ static void interrupt(fuse_req_t req, uint64_t unique)
 		end_oldest(se);
 }
 
+/* (libfuse calls it at the beginning of fuse_req_interrupted and of fuse_req_interrupt_func) */
 static void door_watch(fuse_req_t req)
 {
 	struct fuse_session *se = req->se;
@@ -95,15 +104,18 @@ static void door_watch(fuse_req_t req)
 	if (!has_interrupts(se))
 		return;
 	pthread_mutex_lock(&se->lock);
+	/* (once: it is in the list from then on, up to its end) */
 	if (own_of(req)->known == DOOR_ALONE) {
 		own_of(req)->known = DOOR_KNOWN;
 		list_add_req(req, &se->list);
+		/* (one that came before is not told again) */
 		if (end_kept(se, req->unique))
 			req->interrupted = 1;
 	}
 	pthread_mutex_unlock(&se->lock);
 }
 
+/* Ends the interrupt that is kept of a request, which ends now: its number may be another's soon. */
 static __attribute__((noinline)) void end_overtaken(struct fuse_session *se, uint64_t unique)
 {
 	pthread_mutex_lock(&se->lock);
@@ -111,9 +123,11 @@ static __attribute__((noinline)) void end_overtaken(struct fuse_session *se, uin
 	pthread_mutex_unlock(&se->lock);
 }
 
+/* (libfuse calls it first in fuse_free_req, with any request) */
 static inline int door_end_alone(fuse_req_t req)
 {
 	if (unlikely(own_of(req)->known != DOOR_ALONE))
+		/* (one that has ended is let be: its memory is the thread's that ended it) */
 		return own_of(req)->known == DOOR_ENDED;
 	if (unlikely(count_kept(req->se)))
 		end_overtaken(req->se, req->unique);
@@ -127,6 +141,7 @@ static inline int door_end_alone(fuse_req_t req)
 
 static void door_end_session(struct fuse_session *se)
 {
+	/* (no lock: the session has no thread left) */
 	while (count_kept(se))
 		end_interrupt(take_kept(se, se->interrupts.next));
 }

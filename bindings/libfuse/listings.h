@@ -1,5 +1,6 @@
 /* Records of a directory: libfuse's programs lay them out by the two functions here, and hand them over in one piece. */
 
+/* In bytes: what a record is filled up to, and how much of a name is looked at at once. */
 enum { WORD = sizeof(uint64_t), PIECE = 16 };
 
 /* (called without the jump that calls to other libraries go by) */
@@ -18,6 +19,7 @@ static inline void put_name(char *at, const char *name, size_t len)
 {
 	size_t i;
 
+	/* (a call of memcpy costs more than most names) */
 	if (len >= PIECE) {
 		for (i = 0; i < len - PIECE; i += PIECE)
 			memcpy(at + i, name + i, PIECE);
@@ -36,20 +38,23 @@ static inline void put_name(char *at, const char *name, size_t len)
 	}
 }
 
-/* Lays a record out, up to its end: the bytes that fill its last eight up are 0. */
+/* Lays a record out, up to its end: the bytes that fill its last eight up are 0. `end` is at least 24 bytes after
+ * `at`, which both have room for. */
 static inline void put_record(char *at, char *end, const char *name, size_t len, const struct stat *st,
 			      off_t off)
 {
 	struct fuse_dirent *record = (struct fuse_dirent *)(void *)at;
 
+	/* (first, since the name may reach into them) */
 	memset(end - WORD, 0, WORD);
 	record->ino = st->st_ino;
 	record->off = (uint64_t)off;
 	record->namelen = (uint32_t)len;
-	record->type = (st->st_mode & S_IFMT) >> 12;
+	record->type = (st->st_mode & S_IFMT) >> 12; /* DT_REG .. */
 	put_name(record->name, name, len);
 }
 
+/* libfuse's: how many bytes the record takes. Where it doesn't fit, or `buf` is NULL, nothing is written. */
 size_t fuse_add_direntry(fuse_req_t req, char *buf, size_t bufsize, const char *name,
 			 const struct stat *stbuf, off_t off)
 {
@@ -69,6 +74,7 @@ size_t fuse_add_direntry_plus(fuse_req_t req, char *buf, size_t bufsize, const c
 
 	(void)req;
 	if (buf && whole <= bufsize) {
+		/* (the same record as fuse.h's) */
 		spell_entry((nizwarf_entry *)(void *)buf, e);
 		put_record(buf + front, buf + whole, name, len, &e->attr, off);
 	}
@@ -80,13 +86,15 @@ static inline uint64_t zeros_in(uint64_t word)
 {
 	const uint64_t ones = UINT64_C(0x0101010101010101);
 
+	/* (a byte after one that is 0 may be told too: what counts is whether there is any) */
 	return (word - ones) & ~word & ones << 7;
 }
 
-/* The least of what it was and of each sixteenth byte of a long name, by its place in a piece. */
+/* The least of what it was and of each sixteenth byte of a long name, by its place in a piece. The name has 16 bytes
+ * at least. */
 static inline __m128i least_of(__m128i least, const char *at, size_t len)
 {
-	const char *last = at + len - PIECE;
+	const char *last = at + len - PIECE; /* may overlap the piece before */
 
 	least = _mm_min_epu8(least, _mm_loadu_si128((const __m128i *)(const void *)last));
 	for (; at < last; at += PIECE)
@@ -103,25 +111,27 @@ static inline uint64_t fault_of(const char *at, size_t len)
 	return len ? zeros_in(word_at(at) | UINT64_MAX << 8 * len) : 1;
 }
 
-/* A walk over records: where the next one begins, and what is wrong with names before, which is looked at once, at the
- * end. */
+/* A walk over records: where the next one begins, and what is wrong with names before, which is looked at once, at
+ * the end. (a jump for each name would be guessed wrongly, now and then) */
 struct door_walk {
-	size_t at;
-	__m128i least;
-	uint64_t faults;
+	size_t at;	 /* bytes from the listing's begin */
+	__m128i least;	 /* of long names: a 0 in it is a fault */
+	uint64_t faults; /* of short ones: not 0 is a fault */
 };
 
 /* A listing: where the name of a record at 0 is, and how far before a name its record begins. */
 struct door_listing {
 	const char *names;
-	size_t front;
+	size_t front; /* bytes: a header, and with PLUS an entry before it */
 };
 
 /* Where a record ends, as its header says, which is there. The length of its name is read once: a thread of the program
  * may write there. */
 static inline size_t end_of_record(struct door_listing l, size_t at, uint32_t *len)
 {
+	/* (names + at - 24 is the header: `names` begins `front` bytes into the listing) */
 	memcpy(len, l.names + at - FUSE_NAME_OFFSET + offsetof(struct fuse_dirent, namelen), sizeof(*len));
+	/* (no overflow: 32 bits, added to 64) */
 	return at + FUSE_DIRENT_ALIGN(l.front + *len);
 }
 
@@ -136,8 +146,8 @@ static inline void pass_record(struct door_walk *walk, struct door_listing l, ui
 }
 
 enum {
-	LONG_LISTING = 1024,
-	MOST_GUESSED = 256,
+	LONG_LISTING = 1024, /* bytes: a shorter one goes by one walk */
+	MOST_GUESSED = 256,  /* bytes */
 	/* As Linux has it, filled up. */
 	LONGEST_NAME = 4096,
 };
@@ -150,7 +160,8 @@ static inline size_t guess_middle(struct door_listing l, size_t len)
 	size_t at;
 
 	for (at = first; at < first + MOST_GUESSED; at += WORD) {
-		numbers = word_at(l.names + at - WORD);
+		numbers = word_at(l.names + at - WORD); /* the length of a name, and above it the type */
+		/* (from 1 to 255 bytes, and a type of four bits that isn't 0) */
 		if (!(numbers & ~UINT64_C(0xf000000ff)) && numbers & 255 && numbers >> 32)
 			return at;
 	}
@@ -164,9 +175,10 @@ _Static_assert(offsetof(struct fuse_dirent, type) + sizeof(uint32_t) == FUSE_NAM
 		       offsetof(struct fuse_dirent, namelen) + WORD == FUSE_NAME_OFFSET,
 	       "both numbers are before a name");
 
-/* Goes over records in two halves at once: each says where the next one is, and to wait for that takes longer than all
- * else. The second half counts if the first one ends where it began: a wrong guess costs time alone. `last` is where
- * the last header may be. */
+/* Goes over records in two halves at once: each says where the next one is, and to wait for that takes longer than
+ * all else. The second half counts if the first one ends where it began: a wrong guess costs time alone. `last` is
+ * where the last header may be. A name that looks like a header makes a wrong guess, or a hostile one: of that half
+ * nothing is kept then. */
 static inline void pass_halves(struct door_walk *walk, struct door_listing l, size_t middle, size_t last)
 {
 	struct door_walk half = { middle, walk->least, 0 };
@@ -176,13 +188,14 @@ static inline void pass_halves(struct door_walk *walk, struct door_listing l, si
 	for (;;) {
 		end = end_of_record(l, walk->at, &len);
 		other_end = end_of_record(l, half.at, &other);
-		if (end > middle || other_end > last)
+		if (end > middle || other_end > last) /* one of the two has ended */
 			break;
 		pass_record(walk, l, len, end);
 		pass_record(&half, l, other, other_end);
 	}
 	for (; end <= middle; end = end_of_record(l, walk->at, &len))
 		pass_record(walk, l, len, end);
+	/* (the records of the second half follow those of the first: both were gone over) */
 	if (walk->at == middle) {
 		walk->at = half.at;
 		walk->least = _mm_min_epu8(walk->least, half.least);
@@ -201,15 +214,18 @@ static __attribute__((noinline)) size_t count_whole(const nizwarf_call *call, co
 	size_t middle, end;
 	uint32_t name_len;
 
+	/* (not even a header is there) */
 	if (len < front)
 		return 0;
 	middle = len >= LONG_LISTING ? guess_middle(l, len) : 0;
 	if (middle)
 		pass_halves(&walk, l, middle, len - front);
+	/* (as long as a header follows after it) */
 	while ((end = end_of_record(l, walk.at, &name_len)) <= len - front)
 		pass_record(&walk, l, name_len, end);
 	if (end <= len)
 		pass_record(&walk, l, name_len, end);
+	/* (cut, and longer than any: Linux would refuse it where it isn't cut) */
 	else if (end - walk.at > front + LONGEST_NAME)
 		return 0;
 	if (walk.faults || _mm_movemask_epi8(_mm_cmpeq_epi8(walk.least, _mm_setzero_si128())))

@@ -5,9 +5,9 @@
 
 enum {
 	/* The largest payload before an INIT. */
-	FIRST_BUFFER = 1 << 20,
+	FIRST_BUFFER = 1 << 20, /* bytes */
 	/* The longest text of a link that Linux takes. */
-	LONGEST_LINK = 4095,
+	LONGEST_LINK = 4095, /* bytes, without a 0 */
 	HEADER = sizeof(struct fuse_out_header),
 	/* Of a reply without a text: the longest is CREATE's. */
 	SMALL_ROOM = HEADER + sizeof(struct fuse_entry_out) + sizeof(struct fuse_open_out),
@@ -15,24 +15,28 @@ enum {
 
 /* Memory of a thread: a slot, the request that ended last, an answer, and a room for a reply that has a text. */
 struct door_thread {
-	nizwarf_slot slot;
-	struct door_req *spare;
-	nizwarf_answer answer;
-	uint8_t *room;
+	nizwarf_slot slot;	/* what the door keeps between the ask and the reply */
+	struct door_req *spare; /* clean, or NULL */
+	nizwarf_answer answer;	/* of the reply that is made now */
+	uint8_t *room;		/* `size` bytes, or NULL */
 	size_t size;
 };
 
+/* The key is for its destructor alone, by which a thread's memory is freed as the thread ends; `door_mine` finds the same
+ * memory without a call, also from a library, which initial-exec is for. */
 static pthread_key_t door_key;
 /* A process has 1024 keys. Without one no thread has memory here, since it would never be freed. */
 static int door_has_key;
 static __thread __attribute__((tls_model("initial-exec"))) struct door_thread *door_mine;
 
+/* Frees a request of which nobody knows any more. */
 static void end_req(struct door_req *req)
 {
 	pthread_mutex_destroy(&req->req.lock);
 	free(req);
 }
 
+/* (as another destructor of the thread may answer a request after this one, it can be made again) */
 static void end_thread(void *at)
 {
 	struct door_thread *t = at;
@@ -45,6 +49,7 @@ static void end_thread(void *at)
 	door_mine = NULL;
 }
 
+/* As the library is loaded, before any request. */
 static __attribute__((constructor)) void begin_door(void)
 {
 	door_has_key = !pthread_key_create(&door_key, end_thread);
@@ -56,6 +61,7 @@ static __attribute__((destructor)) void end_door(void)
 		pthread_key_delete(door_key);
 }
 
+/* Makes this thread's memory. NULL: there is none. */
 static __attribute__((noinline)) struct door_thread *make_thread(void)
 {
 	struct door_thread *t = calloc(1, sizeof(*t));
@@ -76,7 +82,8 @@ static inline struct door_thread *door_thread(void)
 	return likely(t) ? t : make_thread();
 }
 
-/* Makes the room for a reply with a text so long at least. 0: there is no memory. */
+/* Makes the room for a reply with a text so long at least. 0: there is no memory. What was in the room stays, but it
+ * may be elsewhere. */
 static int make_room(struct door_thread *t, size_t size)
 {
 	uint8_t *room;
@@ -95,11 +102,14 @@ static int make_room(struct door_thread *t, size_t size)
  * by one. */
 static void clean_req(struct fuse_req *req)
 {
+	/* (from `ctx` on: what is before it, the lock among it, stays) */
 	memset(&req->ctx, 0, offsetof(struct door_req, call) - offsetof(struct door_req, req.ctx));
+	/* (a number of libfuse's, which has two names: how many ends it takes) */
 	req->REQ_COUNT = 1;
 	list_init_req(req);
 }
 
+/* Makes a request that is clean. NULL: there is no memory. */
 static __attribute__((noinline)) struct door_req *make_req(void)
 {
 	struct door_req *made = calloc(1, sizeof(*made));
@@ -108,6 +118,7 @@ static __attribute__((noinline)) struct door_req *make_req(void)
 		return NULL;
 	pthread_mutex_init(&made->req.lock, NULL);
 	clean_req(&made->req);
+	/* (0 is another kind: without a call none may be answered by a record) */
 	made->call.answer = NIZWARF_QUIET;
 	return made;
 }
@@ -129,6 +140,7 @@ static inline struct fuse_req *door_take_req(struct fuse_session *se)
 			return NULL;
 	}
 	taken->req.se = se;
+	/* (the call's own fields are set by the ask) */
 	taken->req.unique = 0;
 	taken->known = DOOR_ALONE;
 	return &taken->req;
@@ -141,12 +153,13 @@ static inline void keep_req(struct fuse_req *req)
 	struct door_req *own = own_of(req);
 
 #ifdef __SANITIZE_ADDRESS__
-	/* (which sees what is used after its end) */
+	/* (which sees what is used after its end) (so nothing is kept, and a second answer is found) */
 	t = NULL;
 #endif
+	/* (one a thread is enough: who answers on another thread has mostly another request to end) */
 	if (likely(t && !t->spare)) {
 		own->known = DOOR_ENDED;
-		own->call.call = 0;
+		own->call.call = 0; /* no call: what is read of it by who answers again */
 		own->call.answer = NIZWARF_QUIET;
 		t->spare = own;
 	} else {
@@ -154,6 +167,7 @@ static inline void keep_req(struct fuse_req *req)
 	}
 }
 
+/* (its session has let go of it: clean_req takes its links out of the list) */
 static void door_give_req(struct fuse_req *req)
 {
 	clean_req(req);
@@ -166,6 +180,7 @@ static struct fuse_session *door_take_session(void)
 
 	if (!door)
 		return NULL;
+	/* (until an INIT is answered: a request before that is refused, but must be read) */
 	door->sizes = (uint32_t)pagesize | (uint64_t)FIRST_BUFFER << 32;
 	return &door->se;
 }
@@ -184,14 +199,15 @@ static inline nizwarf_session session_of(struct fuse_session *se)
 	return session;
 }
 
-/* What is told of an ask, or of an answer, before it. */
+/* What is told of an ask, or of an answer, before it. (the door changes `options` at an INIT and a DESTROY alone) */
 static inline void begin_told(nizwarf_told *told, uint64_t options)
 {
 	memset(told, 0, sizeof(*told));
 	told->options = options;
 }
 
-/* An answer of this thread, in which a kind's own fields are still to be set: no other kind reads them. */
+/* An answer of this thread, in which a kind's own fields are still to be set: no other kind reads them. (not all of
+ * it is cleared: that would be 256 bytes a reply) */
 static void begin_answer(struct door_thread *t)
 {
 	nizwarf_answer *answer = &t->answer;
@@ -207,20 +223,23 @@ static void begin_answer(struct door_thread *t)
 /* A time in seconds and nanoseconds, as calc_timeout_sec and calc_timeout_nsec have them, by fewer steps. */
 static inline uint32_t spell_time(double t, uint64_t *seconds)
 {
-	const double most = 1e15;
+	const double most = 1e15; /* seconds: a double still has the whole number then */
 	double part;
 
+	/* (also where it is no number) */
 	if (unlikely(!(t >= 0 && t < most))) {
 		*seconds = calc_timeout_sec(t);
 		return calc_timeout_nsec(t);
 	}
 	*seconds = (uint64_t)(int64_t)t;
 	part = t - (double)(int64_t)t;
+	/* (Linux takes no 10^9 nanoseconds) */
 	return part >= 0.999999999 ? 999999999 : (uint32_t)(int64_t)(part * 1.0e9);
 }
 
 _Static_assert(sizeof(nizwarf_entry) == sizeof(struct fuse_entry_out), "an entry as fuse.h has it");
 
+/* convert_stat is libfuse's, and leaves `flags` as it is, which is padding in fuse.h of 3.14. */
 static inline void spell_attr(nizwarf_attr *out, const struct stat *st)
 {
 	convert_stat(st, (struct fuse_attr *)(void *)out);
@@ -245,7 +264,7 @@ static void fill_entry(struct fuse_entry_out *out, const struct fuse_entry_param
 	spell_entry((nizwarf_entry *)(void *)out, e);
 }
 
-/* Copies pieces together. */
+/* Copies pieces together. There is room for all. */
 static void gather(void *to, const struct iovec *iov, int count)
 {
 	size_t at = 0;
@@ -258,7 +277,8 @@ static void gather(void *to, const struct iovec *iov, int count)
 	}
 }
 
-/* A record of that many bytes, if there are as many in all: where it is, or `to`, if it comes in pieces. */
+/* A record of that many bytes, if there are as many in all: where it is, or `to`, if it comes in pieces. NULL: they
+ * are more, or fewer. What it says is to be read once: it is the program's memory. */
 static inline const char *record_of(void *to, size_t size, const struct iovec *iov, int count)
 {
 	if (count == 1)
@@ -283,7 +303,8 @@ static inline int take_record(void *to, size_t size, const struct iovec *iov, in
 
 /* ---- The answers, by their kinds: each tells whether the record is one of that kind --------------- */
 
-/* An INIT's: what libfuse and the file system agreed on, of what the client offers. */
+/* An INIT's: what libfuse and the file system agreed on, of what the client offers. As fuse_init_out of 7.43,
+ * whatever version's fuse.h is there. */
 struct door_init {
 	uint32_t major, minor, max_readahead, flags;
 	uint16_t max_background, congestion_threshold;
@@ -298,10 +319,12 @@ enum {
 	KERNEL_BACKGROUND = 12,
 	KERNEL_CONGESTION = 9,
 	/* The largest payload of a READ where MAX_PAGES isn't agreed on. */
-	LEAST_BUFFER = FUSE_DEFAULT_MAX_PAGES_PER_REQ * 4096,
-	MOST_BUFFER = 134217728,
+	LEAST_BUFFER = FUSE_DEFAULT_MAX_PAGES_PER_REQ * 4096, /* 128 KiB */
+	MOST_BUFFER = 134217728,			      /* 128 MiB, the door's limit */
 };
 
+/* Besides the answer, it sets the session's largest payload, which other threads read: before the reply is sent, so
+ * that no request meets the old one. */
 static int tell_init(fuse_req_t req, nizwarf_answer *answer, nizwarf_init_more *more, const struct iovec *iov,
 		     int count)
 {
@@ -322,12 +345,14 @@ static int tell_init(fuse_req_t req, nizwarf_answer *answer, nizwarf_init_more *
 	more->time_gran = said.time_gran;
 	more->max_stack_depth = said.max_stack_depth;
 	more->request_timeout = said.request_timeout;
+	/* (in whole pages, as Linux reads) */
 	buffer = ((uint64_t)said.max_write + pagesize - 1) / pagesize * pagesize;
 	if (buffer < LEAST_BUFFER)
 		buffer = LEAST_BUFFER;
 	if (buffer > MOST_BUFFER)
 		buffer = MOST_BUFFER;
 	__atomic_store_n(&door_of(req->se)->sizes, (uint32_t)pagesize | buffer << 32, __ATOMIC_RELAXED);
+	/* (with what else was agreed on, the reply is no virtiofsd's: `more` is the text that says so) */
 	nizwarf_init_keep(call_of(req), flags);
 	nizwarf_answer_options(answer, flags);
 	answer->text = (const uint8_t *)more;
@@ -335,11 +360,13 @@ static int tell_init(fuse_req_t req, nizwarf_answer *answer, nizwarf_init_more *
 	return 1;
 }
 
+/* In the following, 0: the record isn't one of this kind. What is told is copied, but a text. */
 static int tell_entry(nizwarf_answer *answer, const struct iovec *iov, int count)
 {
 	return take_record(&answer->entry, sizeof(answer->entry), iov, count);
 }
 
+/* (the record's order is another than that of the answer: its two times are around padding) */
 static int tell_attr(nizwarf_answer *answer, const struct iovec *iov, int count)
 {
 	struct fuse_attr_out attr;
@@ -377,6 +404,7 @@ static int tell_opened(nizwarf_answer *answer, const struct iovec *iov, int coun
 	return 1;
 }
 
+/* An entry, and then a handle. */
 static int tell_created(nizwarf_answer *answer, const struct iovec *iov, int count)
 {
 	struct {
@@ -419,7 +447,8 @@ static int tell_number(nizwarf_answer *answer, const struct iovec *iov, int coun
 	return 1;
 }
 
-/* Bytes, which are put together in the thread's room: a reply may overlap its text. */
+/* Bytes, which are put together in the thread's room: a reply may overlap its text. With an error it answers 1 too:
+ * that is what is told then. ERANGE: the caller wants fewer bytes. */
 static int tell_text(const nizwarf_call *call, struct door_thread *t, const struct iovec *iov, int count)
 {
 	const size_t len = iov_length(iov, count);
@@ -440,6 +469,7 @@ static int tell_text(const nizwarf_call *call, struct door_thread *t, const stru
 	gather(t->room, iov, count);
 	answer->text = t->room;
 	answer->text_len = len;
+	/* (no more than was asked for is handed out; with RETRY pairs of places follow, which Linux reads itself) */
 	if (call->call == NIZWARF_IOCTL && len >= sizeof(record)) {
 		memcpy(&record, t->room, sizeof(record));
 		return record.flags & FUSE_IOCTL_RETRY || len - sizeof(record) <= call->size;
@@ -447,6 +477,7 @@ static int tell_text(const nizwarf_call *call, struct door_thread *t, const stru
 	return 1;
 }
 
+/* Of an attribute whose length is asked for, `size` is 0. */
 static int tell_attribute(const nizwarf_call *call, struct door_thread *t, const struct iovec *iov, int count)
 {
 	if (call->size)
@@ -455,6 +486,8 @@ static int tell_attribute(const nizwarf_call *call, struct door_thread *t, const
 	return tell_number(&t->answer, iov, count);
 }
 
+/* Sets this thread's answer by the record that libfuse laid out. 0: it's none of the kind that the call is answered
+ * by. */
 static int tell(fuse_req_t req, struct door_thread *t, nizwarf_init_more *more, const struct iovec *iov,
 		int count)
 {
@@ -463,7 +496,7 @@ static int tell(fuse_req_t req, struct door_thread *t, nizwarf_init_more *more, 
 
 	switch (call->answer) {
 	case NIZWARF_DONE:
-		return !iov_length(iov, count);
+		return !iov_length(iov, count); /* nothing but the error 0 */
 	case NIZWARF_WANT:
 		return tell_init(req, answer, more, iov, count);
 	case NIZWARF_ENTRY:
@@ -484,7 +517,7 @@ static int tell(fuse_req_t req, struct door_thread *t, nizwarf_init_more *more, 
 		return take_record(&answer->count, sizeof(answer->count), iov, count);
 	case NIZWARF_WRITTEN:
 		return tell_number(answer, iov, count);
-	default:
+	default: /* (QUIET, DATA and DIRECTORY are answered elsewhere) */
 		return 0;
 	}
 }
@@ -492,7 +525,8 @@ static int tell(fuse_req_t req, struct door_thread *t, nizwarf_init_more *more, 
 /* ---- To reply --------------------------------------------------------------------------------------- */
 
 /* A header alone, of what the door has no reply for: a request that it refused, a DESTROY, and where it has no
- * memory. */
+ * memory. `error` is 0 or below. It ends the request. Answered is what sending came to, or -EINVAL where the request
+ * has ended before. */
 static int send_header(fuse_req_t req, int error)
 {
 	struct iovec iov[1];
@@ -507,7 +541,9 @@ static int send_header(fuse_req_t req, int error)
 	return res;
 }
 
-/* Sends what the door put, with data after it: `iov` has a place for that in front. */
+/* Sends what the door put, with data after it: `iov` has a place for that in front. It ends the request. (Once the
+ * reply is sent a client may use the number again, and send an interrupt: so nothing of the request is looked at then
+ * but who knows of it.) */
 static inline int send_put(fuse_req_t req, uint8_t *put, size_t len, struct iovec *iov, int count)
 {
 	int res;
@@ -527,13 +563,16 @@ static int send_lost(fuse_req_t req, int error)
 	return -ENOENT;
 }
 
+/* The door made no reply of an answer: an error goes in its place. */
 static __attribute__((noinline)) int send_none(fuse_req_t req, int32_t code)
 {
 	fuse_log(FUSE_LOG_ERR, "fuse: no reply to call %u: %d\n", call_of(req)->call, code);
 	return send_lost(req, code == NIZWARF_OUT_OF_MEMORY ? -ENOMEM : -EIO);
 }
 
-/* The door's reply to a call, by this thread's answer, if it has neither text nor items: it stays in the slot. */
+/* The door's reply to a call, by this thread's answer, if it has neither text nor items: it stays in the slot. The
+ * session may change while a request waits: the reply goes by what was agreed on when it was asked, which `call`
+ * has. */
 static inline int32_t put_answer(fuse_req_t req, struct door_thread *t, nizwarf_told *told)
 {
 	const nizwarf_session session = session_of(req->se);
@@ -546,7 +585,8 @@ static inline int32_t put_answer(fuse_req_t req, struct door_thread *t, nizwarf_
 				 (const nizwarf_item *)(const void *)answer, 0, told);
 }
 
-/* Answers a call by this thread's answer, which is an error or a record alone. */
+/* Answers a call by this thread's answer, which is an error or a record alone. Besides send_answer there is this one
+ * since most replies are such: it wants no memory but the stack's. */
 static int send_record(fuse_req_t req, struct door_thread *t)
 {
 	_Alignas(struct fuse_out_header) uint8_t reply[SMALL_ROOM];
@@ -554,6 +594,7 @@ static int send_record(fuse_req_t req, struct door_thread *t)
 	nizwarf_told told;
 	int32_t code;
 
+	/* (the ask may have had more room; a reply that fits in less is the same) */
 	call_of(req)->room = SMALL_ROOM;
 	code = put_answer(req, t, &told);
 	if (unlikely(code != NIZWARF_OK || !told.len))
@@ -562,18 +603,20 @@ static int send_record(fuse_req_t req, struct door_thread *t)
 	return send_put(req, reply, told.put, iov, 1);
 }
 
-/* Answers a call by this thread's answer, which may have a text, or say more than its record. */
+/* Answers a call by this thread's answer, which may have a text, or say more than its record. Of an INIT it sets the
+ * session's options, before the reply goes out: the next request may come at once, on another thread. */
 static int send_answer(fuse_req_t req, struct door_thread *t)
 {
 	const nizwarf_session session = session_of(req->se);
 	/* (as much room as it needs, so that a slot needs no more) */
-	const size_t size = SMALL_ROOM + t->answer.text_len;
+	const size_t size = SMALL_ROOM + t->answer.text_len; /* bytes */
 	nizwarf_call *call = call_of(req);
 	struct iovec iov[1];
 	nizwarf_told told;
 	nizwarf_room room;
 	int32_t code;
 
+	/* (where the text lies there already, the room is as large: it doesn't move) */
 	if (!make_room(t, size))
 		return send_lost(req, -ENOMEM);
 	call->room = size;
@@ -594,12 +637,14 @@ static int send_plain(fuse_req_t req, int error)
 
 	if (!t)
 		return send_header(req, -ENOMEM);
+	/* (below 0 it is none either, which the door replies as EIO) */
 	t->answer.error = error > NIZWARF_LAST_ERROR ? EIO : error;
 	return send_record(req, t);
 }
 
 /* The header of a reply with `len` bytes of data, which the door doesn't see: those of a READ, or records of a
- * directory. 0: there is no memory. A header that says an error has no data. */
+ * directory. 0: there is no memory. A header that says an error has no data. Answered is the whole reply's length,
+ * which the header says too. */
 static inline size_t put_data_header(fuse_req_t req, uint64_t len, uint8_t *header)
 {
 	struct door_thread *t = door_thread();
@@ -608,7 +653,8 @@ static inline size_t put_data_header(fuse_req_t req, uint64_t len, uint8_t *head
 
 	if (unlikely(!t))
 		return 0;
-	/* A listing is told as bytes: libfuse has them in records already. */
+	/* A listing is told as bytes: libfuse has them in records already. (nothing else looks at the call after
+	 * this) */
 	if (call->answer == NIZWARF_DIRECTORY) {
 		call->call = NIZWARF_READ;
 		call->answer = NIZWARF_DATA;
@@ -623,7 +669,8 @@ static inline size_t put_data_header(fuse_req_t req, uint64_t len, uint8_t *head
 	return told.len;
 }
 
-/* Puts pieces together, in front of which `iov` has a place for a header. 0: there is no memory. */
+/* Puts pieces together, in front of which `iov` has a place for a header. 0: there is no memory. A record may be cut
+ * between two pieces, as nobody forbids that. */
 static __attribute__((noinline)) int join_pieces(struct iovec *iov, int count, size_t len)
 {
 	struct door_thread *t = door_thread();
@@ -636,7 +683,8 @@ static __attribute__((noinline)) int join_pieces(struct iovec *iov, int count, s
 	return 1;
 }
 
-/* A reply with data, which are sent from where they are. */
+/* A reply with data, which are sent from where they are. Those of a directory are looked at first, as Linux ends a
+ * listing at a record that is wrong. */
 static int send_data(fuse_req_t req, struct iovec *iov, int count)
 {
 	const nizwarf_call *call = call_of(req);
@@ -644,6 +692,7 @@ static int send_data(fuse_req_t req, struct iovec *iov, int count)
 	size_t len = iov_length(iov + 1, count - 1), whole;
 
 	if (call->answer == NIZWARF_DIRECTORY && len) {
+		/* (Linux would refuse the reply, and the caller wait) */
 		if (len > call->size)
 			return send_plain(req, EIO);
 		if (unlikely(count > 2)) {
@@ -652,6 +701,7 @@ static int send_data(fuse_req_t req, struct iovec *iov, int count)
 			count = 2;
 		}
 		len = count_whole(call, iov[1].iov_base, len);
+		/* (also where the first record is cut: no progress could be made) */
 		if (unlikely(!len))
 			return send_plain(req, EIO);
 		iov[1].iov_len = len;
@@ -659,18 +709,19 @@ static int send_data(fuse_req_t req, struct iovec *iov, int count)
 	whole = put_data_header(req, len, header);
 	if (unlikely(!whole))
 		return send_header(req, -ENOMEM);
+	/* (the door says an error in place of data that are more than were asked for) */
 	return send_put(req, header, HEADER, iov, whole > HEADER ? count : 1);
 }
 
 /* What was answered is no answer to the call: an error, if it is due a reply. The file system is told what a kernel
- * would say to it. */
+ * would say to it. It ends the request. */
 static __attribute__((noinline)) int send_wrong(fuse_req_t req)
 {
 	const nizwarf_call *call = call_of(req);
 
 	if (!call->call || call->call == NIZWARF_DESTROY)
 		return send_header(req, 0);
-	if (call->answer == NIZWARF_QUIET) {
+	if (call->answer == NIZWARF_QUIET) { /* a FORGET: nobody waits for a reply */
 		fuse_free_req(req);
 		return -EINVAL;
 	}
@@ -679,7 +730,8 @@ static __attribute__((noinline)) int send_wrong(fuse_req_t req)
 	return -EINVAL;
 }
 
-/* A reply with a record that libfuse laid out. */
+/* A reply with a record that libfuse laid out. (the program sees -ENOENT where memory lacks: then it takes back what
+ * it gave) */
 static int send_told(fuse_req_t req, const struct iovec *iov, int count)
 {
 	struct door_thread *t = door_thread();
@@ -698,6 +750,7 @@ static int send_reply_iov(fuse_req_t req, int error, struct iovec *iov, int coun
 {
 	const nizwarf_call *call = call_of(req);
 
+	/* (a DESTROY's is a header alone, as is that of a request which came to no file system) */
 	if (unlikely(call->answer == NIZWARF_QUIET)) {
 		if (!call->call || call->call == NIZWARF_DESTROY)
 			return send_header(req, error);
@@ -707,8 +760,10 @@ static int send_reply_iov(fuse_req_t req, int error, struct iovec *iov, int coun
 		return send_plain(req, -error);
 	if (call->answer == NIZWARF_DATA || call->answer == NIZWARF_DIRECTORY)
 		return send_data(req, iov, count);
+	/* (with more pieces it is some record, which is told as wrong) */
 	if (call->answer == NIZWARF_DONE && count == 1)
 		return send_plain(req, 0);
+	/* (without the header's place) */
 	return send_told(req, iov + 1, count - 1);
 }
 
@@ -729,6 +784,7 @@ static __attribute__((noinline)) int send_other(fuse_req_t req, uint32_t kind)
 	return call_of(req)->answer == kind ? send_lost(req, -ENOMEM) : send_wrong(req);
 }
 
+/* The three that follow are libfuse's, in place of its own: the record goes right into the answer. */
 int fuse_reply_entry(fuse_req_t req, const struct fuse_entry_param *e)
 {
 	struct door_thread *t = begin_record(req, NIZWARF_ENTRY);
@@ -763,12 +819,14 @@ int fuse_reply_write(fuse_req_t req, size_t count)
 	return send_record(req, t);
 }
 
-/* Data by descriptors, where the call isn't a READ. */
+/* Data by descriptors, where the call isn't a READ. What libfuse's fuse_reply_data does where it has no pipe: all of
+ * the data are copied into memory first. Answered is what fuse_reply_buf answers. */
 static int reply_flat(fuse_req_t req, struct fuse_bufvec *bufv)
 {
 	struct fuse_bufvec flat = FUSE_BUFVEC_INIT(fuse_buf_size(bufv));
 	ssize_t res;
 
+	/* (malloc(0) may be NULL, which would be taken for want of memory) */
 	flat.buf[0].mem = malloc(flat.buf[0].size ? flat.buf[0].size : 1);
 	if (!flat.buf[0].mem)
 		return fuse_reply_err(req, ENOMEM);
@@ -789,12 +847,14 @@ int fuse_reply_data(fuse_req_t req, struct fuse_bufvec *bufv, enum fuse_buf_copy
 
 	if (call_of(req)->answer != NIZWARF_DATA || !call_of(req)->call)
 		return reply_flat(req, bufv);
+	/* (as many as are offered; a file may have fewer) */
 	whole = put_data_header(req, fuse_buf_size(bufv), header);
-	if (whole <= HEADER)
+	if (whole <= HEADER) /* no data: none are there, or the header says an error */
 		return whole ? send_put(req, header, HEADER, iov, 1) : send_header(req, -ENOMEM);
 	iov[0].iov_base = header;
 	iov[0].iov_len = HEADER;
 	res = fuse_send_data_iov(req->se, req->ch, iov, 1, bufv, flags SEND_OF(req));
+	/* (the error of a file: nothing was sent yet) */
 	if (res > 0)
 		return fuse_reply_err(req, res);
 	fuse_free_req(req);

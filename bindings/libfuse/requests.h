@@ -7,17 +7,18 @@
 
 enum {
 	/* The longest reply of a request that needs no file system. */
-	LONGEST_FINISHED = 80,
+	LONGEST_FINISHED = 80, /* bytes: INIT's, where a newer version is refused */
 	/* As much of a request as is read out of a pipe before it's known whether its data may stay there. */
 	WRITE_FRONT = sizeof(struct fuse_in_header) + sizeof(struct fuse_write_in),
-	ABSENT = 1 << 16,
-	MOST_SEGMENTS = 64,
-	BIT_KILLPRIV_V2 = 28,
+	ABSENT = 1 << 16,     /* bytes of a segment that stands for data in a pipe */
+	MOST_SEGMENTS = 64,   /* so data of 4 MiB, less one segment */
+	BIT_KILLPRIV_V2 = 28, /* of INIT's options */
 };
 
-/* A request as it came, and what of it is in memory: all of it, but for data that stay in a pipe. */
+/* A request as it came, and what of it is in memory: all of it, but for data that stay in a pipe. `in` is aligned as
+ * a header, and `len` may be less than one: nothing is read before that is looked at. */
 struct door_message {
-	const struct fuse_buf *buf;
+	const struct fuse_buf *buf; /* libfuse's: memory, or a pipe; `size` bytes in all */
 	const char *in;
 	size_t len;
 };
@@ -25,19 +26,23 @@ struct door_message {
 /* Stands for data that are in a pipe, of which the door asks the length alone. */
 static const char door_absent[ABSENT];
 
+/* Linux asks no such call again, of most kinds, once it had ENOSYS. */
 #define ABSENT_OP(req) ((void)fuse_reply_err(req, ENOSYS))
 /* Calls a function of the file system, if it has that. */
 #define CALL(req, function, ...) \
 	((req)->se->op.function ? (req)->se->op.function(req, __VA_ARGS__) : ABSENT_OP(req))
 
+/* Makes a call of the file system, by which the request ends, now or later, maybe on another thread: so after it
+ * neither the request nor `c`, which is in it, is looked at. The message stays until it comes back. */
 typedef void door_call(fuse_req_t req, const nizwarf_call *c, const struct door_message *m);
 
+/* Where a part of the message is, of which the door says that it's there. A name ends with a 0 there. */
 static const char *bytes_at(const struct door_message *m, nizwarf_range range)
 {
 	return m->in + range.at;
 }
 
-/* A handle, with what else a call tells of it. */
+/* A handle, with what else a call tells of it. (what the call doesn't tell is 0, as the file system expects) */
 static struct fuse_file_info file_of(const nizwarf_call *c)
 {
 	struct fuse_file_info file;
@@ -47,6 +52,8 @@ static struct fuse_file_info file_of(const nizwarf_call *c)
 	return file;
 }
 
+/* Whether Linux leaves it to the file system to take set-user-ID bits from a file that is written or cut. (Without
+ * the option that isn't said.) */
 static void kill_privileges(struct fuse_file_info *file, const nizwarf_call *c)
 {
 #ifdef HAVE_KILL_SUIDGID
@@ -96,6 +103,7 @@ static void on_rename(fuse_req_t req, const nizwarf_call *c, const struct door_m
 	CALL(req, rename, c->node, bytes_at(m, c->name), c->other_node, bytes_at(m, c->other_name), c->flags);
 }
 
+/* (the door's `node` is the file that gets one more name) */
 static void on_link(fuse_req_t req, const nizwarf_call *c, const struct door_message *m)
 {
 	CALL(req, link, c->node, c->other_node, bytes_at(m, c->name));
@@ -126,7 +134,7 @@ static void on_tmpfile(fuse_req_t req, const nizwarf_call *c, const struct door_
 static void on_readlink(fuse_req_t req, const nizwarf_call *c, const struct door_message *m)
 {
 	(void)m;
-	if (req->se->op.readlink)
+	if (req->se->op.readlink) /* (CALL wants an argument more) */
 		req->se->op.readlink(req, c->node);
 	else
 		ABSENT_OP(req);
@@ -143,7 +151,8 @@ static void on_forget(fuse_req_t req, const nizwarf_call *c, const struct door_m
 		fuse_reply_none(req);
 }
 
-/* The file system ends a request with each call. So one stands for all of them: that wants no memory. */
+/* The file system ends a request with each call. So one stands for all of them: that wants no memory. With
+ * forget_multi it gets all pairs at once, where they lie: both are laid out as libfuse's. */
 static void on_batch_forget(fuse_req_t req, const nizwarf_call *c, const struct door_message *m)
 {
 	const uint64_t pairs = nizwarf_batch_forget_pairs(c);
@@ -160,9 +169,13 @@ static void on_batch_forget(fuse_req_t req, const nizwarf_call *c, const struct 
 		/* (no reply goes there) */
 		fuse_chan_put(req->ch);
 		req->ch = NULL;
+		/* (each call may end it on a thread of its own: so its end counts, under the session's lock) */
 		own_of(req)->known = DOOR_KNOWN;
+		/* (one of its own, which goes last: so it isn't freed before all were told; a message has fewer than
+		 * 2^31) */
 		req->REQ_COUNT += (int)pairs;
 		for (i = 0; i < pairs; i++) {
+			/* (read while the message is there: the file system has the numbers alone) */
 			memcpy(&one, at + i * sizeof(one), sizeof(one));
 			se->op.forget(req, one.ino, one.nlookup);
 		}
@@ -182,6 +195,7 @@ static void on_getattr(fuse_req_t req, const nizwarf_call *c, const struct door_
 
 static void on_setattr(fuse_req_t req, const nizwarf_call *c, const struct door_message *m)
 {
+	/* (those that libfuse has a name for: Linux's others, as of a handle, are told otherwise) */
 	const int fields = FUSE_SET_ATTR_MODE | FUSE_SET_ATTR_UID | FUSE_SET_ATTR_GID | FUSE_SET_ATTR_SIZE |
 			   FUSE_SET_ATTR_ATIME | FUSE_SET_ATTR_MTIME | FUSE_SET_ATTR_KILL_SUID |
 			   FUSE_SET_ATTR_KILL_SGID | FUSE_SET_ATTR_ATIME_NOW | FUSE_SET_ATTR_MTIME_NOW |
@@ -245,7 +259,7 @@ static void on_statx(fuse_req_t req, const nizwarf_call *c, const struct door_me
 
 static void on_statfs(fuse_req_t req, const nizwarf_call *c, const struct door_message *m)
 {
-	const struct statvfs none = { .f_namemax = 255, .f_bsize = 512 };
+	const struct statvfs none = { .f_namemax = 255, .f_bsize = 512 }; /* what libfuse says */
 
 	(void)m;
 	if (req->se->op.statfs)
@@ -256,7 +270,8 @@ static void on_statfs(fuse_req_t req, const nizwarf_call *c, const struct door_m
 
 /* ---- Files ------------------------------------------------------------------------------------------- */
 
-/* An OPEN or an OPENDIR: one that a file system doesn't have is done, unless it asked to be spared of it. */
+/* An OPEN or an OPENDIR: one that a file system doesn't have is done, unless it asked to be spared of it. ENOSYS,
+ * where it asked for that, is Linux's sign to send no such request again. */
 static void open_by(fuse_req_t req, const nizwarf_call *c, uint64_t spared,
 		    void (*function)(fuse_req_t, fuse_ino_t, struct fuse_file_info *))
 {
@@ -295,7 +310,8 @@ static void on_read(fuse_req_t req, const nizwarf_call *c, const struct door_mes
 	CALL(req, read, c->node, c->size, (off_t)c->offset, &file);
 }
 
-/* Data that are in a pipe stay there: the file system moves them on. */
+/* Data that are in a pipe stay there: the file system moves them on. The function reads as many bytes as it wants:
+ * what it leaves in the pipe would be taken for the next message, and so is taken out after it. */
 static void write_buffers(fuse_req_t req, const nizwarf_call *c, const struct door_message *m,
 			  struct fuse_file_info *file)
 {
@@ -305,10 +321,12 @@ static void write_buffers(fuse_req_t req, const nizwarf_call *c, const struct do
 
 	bufv.buf[0].size = asked;
 	if (!in_pipe) {
+		/* (a message that came by a pipe, and is in memory now, says still that it is in one) */
 		bufv.buf[0].flags = 0;
 		bufv.buf[0].mem = (char *)(uintptr_t)bytes_at(m, c->data);
 	}
 	se->op.write_buf(req, c->node, &bufv, (off_t)c->offset, file);
+	/* (`se`, not the request's: that has ended) */
 	if (in_pipe && (bufv.idx < bufv.count || in_pipe > asked))
 		fuse_ll_clear_pipe(se);
 }
@@ -322,6 +340,7 @@ static void on_write(fuse_req_t req, const nizwarf_call *c, const struct door_me
 	file.lock_owner = c->lock_owner;
 	file.writepage = (c->has & NIZWARF_DELAYED) != 0;
 	kill_privileges(&file, c);
+	/* (libfuse would read after the message, where the kernel lies) */
 	if (c->data.len < c->size) {
 		fuse_reply_err(req, EIO);
 		if (m->len < m->buf->size)
@@ -338,7 +357,7 @@ static void on_flush(fuse_req_t req, const nizwarf_call *c, const struct door_me
 	struct fuse_file_info file = file_of(c);
 
 	(void)m;
-	file.flush = 1;
+	file.flush = 1; /* as libfuse says it of each FLUSH */
 	file.lock_owner = c->lock_owner;
 	CALL(req, flush, c->node, &file);
 }
@@ -421,6 +440,7 @@ static void on_copy(fuse_req_t req, const nizwarf_call *c, const struct door_mes
 	struct fuse_file_info from = file_of(c), to = file_of(c);
 
 	(void)m;
+	/* (the call's own numbers tell both files apart) */
 	to.fh = c->other_handle;
 #ifdef HAVE_COPY_64
 	req->flags.is_copy_file_range_64 = c->call == NIZWARF_COPY_64;
@@ -436,6 +456,7 @@ static void on_copy(fuse_req_t req, const nizwarf_call *c, const struct door_mes
 
 /* ---- Locks, and what devices do ----------------------------------------------------------------------- */
 
+/* libfuse's function makes a range of it, whose end 2^63 - 1 is the file's, and the kind as fcntl(2) has it. */
 static struct flock lock_of(const nizwarf_call *c)
 {
 	const nizwarf_lock asked = nizwarf_lock_asked(c);
@@ -467,6 +488,7 @@ static void on_setlk(fuse_req_t req, const nizwarf_call *c, const struct door_me
 
 	(void)m;
 	file.lock_owner = c->lock_owner;
+	/* (flock(2) locks go by the same opcode) */
 	if (!(c->has & NIZWARF_HAS_FLOCK)) {
 		CALL(req, setlk, c->node, &file, &lock, waits);
 		return;
@@ -486,6 +508,7 @@ static void on_bmap(fuse_req_t req, const nizwarf_call *c, const struct door_mes
 	CALL(req, bmap, c->node, c->size, c->offset);
 }
 
+/* Of a directory it's ENOTTY, unless the file system asked for those: so says libfuse. */
 static void on_ioctl(fuse_req_t req, const nizwarf_call *c, const struct door_message *m)
 {
 	const char *in = c->data.len ? bytes_at(m, c->data) : NULL;
@@ -498,6 +521,7 @@ static void on_ioctl(fuse_req_t req, const nizwarf_call *c, const struct door_me
 		     (void *)(uintptr_t)nizwarf_ioctl_argument(c), &file, c->flags, in, c->data.len, c->size);
 }
 
+/* The handle is the file system's from then on, which ends it by fuse_pollhandle_destroy. */
 static void on_poll(fuse_req_t req, const nizwarf_call *c, const struct door_message *m)
 {
 	struct fuse_file_info file = file_of(c);
@@ -517,10 +541,12 @@ static void on_poll(fuse_req_t req, const nizwarf_call *c, const struct door_mes
 	CALL(req, poll, c->node, &file, handle);
 }
 
-/* What a notice asked for has come. */
+/* What a notice asked for has come. It may be in a pipe but for its front. The memory of whoever asked is theirs, or
+ * libfuse's, and ends with its function. */
 static void on_notify_reply(fuse_req_t req, const nizwarf_call *c, const struct door_message *m)
 {
 	const struct fuse_in_header *in = (const void *)m->in;
+	/* (`c` isn't looked at after the function: it ends the request) */
 	const int is_longer = m->buf->size - m->len > c->size;
 	struct fuse_session *se = req->se;
 	struct fuse_notify_req *asked;
@@ -532,6 +558,7 @@ static void on_notify_reply(fuse_req_t req, const nizwarf_call *c, const struct 
 	/* (of others who asked takes the header off) */
 	buf.size -= sizeof(*in);
 #endif
+	/* (taken off the list first, so that a second reply of that number finds none) */
 	pthread_mutex_lock(&se->lock);
 	for (asked = se->notify_list.next; asked != &se->notify_list; asked = asked->next)
 		if (asked->unique == c->unique) {
@@ -552,13 +579,16 @@ static void on_notify_reply(fuse_req_t req, const nizwarf_call *c, const struct 
 
 /* ---- A session ---------------------------------------------------------------------------------------- */
 
-/* What is agreed on is libfuse's to say: its own function reads the record, which the door found whole. */
+/* What is agreed on is libfuse's to say: its own function reads the record, which the door found whole. (a shorter
+ * record of an older client is filled up by zeros, as libfuse reads all of it) */
 static void on_init(fuse_req_t req, const nizwarf_call *c, const struct door_message *m)
 {
 	_Alignas(uint64_t) char record[NIZWARF_INIT_FRONT] = { 0 };
 	const size_t len = m->len - sizeof(struct fuse_in_header);
 
 	memcpy(record, m->in + sizeof(struct fuse_in_header), len < sizeof(record) ? len : sizeof(record));
+	/* (a field that an INIT has no other use for, by which nizwarf.h keeps what is offered beside virtiofsd's
+	 * options) */
 	call_of(req)->other_offset = nizwarf_init_offered_at(
 		(const uint8_t *)m->in, m->len < NIZWARF_INIT_FRONT ? m->len : NIZWARF_INIT_FRONT);
 	do_init(req, c->node, record);
@@ -566,6 +596,7 @@ static void on_init(fuse_req_t req, const nizwarf_call *c, const struct door_mes
 
 static void on_destroy(fuse_req_t req, const nizwarf_call *c, const struct door_message *m)
 {
+	/* (as at the begin: a client may send an INIT again, which isn't the kernel) */
 	__atomic_store_n(&door_of(req->se)->options, 0, __ATOMIC_RELAXED);
 	do_destroy(req, c->node, m->in + m->len);
 }
@@ -624,7 +655,8 @@ static door_call *const door_calls[] = {
 
 /* ---- From a message to its call ------------------------------------------------------------------------ */
 
-/* Moves bytes out of the pipe that a message is in. */
+/* Moves bytes out of the pipe that a message is in: `pipe` goes on after them. 0: it failed. (There are as many: libfuse
+ * counted them as it filled the pipe.) */
 static int take_bytes(struct fuse_bufvec *pipe, char *to, size_t len)
 {
 	struct fuse_bufvec memory = FUSE_BUFVEC_INIT(len);
@@ -643,7 +675,8 @@ static int wait_for_memory(const struct door_message *m, int *tries)
 	       (in->opcode == FUSE_FORGET || in->opcode == FUSE_BATCH_FORGET) && door_pause(tries);
 }
 
-/* Whether what follows the front of a message may stay in a pipe. */
+/* Whether what follows the front of a message may stay in a pipe. The front is in memory. Of the data the door is
+ * told the length alone, by segments that have no bytes of it, and it reads none of them. */
 static int may_stay(const struct fuse_session *se, const struct door_message *m)
 {
 	const struct fuse_in_header *in = (const void *)m->in;
@@ -654,13 +687,15 @@ static int may_stay(const struct fuse_session *se, const struct door_message *m)
 }
 
 /* Takes of a message that is in a pipe into memory what the door is to read: its front, or all, which is to be freed.
- * 0: the message is lost. */
+ * 0: the message is lost. The front is `WRITE_FRONT` bytes, or all if that is less: it has the header, the record of
+ * a WRITE and that of a NOTIFY_REPLY. */
 static int take_message(struct fuse_session *se, struct door_message *m, char *front, char **whole)
 {
 	struct fuse_bufvec pipe = { .count = 1, .buf[0] = *m->buf };
 	const size_t size = m->buf->size, len = size < WRITE_FRONT ? size : WRITE_FRONT;
 	int tries = 0;
 
+	/* (also where it's lost: an error is told by the header, if that came) */
 	m->in = front;
 	m->len = 0;
 	if (!take_bytes(&pipe, front, len))
@@ -670,16 +705,19 @@ static int take_message(struct fuse_session *se, struct door_message *m, char *f
 		return 1;
 	do
 		*whole = malloc(size);
+	/* (the header, which the front has, says what the message is) */
 	while (!*whole && wait_for_memory(m, &tries));
 	if (!*whole || !take_bytes(&pipe, *whole + len, size - len))
 		return 0;
+	/* (last, so that nobody looks at a message that is there in part) */
 	memcpy(*whole, front, len);
 	m->in = *whole;
 	m->len = size;
 	return 1;
 }
 
-/* Whether a request is of a row that is offered: of no other one the offers are looked at. */
+/* Whether a request is of a row that is offered: of no other one the offers are looked at. What is shorter than a
+ * header is taken for one, since the door refuses it anyhow. An opcode of 64 and more is none. */
 static inline int is_row(const struct door_message *m)
 {
 	const uint64_t rows = UINT64_C(1) << FUSE_GETLK | UINT64_C(1) << FUSE_SETLK |
@@ -703,6 +741,7 @@ static __attribute__((noinline)) int32_t ask_further(struct door_thread *t, cons
 	segments[0].at = m->in;
 	segments[0].len = m->len;
 	for (; left; left -= segments[count++].len) {
+		/* (the same bytes again and again: nobody reads them) */
 		segments[count].at = door_absent;
 		segments[count].len = left < ABSENT ? left : ABSENT;
 	}
@@ -712,10 +751,11 @@ static __attribute__((noinline)) int32_t ask_further(struct door_thread *t, cons
 	return nizwarf_ask_at(&t->slot, session, segments, count, room, call, told);
 }
 
-/* How much room the door is told of. A slot keeps as much memory for each answer, but of a READ a header's: so it's no
- * more than a reply without a text takes, or than a directory is asked for. */
+/* How much room the door is told of. A slot keeps as much memory for each answer, but of a READ a header's: so it's
+ * no more than a reply without a text takes, or than a directory is asked for. In bytes. */
 static inline size_t room_for(const nizwarf_session *session, const struct door_message *m)
 {
+	/* (no overflow: 32 bits and 4096) */
 	const size_t most = session->max_buffer + FUSE_BUFFER_HEADER_SIZE;
 	const struct fuse_in_header *in = (const void *)m->in;
 	uint32_t size;
@@ -726,11 +766,14 @@ static inline size_t room_for(const nizwarf_session *session, const struct door_
 		return most;
 	if (in->opcode != FUSE_READDIR && in->opcode != FUSE_READDIRPLUS)
 		return SMALL_ROOM;
+	/* (the `size` of a READDIR is at the same place as a READ's) */
 	memcpy(&size, m->in + sizeof(*in) + offsetof(struct fuse_read_in, size), sizeof(size));
+	/* (a client may ask for any size: Linux asks for no more than was agreed on) */
 	return size < most - SMALL_ROOM ? SMALL_ROOM + size : most;
 }
 
-/* Asks the door for the call of a message. */
+/* Asks the door for the call of a message. NIZWARF_ASKED: the call is set. NIZWARF_OK: it needs no file system, and
+ * its reply is in the thread's slot. Others: it's refused. */
 static inline int32_t ask(struct door_thread *t, struct fuse_session *se, const struct door_message *m,
 			  nizwarf_call *call, nizwarf_told *told)
 {
@@ -744,13 +787,14 @@ static inline int32_t ask(struct door_thread *t, struct fuse_session *se, const 
 	return nizwarf_ask_at(&t->slot, &session, &segment, 1, room, call, told);
 }
 
+/* No call is told: the reply is a header alone. */
 static void forget_call(fuse_req_t req)
 {
 	call_of(req)->call = 0;
 	call_of(req)->answer = NIZWARF_QUIET;
 }
 
-/* Ends a request that comes to no file system by an error, if a client waits for a reply. */
+/* Ends a request that comes to no file system by an error, if a client waits for a reply. `error` is above 0. */
 static void refuse(fuse_req_t req, const struct door_message *m, int error)
 {
 	const struct fuse_in_header *in = (const void *)m->in;
@@ -774,7 +818,9 @@ static void finish(fuse_req_t req, struct door_thread *t, const struct door_mess
 	struct iovec iov[1];
 
 	forget_call(req);
+	/* (its header alone says which it is: no call was told) */
 	req->unique = m->len < sizeof(*in) ? 0 : in->unique;
+	/* (the request of an INTERRUPT is not ended here: it's kept, or has ended) */
 	if (told->interrupts && has_interrupts(req->se)) {
 		interrupt(req, told->interrupts);
 		return;
@@ -784,6 +830,7 @@ static void finish(fuse_req_t req, struct door_thread *t, const struct door_mess
 		fuse_reply_err(req, ENOSYS);
 		return;
 	}
+	/* (an opcode that is none is answered ENOSYS, for instance) */
 	if (told->len) {
 		iov[0].iov_base = reply;
 		iov[0].iov_len = nizwarf_copy_slot_at(&t->slot, 0, reply,
@@ -793,7 +840,8 @@ static void finish(fuse_req_t req, struct door_thread *t, const struct door_mess
 	fuse_reply_none(req);
 }
 
-/* With -o allow_root, whoever is neither the owner nor root may go on with what is open alone. */
+/* With -o allow_root, whoever is neither the owner nor root may go on with what is open alone. As libfuse does it,
+ * who has the user's name and number from Linux. */
 static inline int is_denied(const struct fuse_session *se, const nizwarf_call *c)
 {
 	if (likely(!se->deny_others) || c->uid == se->owner || c->uid == 0)
@@ -814,7 +862,7 @@ static inline int is_denied(const struct fuse_session *se, const nizwarf_call *c
 	}
 }
 
-/* Whether a request comes before an INIT was answered, or is a second one. */
+/* Whether a request comes before an INIT was answered, or is a second one. Both are EIO. */
 static inline int is_early(const struct fuse_session *se, const nizwarf_call *c)
 {
 	return se->got_init == (c->call == NIZWARF_INIT);
@@ -830,21 +878,26 @@ static inline void make_call(struct fuse_session *se, fuse_req_t req, const stru
 	req->ctx.uid = c->uid;
 	req->ctx.gid = c->gid;
 	req->ctx.pid = c->pid;
+	/* (set by the calls that have one) */
 	req->ctx.umask = 0;
+	/* (here, since a call is sure to come where interrupts do) */
 	if (unlikely(count_kept(se) > MOST_KEPT))
 		end_oldest(se);
+	/* (a row may lack what an older libfuse has no function for) */
 	if (likely(c->call < known && door_calls[c->call]))
 		door_calls[c->call](req, c, m);
 	else
 		ABSENT_OP(req);
 }
 
+/* What is left of a message in a pipe would be taken for the next one. */
 static void clear_pipe(struct fuse_session *se, const struct door_message *m)
 {
 	if (m->buf->flags & FUSE_BUF_IS_FD)
 		fuse_ll_clear_pipe(se);
 }
 
+/* (with -d; it prints no data) */
 static __attribute__((noinline)) void print_request(const struct door_message *m, uint64_t options)
 {
 	char line[512];
@@ -853,7 +906,8 @@ static __attribute__((noinline)) void print_request(const struct door_message *m
 	fuse_log(FUSE_LOG_DEBUG, "%s\n", line);
 }
 
-/* Ends a request that comes to no file system: `code` is what the ask came to. */
+/* Ends a request that comes to no file system: `code` is what the ask came to. Asked, and yet refused, is what comes
+ * too early (EIO), or from whom it may not (EACCES). */
 static __attribute__((noinline)) void end_asked(fuse_req_t req, struct door_thread *t,
 						const struct door_message *m, const nizwarf_told *told,
 						int32_t code)
@@ -884,6 +938,7 @@ static __attribute__((noinline)) int32_t ask_again(struct door_thread *t, struct
 	return code;
 }
 
+/* The request isn't looked at after it. */
 static inline void serve(struct fuse_session *se, fuse_req_t req, struct door_thread *t,
 			 const struct door_message *m)
 {
@@ -908,6 +963,7 @@ static void begin_device(fuse_req_t req, const struct door_message *m)
 	const struct fuse_in_header *in = (const void *)m->in;
 	struct fuse_session *se = req->se;
 
+	/* (libfuse's function reads the whole record) */
 	if (m->len < sizeof(*in) + sizeof(struct cuse_init_in) || in->opcode != CUSE_INIT) {
 		refuse(req, m, EIO);
 		clear_pipe(se, m);
@@ -917,7 +973,8 @@ static void begin_device(fuse_req_t req, const struct door_message *m)
 	cuse_lowlevel_init(req, in->nodeid, in + 1);
 }
 
-/* Says that there is no memory for a request. */
+/* Says that there is no memory for a request. There is no request to end, and so libfuse's own way to reply isn't
+ * open. */
 static void send_no_memory(struct fuse_session *se, struct fuse_chan *ch, const struct door_message *m)
 {
 	const struct fuse_in_header *in = (const void *)m->in;
@@ -931,7 +988,8 @@ static void send_no_memory(struct fuse_session *se, struct fuse_chan *ch, const 
 	fuse_send_msg(se, ch, iov, 1 SEND_OF(NULL));
 }
 
-/* Waits for the memory of a request. NULL: it isn't waited for, or for too long, and the client is told. */
+/* Waits for the memory of a request. NULL: it isn't waited for, or for too long, and the client is told. `taken` is 0
+ * where the message itself found no memory. */
 static __attribute__((noinline)) struct fuse_req *wait_for_req(struct fuse_session *se, struct fuse_chan *ch,
 							       const struct door_message *m, int taken)
 {
@@ -947,11 +1005,13 @@ static __attribute__((noinline)) struct fuse_req *wait_for_req(struct fuse_sessi
 	return req;
 }
 
+/* libfuse's fuse_session_process_buf: a message as it was received, from any thread. The buffer is the caller's again
+ * as it comes back: a call that is answered later has copied what it wants. */
 void PROCESS_BUF(struct fuse_session *se, const struct fuse_buf *buf, struct fuse_chan *ch)
 {
 	struct door_message m = { .buf = buf, .in = buf->mem, .len = buf->size };
 	const int in_pipe = buf->flags & FUSE_BUF_IS_FD;
-	_Alignas(struct fuse_in_header) char front[WRITE_FRONT];
+	_Alignas(struct fuse_in_header) char front[WRITE_FRONT]; /* only for one in a pipe */
 	struct fuse_req *req = NULL;
 	char *whole = NULL;
 	int taken = 1;
@@ -964,7 +1024,9 @@ void PROCESS_BUF(struct fuse_session *se, const struct fuse_buf *buf, struct fus
 		req = wait_for_req(se, ch, &m, taken);
 	if (likely(req)) {
 		if (ch)
+			/* (counted: the channel stays until the request has ended) */
 			req->ch = fuse_chan_get(ch);
+		/* (of a character device, until it has begun) */
 		if (unlikely(se->cuse_data) && !se->got_init)
 			begin_device(req, &m);
 		else

@@ -17,11 +17,13 @@
 #include <time.h>
 #include <unistd.h>
 
+/* Sizes in bytes; ENTRIES is how many items a directory has. */
 enum { MEGABYTE = 1 << 20, PAGE = 4096, FRONT = sizeof(struct fuse_in_header), ENTRIES = 100 };
 
-static char data[MEGABYTE], room[MEGABYTE + PAGE];
+static char data[MEGABYTE], room[MEGABYTE + PAGE]; /* what is answered; the request */
 static size_t replied;
 
+/* (it copies nothing: a kernel's part is not the library's) */
 static ssize_t take_reply(int fd, struct iovec *iov, int count, void *user)
 {
 	ssize_t len = 0;
@@ -67,6 +69,7 @@ static void on_write(fuse_req_t req, fuse_ino_t ino, const char *buf, size_t siz
 	fuse_reply_write(req, size);
 }
 
+/* (laid out anew each time, as a file system does) */
 static void list(fuse_req_t req, size_t size, int plus)
 {
 	size_t len = 0, one;
@@ -105,6 +108,7 @@ static const struct fuse_lowlevel_ops ops = {
 	.readdirplus = on_readdirplus,
 };
 
+/* Puts a request with a record, and so many bytes of data after it, which are what is there: its length. */
 static size_t put(uint32_t opcode, const void *record, size_t size, size_t more)
 {
 	const struct fuse_in_header in = {
@@ -152,6 +156,7 @@ static int compare(const void *a, const void *b)
 	return (x > y) - (x < y);
 }
 
+/* In nanoseconds. */
 static double now(clockid_t clock)
 {
 	struct timespec t;
@@ -184,6 +189,7 @@ int main(int count, char **words)
 	for (part = 0; part < PARTS; part++) {
 		processor[part] = -now(CLOCK_PROCESS_CPUTIME_ID);
 		clock[part] = -now(CLOCK_MONOTONIC);
+		/* (parts may differ by one request) */
 		for (i = times * part / PARTS; i < times * (part + 1) / PARTS; i++)
 			fuse_session_process_buf(session, &buf);
 		clock[part] += now(CLOCK_MONOTONIC);

@@ -27,19 +27,21 @@
 #include <sys/uio.h>
 #include <unistd.h>
 
+/* Bytes of a message at most, and of a link that is too long for Linux. */
 enum { SIZE = 1 << 16, LONGEST = 5000 };
 
 static struct fuse_session *session;
-static char reply[SIZE];
+static char reply[SIZE]; /* the last one, of `reply_len` bytes */
 static size_t reply_len;
-static int replies, passed, tried;
+static int replies, passed, tried; /* to the last request; judgements */
 static char text[LONGEST + 1];
 /* How many entries the client holds, and how many it should. */
 static long held, owed;
-/* Which allocation is refused: 0 none. */
+/* Which allocation is refused: 0 none. (of a thread: what the others allocate goes on) */
 static _Thread_local long refused, allocated;
 
 #ifdef REFUSE
+/* (by which glibc's own functions go too, so that those are not refused) */
 void *__libc_malloc(size_t size);
 void *__libc_calloc(size_t count, size_t size);
 void *__libc_realloc(void *at, size_t size);
@@ -65,6 +67,7 @@ void *realloc(void *at, size_t size)
 }
 #endif
 
+/* Takes what libfuse writes to a kernel: a reply, or a notice. */
 static ssize_t take_reply(int fd, struct iovec *iov, int count, void *user)
 {
 	size_t at = 0;
@@ -86,6 +89,7 @@ static ssize_t take_reply(int fd, struct iovec *iov, int count, void *user)
 static const char *next_message;
 static size_t next_len;
 
+/* Gives the next message as a kernel does, to who reads, or into libfuse's pipe. */
 static ssize_t give_request(int fd, void *at, size_t len, void *user)
 {
 	(void)fd, (void)user;
@@ -109,6 +113,7 @@ static void give_entry(fuse_req_t req)
 	struct fuse_entry_param entry = { .ino = 2, .attr = { .st_ino = 2, .st_mode = S_IFREG | 0644 } };
 
 	held++;
+	/* (the client didn't get it: so it holds no lookup) */
 	if (fuse_reply_entry(req, &entry) == -ENOENT)
 		held--;
 }
@@ -124,10 +129,11 @@ static const struct {
 	{ 0.5, 0, 500000000 },
 	{ 86400.25, 86400, 250000000 },
 	{ 0.9999999999, 0, 999999999 },
-	{ 1e14 + 0.5, 100000000000000, 500000000 },
+	{ 1e14 + 0.5, 100000000000000,
+	  500000000 }, /* the least bit of so many seconds is still a part of one */
 	{ 1e15, 1000000000000000, 0 },
 	{ 1e18, 1000000000000000000, 0 },
-	{ 2e19, UINT64_MAX, 999999999 },
+	{ 2e19, UINT64_MAX, 999999999 }, /* more than 64 bits */
 	{ -1, 0, 0 },
 	{ -0.0, 0, 0 },
 };
@@ -145,7 +151,7 @@ static void give_times(fuse_req_t req, size_t i)
 }
 
 /* How many answers to one request were taken. */
-static int taken;
+static int taken; /* as libfuse says by 0 */
 
 /* Answers in several ways, after the request has ended. */
 static void answer_again(fuse_req_t req)
@@ -169,6 +175,7 @@ static void on_lookup(fuse_req_t req, fuse_ino_t parent, const char *name)
 	const struct statvfs st = { .f_bsize = 1 };
 
 	(void)parent;
+	/* (Linux takes errors up to 511 alone) */
 	if (!strcmp(name, "600"))
 		fuse_reply_err(req, 600);
 	else if (!strcmp(name, "below"))
@@ -238,7 +245,8 @@ static void on_write(fuse_req_t req, fuse_ino_t ino, struct fuse_bufvec *from, o
 	fuse_reply_write(req, written_len);
 }
 
-/* A record of a name of `len` bytes, of which one is 0 if there are as many, is told as a node from NAMES on. */
+/* A record of a name of `len` bytes, of which one is 0 if there are as many, is told as a node from NAMES on. The
+ * node is NAMES, and PLACES for each byte of the name, and where the 0 is, or NONE. */
 enum { NAMES = 1000, LONGEST_NAME = 40, PLACES = 64, NONE = PLACES - 1 };
 
 static void list_name(fuse_req_t req, size_t len, size_t zero)
@@ -248,7 +256,7 @@ static void list_name(fuse_req_t req, size_t len, size_t zero)
 	_Alignas(8) char at[128];
 	size_t whole;
 
-	memset(at, 'x', sizeof(at));
+	memset(at, 'x', sizeof(at)); /* so that what fills the record up shows */
 	memcpy(name, text, len);
 	name[len] = 0;
 	whole = fuse_add_direntry(req, at, sizeof(at), name, &st, 1);
@@ -263,6 +271,7 @@ static void list_by_pieces(fuse_req_t req)
 	const struct stat st = { .st_ino = 2, .st_mode = S_IFREG };
 	_Alignas(8) char at[64] = { 0 };
 	const size_t len = fuse_add_direntry(req, at, sizeof(at), "name", &st, 1);
+	/* (cut within the first record, and within the second) */
 	const struct iovec pieces[] = { { at, len - 1 }, { at + len - 1, 9 }, { at + len + 8, len - 8 } };
 
 	fuse_add_direntry(req, at + len, sizeof(at) - len, "other", &st, 2);
@@ -270,7 +279,7 @@ static void list_by_pieces(fuse_req_t req)
 }
 
 /* A listing of many records, which is replied with as it is here, in memory of its own length. */
-enum { MANY = 60 };
+enum { MANY = 60 }; /* records, some 3 KiB */
 static _Alignas(8) char listing[SIZE];
 static size_t listing_len;
 
@@ -296,7 +305,7 @@ static void on_readdir(fuse_req_t req, fuse_ino_t ino, size_t size, off_t off, s
 {
 	const struct stat st = { .st_ino = 2, .st_mode = S_IFREG };
 	_Alignas(8) char at[64] = { 0 };
-	uint32_t long_name = 40, none = 0;
+	uint32_t long_name = 40, none = 0; /* put in place of the name's length */
 	size_t len = fuse_add_direntry(req, at, sizeof(at), "name", &st, 1);
 
 	(void)off, (void)fi;
@@ -318,7 +327,8 @@ static void on_readdir(fuse_req_t req, fuse_ino_t ino, size_t size, off_t off, s
 		memcpy(at + 16, &none, 4);
 	else if (ino == 5)
 		at[25] = 0;
-	fuse_reply_buf(req, ino == 6 ? text : at, ino == 6 ? size + 8 : len);
+	fuse_reply_buf(req, ino == 6 ? text : at,
+		       ino == 6 ? size + 8 : len); /* more than the caller asked for */
 }
 
 static void on_open(fuse_req_t req, fuse_ino_t ino, struct fuse_file_info *fi)
@@ -348,7 +358,8 @@ static void on_forget(fuse_req_t req, fuse_ino_t ino, uint64_t lookups)
 	fuse_reply_none(req);
 }
 
-/* A request that waits for its answer, and how often it was told of an interrupt. */
+/* A request that waits for its answer, and how often it was told of an interrupt. (on_getattr answers nothing: end()
+ * does) */
 static fuse_req_t waiting;
 static int interrupts;
 
@@ -366,7 +377,7 @@ static void on_interrupt(fuse_req_t req, void *data)
 
 /* How many bytes came of what a notice asked for. */
 static size_t retrieved;
-static char kept[1 << 17];
+static char kept[1 << 17]; /* what was retrieved */
 
 static void on_retrieved(fuse_req_t req, void *cookie, fuse_ino_t ino, off_t off, struct fuse_bufvec *bufv)
 {
@@ -402,7 +413,7 @@ struct request {
 	size_t size;
 	/* What it is to be answered by: 0, the number of an error, or below 0 no reply. */
 	int error;
-	const char *what;
+	const char *what; /* how it's called where it's wrong */
 	/* How many entries it gives back. */
 	int forgets;
 };
@@ -411,7 +422,10 @@ struct request {
 static size_t put_message(char *at, const struct request *r)
 {
 	const struct fuse_in_header in = {
-		.len = (uint32_t)(sizeof(in) + r->size), .opcode = r->opcode, .unique = 7, .nodeid = r->node
+		.len = (uint32_t)(sizeof(in) + r->size),
+		.opcode = r->opcode,
+		.unique = 7,
+		.nodeid = r->node /* 7: the number of all requests here */
 	};
 
 	memcpy(at, &in, sizeof(in));
@@ -431,6 +445,7 @@ static void send_request(const struct request *r)
 	fuse_session_process_buf(session, &buf);
 }
 
+/* Has the session go by custom io, on a descriptor that nothing is read from: it's standard input again. */
 static int begin_io(const struct fuse_custom_io *io)
 {
 #if FUSE_VERSION >= FUSE_MAKE_VERSION(3, 17)
@@ -440,7 +455,8 @@ static int begin_io(const struct fuse_custom_io *io)
 #endif
 }
 
-/* Has the session receive a request itself, by a pipe if it is long; with some bytes after it. */
+/* Has the session receive a request itself, by a pipe if it is long; with some bytes after it. (libfuse reads a
+ * message into the pipe if it's longer than some pages) */
 static void receive_request(const struct request *r, size_t more)
 {
 	static _Alignas(8) char room[SIZE];
@@ -451,7 +467,7 @@ static void receive_request(const struct request *r, size_t more)
 	replies = 0;
 	if (fuse_session_receive_buf(session, &buf) == (int)next_len)
 		fuse_session_process_buf(session, &buf);
-	free(buf.mem);
+	free(buf.mem); /* libfuse's, which it allocates at the first message */
 }
 
 static struct fuse_out_header header_of_reply(void)
@@ -463,6 +479,7 @@ static struct fuse_out_header header_of_reply(void)
 	return out;
 }
 
+/* What requests are made of: records as linux/fuse.h has them. Sizes are in bytes. */
 static const struct fuse_init_in init = {
 	.major = 7, .minor = 38, .max_readahead = 65536, .flags = FUSE_BIG_WRITES
 };
@@ -534,6 +551,7 @@ static const struct request good[] = {
 	{ FUSE_BATCH_FORGET, 0, &two_forgets, sizeof(two_forgets), -1, "BATCH_FORGET", 2 },
 };
 
+/* Counts whether something is so, and prints what isn't. */
 static void judge(const char *what, int good_so)
 {
 	tried++;
@@ -578,7 +596,8 @@ static void try_retrieve(size_t size, int by_file)
 
 	retrieved = 0;
 	for (i = 0; i < size; i++)
-		room[sizeof(head) + sizeof(in) + i] = (char)(i * 7 >> 3);
+		room[sizeof(head) + sizeof(in) + i] = (char)(i * 7 >> 3); /* bytes that don't repeat soon */
+	/* (by which libfuse waits for a reply with a number of its own) */
 	fuse_lowlevel_notify_retrieve(session, 2, size, 0, NULL);
 	memcpy(&asked, reply + sizeof(struct fuse_out_header), sizeof(asked));
 	head.unique = asked.notify_unique;
@@ -596,7 +615,8 @@ static void try_retrieve(size_t size, int by_file)
 	      !replies && retrieved == size && !memcmp(kept, room + sizeof(head) + sizeof(in), size));
 }
 
-/* Whether the session takes the next request for what it is. */
+/* Whether the session takes the next request for what it is. (what is left in the pipe would be taken for its
+ * begin) */
 static int goes_on(void)
 {
 	static const struct request next = { FUSE_READLINK, 2, NULL, 0, 0, "READLINK", 0 };
@@ -694,6 +714,7 @@ static void try_interrupts(void)
 	for (i = 0; i < 100; i++)
 		interrupt(1000 + (uint64_t)i);
 	begin(0, 0);
+	/* (the oldest is sent back as a call comes: more than 64 are kept) */
 	i = replies == 1 && header_of_reply().error == -EAGAIN;
 	end("the oldest of 100 that have no request", i);
 }
@@ -712,7 +733,9 @@ static void try_names(void)
 			asked.node = NAMES + len * PLACES + (zero < len ? zero : NONE);
 			asked.error = zero < len ? EIO : 0;
 			send_request(&asked);
-			whole = 16 + 24 + (len + 7) / 8 * 8;
+			whole = 16 + 24 +
+				(len + 7) / 8 *
+					8; /* of the reply: its header, the record's, and the name, filled up */
 			memset(expected, 0, sizeof(expected));
 			memcpy(expected, text, len);
 			memcpy(&record, reply + 16, sizeof(record));
@@ -723,6 +746,7 @@ static void try_names(void)
 					 record.type == S_IFREG >> 12 && record.ino == 2 && record.off == 1 &&
 					 !memcmp(reply + 40, expected, whole - 40);
 		}
+	/* (of a name of n bytes there are n + 1 cases) */
 	judge("names of each length", right == LONGEST_NAME * (LONGEST_NAME + 3) / 2);
 }
 
@@ -752,7 +776,7 @@ static void make_listing(size_t front, int kind)
 	size_t i, len;
 
 	for (i = 1; i <= MANY; i++) {
-		len = 1 + i * 7 % LONGEST_NAME;
+		len = 1 + i * 7 % LONGEST_NAME; /* each length comes */
 		memcpy(name, text, len);
 		name[len] = 0;
 		if (front)
@@ -775,6 +799,7 @@ static size_t taken_of_listing(size_t front)
 		if (!len)
 			return 0;
 		if (whole > listing_len - at)
+			/* (as bindings/libfuse/listings.h says of Linux) */
 			return len > 4096 ? 0 : at;
 		if (memchr(listing + at + front + 24, 0, len))
 			return 0;
@@ -808,7 +833,7 @@ static void try_listings(size_t front)
 	size_t right = 0, asked = 0, whole;
 	int kind, i, edits;
 
-	srandom(1);
+	srandom(1); /* the same each time */
 	for (kind = 0; kind < 3; kind++) {
 		make_listing(front, kind);
 		whole = listing_len;
@@ -817,6 +842,7 @@ static void try_listings(size_t front)
 			right += is_listed(front);
 		for (i = 0; i < EDITED; i++, asked++) {
 			make_listing(front, kind);
+			/* (any byte, or a 0) */
 			for (edits = i % 3; edits >= 0; edits--)
 				listing[(size_t)random() % whole] = (char)(random() & 1 ? random() : 0);
 			right += is_listed(front);
@@ -848,6 +874,7 @@ static void try_times(void)
 
 /* ---- A character device ---------------------------------------------------------------------------- */
 
+/* libfuse's functions of a device have no node. */
 static void on_device_open(fuse_req_t req, struct fuse_file_info *fi)
 {
 	fi->fh = 5;
@@ -1008,6 +1035,7 @@ static void *attempt_on_thread(void *at)
 		receive_request(a->request, 0);
 	else
 		send_request(a->request);
+	/* (else it has no allocation of that number: all were refused once) */
 	a->reached = allocated >= a->nth;
 	refused = 0;
 	return NULL;
@@ -1022,6 +1050,7 @@ static int is_whole(const struct request *r)
 		owed -= r->forgets;
 	else if (r->opcode == FUSE_LOOKUP && replies == 1 && !out.error)
 		owed++;
+	/* (an entry that was lost, or that the client was told of and the file system wasn't) */
 	if (held != owed)
 		return 0;
 	if (r->error < 0)
@@ -1036,6 +1065,7 @@ static void refuse_each(const struct request *r, int receives)
 	struct attempt a = { .request = r, .receives = receives };
 	pthread_t thread;
 
+	/* (on a new thread, which has no memory of an earlier request) */
 	for (a.nth = 1, a.reached = 1; a.reached && a.nth < 100; a.nth++) {
 		if (pthread_create(&thread, NULL, attempt_on_thread, &a) || pthread_join(thread, NULL))
 			exit(2);
@@ -1058,7 +1088,7 @@ static void try_again(void)
 /* Interrupts alone, of requests that never come, take no more memory than some do. */
 static void try_many_interrupts(void)
 {
-	enum { MANY = 30000, MOST_MEMORY = 8 << 20 };
+	enum { MANY = 30000, MOST_MEMORY = 8 << 20 }; /* bytes */
 	const size_t before = mallinfo2().uordblks;
 	int i;
 
@@ -1093,7 +1123,7 @@ static void *keep_on_thread(void *at)
 /* A thread keeps no more than small requests take, whatever a client may ask of it. */
 static void try_thread(void)
 {
-	enum { MOST_KEPT = 32 << 10 };
+	enum { MOST_KEPT = 32 << 10 }; /* bytes */
 	pthread_t thread;
 	size_t kept;
 
@@ -1146,11 +1176,12 @@ static void try_keys(const struct request *first)
 
 /* ---- Others that answer ---------------------------------------------------------------------------- */
 
-enum { REQUESTS = 4000, ANSWERERS = 4, ASKERS = 2, FIRST = 100 };
+enum { REQUESTS = 4000, ANSWERERS = 4, ASKERS = 2, FIRST = 100 }; /* FIRST: the first request's number */
 
 /* Requests that wait: each is answered by a thread of its own choice, which asks for interrupts of every other one. */
 static fuse_req_t queue[REQUESTS];
-static atomic_int queued, fetched, begun, answered[REQUESTS];
+static atomic_int queued, fetched, begun,
+	answered[REQUESTS]; /* how many came, and were taken; were sent; replies to each */
 
 static void on_getattr_queue(fuse_req_t req, fuse_ino_t ino, struct fuse_file_info *fi)
 {
@@ -1158,7 +1189,7 @@ static void on_getattr_queue(fuse_req_t req, fuse_ino_t ino, struct fuse_file_in
 
 	(void)ino, (void)fi;
 	pthread_mutex_lock(&lock);
-	queue[queued] = req;
+	queue[queued] = req; /* before it is counted: who takes it reads it without the lock */
 	queued++;
 	pthread_mutex_unlock(&lock);
 }
@@ -1208,7 +1239,7 @@ static void *ask_some(void *none)
 		buf = (struct fuse_buf){ .size = sizeof(ask), .mem = &ask };
 		fuse_session_process_buf(session, &buf);
 		stop.head.unique = FIRST + REQUESTS + (uint64_t)i;
-		stop.in.unique = FIRST + (uint64_t)(i * 7 % REQUESTS);
+		stop.in.unique = FIRST + (uint64_t)(i * 7 % REQUESTS); /* any request, early or late */
 		buf = (struct fuse_buf){ .size = sizeof(stop), .mem = &stop };
 		fuse_session_process_buf(session, &buf);
 	}
