@@ -599,8 +599,8 @@ static void obey_notice(const char *word)
 		len = nizwarf_notice_prune(1, notice, sizeof(notice));
 		tell(notice, len, &node, sizeof(node), word);
 	} else if (!strcmp(word, "retrieve")) {
-		len = nizwarf_notice_retrieve(77, NEWS, 0, sizeof(text), notice,
-					      sizeof(notice)); /* any number, which comes back */
+		/* any number, which comes back */
+		len = nizwarf_notice_retrieve(77, NEWS, 0, sizeof(text), notice, sizeof(notice));
 		tell(notice, len, NULL, 0, word);
 	}
 }

@@ -268,8 +268,8 @@ static void wait_for_one(void)
 		wait[1 + lane] = (struct pollfd){ call[1 + lane], POLLIN, 0 };
 	let_call(1);
 	while (!is_completed()) {
-		need(poll(wait, 1 + lanes, 60000) > 0 && !(wait[0].revents & POLLHUP),
-		     "a completion"); /* ms */
+		/* (a minute at most) */
+		need(poll(wait, 1 + lanes, 60000) > 0 && !(wait[0].revents & POLLHUP), "a completion");
 		for (unsigned lane = 0; lane < lanes; lane++)
 			if (wait[1 + lane].revents)
 				need(read(call[1 + lane], &count, sizeof(count)) == sizeof(count), "call");
@@ -334,10 +334,8 @@ static uint64_t make(const struct request *r, unsigned depth, unsigned long coun
 		look_at(old);
 		for (unsigned lane = 0; lane < lanes; lane++)
 			while (__atomic_load_n(&used_of(lane)->idx, __ATOMIC_ACQUIRE) != seen[lane]) {
-				const struct vring_used_elem it =
-					used_of(lane)->ring
-						[seen[lane]++ %
-						 ENTRIES]; /* which slot's request, and how many bytes were written */
+				/* which slot's request, and how many bytes were written */
+				const struct vring_used_elem it = used_of(lane)->ring[seen[lane]++ % ENTRIES];
 
 				take_answer(it.id, r);
 				sum += it.len;

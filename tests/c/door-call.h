@@ -186,8 +186,8 @@ static inline void set_record(nizwarf_call *c, const uint8_t *r, uint32_t opcode
 		break;
 	case NIZWARF_SETXATTR:
 		c->flags = u32(r + 4);
-		c->more = c->options & SETXATTR_EXT ? u32(r + 8) & 1 :
-						      0; /* setxattr_flags, of the longer record */
+		/* setxattr_flags, of the longer record */
+		c->more = c->options & SETXATTR_EXT ? u32(r + 8) & 1 : 0;
 		break;
 	case NIZWARF_GETXATTR:
 	case NIZWARF_LISTXATTR:

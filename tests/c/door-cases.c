@@ -253,8 +253,8 @@ static void limits(void)
 	session.max_buffer = 4096;
 	for (over = 0; over < 2; over++) {
 		const struct fuse_read_in read = { .size = 4096 + over };
-		const uint32_t size[] = { 4096 + over, 0 },
-			       count[] = { 4096 / 16 + over, 0 }; /* padding after each */
+		/* padding after each */
+		const uint32_t size[] = { 4096 + over, 0 }, count[] = { 4096 / 16 + over, 0 };
 		const uint32_t len = 8192 + over;
 
 		begin_with(NIZWARF_READDIR, 1, &read, sizeof(read));
@@ -555,8 +555,8 @@ static void give_back(void)
 static void codes(void)
 {
 	const nizwarf_segment piece = { request, request_len }, null = { NULL, 0 };
-	const nizwarf_segment huge[] = { { request,
-					   SIZE_MAX / 2 }, /* whose lengths are together more than a size_t */
+	/* whose lengths are together more than a size_t */
+	const nizwarf_segment huge[] = { { request, SIZE_MAX / 2 },
 					 { request, SIZE_MAX / 2 },
 					 { request, 2 } };
 	const nizwarf_room room = { ours, 144 }, nowhere = { NULL, 0 };
@@ -685,9 +685,8 @@ static void answers_in_flight(void)
 /* Requests that want memory, with rooms that grow, by a slot of their own. */
 static void requests_that_want_memory(void)
 {
-	static const uint32_t pairs[] = {
-		2, 0, 5, 0, 1, 0, 6, 0, 1, 0
-	}; /* two pairs of a node and a count, by halves */
+	/* two pairs of a node and a count, by halves */
+	static const uint32_t pairs[] = { 2, 0, 5, 0, 1, 0, 6, 0, 1, 0 };
 	static const nizwarf_item listed[] = {
 		{ .ino = 2, .name = (const uint8_t *)"a", .name_size = 2, .entry = { .node = 8 } },
 		{ .ino = 3, .name = (const uint8_t *)"b", .name_size = 2, .entry = { .node = 9 } },

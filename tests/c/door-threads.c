@@ -46,9 +46,8 @@ static void make(struct work *work, uint32_t number)
 	static const uint32_t opcodes[] = { FUSE_GETATTR,   FUSE_LOOKUP,   FUSE_READ,	 FUSE_OPEN,
 					    FUSE_STATFS,    FUSE_READLINK, FUSE_READDIR, FUSE_FORGET,
 					    FUSE_INTERRUPT, 9999,	   FUSE_WRITE };
-	static const uint32_t lengths[] = {
-		56, 45, 80, 48, 40, 40, 80, 48, 48, 40, 100
-	}; /* of each in bytes, with its header */
+	/* of each in bytes, with its header */
+	static const uint32_t lengths[] = { 56, 45, 80, 48, 40, 40, 80, 48, 48, 40, 100 };
 	const uint32_t kind = number % (sizeof(opcodes) / sizeof(*opcodes));
 	const struct fuse_in_header header = { .len = lengths[kind],
 					       .opcode = opcodes[kind],

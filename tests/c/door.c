@@ -247,8 +247,8 @@ static void change_bytes(size_t len)
 static void try_forms(void)
 {
 	const uint32_t opcode = u32(request + 4);
-	const size_t len =
-		request_len < 400 ? request_len : 400; /* where it is cut: all of the record, and names */
+	/* where it is cut: all of the record, and names */
+	const size_t len = request_len < 400 ? request_len : 400;
 	const size_t full = compare(request_len, 0);
 	size_t n;
 
@@ -282,8 +282,8 @@ static void agree(uint64_t options)
 /* What a request after names ends in, where groups were agreed on. */
 static void add_extensions(void)
 {
-	static const uint32_t group[] = { 16, 32, 1,
-					  4242 }; /* a block's size, its kind, how many groups, one */
+	/* a block's size, its kind, how many groups, one */
+	static const uint32_t group[] = { 16, 32, 1, 4242 };
 
 	if (session.options & CREATE_SUPP_GROUP)
 		add(group, sizeof(group));
@@ -379,9 +379,8 @@ static void try_syncs(uint64_t node, uint64_t handle)
 	const struct fuse_flush_in flush = { .fh = handle, .lock_owner = 3 };
 	const struct fuse_fsync_in sync = { .fh = handle, .fsync_flags = 1 };
 	const struct fuse_access_in access = { .mask = 4 };
-	const struct fuse_release_in release = { .fh = handle,
-						 .release_flags = 3,
-						 .lock_owner = 5 }; /* both flags: FLUSH, and of flock(2) */
+	/* both flags: FLUSH, and of flock(2) */
+	const struct fuse_release_in release = { .fh = handle, .release_flags = 3, .lock_owner = 5 };
 
 	begin_with(NIZWARF_FLUSH, node, &flush, sizeof(flush));
 	try_forms();
@@ -484,8 +483,8 @@ static void try_names(uint64_t node)
 	const struct fuse_link_in link = { node };
 	const struct fuse_rename_in rename = { 1 };
 	const struct fuse_rename2_in rename2 = { .newdir = 1, .flags = 1 };
-	static const char *const looked_up[] = { "file", "none", "", ".",
-						 "a/b" }; /* there, not there, and such as are refused */
+	/* there, not there, and such as are refused */
+	static const char *const looked_up[] = { "file", "none", "", ".", "a/b" };
 	size_t i;
 
 	for (i = 0; i < 5; i++) {

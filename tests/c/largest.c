@@ -166,8 +166,8 @@ static void long_replies(void)
 {
 	const struct fuse_getxattr_in get = { .size = WIDE };
 	const struct fuse_read_in read = { .size = WIDE };
-	const size_t record = 24 + NAME + 1,
-		     most = WIDE / record; /* bytes of an item, and how many there is room for */
+	/* bytes of an item, and how many there is room for */
+	const size_t record = 24 + NAME + 1, most = WIDE / record;
 	nizwarf_item *items = malloc((most + 1) * sizeof(*items));
 	nizwarf_answer with = { .text = request.bytes, .text_len = WIDE };
 	nizwarf_call call;
@@ -200,8 +200,8 @@ static void long_requests(void)
 	const struct fuse_setxattr_in set = { .size = WIDE };
 	const struct fuse_batch_forget_in forget = { .count = WIDE / 16 };
 	const struct fuse_mkdir_in make = { .mode = 0755 };
-	const uint32_t context[] = { 8 + 8 + 16 + (1 << 20), 1, 1 << 20,
-				     0 }; /* the block, one context; the value, padding */
+	/* the block, one context; the value, padding */
+	const uint32_t context[] = { 8 + 8 + 16 + (1 << 20), 1, 1 << 20, 0 };
 	nizwarf_call call, checked;
 	uint64_t interrupts;
 	size_t names;
@@ -226,8 +226,8 @@ static void long_requests(void)
 		fill(names ? (1 << 20) - 1 : 15);
 		add("", 1);
 		fill(names ? 16 : 1 << 20);
-		((uint32_t *)(void *)(request.bytes + 48 + sizeof(name)))[2] =
-			names ? 16 : 1 << 20; /* the value's length */
+		/* the value's length */
+		((uint32_t *)(void *)(request.bytes + 48 + sizeof(name)))[2] = names ? 16 : 1 << 20;
 		CHECK(nizwarf_check(&session, request.bytes, header->len, 160, &checked, &interrupts) ==
 		      NIZWARF_ASKED);
 		cut_in_two(header->len / 2);
@@ -451,8 +451,8 @@ static void pieces_of_the_tree(void)
 	begin(FUSE_BATCH_FORGET, 0, &forget, sizeof(forget));
 	fill(1 << 20);
 	cut_in_many();
-	CHECK(nizwarf_message(&server, pieces, count, &none, 1, &len) == NIZWARF_OK &&
-	      !len); /* it has no reply */
+	/* it has no reply */
+	CHECK(nizwarf_message(&server, pieces, count, &none, 1, &len) == NIZWARF_OK && !len);
 	begin(FUSE_TMPFILE, 1, &create, sizeof(create));
 	add("/", 2);
 	put_behind_empty();

@@ -145,8 +145,8 @@ static void hold_names(void)
 /* What no header can tell of is not put, and no name is read from NULL. */
 static void hold_limits(void)
 {
-	const uint32_t most_bytes = UINT32_MAX - 40,
-		       most_nodes = (UINT32_MAX - 32) / 8; /* with the header and the record 32 bits */
+	/* with the header and the record 32 bits */
+	const uint32_t most_bytes = UINT32_MAX - 40, most_nodes = (UINT32_MAX - 32) / 8;
 	const int code = 0;
 	unsigned char out[64];
 

@@ -23,11 +23,9 @@ struct statx_in {
 static const struct fuse_lk_in lock = {
 	.fh = 4, .owner = 5, .lk = { .start = 6, .end = 7, .type = F_WRLCK, .pid = 8 }, .lk_flags = 0
 };
-static const struct fuse_lk_in whole = { /* of flock(2) */
-					 .fh = 4,
-					 .owner = 5,
-					 .lk = { .end = INT64_MAX, .type = F_RDLCK, .pid = 8 },
-					 .lk_flags = FUSE_LK_FLOCK
+/* (of flock(2)) */
+static const struct fuse_lk_in whole = {
+	.fh = 4, .owner = 5, .lk = { .end = INT64_MAX, .type = F_RDLCK, .pid = 8 }, .lk_flags = FUSE_LK_FLOCK
 };
 static const struct fuse_bmap_in bmap = { .block = 6, .blocksize = 512 };
 static const struct fuse_ioctl_in ioctl = {
@@ -102,13 +100,8 @@ static const struct {
 	  &ioctl,
 	  sizeof(ioctl),
 	  "four",
-	  { .handle = 4,
-	    .flags = 2,
-	    .more = 9,
-	    .offset = 10,
-	    .length = 4,
-	    .data = { 72, 4 },
-	    .size = 100 } }, /* `data`: 32 bytes after the header */
+	  /* (`data` comes after the header and the record) */
+	  { .handle = 4, .flags = 2, .more = 9, .offset = 10, .length = 4, .data = { 72, 4 }, .size = 100 } },
 	{ NIZWARF_POLL,
 	  NIZWARF_OFFER_POLL,
 	  NIZWARF_WRITTEN,
@@ -512,9 +505,8 @@ static void called_as_told(void)
 		"bmap 2 512 6",		"ioctl 2 9 10 4 2 four 100", "poll 2 4 1 11 1",
 		"retrieved 1 2 6 four", "statx 2 3 2048 4",	     "copy 2 6 3 7 5 9 15"
 	};
-	static const size_t lengths[ROWS] = {
-		40, 16, 16, 24, 35, 24, 0, 304, 24
-	};				     /* of the replies, with the header */
+	/* of the replies, with the header */
+	static const size_t lengths[ROWS] = { 40, 16, 16, 24, 35, 24, 0, 304, 24 };
 	uint64_t pairs[2 * 70 + 1] = { 70 }; /* how many, and then each node and its count */
 	size_t i;
 

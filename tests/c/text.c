@@ -106,8 +106,8 @@ static void hold(const unsigned char *request, size_t len, uint64_t options)
 {
 	static const size_t rooms[] = { 0, 15, 16, 79, 80, 4096, sizeof(space) };
 	unsigned char *own = malloc(len ? len : 1);
-	const struct messages m = { own, request, len, len,
-				    options }; /* the reply is the request: bytes of no sense */
+	/* the reply is the request: bytes of no sense */
+	const struct messages m = { own, request, len, len, options };
 	size_t i;
 
 	length = len;

@@ -147,8 +147,8 @@ static void takes(void)
 	while (nizwarf_new(&server, 4096, 4096, NULL) != NIZWARF_OK)
 		CHECK(refused && !server.at);
 	CHECK(take(&server, &init, 80, &one, &first, &len) == NIZWARF_OK && len == 80 && first->len == 80);
-	CHECK(take(&server, &lookup, 144, &other, &second, &more) == NIZWARF_OK &&
-	      more == 16); /* no such name */
+	/* no such name */
+	CHECK(take(&server, &lookup, 144, &other, &second, &more) == NIZWARF_OK && more == 16);
 	CHECK(second->error == -ENOENT && second->unique == 2);
 	/* (the first one is what it was, after a second one) */
 	CHECK(first->len == 80 && first->unique == 1 &&
@@ -166,9 +166,8 @@ static void takes(void)
 static void codes(void)
 {
 	nizwarf_server server = NIZWARF_NONE;
-	const nizwarf_segment huge[] = { { &init, SIZE_MAX / 2 },
-					 { &init, SIZE_MAX / 2 },
-					 { &init, 2 } }; /* more than a size_t together */
+	/* more than a size_t together */
+	const nizwarf_segment huge[] = { { &init, SIZE_MAX / 2 }, { &init, SIZE_MAX / 2 }, { &init, 2 } };
 	const nizwarf_segment whole = { &init, sizeof(init) }, null = { NULL, 0 };
 	const nizwarf_room nowhere = { NULL, 0 }, small = { reply, 15 }, ample = { large, sizeof(large) };
 	const nizwarf_room wide[] = { { reply, SIZE_MAX }, { reply, 1 } };
@@ -183,8 +182,8 @@ static void codes(void)
 	CHECK(nizwarf_message(&server, &whole, 1, NULL, 0, &len) == NIZWARF_NO_SERVER && len == 0);
 	CHECK(nizwarf_new(&server, 4095, 4096, NULL) == NIZWARF_WRONG_SIZE);
 	CHECK(nizwarf_new(&server, 4096, 4095, NULL) == NIZWARF_WRONG_SIZE);
-	CHECK(nizwarf_new(&server, 4096, 134217729, NULL) == NIZWARF_WRONG_SIZE &&
-	      !server.at); /* above 128 MiB */
+	/* above 128 MiB */
+	CHECK(nizwarf_new(&server, 4096, 134217729, NULL) == NIZWARF_WRONG_SIZE && !server.at);
 	CHECK(nizwarf_new(&server, 4096, 4096, NULL) == NIZWARF_OK);
 	/* (in place of the one that was there, which is freed) */
 	CHECK(nizwarf_new(&server, 4096, 8192, NULL) == NIZWARF_OK);

@@ -487,8 +487,8 @@ static void on_retrieve_reply(const nizwarf_req *req, uint64_t cookie, uint64_t 
 	size_t len;
 
 	(void)req;
-	len = (size_t)snprintf(wanted, sizeof(wanted), "It is the time %020" PRIu64 "\n",
-			       cookie); /* the text of that change */
+	/* the text of that change */
+	len = (size_t)snprintf(wanted, sizeof(wanted), "It is the time %020" PRIu64 "\n", cookie);
 	pthread_mutex_lock(&lock);
 	retrieved++;
 	if (ino != FIRST || offset || size < len || memcmp(data, wanted, len)) {

@@ -36,6 +36,7 @@ static ssize_t take_reply(int fd, struct iovec *iov, int count, void *user)
 	return len;
 }
 
+/* (requests are handed over: the session receives none) */
 static ssize_t no_request(int fd, void *at, size_t len, void *user)
 {
 	(void)fd, (void)at, (void)len, (void)user;
@@ -44,6 +45,7 @@ static ssize_t no_request(int fd, void *at, size_t len, void *user)
 
 static const struct fuse_entry_param entry = { .ino = 2, .attr = { .st_ino = 2, .st_mode = S_IFREG | 0644 } };
 
+/* The functions answer at once, by the same data. */
 static void on_lookup(fuse_req_t req, fuse_ino_t parent, const char *name)
 {
 	(void)parent, (void)name;
@@ -165,6 +167,7 @@ static double now(clockid_t clock)
 	return (double)t.tv_sec * 1e9 + (double)t.tv_nsec;
 }
 
+/* (the INIT's reply counts as one) */
 int main(int count, char **words)
 {
 	static const struct fuse_init_in init = {

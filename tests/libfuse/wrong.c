@@ -46,6 +46,7 @@ void *__libc_malloc(size_t size);
 void *__libc_calloc(size_t count, size_t size);
 void *__libc_realloc(void *at, size_t size);
 
+/* Whether the allocation that is asked for now is the one. */
 static int is_refused(void)
 {
 	return refused && ++allocated == refused;
@@ -99,6 +100,7 @@ static ssize_t give_request(int fd, void *at, size_t len, void *user)
 	return (ssize_t)next_len;
 }
 
+/* (by splice(2) a kernel gives a message whole, or an error) */
 static ssize_t give_to_pipe(int fd, off_t *from, int pipe, off_t *to, size_t len, unsigned int flags,
 			    void *user)
 {
@@ -108,6 +110,7 @@ static ssize_t give_to_pipe(int fd, off_t *from, int pipe, off_t *to, size_t len
 
 /* ---- The file system: what it does with a name is the name --------------------------------------- */
 
+/* Counts the lookup that the client gets with it. */
 static void give_entry(fuse_req_t req)
 {
 	struct fuse_entry_param entry = { .ino = 2, .attr = { .st_ino = 2, .st_mode = S_IFREG | 0644 } };
@@ -129,8 +132,8 @@ static const struct {
 	{ 0.5, 0, 500000000 },
 	{ 86400.25, 86400, 250000000 },
 	{ 0.9999999999, 0, 999999999 },
-	{ 1e14 + 0.5, 100000000000000,
-	  500000000 }, /* the least bit of so many seconds is still a part of one */
+	/* the least bit of so many seconds is still a part of one */
+	{ 1e14 + 0.5, 100000000000000, 500000000 },
 	{ 1e15, 1000000000000000, 0 },
 	{ 1e18, 1000000000000000000, 0 },
 	{ 2e19, UINT64_MAX, 999999999 }, /* more than 64 bits */
@@ -170,6 +173,7 @@ static void answer_again(fuse_req_t req)
 	fuse_reply_none(req);
 }
 
+/* What is wrong is the answer's kind or its number, never the call. */
 static void on_lookup(fuse_req_t req, fuse_ino_t parent, const char *name)
 {
 	const struct statvfs st = { .f_bsize = 1 };
@@ -196,11 +200,14 @@ static void on_lookup(fuse_req_t req, fuse_ino_t parent, const char *name)
 		fuse_reply_err(req, ENOENT);
 }
 
+/* Of node 2 a text that Linux takes, of others one that it doesn't. */
 static void on_readlink(fuse_req_t req, fuse_ino_t ino)
 {
 	fuse_reply_readlink(req, ino == 2 ? "short" : text);
 }
 
+/* Of node 2 what was asked for, of 4 more than there is memory for, of others a byte more; of no size the value
+ * itself, which isn't its length. */
 static void on_getxattr(fuse_req_t req, fuse_ino_t ino, const char *name, size_t size)
 {
 	(void)name;
@@ -215,6 +222,7 @@ static void on_getxattr(fuse_req_t req, fuse_ino_t ino, const char *name, size_t
 		fuse_reply_buf(req, text, ino == 2 ? size : size + 1);
 }
 
+/* As on_getxattr. */
 static void on_read(fuse_req_t req, fuse_ino_t ino, size_t size, off_t off, struct fuse_file_info *fi)
 {
 	struct fuse_bufvec endless = FUSE_BUFVEC_INIT(SIZE_MAX);
@@ -231,6 +239,7 @@ static void on_read(fuse_req_t req, fuse_ino_t ino, size_t size, off_t off, stru
 static char written[SIZE];
 static size_t written_len;
 
+/* By write_buf, so that data stay in the pipe until they are copied here. */
 static void on_write(fuse_req_t req, fuse_ino_t ino, struct fuse_bufvec *from, off_t off,
 		     struct fuse_file_info *fi)
 {
@@ -249,6 +258,7 @@ static void on_write(fuse_req_t req, fuse_ino_t ino, struct fuse_bufvec *from, o
  * node is NAMES, and PLACES for each byte of the name, and where the 0 is, or NONE. */
 enum { NAMES = 1000, LONGEST_NAME = 40, PLACES = 64, NONE = PLACES - 1 };
 
+/* (libfuse's function takes a name up to its 0: so that is put in after it) */
 static void list_name(fuse_req_t req, size_t len, size_t zero)
 {
 	const struct stat st = { .st_ino = 2, .st_mode = S_IFREG };
@@ -327,10 +337,11 @@ static void on_readdir(fuse_req_t req, fuse_ino_t ino, size_t size, off_t off, s
 		memcpy(at + 16, &none, 4);
 	else if (ino == 5)
 		at[25] = 0;
-	fuse_reply_buf(req, ino == 6 ? text : at,
-		       ino == 6 ? size + 8 : len); /* more than the caller asked for */
+	/* more than the caller asked for */
+	fuse_reply_buf(req, ino == 6 ? text : at, ino == 6 ? size + 8 : len);
 }
 
+/* Node 3 is answered as a WRITE, node 4 by no handle. */
 static void on_open(fuse_req_t req, fuse_ino_t ino, struct fuse_file_info *fi)
 {
 	if (ino == 2)
@@ -341,6 +352,7 @@ static void on_open(fuse_req_t req, fuse_ino_t ino, struct fuse_file_info *fi)
 		fuse_reply_err(req, 0);
 }
 
+/* Of node 4 half a record, of 3 a byte more than was asked for. */
 static void on_ioctl(fuse_req_t req, fuse_ino_t ino, unsigned int cmd, void *arg, struct fuse_file_info *fi,
 		     unsigned flags, const void *in, size_t in_size, size_t out_size)
 {
@@ -351,6 +363,7 @@ static void on_ioctl(fuse_req_t req, fuse_ino_t ino, unsigned int cmd, void *arg
 		fuse_reply_ioctl(req, 0, text, ino == 2 ? out_size : out_size + 1);
 }
 
+/* Takes back lookups that the client holds: those that the file system was told of. */
 static void on_forget(fuse_req_t req, fuse_ino_t ino, uint64_t lookups)
 {
 	(void)ino;
@@ -363,12 +376,14 @@ static void on_forget(fuse_req_t req, fuse_ino_t ino, uint64_t lookups)
 static fuse_req_t waiting;
 static int interrupts;
 
+/* (the memory of a request stays its own until it's answered) */
 static void on_getattr(fuse_req_t req, fuse_ino_t ino, struct fuse_file_info *fi)
 {
 	(void)ino, (void)fi;
 	waiting = req;
 }
 
+/* Called by libfuse as an interrupt comes, or at once if it came before. */
 static void on_interrupt(fuse_req_t req, void *data)
 {
 	(void)data;
@@ -379,6 +394,7 @@ static void on_interrupt(fuse_req_t req, void *data)
 static size_t retrieved;
 static char kept[1 << 17]; /* what was retrieved */
 
+/* What the kernel had: its reply is a request, with no reply of its own. */
 static void on_retrieved(fuse_req_t req, void *cookie, fuse_ino_t ino, off_t off, struct fuse_bufvec *bufv)
 {
 	struct fuse_bufvec to = FUSE_BUFVEC_INIT(sizeof(kept));
@@ -418,14 +434,11 @@ struct request {
 	int forgets;
 };
 
-/* Lays a message out, and answers its length. */
+/* Lays a message out, and answers its length. The number of each request here is 7, since one is served at a time. */
 static size_t put_message(char *at, const struct request *r)
 {
 	const struct fuse_in_header in = {
-		.len = (uint32_t)(sizeof(in) + r->size),
-		.opcode = r->opcode,
-		.unique = 7,
-		.nodeid = r->node /* 7: the number of all requests here */
+		.len = (uint32_t)(sizeof(in) + r->size), .opcode = r->opcode, .unique = 7, .nodeid = r->node
 	};
 
 	memcpy(at, &in, sizeof(in));
@@ -470,6 +483,7 @@ static void receive_request(const struct request *r, size_t more)
 	free(buf.mem); /* libfuse's, which it allocates at the first message */
 }
 
+/* Zeros, if there is none. */
 static struct fuse_out_header header_of_reply(void)
 {
 	struct fuse_out_header out = { 0 };
@@ -655,6 +669,7 @@ static void try_pipes(void)
 	judge(forgets_by_pipe.what, !replies && held == before - forgets_by_pipe.forgets && goes_on());
 }
 
+/* An INTERRUPT of the request with this number, which has a number of its own, 7 too. */
 static void interrupt(uint64_t unique)
 {
 	const struct fuse_interrupt_in in = { .unique = unique };
@@ -676,6 +691,7 @@ static void begin(int before, int after)
 		interrupt(7);
 }
 
+/* Answers the request that waits, and judges; `good_so` was looked at before it. */
 static void end(const char *what, int good_so)
 {
 	replies = 0;
@@ -733,9 +749,8 @@ static void try_names(void)
 			asked.node = NAMES + len * PLACES + (zero < len ? zero : NONE);
 			asked.error = zero < len ? EIO : 0;
 			send_request(&asked);
-			whole = 16 + 24 +
-				(len + 7) / 8 *
-					8; /* of the reply: its header, the record's, and the name, filled up */
+			/* of the reply: its header, the record's, and the name, filled up */
+			whole = 16 + 24 + (len + 7) / 8 * 8;
 			memset(expected, 0, sizeof(expected));
 			memcpy(expected, text, len);
 			memcpy(&record, reply + 16, sizeof(record));
@@ -851,6 +866,7 @@ static void try_listings(size_t front)
 	judge("long listings that are wrong", right == asked);
 }
 
+/* Each time as libfuse's own functions make it of a double. */
 static void try_times(void)
 {
 	struct request asked = { FUSE_LOOKUP, 1, NULL, 0, 0, "a time", 0 };
@@ -881,12 +897,14 @@ static void on_device_open(fuse_req_t req, struct fuse_file_info *fi)
 	fuse_reply_open(req, fi);
 }
 
+/* Nine bytes, where the handle is that of the open. */
 static void on_device_read(fuse_req_t req, size_t size, off_t off, struct fuse_file_info *fi)
 {
 	(void)off;
 	fuse_reply_buf(req, text, fi->fh == 5 && size > 9 ? 9 : size);
 }
 
+/* All of it, if it's the bytes that were sent. */
 static void on_device_write(fuse_req_t req, const char *buf, size_t size, off_t off,
 			    struct fuse_file_info *fi)
 {
@@ -920,6 +938,7 @@ static int has_reply(const void *record, size_t size)
 	       reply_len == sizeof(out) + size && !memcmp(reply + sizeof(out), record, size);
 }
 
+/* The calls of a device, whose requests have no node: libfuse turns them into those of a file. */
 static void try_device_calls(void)
 {
 	static const struct fuse_open_in open = { 0 };
@@ -991,6 +1010,7 @@ static void try_device(const struct fuse_custom_io *io)
 	session = before;
 }
 
+/* Wrong answers first; then what is right is served as if none had been. */
 static void try_answers(const struct fuse_custom_io *io)
 {
 	size_t i;
@@ -1025,6 +1045,7 @@ struct attempt {
 	int receives, reached;
 };
 
+/* One request, with one allocation refused. */
 static void *attempt_on_thread(void *at)
 {
 	struct attempt *a = at;
@@ -1098,6 +1119,7 @@ static void try_many_interrupts(void)
 	send_request(&good[1]);
 }
 
+/* In bytes, of all threads. */
 static size_t memory_taken(void)
 {
 	const struct mallinfo2 info = mallinfo2();
@@ -1132,6 +1154,7 @@ static void try_thread(void)
 	judge("what a thread keeps", kept && kept < MOST_KEPT);
 }
 
+/* (no sanitizer: those have an allocator of their own) */
 static void try_memory(void)
 {
 	static const struct request endless = {
@@ -1166,6 +1189,7 @@ static __attribute__((constructor(101))) void take_keys(int count, char **words)
 		;
 }
 
+/* What came of an INIT, which is the first request. */
 static void try_keys(const struct request *first)
 {
 	const struct fuse_out_header out = header_of_reply();
@@ -1180,9 +1204,9 @@ enum { REQUESTS = 4000, ANSWERERS = 4, ASKERS = 2, FIRST = 100 }; /* FIRST: the 
 
 /* Requests that wait: each is answered by a thread of its own choice, which asks for interrupts of every other one. */
 static fuse_req_t queue[REQUESTS];
-static atomic_int queued, fetched, begun,
-	answered[REQUESTS]; /* how many came, and were taken; were sent; replies to each */
-
+/* how many came, and were taken; were sent; replies to each */
+static atomic_int queued, fetched, begun, answered[REQUESTS];
+/* Leaves the request to the threads that answer. */
 static void on_getattr_queue(fuse_req_t req, fuse_ino_t ino, struct fuse_file_info *fi)
 {
 	static pthread_mutex_t lock = PTHREAD_MUTEX_INITIALIZER;
@@ -1199,6 +1223,7 @@ static void on_told(fuse_req_t req, void *data)
 	(void)req, (void)data;
 }
 
+/* Half of the requests are asked about first, so that they are known to others; the others end without a lock. */
 static void *answer_some(void *none)
 {
 	const struct stat st = { .st_ino = 2, .st_mode = S_IFREG };
@@ -1262,6 +1287,7 @@ static ssize_t count_reply(int fd, struct iovec *iov, int count, void *user)
 	return (ssize_t)len;
 }
 
+/* (thread sanitizer finds what two threads look at without a lock) */
 static void try_threads(void)
 {
 	pthread_t threads[ANSWERERS + ASKERS];

@@ -10,12 +10,8 @@ int32_t __real_nizwarf_message_at(nizwarf_server *server, const nizwarf_segment 
 				  size_t room, size_t *len);
 int32_t __real_nizwarf_take_at(nizwarf_server *server, nizwarf_taken *taken, nizwarf_place *place);
 
-enum {
-	ANSWERS = 1 << 17,
-	TRIES = 64,
-	HEAD = sizeof(struct fuse_out_header)
-}; /* places, and how many are looked at for one */
-
+/* places, and how many are looked at for one */
+enum { ANSWERS = 1 << 17, TRIES = 64, HEAD = sizeof(struct fuse_out_header) };
 /* What tells requests apart; a name of more bytes is one that has the same first ones. */
 struct asked {
 	uint64_t node;

@@ -150,8 +150,8 @@ static void transfer_pieces(const struct fuse_in_header *asked, const nizwarf_se
 	static struct iovec pieces[LARGE / SMALL + 2]; /* one worker uses it */
 	const int writes = asked->opcode == FUSE_WRITE;
 	const size_t most = sizeof(pieces) / sizeof(*pieces);
-	size_t skip = writes ? request->len : sizeof(struct fuse_out_header),
-	       left; /* bytes that are no data */
+	/* bytes that are no data */
+	size_t skip = writes ? request->len : sizeof(struct fuse_out_header), left;
 	struct fuse_read_in of;
 	int count = 0;
 

@@ -305,8 +305,8 @@ static void mkdir_secctx(struct bytes *batch, uint64_t unique, uint32_t n)
 	put_u32(&body, 0755);
 	put_u32(&body, 022);
 	put_text(&body, "directory");
-	put_u32(&body,
-		72); /* the block of the context: bytes, how many contexts; and then the value's length, padding */
+	/* the block of the context: bytes, how many contexts; and then the value's length, padding */
+	put_u32(&body, 72);
 	put_u32(&body, 1);
 	put_u32(&body, 33);
 	put_u32(&body, 0);
