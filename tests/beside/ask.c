@@ -48,14 +48,14 @@ static void move(int from, int to)
 
 	while ((count = read(from, piece, sizeof(piece))) > 0)
 		need(write(to, piece, (size_t)count) == count, "a state");
-	need(!count && !close(from) && !close(to), "a state");
+	need(!count && !close(from) && !close(to), "a state"); /* 0: the end of the state */
 }
 
 /* Has the state go to the file, or from it to the daemon. Whether the daemon says that it did. The daemon has the
  * other end of a pipe. It may say that it wants none. */
 static int transfer(uint32_t direction, const char *path)
 {
-	const uint32_t body[] = { direction, 0 };
+	const uint32_t body[] = { direction, 0 }; /* 0: the phase, that the machine is stopped */
 	const int saves = direction == SAVE;
 	const int file = open(path, saves ? O_WRONLY | O_CREAT | O_TRUNC : O_RDONLY, 0600);
 	int ends[2];
@@ -73,7 +73,7 @@ static int transfer(uint32_t direction, const char *path)
 /* Stops the queues, as the source of a migration does, and saves the state. */
 static int save(const char *path, uint64_t features)
 {
-	uint32_t stopped[5];
+	uint32_t stopped[5]; /* a header, and the queue's number and place */
 
 	tell_number(2, features | LOG_ALL, -1); /* SET_FEATURES */
 	for (uint32_t q = 0; q < 2; q++) {
@@ -92,7 +92,7 @@ static int64_t round_trip(void)
 	struct vring_used *used = (void *)(memory + QUEUE + USED);
 	/* (one request at a time: what is used is as many) */
 	const uint16_t asked = available->idx;
-	uint64_t count = 1;
+	uint64_t count = 1; /* what an event counts */
 
 	available->ring[asked % ENTRIES] = 0;
 	/* (after the entry: the daemon reads it as soon as it sees the number) */
@@ -186,7 +186,7 @@ int main(int count, char **words)
 	alarm(4 * PATIENCE); /* seconds */
 	meet(words[1]);
 	protocol = DEVICE_STATE;
-	if (count == 3) {
+	if (count == 3) { /* the state comes before the queues */
 		agree_protocol();
 		if (!transfer(LOAD, words[2])) {
 			puts("not loaded");
@@ -203,7 +203,7 @@ int main(int count, char **words)
 		total = put_line(line);
 		len = round_trip();
 		if (len < 0) {
-			puts(len == -1 ? "none" : "hung up");
+			puts(len == -1 ? "none" : "hung up"); /* no line is asked after it */
 			return 0;
 		}
 		printf("%lld ", (long long)len);

@@ -99,7 +99,7 @@ static inline void meet(const char *path)
 	const struct timespec pause = { 0, 10000000 }; /* 10 ms, and that a thousand times */
 	struct sockaddr_un address = { .sun_family = AF_UNIX };
 
-	need(strlen(path) < sizeof(address.sun_path), path);
+	need(strlen(path) < sizeof(address.sun_path), path); /* a socket's path has 107 bytes at most */
 	strcpy(address.sun_path, path);
 	connection = socket(AF_UNIX, SOCK_STREAM | SOCK_CLOEXEC, 0);
 	for (int tries = 0; connect(connection, (struct sockaddr *)&address, sizeof(address)); tries++) {
@@ -124,7 +124,7 @@ static inline uint64_t begin_queues(uint32_t queues, size_t size, uint32_t entri
 	const struct {
 		uint32_t count, padding;
 		uint64_t guest, size, user, offset;
-	} table = { 1, 0, 0, size, at, 0 };
+	} table = { 1, 0, 0, size, at, 0 };	/* one region */
 	const uint64_t offered = ask_number(1); /* GET_FEATURES */
 
 	need((offered & wanted) == wanted, "the daemon's features");
@@ -134,13 +134,14 @@ static inline uint64_t begin_queues(uint32_t queues, size_t size, uint32_t entri
 	tell(5, &table, sizeof(table), file);		/* SET_MEM_TABLE */
 	for (uint32_t q = 0; q < queues; q++) {
 		const uint64_t ring = at + q * QUEUE;
+		/* (addresses of this process, as the protocol has them) */
 		const struct {
 			uint32_t queue, flags;
 			uint64_t descriptors, used, available, log;
 		} place = { q, 0, ring, ring + USED, ring + AVAILABLE, 0 };
 
-		kick[q] = eventfd(0, EFD_CLOEXEC);
-		call[q] = eventfd(0, EFD_CLOEXEC);
+		kick[q] = eventfd(0, EFD_CLOEXEC);  /* by which the daemon is told of requests */
+		call[q] = eventfd(0, EFD_CLOEXEC);  /* by which it tells of those that are done */
 		tell_state(8, q, entries);	    /* SET_VRING_NUM */
 		tell_state(10, q, 0);		    /* SET_VRING_BASE */
 		tell(9, &place, sizeof(place), -1); /* SET_VRING_ADDR */

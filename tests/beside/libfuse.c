@@ -184,7 +184,7 @@ static void on_ioctl(fuse_req_t req, fuse_ino_t ino, unsigned int cmd, void *arg
 static void on_getlk(fuse_req_t req, fuse_ino_t ino, struct fuse_file_info *fi, struct flock *lock)
 {
 	(void)ino, (void)fi;
-	lock->l_type = F_UNLCK;
+	lock->l_type = F_UNLCK; /* nobody holds one */
 	fuse_reply_lock(req, lock);
 }
 
@@ -229,7 +229,7 @@ static void on_retrieve_reply(fuse_req_t req, void *cookie, fuse_ino_t ino, off_
 			      struct fuse_bufvec *bufv)
 {
 	(void)cookie, (void)ino, (void)offset;
-	see(bufv->buf[0].mem, bufv->buf[0].size);
+	see(bufv->buf[0].mem, bufv->buf[0].size); /* one buffer, in memory */
 	fuse_reply_none(req);
 }
 
@@ -293,11 +293,11 @@ static ssize_t take(int fd, void *at, size_t size, void *user)
 	ssize_t got;
 
 	(void)user;
-	ASAN_UNPOISON_MEMORY_REGION(at, size);
+	ASAN_UNPOISON_MEMORY_REGION(at, size); /* what was poisoned after the message before */
 	got = recv(fd, at, size, 0);
 	if (got > 0)
 		ASAN_POISON_MEMORY_REGION((char *)at + got, size - (size_t)got);
-	closed = got == 0;
+	closed = got == 0; /* no byte: the other end was closed */
 	return got;
 }
 
@@ -311,6 +311,7 @@ static ssize_t give(int fd, struct iovec *pieces, int count, void *user)
 /* Since 3.17 libfuse is told how large the table is. */
 static int use_descriptor(struct fuse_session *session, int fd)
 {
+	/* no splice: each message comes by a read */
 	static const struct fuse_custom_io io = { .read = take, .writev = give };
 
 #if FUSE_VERSION >= FUSE_MAKE_VERSION(3, 17)
@@ -330,6 +331,7 @@ int main(int count, char **words)
 	if (count != 2 || !strcmp(words[1], "--help"))
 		return fputs("Usage: libfuse DESCRIPTOR\n", count == 2 ? stdout : stderr), count == 2 ? 0 : 2;
 	session = fuse_session_new(&args, &ops, sizeof(ops), NULL);
+	/* libfuse closes the descriptor at the end */
 	if (!session || use_descriptor(session, atoi(words[1])))
 		return 2;
 	ended = fuse_session_loop(session); /* 0, or the error that ended it */

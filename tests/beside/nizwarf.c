@@ -42,7 +42,7 @@ static int on_getattr(const nizwarf_req *req, uint64_t ino, const nizwarf_file_i
 	(void)req, (void)ino, (void)fi, (void)attr_timeout;
 	attr->ino = 1;
 	attr->mode = S_IFDIR | 0755;
-	attr->nlink = 2;
+	attr->nlink = 2; /* as an empty directory has */
 	return 0;
 }
 
@@ -172,7 +172,7 @@ static int on_getlk(const nizwarf_req *req, uint64_t ino, const nizwarf_file_inf
 	/* (all fields are set, of whatever request) */
 	see(fi, sizeof(*fi));
 	see(lock, sizeof(*lock));
-	lock->type = F_UNLCK;
+	lock->type = F_UNLCK; /* nobody holds one */
 	return 0;
 }
 
@@ -214,7 +214,7 @@ static int on_poll(const nizwarf_req *req, uint64_t ino, const nizwarf_file_info
 		   uint64_t kh, int notify, uint32_t *revents)
 {
 	(void)req, (void)ino, (void)fi, (void)kh, (void)notify;
-	*revents = events;
+	*revents = events; /* what is waited for is there */
 	return 0;
 }
 
@@ -229,7 +229,7 @@ static int on_statx(const nizwarf_req *req, uint64_t ino, uint32_t flags, uint32
 		    const nizwarf_file_info *fi, nizwarf_statx *statx, struct timespec *timeout)
 {
 	(void)req, (void)ino, (void)flags, (void)fi, (void)timeout;
-	statx->mask = mask;
+	statx->mask = mask; /* all that was asked for, though most of it is 0 */
 	statx->mode = S_IFDIR | 0755;
 	return 0;
 }
@@ -329,19 +329,19 @@ int main(int count, char **words)
 	if (count != 2 || !strcmp(words[1], "--help"))
 		return fputs("Usage: nizwarf DESCRIPTOR\n", count == 2 ? stdout : stderr), count == 2 ? 0 : 2;
 	fd = atoi(words[1]);
-	end = fenced();
-	room = fenced() - LONGEST;
+	end = fenced();		   /* where requests end */
+	room = fenced() - LONGEST; /* where replies begin */
 	while ((got = recv(fd, taken, sizeof(taken), 0)) > 0) {
 		unsigned char *request = end - got; /* its last byte is the last before the page */
-		size_t len = 0;
+		size_t len = 0;			    /* of the reply */
 
 		memcpy(request, taken, (size_t)got);
 		/* (an unaligned request: the door reads each number byte by byte, or by memcpy) */
 		if (nizwarf_serve_ops(&ops, NULL, &slot, &session, request, (size_t)got, room, LONGEST, items,
 				      1, &len) != NIZWARF_OK)
-			len = refuse(request, (size_t)got, room);
+			len = refuse(request, (size_t)got, room); /* 0: it has no reply */
 		if (len && send(fd, room, len, MSG_NOSIGNAL) < 0)
-			return perror("nizwarf: send"), 1;
+			return perror("nizwarf: send"), 1; /* the other end has gone without its reply */
 	}
 	if (got < 0)
 		perror("nizwarf: recv");

@@ -48,14 +48,15 @@ enum { IN_HEADER = 40, OUT_HEADER = 16, DATA = 1 << 20 }; /* bytes */
 /* What a request in flight takes of the memory. (`serial` is which request of a line it has now) */
 struct place {
 	struct vring_desc table[PAGE / 4];
+	/* header and record; those of the reply; data */
 	unsigned char asked[PAGE], answered[PAGE], data[DATA];
-	uint64_t serial;
+	uint64_t serial; /* the number of its request in a line */
 };
 
 /* The record of a READ, a WRITE, a READDIR and a READDIRPLUS. As fuse_read_in and fuse_write_in have it. */
 struct transfer {
 	uint64_t handle, offset;
-	uint32_t size, flags;
+	uint32_t size, flags; /* bytes; of a WRITE its own flags */
 	uint64_t owner;
 	uint32_t more, padding;
 };
@@ -80,7 +81,7 @@ static uint64_t file_node, file_handle, names_node, names_handle, many_node, uni
 /* How many queues have requests, and what was seen of each; and what there is in place of them. */
 static unsigned lanes = 1;
 static uint16_t seen[MOST_QUEUES];
-static int channel = -1;
+static int channel = -1;    /* the socket; -1: it's by queues */
 static struct known *known; /* `known_count` of them, by their number in `many` */
 static size_t known_count;
 
@@ -110,7 +111,7 @@ static struct vring_desc *lane_of(unsigned slot)
 /* Adds a descriptor to a request's table, unless it's empty. */
 static void add(struct place *to, uint32_t *n, const void *at, size_t len, uint16_t flags)
 {
-	const uint64_t guest = (uint64_t)((const unsigned char *)at - memory);
+	const uint64_t guest = (uint64_t)((const unsigned char *)at - memory); /* the guest's address of it */
 
 	if (len) {
 		to->table[*n] =
@@ -462,7 +463,7 @@ static uint64_t list(unsigned depth, unsigned long count)
 				   .record = &record,
 				   .record_len = sizeof(record),
 				   .data_len = ROOM };
-	const uint64_t release[] = { record.handle, 0, 0 };
+	const uint64_t release[] = { record.handle, 0, 0 }; /* a fuse_release_in */
 	uint64_t got, sum = 0;
 	unsigned long names = 0;
 
@@ -547,7 +548,7 @@ static struct request request_of(const char *class, struct transfer *record)
 static uint64_t processor_time(const char *pid)
 {
 	char path[300];
-	uint64_t sum = 0, ran;
+	uint64_t sum = 0, ran; /* nanoseconds */
 
 	/* (a thread that ends meanwhile is left out) */
 	snprintf(path, sizeof(path), "/proc/%s/task", pid);
@@ -620,7 +621,7 @@ static void pace(const char *pid, const char *class, unsigned depth, unsigned lo
 
 int main(int count, char **words)
 {
-	char class[40];
+	char class[40]; /* as long as %39s reads */
 	unsigned depth;
 	unsigned long times;
 

@@ -28,17 +28,18 @@
 enum {
 	ROOT = 1,
 	FIRST = 2,
-	MOST = 16,
+	MOST = 16,	/* files of one file system */
 	LONGEST = 4096, /* bytes of a text */
-	WORKERS = 2,
-	ITEMS = 24,
+	WORKERS = 2,	/* each with a slot of its own */
+	ITEMS = 24,	/* of a listing: more than there are */
 	LONG = 500000,	/* seconds: until a notice comes */
 	EXPIRE_ONLY = 1 /* the flag of INVAL_ENTRY */
 };
 
-/* Of a file: `opened` and `lookups` are those that the kernel has, `kh` of a POLL that waits. */
+/* Of a file: `opened` and `lookups` are those that the kernel has, `kh` of a POLL that waits. `name` ends with a 0,
+ * `text` has `len` bytes. */
 struct file {
-	char name[64], text[LONGEST];
+	char name[64], text[LONGEST]; /* both change under the lock */
 	size_t len;
 	uint64_t lookups, kh;
 	unsigned opened;
@@ -47,10 +48,10 @@ struct file {
 /* One of the file systems: how many files it has, whether they may be written, how it changes, and tells of it. */
 struct kind {
 	const char *name;
-	unsigned files, may_write, open_flags, entry_timeout;
-	long nanoseconds; /* between two changes; 0: it's the interval that was given */
-	void (*change)(void);
-	void (*tell)(void);
+	unsigned files, may_write, open_flags, entry_timeout; /* the timeout in seconds */
+	long nanoseconds;     /* between two changes; 0: it's the interval that was given */
+	void (*change)(void); /* under the lock */
+	void (*tell)(void);   /* without it; NULL: it changes only before it is mounted */
 };
 
 static struct {
@@ -64,7 +65,7 @@ static struct file files[MOST];
 static char old_name[64];		 /* before the last change: that is what is told */
 static uint64_t ticks, retrieved, wrong; /* changes; what came back, and wrongly */
 static int is_asked, is_pruned;		 /* a RETRIEVE, a PRUNE was sent */
-static const struct kind *kind;
+static const struct kind *kind;		 /* set before there are threads */
 static transport_notices notices = TRANSPORT_NO_NOTICES;
 static nizwarf_session session = { 0, 4096, TRANSPORT_PAYLOAD };
 static nizwarf_slot slots[WORKERS];
@@ -85,7 +86,7 @@ static void change_both(void)
 
 	change_text();
 	snprintf(f->name, sizeof(f->name), "growing");
-	memset(f->text, 'A', sizeof(f->text));
+	memset(f->text, 'A', sizeof(f->text)); /* of which `len` bytes are seen */
 	f->len = ticks < sizeof(f->text) ? (size_t)ticks : sizeof(f->text);
 }
 
@@ -116,10 +117,10 @@ static void change_poll(void)
 	for (unsigned i = 0; i < MOST; i++)
 		snprintf(files[i].name, sizeof(files[i].name), "%X", i);
 	for (unsigned i = 0; i < count; i++) {
-		struct file *f = &files[(ticks + i * MOST / count) % MOST];
+		struct file *f = &files[(ticks + i * MOST / count) % MOST]; /* as far apart as they can be */
 
 		if (f->len < 10)
-			f->text[f->len++] = f->name[0];
+			f->text[f->len++] = f->name[0]; /* at most ten are there */
 	}
 }
 
@@ -130,6 +131,7 @@ static int send_notice(const void *notice, size_t len, const void *data, size_t 
 {
 	const int error = fuse_device_notify(&notices, notice, len, data, data_len);
 
+	/* (an older Linux has no such notice: libfuse's tests skip then) */
 	if (error == EINVAL)
 		printf("%s: not supported by kernel\n", what);
 	else if (error && error != ENOENT && error != ENOTCONN)
@@ -175,13 +177,14 @@ static void tell_stored(void)
 	if (!now.lookups || !now.opened)
 		return;
 	len = nizwarf_notice_store(FIRST, 0, (uint32_t)now.len, notice, sizeof(notice));
-	if (send_notice(notice, len, now.text, now.len, "STORE"))
+	if (send_notice(notice, len, now.text, now.len, "STORE")) /* the text as it was under the lock */
 		return;
+	/* read on the only thread that changes it */
 	len = nizwarf_notice_retrieve(ticks, FIRST, 0, LONGEST, notice, sizeof(notice));
 	if (send_notice(notice, len, NULL, 0, "RETRIEVE"))
 		return;
 	pthread_mutex_lock(&lock);
-	is_asked = 1;
+	is_asked = 1; /* so that one must come back */
 	pthread_mutex_unlock(&lock);
 }
 
@@ -244,6 +247,7 @@ static const struct kind kinds[] = {
 	{ "notify_prune", 1, 0, FOPEN_KEEP_CACHE, LONG, 0, change_text, tell_pruned },
 	{ "notify_inval_entry", 1, 0, 0, LONG, 0, change_name, tell_name },
 	{ "invalidate_path", 2, 0, FOPEN_KEEP_CACHE, LONG, 0, change_both, tell_inodes },
+	/* a change each quarter of a second */
 	{ "poll", MOST, 0, FOPEN_DIRECT_IO | FOPEN_NONSEEKABLE, 0, 250000000, change_poll, tell_poll },
 };
 
@@ -259,9 +263,10 @@ static void tick(void)
 /* The thread of the changes, which ends with the process. */
 static void *change_each(void *none)
 {
+	/* seconds, or the kind's nanoseconds */
 	const struct timespec pause = { kind->nanoseconds ? 0 : given.interval, kind->nanoseconds };
 
-	while (!nanosleep(&pause, NULL)) {
+	while (!nanosleep(&pause, NULL)) { /* no signal comes to this thread */
 		tick();
 		if (!given.quiet)
 			kind->tell();
@@ -286,7 +291,7 @@ static int on_getattr(const nizwarf_req *req, uint64_t ino, const nizwarf_file_i
 	(void)req, (void)fi;
 	if (!f && ino != ROOT)
 		return ENOENT;
-	attr_timeout->tv_sec = kind->entry_timeout;
+	attr_timeout->tv_sec = kind->entry_timeout; /* as long as a name holds */
 	attr->ino = ino;
 	attr->mode = !f ? S_IFDIR | 0755 : kind->may_write ? S_IFREG | 0644 : S_IFREG | 0444;
 	attr->nlink = 1;
@@ -301,7 +306,7 @@ static int set_size(struct file *f, uint64_t size)
 {
 	if (size > sizeof(f->text))
 		return EFBIG;
-	if (size > f->len)
+	if (size > f->len) /* bytes that come into being are 0 */
 		memset(f->text + f->len, 0, size - f->len);
 	f->len = size;
 	return 0;
@@ -330,7 +335,7 @@ static int on_lookup(const nizwarf_req *req, uint64_t parent, const char *name, 
 	pthread_mutex_lock(&lock);
 	for (unsigned i = 0; i < kind->files && parent == ROOT; i++)
 		if (!strcmp(files[i].name, name)) {
-			files[i].lookups++;
+			files[i].lookups++; /* given back by FORGET */
 			e->ino = FIRST + i;
 		}
 	pthread_mutex_unlock(&lock);
@@ -349,7 +354,7 @@ static void on_forget(const nizwarf_req *req, uint64_t ino, uint64_t nlookup)
 	if (!f)
 		return;
 	pthread_mutex_lock(&lock);
-	f->lookups -= nlookup;
+	f->lookups -= nlookup; /* no more than were answered */
 	if (!f->lookups && is_pruned) {
 		is_pruned = 0;
 		printf("prune complete\n");
@@ -474,7 +479,7 @@ static int on_poll(const nizwarf_req *req, uint64_t ino, const nizwarf_file_info
 	pthread_mutex_lock(&lock);
 	if (notify)
 		f->kh = kh;
-	*revents = f->len ? POLLIN : 0;
+	*revents = f->len ? POLLIN : 0; /* without bytes the kernel waits for a notice */
 	pthread_mutex_unlock(&lock);
 	return 0;
 }
