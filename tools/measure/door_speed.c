@@ -49,7 +49,7 @@ static size_t make(const char *class, nizwarf_answer *answer)
 	size_t i;
 
 	answer->error = 0;
-	answer->count = bytes;
+	answer->count = bytes; /* of a READ or a WRITE */
 	answer->entry.node = answer->entry.attr.ino = 3;
 	answer->entry.attr.mode = 0100644;
 	if (!strcmp(class, "none")) {
@@ -80,7 +80,7 @@ static size_t make(const char *class, nizwarf_answer *answer)
 	for (i = 0; i < ITEMS; i++)
 		items[i] = (nizwarf_item){ .ino = i + 3,
 					   .offset = i + 1,
-					   .type = 8,
+					   .type = 8, /* DT_REG */
 					   .name = (const uint8_t *)name,
 					   .name_size = sizeof(name),
 					   .entry = answer->entry };
@@ -110,7 +110,7 @@ int main(int argc, char **argv)
 	nizwarf_told told;
 	nizwarf_segment segment;
 	nizwarf_room space;
-	double least = 0;
+	double least = 0; /* nanoseconds of a run */
 	long times, i;
 	uint32_t len;
 	int run, serves;
@@ -128,7 +128,7 @@ int main(int argc, char **argv)
 	}
 	space = (nizwarf_room){ room, make(argv[1], &answer) };
 	len = (uint32_t)request_len;
-	memcpy(request, &len, sizeof(len));
+	memcpy(request, &len, sizeof(len)); /* the header's length */
 	segment = (nizwarf_segment){ request, request_len };
 	for (run = 0; run < (times > 1000 ? RUNS : 1); run++) {
 		const double start = nanoseconds();

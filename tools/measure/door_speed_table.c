@@ -39,6 +39,7 @@ static int do_write(const nizwarf_req *req, uint64_t ino, const void *buf, size_
 	return 0;
 }
 
+/* All items, or as many as find room. */
 static int do_readdir(const nizwarf_req *req, uint64_t ino, uint64_t off, const nizwarf_file_info *fi,
 		      nizwarf_dir *dir)
 {
@@ -76,7 +77,7 @@ static const nizwarf_ops table = {
 void serve_by_table(nizwarf_slot *slot, const nizwarf_answer *answer, const void *request, size_t len,
 		    void *room, size_t room_len)
 {
-	static nizwarf_session session = { 0, 4096, 1 << 20 };
+	static nizwarf_session session = { 0, 4096, 1 << 20 }; /* nothing was agreed on */
 	static nizwarf_item items[ITEMS];
 	size_t reply_len;
 

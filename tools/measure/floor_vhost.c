@@ -27,7 +27,7 @@ static size_t put(const nizwarf_room *room, size_t rooms, uint64_t unique, int e
 		  size_t len, size_t data)
 {
 	struct fuse_out_header head = { (uint32_t)(sizeof(head) + len + data), error, unique };
-	unsigned char bytes[256];
+	unsigned char bytes[256]; /* longer than any record here */
 	size_t at = 0;
 
 	memcpy(bytes, &head, sizeof(head));
@@ -129,7 +129,7 @@ static void list(int looks)
 	static _Alignas(struct dirent64) char listed[NAMES];
 	long got;
 
-	need(!lseek(names, 0, SEEK_SET), "names");
+	need(!lseek(names, 0, SEEK_SET), "names"); /* from its begin each time */
 	/* (by the system's call, since readdir(3) has a buffer of its own) */
 	while ((got = syscall(SYS_getdents64, names, listed, sizeof(listed))) > 0)
 		for (long at = 0; at < got;
@@ -163,7 +163,7 @@ static void transfer_pieces(const struct fuse_in_header *asked, const nizwarf_se
 		const size_t some = len - past < left ? len - past : left;
 
 		skip -= past;
-		left -= some;
+		left -= some; /* bytes that are still to come */
 		if (some)
 			pieces[count++] = (struct iovec){ at + past, some };
 	}
@@ -180,6 +180,7 @@ static void make_calls_of(const struct fuse_in_header *asked, const nizwarf_segm
 		return;
 	switch (asked->opcode) {
 	case FUSE_LOOKUP:
+		/* the name that pace.c looks up */
 		look_at(folder, "file", AT_SYMLINK_NOFOLLOW | AT_NO_AUTOMOUNT);
 		break;
 	case FUSE_GETATTR:

@@ -21,8 +21,8 @@ enum { MOST = 64 }; /* of a thread: locks by their names */
 /* What is counted of a lock by one of its names. */
 struct count {
 	const void *lock;
-	const char *name; /* a word of the program itself: compared as a pointer */
-	uint64_t taken, waited, nanoseconds;
+	const char *name;		     /* a word of the program itself: compared as a pointer */
+	uint64_t taken, waited, nanoseconds; /* how often; and how long all waits were */
 };
 
 /* Of a thread. It stays when the thread has ended, for the end. */
@@ -69,7 +69,7 @@ static struct count *find(const void *lock, const char *name)
 static uint64_t begin(struct count *it, int error)
 {
 	it->taken++;
-	it->waited += error != 0;
+	it->waited += error != 0; /* 1 is added where it wasn't free */
 	return error ? now() : 0;
 }
 
@@ -152,7 +152,7 @@ __attribute__((destructor)) static void tell(void)
 {
 	static struct count lines[1024];
 	const char *path = getenv("LOCKS");
-	FILE *file = path ? fopen(path, "we") : NULL;
+	FILE *file = path ? fopen(path, "we") : NULL; /* `e`: no child has it */
 
 	if (!file)
 		return;

@@ -55,7 +55,7 @@ static const char *name_file(int i)
 static void make_files(int count)
 {
 	for (int i = 0; i < count; i++)
-		close(open_file(name_file(i), O_CREAT | O_WRONLY));
+		close(open_file(name_file(i), O_CREAT | O_WRONLY)); /* empty files */
 }
 
 static void make_few(void)
@@ -73,7 +73,7 @@ static void make_large(void)
 	const int fd = open_file("large", O_CREAT | O_WRONLY);
 
 	for (int i = 0; i < CHUNKS; i++)
-		need(pwrite(fd, bytes, CHUNK, (off_t)i * CHUNK) == CHUNK, "large");
+		need(pwrite(fd, bytes, CHUNK, (off_t)i * CHUNK) == CHUNK, "large"); /* 48 MiB */
 	close(fd);
 }
 
@@ -101,7 +101,7 @@ static void stat_missing(void)
 	struct stat seen;
 
 	for (int i = 0; i < FILES; i++)
-		need(stat(name_file(i), &seen) < 0, "stat");
+		need(stat(name_file(i), &seen) < 0, "stat"); /* ENOENT, from the server */
 }
 
 /* An OPEN and a RELEASE for each, where the names are known. */
@@ -187,7 +187,7 @@ static void read_large(void)
 /* A place of a block, by chance and always the same. */
 static off_t next_place(uint32_t *chance)
 {
-	*chance = *chance * 1103515245 + 12345;
+	*chance = *chance * 1103515245 + 12345; /* a generator of ISO C's text */
 	return (off_t)((*chance >> 8) % (CHUNKS * (CHUNK / BLOCK))) * BLOCK;
 }
 
@@ -322,12 +322,12 @@ static int take_time(size_t which, const char *server)
 	close(ready[1]);
 	for (int i = 0; i < jobs; i++)
 		need(read(ready[0], &byte, 1) == 1, "a job");
-	spent = spent_by(server);
+	spent = spent_by(server); /* when all jobs wait */
 	from = now();
 	close(go[0]);
 	close(go[1]);
-	while (wait(&status) > 0) /* until the last job has ended */
-		is_wrong |= status;
+	while (wait(&status) > 0)   /* until the last job has ended */
+		is_wrong |= status; /* a job that failed, or was killed */
 	from = now() - from;
 	printf("%.6f %.6f\n", from, (double)(spent_by(server) - spent) / 1e9);
 	return is_wrong ? 1 : 0;
@@ -345,9 +345,9 @@ int main(int count, char **words)
 		fputs("Usage: share_speed CLASS FOLDER JOBS [SERVER [COMMAND..]]\n", stderr);
 		return 2;
 	}
-	memset(bytes, 7, sizeof(bytes));
+	memset(bytes, 7, sizeof(bytes)); /* so that no file is one of holes */
 	need(!chdir(words[2]), words[2]);
-	if (count == 4)
+	if (count == 4) /* without a server it's the run before */
 		return prepare(which), 0;
 	command = words + 5;
 	return take_time(which, words[4]);

@@ -23,8 +23,8 @@ uint64_t nizwarf_probe(uint32_t kind, uint32_t count, uint32_t piece, uint32_t r
 
 /* Allocations, counted while `counting`: the linker puts these in the places of the C library's. */
 
-static int counting; /* 0 or 1: it's added */
-static unsigned long allocations;
+static int counting;		  /* 0 or 1: it's added */
+static unsigned long allocations; /* of all rounds, while they are counted */
 
 void *__real_malloc(size_t size);
 void *__real_calloc(size_t n, size_t size);
@@ -96,7 +96,7 @@ static void put_text(struct bytes *b, const char *text)
 static void put_data(struct bytes *b, size_t n)
 {
 	for (size_t i = 0; i < n; i++) {
-		uint8_t byte = (uint8_t)(i * 31 + i / 251 + 7);
+		uint8_t byte = (uint8_t)(i * 31 + i / 251 + 7); /* 251 is a prime: so pages differ */
 
 		put(b, &byte, 1);
 	}
@@ -112,7 +112,7 @@ static void put_request(struct bytes *batch, uint32_t room, uint32_t opcode, uin
 	put_u32(batch, len);
 	put_u32(batch, len);
 	put_u32(batch, opcode);
-	put_u64(batch, unique);
+	put_u64(batch, unique); /* from 2 on, after the INIT */
 	put_u64(batch, node);
 	put_u32(batch, 1000);
 	put_u32(batch, 1000);
@@ -189,7 +189,7 @@ static void forget(struct bytes *batch, uint64_t unique, uint32_t n)
 static void short_header(struct bytes *batch, uint64_t unique, uint32_t n)
 {
 	struct bytes whole = { 0 }, body = { 0 };
-	uint32_t len = 39;
+	uint32_t len = 39; /* a byte less than a header */
 
 	(void)n;
 	put_request(&whole, 16, 17, unique, 1, &body);
@@ -317,7 +317,7 @@ static void mkdir_secctx(struct bytes *batch, uint64_t unique, uint32_t n)
 }
 
 /* What is set up after the INIT. */
-enum setup { NOTHING, FULL_FILE, FILES };
+enum setup { NOTHING, FULL_FILE, FILES }; /* FILES: 999 names beside `a` */
 
 /* How many requests come before those that are measured, with the INIT. */
 static uint32_t put_setup(struct bytes *batch, enum setup setup)
@@ -326,7 +326,7 @@ static uint32_t put_setup(struct bytes *batch, enum setup setup)
 	case NOTHING:
 		return 1;
 	case FULL_FILE:
-		put_write(batch, 1, 0, 65536);
+		put_write(batch, 1, 0, 65536); /* all that is read later */
 		return 2;
 	case FILES:
 		for (int i = 1; i < 1000; i++) {
@@ -348,7 +348,7 @@ static uint32_t put_setup(struct bytes *batch, enum setup setup)
 
 /* Classes of requests. */
 
-enum { MEM, NONE };
+enum { MEM, NONE }; /* the library's numbers of the two file systems */
 
 struct class
 {
@@ -406,6 +406,7 @@ static struct bytes batch_of(const struct class *class)
 	return batch;
 }
 
+/* `head` is the first 40 bytes, or 16 of a room */
 static const char *const cuttings[] = { "one piece", "head + rest", "of 4096", "of 64", "of 1" };
 
 /* How many bytes a request and its room have at most that are also cut into single bytes. */
@@ -442,8 +443,8 @@ static size_t rooms(const struct bytes *batch, uint32_t *room, uint32_t *len)
 
 /* Measuring. */
 
-static const char *only = "";
-static int runs = 21, ms = 5;
+static const char *only = ""; /* classes whose name has this text: all */
+static int runs = 21, ms = 5; /* of which the middle is told; how long each takes */
 
 static double now(void)
 {
@@ -501,7 +502,7 @@ static uint32_t rounds_for(const struct work *work)
 	for (;;) {
 		double more = took(work, 1 + rounds) - one;
 
-		if (more >= wanted / 4 || rounds >= 1u << 24)
+		if (more >= wanted / 4 || rounds >= 1u << 24) /* long enough to reckon from */
 			return 1 + (uint32_t)(rounds * wanted / (more > 1 ? more : 1));
 		rounds *= 2;
 	}
@@ -511,7 +512,7 @@ static uint32_t rounds_for(const struct work *work)
 static void measure(const struct work *work, double *least, double *middle)
 {
 	uint32_t rounds = rounds_for(work);
-	double once = 1e18, *all = calloc((size_t)runs, sizeof(*all));
+	double once = 1e18, *all = calloc((size_t)runs, sizeof(*all)); /* more than any takes */
 
 	if (!all)
 		abort();
@@ -566,10 +567,10 @@ static int measure_class(const struct class *class)
 		if (again || (cutting == 1 && seen[1] == seen[0]))
 			continue;
 		work.cutting = cutting;
-		for (uint32_t rounds = 1; rounds <= 3; rounds++) {
+		for (uint32_t rounds = 1; rounds <= 3; rounds++) { /* a round leaves what it found */
 			uint64_t got = perform(&work, rounds);
 
-			if (digest == 0)
+			if (digest == 0) /* that of the first: all others must be the same */
 				digest = got;
 			if (got != digest || got == 0) {
 				printf("%s, %s: the digest after %u rounds is %016llx, not %016llx\n",
@@ -596,6 +597,7 @@ static void measure_growth(void)
 
 	printf("%-26s%10s%16s%16s\n", "in pieces of 64 bytes", "calls", "ns a round", "ns a call");
 	for (uint32_t kind = 0; kind < 2; kind++)
+		/* its cost must not grow more than it does */
 		for (uint32_t count = 10000; count <= 160000; count *= 2) {
 			struct work work = { .kind = kind, .count = count, .piece = 64 };
 			double least, middle;
@@ -644,7 +646,7 @@ static void serve_class(const struct class *class, uint32_t rounds)
 int main(int argc, char **argv)
 {
 	const char *folder = NULL;
-	int growth = 0, differ = 0, rounds = 0;
+	int growth = 0, differ = 0, rounds = 0; /* 0 rounds: they are timed */
 
 	for (int i = 1; i < argc; i++) {
 		if (!strcmp(argv[i], "--growth"))

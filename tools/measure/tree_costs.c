@@ -34,7 +34,7 @@ static double ask(uint32_t opcode, uint64_t node, const void *behind, size_t siz
 	double start;
 	size_t len;
 
-	segments[0].len = header.len;
+	segments[0].len = header.len; /* without the data */
 	if (count > 1)
 		header.len += BYTES;
 	memcpy(request, &header, sizeof(header));
@@ -75,7 +75,7 @@ static double init(void)
 static void write_in(size_t count)
 {
 	const struct fuse_write_in body = { .size = BYTES };
-	const size_t each = BYTES / count;
+	const size_t each = BYTES / count; /* a power of two */
 
 	for (size_t i = 0; i < count; i++)
 		segments[1 + i] = (nizwarf_segment){ bytes + i * each, each };
@@ -123,8 +123,8 @@ static void anew(void)
 
 int main(void)
 {
-	static const unsigned counts[] = { 1, 1024, 4096, 16384, 65536 };
-	static const unsigned nodes[] = { 20000, 200000 };
+	static const unsigned counts[] = { 1, 1024, 4096, 16384, 65536 }; /* segments of a WRITE */
+	static const unsigned nodes[] = { 20000, 200000 }; /* so that a cost that grows with them shows */
 
 	for (size_t i = 0; i < sizeof(counts) / sizeof(*counts); i++) {
 		anew();
