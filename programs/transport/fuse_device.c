@@ -636,6 +636,13 @@ int fuse_device_notify(transport_notices *notices, const void *notice, size_t le
 	return error == ENODEV ? ENOTCONN : error;
 }
 
+/* Whether a reading tells that it was unmounted. (ECONNABORTED: just when a request was taken, which is not answered
+ * then; or, if that was agreed on, after an abort.) */
+static int is_end(int error)
+{
+	return error == ENODEV || error == ECONNABORTED;
+}
+
 /* Takes a request and answers it. `*opcode` is what was asked, 0 if nothing was. */
 static enum outcome serve_one(struct worker *w, uint32_t *opcode)
 {
@@ -649,7 +656,7 @@ static enum outcome serve_one(struct worker *w, uint32_t *opcode)
 	int32_t code;
 
 	*opcode = 0;
-	if (got == 0 || (got < 0 && errno == ENODEV))
+	if (got == 0 || (got < 0 && is_end(errno)))
 		return ENDED;
 	/* ENOENT: who asked has been interrupted before it was read. */
 	if (got < 0)

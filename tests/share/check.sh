@@ -133,14 +133,17 @@ try_signal() {
 
 # Workers that are late, and have no request, are waited for.
 try_late_reads() {
+    local what
     cc -shared -fPIC -Wall -Wextra -Werror -o "$work/late_reads.so" "$here/tests/share/late_reads.c"
-    LD_PRELOAD=$work/late_reads.so "$share" --log-level=error "$@" "$work/folder" "$work/mount" 2> "$work/said" &
-    server=$!
-    await_mount
-    umount "$work/mount"
-    wait "$server" || wrong "the server ended with $? on a busy machine"
-    server=
-    [ ! -s "$work/said" ] || wrong "on a busy machine it is said: $(cat "$work/said")"
+    for what in LATE ABORTED; do
+        env "$what=" LD_PRELOAD="$work/late_reads.so" "$share" --log-level=error "$@" "$work/folder" "$work/mount" 2> "$work/said" &
+        server=$!
+        await_mount
+        umount "$work/mount"
+        wait "$server" || wrong "the server ended with $? on a busy machine, $what"
+        server=
+        [ ! -s "$work/said" ] || wrong "on a busy machine, $what, it is said: $(cat "$work/said")"
+    done
 }
 
 # A signal that comes as soon as there is a mount, or a socket, leaves nothing.

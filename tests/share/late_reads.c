@@ -1,7 +1,9 @@
-/* Loaded before a share, for check.sh: as on a busy machine, who reads the device is late to see that it was unmounted. */
+/* Loaded before a share, for check.sh: as on a busy machine, who reads the device is late to see that it was unmounted. With
+ * ABORTED in the environment it is told so as Linux tells who takes a request just then. */
 #define _GNU_SOURCE
 #include <dlfcn.h>
 #include <errno.h>
+#include <stdlib.h>
 #include <time.h>
 #include <unistd.h>
 
@@ -15,6 +17,6 @@ ssize_t read(int fd, void *to, size_t len)
 		return got;
 	while (nanosleep(&left, &left) && errno == EINTR)
 		;
-	errno = ENODEV;
+	errno = getenv("ABORTED") ? ECONNABORTED : ENODEV;
 	return got;
 }
