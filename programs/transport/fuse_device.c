@@ -79,6 +79,9 @@ struct worker {
 	int fd;
 	pthread_t thread;
 	unsigned char *memory, *request, *room;
+	/* A page for the replies that fit, since Linux looks for each page of a reply; and where the reply is put to the
+	 * request that it has. */
+	unsigned char *page, *reply;
 	/* How many requests came soon, less those that waited already, since one took longer. */
 	unsigned short_waits;
 	/* A pipe, -1 if it has none, and whether that has its size; how many bytes of a WRITE are in it, or
@@ -424,7 +427,7 @@ static ssize_t put_reply(struct worker *w, size_t len)
 	struct fuse_out_header reply;
 
 	if (!piped)
-		return write(w->fd, w->room, len);
+		return write(w->fd, w->reply, len);
 	w->piped = 0;
 	memcpy(&reply, w->room, sizeof(reply));
 	if (piped == len && !memcmp(&reply, &w->header, sizeof(reply)))
@@ -557,7 +560,7 @@ static void start_rings(struct worker *w, int offered, int32_t code, size_t len)
 		return;
 	if (offered && is_device(w->fd))
 		rings = take_rings(d, w->fd);
-	if (rings && by->ring->start(rings, d, d->over, w->room, len)) {
+	if (rings && by->ring->start(rings, d, d->over, w->reply, len)) {
 		by->ring->end(rings);
 		rings = NULL;
 	}
@@ -648,9 +651,9 @@ static enum outcome serve_one(struct worker *w, uint32_t *opcode)
 {
 	const ssize_t got = read_request(w);
 	const nizwarf_segment segment = { w->request, (size_t)got };
-	nizwarf_room room = { w->room, LONGEST };
 	const transport *by = w->of->by;
 	struct fuse_in_header asked;
+	nizwarf_room room;
 	int is_kept, offered;
 	size_t len = 0;
 	int32_t code;
@@ -670,13 +673,15 @@ static enum outcome serve_one(struct worker *w, uint32_t *opcode)
 	offered = asked.opcode == FUSE_INIT && by->ring && by->ring->is_offered(w->request, (size_t)got);
 	transport_withhold(by, w->request, (size_t)got);
 	room.len = fuse_device_room(&asked, w->request + sizeof(asked), (size_t)got - sizeof(asked));
+	/* (the data of a READ begin at a page, as reading past the host's cache wants) */
+	room.at = w->reply = room.len > PAGE || asked.opcode == FUSE_READ ? w->room : w->page;
 	call_if_late(w, &asked, room.len);
 	w->header.unique = asked.unique;
 	is_kept = ask(w, &asked, &segment, &room, &code, &len);
 	if (is_kept)
 		len = 0;
 	else if (code != NIZWARF_OK)
-		len = fuse_device_refuse(by, &asked, code, w->room);
+		len = fuse_device_refuse(by, &asked, code, w->reply);
 	if (w->written) {
 		empty_pipe(w, w->request + BEFORE_WRITE, w->written);
 		w->written = 0;
@@ -711,6 +716,7 @@ static int start(struct device *d, unsigned number, int fd)
 	if (memory) {
 		w->request = memory + PAGE - BEFORE_WRITE;
 		w->room = memory + (size_t)(LONGEST + 3 * PAGE - BEFORE_READ);
+		w->page = memory + (size_t)(2 * LONGEST + 3 * PAGE);
 	}
 	atomic_fetch_add(&d->active, 1);
 	errno = ENOMEM;
