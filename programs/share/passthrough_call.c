@@ -63,7 +63,9 @@ static int open_node(const struct call *call, int flags)
 		errno = type == S_IFLNK ? ELOOP : ENXIO;
 		return -1;
 	}
-	fd = open_by_name(&call->all->nodes, call->node.node, flags);
+	/* (a directory is where its own descriptor leads, whatever has its name now, unless the server may not search it) */
+	fd = type == S_IFDIR ? openat(call->node.fd, ".", flags | O_CLOEXEC) :
+			       open_by_name(&call->all->nodes, call->node.node, flags);
 	return fd >= 0 ? fd : open_again(&call->all->nodes, call->node.fd, flags);
 }
 

@@ -333,7 +333,7 @@ try_capabilities() {
     echo "It has the capabilities that --modcaps says."
 }
 
-# A file that a client knows is opened, whatever takes its name meanwhile; and it is remembered that there is none.
+# A file or directory that a client knows is opened, whatever takes its name meanwhile; and it is remembered that there is none.
 try_names() {
     local came
     rm -rf "$work/folder"
@@ -352,6 +352,11 @@ try_names() {
     timeout 200 sh -c "echo more >> '$work/mount/file'" || wrong "a file that lost its name isn't written, with $*"
     [ "$(cat "$work/folder/moved" "$work/folder/file" | tr '\n' ' ')" = "this more other " ] ||
         wrong "another file took a name, and was written, with $*"
+    mkdir "$work/folder/place"
+    touch "$work/folder/place/one"
+    came=$(cd "$work/mount/place" && mv "$work/folder/place" "$work/folder/went" && mkdir "$work/folder/place" &&
+        touch "$work/folder/place/other" && timeout 200 ls) || came="status $?"
+    [ "$came" = one ] || wrong "another directory took a name, and reading the one came to $came, with $*"
     [ ! -e "$work/mount/none" ] || wrong "a name that is none"
     touch "$work/folder/none"
     [ ! -e "$work/mount/none" ] || wrong "it is not remembered that there is no such name, with $*"
