@@ -1,7 +1,7 @@
 #!/usr/bin/env python3
 """Weakens each conjunct of what crates define and promise, and tells which nothing notices.
 
-Usage: tests/weaken/weaken.py [--list] [--tell] [--only WORD] [--minutes N] [--pause FILE] [--anew] CRATE..
+Usage: tests/weaken/weaken.py [--list] [--tell] [--only WORD] [--minutes N] [--pause FILE] [--kept FOLDER] [--anew] CRATE..
 A conjunct is a factor or a field of a definition in specs, or a clause (or a factor of it) of a public function. Many are
 weakened at once, in a copy of the crate: each becomes an equation of a number of its own with itself, so that what the
 prover refuses names those that it misses. A proof that only builds one gives that equation instead, and does not count,
@@ -10,9 +10,11 @@ refusal tells one from another, and at last one by one.
 
 How each ends (a use within the field or the part of the same name or number does not count):
   named    the text of a proof uses it for something else, as written types and names say: this needs no check
+  used     the term of a proof uses it for something else, as `rt check` kept it: nor does this. If a search found the term,
+           another search might do without it
   cited    a proof uses it for something else
   goal     a goal is not proved any more
-  nothing  all is proved, here and in the crates above that name it
+  nothing  all is proved, here and in the crates above that name it, or it is of a function that nothing in Rattle calls
   own      all is proved in its own crate, and those above were not asked
   line     lines that can't be mended are refused, and no goal: look at it
   none     it is no fact, or the crate can't be stated without it
@@ -21,11 +23,13 @@ How each ends (a use within the field or the part of the same name or number doe
 tests/weaken/noticed.tsv keeps that, with where it shows, so that a run goes on where another ended. A conjunct is judged
 again once its text has changed, or the file that noticed it. --only takes those whose file or text has the word, --list
 shows them and checks nothing, --tell prints what is known so far. While the file of --pause is there, nothing starts.
---anew forgets what these crates have. tests/weaken/known.txt has what nothing may notice, and why. The crate itself is
-proved first, with all below (`rt check`).
+--kept names another checkout of the same text, which is proved, whose terms are read: else those of this one are, as far
+as it is proved. --anew forgets what these crates have. tests/weaken/known.txt has what nothing may notice, and why. Before
+anything is checked the crate itself is proved, with all below (`rt check`).
 Status 0: each is noticed or known, or a part was looked at; 1: one is neither; 2: it could not start.
 """
 import argparse
+import collections
 import hashlib
 import os
 import re
@@ -36,13 +40,14 @@ import tempfile
 import time
 
 import conjuncts
+import terms
 import uses
 
 HERE = os.path.dirname(os.path.dirname(os.path.dirname(os.path.abspath(__file__))))
 RESULTS = f"{HERE}/tests/weaken/noticed.tsv"
 KNOWN = f"{HERE}/tests/weaken/known.txt"
-CLASSES = ("named", "cited", "goal", "nothing", "own", "line", "none", "limit")
-NOTICED = ("named", "cited", "goal")
+CLASSES = ("named", "used", "cited", "goal", "nothing", "own", "line", "none", "limit")
+NOTICED = ("named", "used", "cited", "goal")
 HEAD = "# By tests/weaken/weaken.py: crate, what has the conjunct, a sum of its text, how it ended, where, a sum of that file.\n"
 # The number of the first conjunct: nothing else is as large.
 FIRST = 7_000_000
@@ -91,6 +96,19 @@ def all_below(name, below):
     return found
 
 
+def is_kept(name, kept):
+    """Whether what a crate's check kept in a checkout is of the text that stands here."""
+    whens = []
+    for part in ("src", "specs", "proofs"):
+        here, there = f"{HERE}/crates/{name}/{part}", f"{kept}/{name}/{part}"
+        files = [sorted(f"{os.path.relpath(path, folder)}/{it}" for path, _, all_ in os.walk(folder) for it in all_) for folder in (here, there)]
+        if files[0] != files[1] or any(read(f"{here}/{it}") != read(f"{there}/{it}") for it in files[0]):
+            return False
+        whens += [os.path.getmtime(f"{there}/{it}") for it in files[0]]
+    folder = f"{kept}/{name}/out/incremental"
+    return os.path.isdir(folder) and max(whens) <= max(os.path.getmtime(f"{path}/{it}") for path, _, all_ in os.walk(folder) for it in all_)
+
+
 def equation(tag):
     """What always holds, and names its conjunct."""
     return f"(◌≡◌ {{A = ℕ}} {tag} {tag})"
@@ -103,13 +121,43 @@ def its_proof(tag):
 class Prover:
     """Checks copies of crates, over what a check of the crate as it stands kept."""
 
-    def __init__(self, pause):
+    def __init__(self, pause, kept):
         said = subprocess.run(["rt", "doc"], stdout=subprocess.PIPE, text=True, check=True).stdout
         self.kit = os.path.dirname(said.strip())
         self.folder, self.pause = None, pause
         self.below, self.static = graph()
         of_kit = {it for names in self.below.values() for it in names if it not in self.below}
-        self.named, self.reached = uses.Named(f"{HERE}/crates", f"{self.kit}/rattle", of_kit), uses.Texts(f"{HERE}/crates").all()
+        texts = uses.Texts(f"{HERE}/crates")
+        self.named, self.reached = uses.Named(f"{HERE}/crates", f"{self.kit}/rattle", of_kit), texts.all()
+        self.words_of(texts)
+        self.terms, self.read = terms.Kept(texts, f"{HERE}/crates", f"{kept}/crates", self.kit), set()
+
+    def words_of(self, texts):
+        """Counts the words of all code and of all proofs, without where a proof takes its own goals from."""
+        self.code, self.heads, self.proofs = collections.Counter(), collections.Counter(), set()
+        for source in texts.sources.values():
+            if source.is_code:
+                self.code.update(re.findall(r"\w+", source.text))
+                self.heads.update(re.findall(r"\bfn (\w+)", source.text))
+            else:
+                self.proofs.update(re.findall(r"\w+", re.sub(r"^use \S+\.Goals as goal$", "", source.text, flags=re.M)))
+
+    def is_called(self, it):
+        """Whether anything may call a function, or name it in a proof."""
+        word = it.owner.split()[0]
+        return not it.file.startswith("src/") or self.heads[word] != 1 or self.code[word] > 1 or word in self.proofs
+
+    def used(self, name, it):
+        """Where the term of a proof, as the checker kept it, uses a conjunct: in its own crate or one above."""
+        for crate in [name, *[one for one in self.below if name in all_below(one, self.below)]]:
+            if crate not in self.read and is_kept(crate, self.terms.kept):
+                self.terms.crate(crate)
+            self.read.add(crate)
+        for file, owner in self.terms.used.get((f"{HERE}/crates/{name}/{it.file}", it.start, it.end), ()):
+            crate = os.path.relpath(file, f"{HERE}/crates").split("/")[0]
+            if crate == name or name in all_below(crate, self.below):
+                return f"{os.path.relpath(file, f'{HERE}/crates').removeprefix(f'{name}/')} {owner}"
+        return None
 
     def prove(self, name):
         """Proves a crate as it is, if it is not proved yet."""
@@ -533,7 +581,7 @@ class Results:
     """What is known, by crate and sum."""
 
     def __init__(self):
-        self.all = {}
+        self.all, self.gone = {}, set()
         for line in read(RESULTS).splitlines() if os.path.exists(RESULTS) else []:
             if not line.startswith("#"):
                 crate, owner, one, kind, where, of_file = line.split("\t")
@@ -544,6 +592,11 @@ class Results:
         it = self.all.get((crate, one))
         return it[1:3] if it and (it[3] == "-" or it[3] == file_of(crate, it[2])) else None
 
+    def keep(self, crate, sums):
+        """Forgets what no text of a crate stands for any more."""
+        self.gone |= {key for key in self.all if key[0] == crate and key[1] not in sums}
+        self.all = {key: it for key, it in self.all.items() if key not in self.gone}
+
     def put(self, crate, owner, one, kind, where):
         where = " ".join(where.split())[:80]
         self.all[(crate, one)] = (owner, kind, where, file_of(crate, where))
@@ -551,7 +604,8 @@ class Results:
     def write(self):
         """Writes all, over what other runs wrote meanwhile."""
         for key, it in Results().all.items() if os.path.exists(RESULTS) else ():
-            self.all.setdefault(key, it)
+            if key not in self.gone:
+                self.all.setdefault(key, it)
         lines = sorted("\t".join((crate, it[0], one, *it[1:])) for (crate, one), it in self.all.items())
         with open(f"{RESULTS}.new", "w", encoding="utf-8") as file:
             file.write(HEAD + "".join(f"{it}\n" for it in lines))
@@ -586,7 +640,7 @@ def told(name, found, sums, results):
             print(f"nothing notices  {line}")
         elif kind in ("line", "limit") and line not in known:
             print(f"{kind:15}  {line}\n{'':17}{where}")
-    print(f"{name}: {sum(counts.values())} of {len(found)} conjuncts are judged: proofs name {counts['named']} and cite {counts['cited']}, goals need {counts['goal']}, "
+    print(f"{name}: {sum(counts.values())} of {len(found)} conjuncts are judged: proofs name {counts['named']}, use {counts['used']} and cite {counts['cited']}, goals need {counts['goal']}, "
           f"nothing {counts['nothing']}, of which {counts['nothing'] - unknown} are known; lines alone {counts['line']}, no fact {counts['none']}, no verdict {counts['limit']}")
     return unknown
 
@@ -601,11 +655,13 @@ def leaves(tags, found):
 def weaken(prover, name, words, ends, facts, results):
     """Weakens the conjuncts of a crate that are not judged yet, up to a time. Gives how many are unnoticed and not known."""
     found, sums = named(name, facts)
+    results.keep(name, set(sums.values()))
     left = [it for it in found if not results.of(name, sums[it]) and all(w in found[it].name() for w in words)]
 
-    def tell(tag, kind, where):
+    def tell(tag, kind, where, is_quick=False):
         results.put(name, found[tag].owner, sums[tag], kind, where)
-        results.write()
+        if not is_quick:
+            results.write()
         if tag in left:
             left.remove(tag)
         print(f"{len(left)} left: {kind} {where}: {found[tag].name()[:100]}", file=sys.stderr)
@@ -614,7 +670,7 @@ def weaken(prover, name, words, ends, facts, results):
             for other in list(left):
                 one = found[other]
                 if one.file == found[tag].file and one.start <= found[tag].start and found[tag].end <= one.end:
-                    tell(other, kind, where)
+                    tell(other, kind, where, is_quick)
 
     def reaches(path):
         crate = os.path.relpath(path, f"{HERE}/crates").split("/")[0]
@@ -624,7 +680,16 @@ def weaken(prover, name, words, ends, facts, results):
         one = found[it]
         path = prover.reached.get((f"{HERE}/crates/{name}/{one.file}", one.start, one.end)) or prover.named.of(one, read(f"{HERE}/crates/{name}/{one.file}"), reaches)
         if path and it in left:
-            tell(it, "named", os.path.relpath(path, f"{HERE}/crates").removeprefix(f"{name}/"))
+            tell(it, "named", os.path.relpath(path, f"{HERE}/crates").removeprefix(f"{name}/"), True)
+    for it in list(left) if prover else ():
+        path = prover.used(name, found[it])
+        if path and it in left:
+            tell(it, "used", path, True)
+    for it in list(left) if prover else ():
+        if not prover.is_called(found[it]):
+            tell(it, "nothing", "", True)
+    if prover:
+        results.write()
     look = Round(prover, name, found)
     if left and prover and time.monotonic() < ends:
         prover.prove(name)
@@ -681,6 +746,7 @@ def main():
     parser.add_argument("--anew", action="store_true")
     parser.add_argument("--only", action="append", default=[], metavar="WORD")
     parser.add_argument("--pause", default="", metavar="FILE")
+    parser.add_argument("--kept", default=HERE, metavar="FOLDER")
     parser.add_argument("--minutes", type=float, default=float("inf"), metavar="N")
     words = parser.parse_args()
     facts = conjuncts.predicates(f"{HERE}/crates")
@@ -695,9 +761,10 @@ def main():
         return 0
     results, unknown, ends = Results(), 0, time.monotonic() + 60 * words.minutes
     if words.anew:
-        results.all = {key: it for key, it in results.all.items() if key[0] not in words.crates}
+        for name in words.crates:
+            results.keep(name, set())
     os.makedirs(f"{HERE}/out/weaken", exist_ok=True)
-    prover = None if words.tell else Prover(words.pause)
+    prover = None if words.tell else Prover(words.pause, os.path.abspath(words.kept))
     for name in words.crates:
         with tempfile.TemporaryDirectory(dir=f"{HERE}/out") as folder:
             if prover:
