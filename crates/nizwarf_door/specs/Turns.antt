@@ -58,28 +58,11 @@ module _ (limits : Limits) (options : ℕ) (request : List ℕ) (room : ℕ) (co
 
 -- what an answer reads of the data of a call
 abbrev pub read_of : CallData → CallData
-read_of call = record nothing {
-  unique = call.unique;
-  readahead = call.readahead;
-  options = call.options;
-  room = call.room;
-  call = call.call;
-  answer = call.answer;
-  size = call.size;
-  length = call.length;
-}
+read_of c = record nothing { unique = c.unique; readahead = c.readahead; options = c.options; room = c.room; call = c.call; answer = c.answer; size = c.size; length = c.length }
 
 -- and besides, where a directory is read
 abbrev pub read_of_directory : CallData → CallData
-read_of_directory call = record nothing {
-  uid = call.uid;
-  gid = call.gid;
-  pid = call.pid;
-  node = call.node;
-  handle = call.handle;
-  offset = call.offset;
-  has = call.has;
-}
+read_of_directory c = record nothing { uid = c.uid; gid = c.gid; pid = c.pid; node = c.node; handle = c.handle; offset = c.offset; has = c.has }
 
 -- These data suffice for an answer to this request: an answer reads the same of them as of those that tell what the
 -- request asks for. No name and no value is read.
