@@ -289,7 +289,8 @@ class Uses:
                 self.budget, self.seen = 400_000, set()
                 # (of a sealed one the term is in its own item)
                 if kind == 0:
-                    self.walk(roots[1], self.binders(roots[0], roots[1]), None)
+                    self.binders(roots[0], roots[1])
+                    self.walk(roots[1])
 
     def binders(self, type_, term):
         """The types of what a term's first λs bind, by the node of each."""
@@ -303,49 +304,53 @@ class Uses:
                 continue
             self.types[term] = (module, nodes, nodes[type_][2])
             type_, term = nodes[type_][3], self.nodes[term][2]
-        return ()
 
-    def walk(self, root, env, into):
-        """Goes through a term. The environment has what each variable is: a type, or a let's value with its environment."""
-        stack = [(root, env, into)]
+    def walk(self, root):
+        """Goes through a term, with what each variable is: a type, or a let's value; and within which fields a place is."""
+        self.inside = frozenset()
+        stack = [(root, (), None, self.inside)]
         while stack and self.budget:
-            at, env, into = stack.pop()
-            key = (at, id(env), into)
+            at, env, into, self.inside = stack.pop()
+            key = (at, id(env), into, self.inside)
             if key in self.seen:
                 continue
             self.seen.add(key)
             self.budget -= 1
-            node = self.nodes[at]
-            tag = node[0]
-            if tag in (VAR, PROJECTION, APP):
-                base, steps, others = self.peeled(at)
-                self.use(base, steps, env, into)
-                head = self.nodes[base]
-                inner = self.cases(base, others, env)
-                if inner:
-                    stack += inner
-                    continue
-                for i, other in enumerate(others):
-                    stack.append((other, env, ("argument", base, i) if head[0] == DEF else ("argument", None, i)))
-                if head[0] not in (VAR, DEF):
-                    stack.append((base, env, ("argument", None, 0)))
-            elif tag == LET:
-                stack.append((node[3], env, ("let",)))
-                stack.append((node[4], ("let", self.shown(self.module, self.nodes, node[2]), node[3], env), into))
-            elif tag == LAM:
-                bound = self.shown(*self.types[at]) if at in self.types else None
-                stack.append((node[2], ("bound", bound, None, env), into if at in self.types else ("argument", None, 0)))
-            elif tag == RECORD:
-                for label, it in node[1]:
-                    stack.append((it, env, ("field", self.module.strings[label])))
-            elif tag == 39:
-                stack += [(node[3], env, ("argument", None, 0)), (node[4], env, ("argument", None, 0))]
-            elif tag in (27, 28, 31, 33):
-                stack.append((node[2], ("bound", None, None, env), ("argument", None, 0)))
-            elif tag == 38:
-                stack += [(it, env, ("argument", None, 0)) for it in node[1]]
-            elif tag in (30, 34, 35, 36, 3):
-                stack += [(it, env, ("argument", None, 0)) for it in node[1:]]
+            stack += [it if len(it) == 4 else (*it, self.inside) for it in self.parts(at, env, into)]
+
+    def parts(self, at, env, into):
+        """Notes what a node uses. Gives what is to be gone through below it."""
+        stack, node = [], self.nodes[at]
+        tag = node[0]
+        if tag in (VAR, PROJECTION, APP):
+            base, steps, others = self.peeled(at)
+            self.use(base, steps, env, into)
+            head = self.nodes[base]
+            inner = self.cases(base, others, env)
+            if inner:
+                return inner
+            for i, other in enumerate(others):
+                stack.append((other, env, ("argument", base, i) if head[0] == DEF else ("argument", None, i)))
+            if head[0] not in (VAR, DEF):
+                stack.append((base, env, ("argument", None, 0)))
+        elif tag == LET:
+            stack.append((node[3], env, ("let",)))
+            stack.append((node[4], ("let", self.shown(self.module, self.nodes, node[2]), node[3], env), into))
+        elif tag == LAM:
+            bound = self.shown(*self.types[at]) if at in self.types else None
+            stack.append((node[2], ("bound", bound, None, env), into if at in self.types else ("argument", None, 0)))
+        elif tag == RECORD:
+            for label, it in node[1]:
+                stack.append((it, env, ("field", self.module.strings[label]), self.inside | {self.module.strings[label]}))
+        elif tag == 39:
+            stack += [(node[3], env, ("argument", None, 0)), (node[4], env, ("argument", None, 0))]
+        elif tag in (27, 28, 31, 33):
+            stack.append((node[2], ("bound", None, None, env), ("argument", None, 0)))
+        elif tag == 38:
+            stack += [(it, env, ("argument", None, 0)) for it in node[1]]
+        elif tag in (30, 34, 35, 36, 3):
+            stack += [(it, env, ("argument", None, 0)) for it in node[1:]]
+        return stack
 
     def cases(self, base, others, env):
         """What is to be gone through of a choice by cases of an alternative of facts, or None if it is none of these."""
@@ -493,7 +498,8 @@ class Uses:
                 steps = steps[1:]
             if type_ is None:
                 return None
-        if into is None or into[0] == "let" or (into[0] == "field" and into[1] in ("", last)):
+        # (what builds the same field or part does not count)
+        if into is None or into[0] == "let" or last in self.inside:
             return type_
         self.reach(type_)
         if into[0] == "argument" and into[1] is not None:

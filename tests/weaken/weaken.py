@@ -126,6 +126,7 @@ class Prover:
         self.kit = os.path.dirname(said.strip())
         self.folder, self.pause = None, pause
         self.below, self.static = graph()
+        self.all_below = {it: set(all_below(it, self.below)) for it in self.below}
         of_kit = {it for names in self.below.values() for it in names if it not in self.below}
         texts = uses.Texts(f"{HERE}/crates")
         self.named, self.reached = uses.Named(f"{HERE}/crates", f"{self.kit}/rattle", of_kit), texts.all()
@@ -149,13 +150,13 @@ class Prover:
 
     def used(self, name, it):
         """Where the term of a proof, as the checker kept it, uses a conjunct: in its own crate or one above."""
-        for crate in [name, *[one for one in self.below if name in all_below(one, self.below)]]:
+        for crate in [name, *[one for one in self.below if name in self.all_below[one]]]:
             if crate not in self.read and is_kept(crate, self.terms.kept):
                 self.terms.crate(crate)
             self.read.add(crate)
         for file, owner in self.terms.used.get((f"{HERE}/crates/{name}/{it.file}", it.start, it.end), ()):
             crate = os.path.relpath(file, f"{HERE}/crates").split("/")[0]
-            if crate == name or name in all_below(crate, self.below):
+            if crate == name or name in self.all_below[crate]:
                 return f"{os.path.relpath(file, f'{HERE}/crates').removeprefix(f'{name}/')} {owner}"
         return None
 
@@ -599,6 +600,7 @@ class Results:
 
     def put(self, crate, owner, one, kind, where):
         where = " ".join(where.split())[:80]
+        self.gone.discard((crate, one))
         self.all[(crate, one)] = (owner, kind, where, file_of(crate, where))
 
     def write(self):
@@ -674,7 +676,7 @@ def weaken(prover, name, words, ends, facts, results):
 
     def reaches(path):
         crate = os.path.relpath(path, f"{HERE}/crates").split("/")[0]
-        return crate == name or name in all_below(crate, prover.below)
+        return crate == name or name in prover.all_below[crate]
 
     for it in list(left) if prover else ():
         one = found[it]
