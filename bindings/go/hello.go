@@ -120,7 +120,7 @@ func run(device int) error {
 		if errors.Is(err, syscall.EINTR) || errors.Is(err, syscall.ENOENT) { // the request was aborted
 			continue
 		}
-		if size == 0 || errors.Is(err, syscall.ENODEV) { // it was unmounted
+		if size == 0 || errors.Is(err, syscall.ENODEV) || errors.Is(err, syscall.ECONNABORTED) { // it was unmounted
 			return nil
 		}
 		if err != nil {

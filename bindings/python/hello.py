@@ -119,7 +119,7 @@ def main(words):
             if reply := serve(library, slot, session, request):
                 os.write(device, reply)
         except OSError as error:
-            if error.errno == errno.ENODEV:  # it was unmounted
+            if error.errno in (errno.ENODEV, errno.ECONNABORTED):  # it was unmounted
                 break
             if error.errno != errno.ENOENT:  # the request was aborted
                 raise

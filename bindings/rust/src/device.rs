@@ -90,7 +90,12 @@ impl Buffers {
 fn read_next(mut device: &File, request: &mut [u8]) -> io::Result<usize> {
     loop {
         match device.read(request) {
-            Err(error) if Errno::ENODEV.is(&error) => return Ok(0),
+            // It was unmounted; ECONNABORTED: just when a request was taken.
+            Err(error)
+                if Errno::ENODEV.is(&error) || error.kind() == io::ErrorKind::ConnectionAborted =>
+            {
+                return Ok(0);
+            }
             // The request was aborted while it was read.
             Err(error) if Errno::ENOENT.is(&error) || Errno::EINTR.is(&error) => {}
             read => return read,
