@@ -263,7 +263,7 @@ def begin():
                                             (BOOKS, ["KeepsBooks"]))]
     return f"""# To begin with
 
-The five definitions of [the promise](PROMISE.md), and a turn for each case of `Follows`; [key](PROMISE.md#key). At the left are fields of `Turn` and names in `Follows`.
+The five definitions of [the promise](PROMISE.md), and a turn for each case of `Follows`; [key](PROMISE.md#key). At the left are fields of `Turn` and names in `Follows`. Other words: [in order](PROMISE.md#reading-order).
 
 `Server::handle_session` ensures `IsSession`:
 

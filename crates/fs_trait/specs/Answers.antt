@@ -86,7 +86,7 @@ pub data Kind : Type 0 where
   Offsets : Kind
   -- how many bytes were written
   Writes : Kind
-  -- an iterator over a directory, which is no answer by value
+  -- an iterator over a directory, which is no answer by value: the trait's contract has it, and no turn
   Iterators : Kind
   -- a fault and nothing else
   Faults : Kind
@@ -111,7 +111,7 @@ FitsText bytes = length bytes < 2 ^ 32 - 16
 
 -- An answer of this kind, with its numbers in their widths in the reply: a fault is one of every kind but
 -- `Quiet`, and the only one of `Iterators` and `Faults`; a time is in whole seconds and the nanoseconds
--- beyond. `Fit` and the `Fits..` above say nothing of a room, as `Fits` of Listing does.
+-- beyond. `Fit` and the `Fits..` above are of widths, and say nothing of a room.
 abbrev pub IsAnswer : Kind → Answer → Type 0
 IsAnswer Quiet Done = Unit {0}
 IsAnswer Quiet _ = ⊥

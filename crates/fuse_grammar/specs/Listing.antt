@@ -55,7 +55,8 @@ abbrev pub entry_bytes : Option Entry → List ℕ
 entry_bytes None = []
 entry_bytes (Some entry) = bytes_of entry_out (entry_out_of entry)
 
--- what becomes of a record: it is put whole; it is too long for what may still be put; or it fails
+-- what becomes of a record: it is put whole; it is too long for what may still be put; or it fails (`Fits` is of the
+-- room, where the `Fits..` of Answers are of widths)
 pub data Verdict : Type 0 where
   Fits : Verdict
   Full : Verdict

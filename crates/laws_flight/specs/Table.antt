@@ -1,5 +1,5 @@
 -- Which data tell which call of a request: a row for each call, as `form_of` has one for each opcode. `q` are the
--- bytes of the request, and `told` the data. ENTRY is the number of `Entries`, and so on: `kind_told` of door_answer.
+-- bytes of the request, and `d` the data. ENTRY is the number of `Entries`, and so on: `kind_told` of door_answer.
 use Rattle.std.specs.Prelude.{◌≡◌, ◌+◌, ◌*◌, ◌==◌, ◌||◌, not, nat_lt, if◌then◌else◌, drop, ℕ, List, Bool, true, false, length, is_some, Option, Some, None, unwrap_or}
 use Rattle.fs_trait.specs.Calls.{Call}
 use Rattle.fs_trait.specs.Calls as call
@@ -23,24 +23,24 @@ use Rattle.door_calls.specs.declared.call.has.TheConstants.{HANDLE, OWNER, CONTE
 use Rattle.door_ask.specs.Asked.{IsNameIn, Stand, Spell}
 
 -- what the data of any call have of its request
-abbrev pub of_request : Echo → (told : CallData) → CallData
-of_request echo told = record nothing {
+abbrev pub of_request : Echo → (d : CallData) → CallData
+of_request echo d = record nothing {
   unique = echo.unique;
   readahead = echo.max_readahead;
-  options = told.options;
-  room = told.room;
+  options = d.options;
+  room = d.room;
 }
 
 -- The name and the value of a security context, where there is one, are in the request where the data say so; and else
 -- both are { 0, 0 }.
-abbrev pub TellsContext : (q : List ℕ) → (told : CallData) → Option (List ℕ × List ℕ) → Type 0
-TellsContext q told None = (told.context_name ≡ no_range) × (told.context ≡ no_range)
-TellsContext q told (Some context) =
-    IsNameIn q told.context_name context.0 × Stand q told.context context.1
+abbrev pub TellsContext : (q : List ℕ) → (d : CallData) → Option (List ℕ × List ℕ) → Type 0
+TellsContext q d None = (d.context_name ≡ no_range) × (d.context ≡ no_range)
+TellsContext q d (Some context) =
+    IsNameIn q d.context_name context.0 × Stand q d.context context.1
 
 -- These data tell this call, where `c` is what `of_request` has of them: all their numbers are those of its row, and
 -- its names and values are in the request where they say so. What it has not is { 0, 0 }.
-module _ (q : List ℕ) (told c : CallData) where
+module _ (q : List ℕ) (d c : CallData) where
   -- data of this call, which has this kind of answer; and of one by this caller, of this node
   abbrev pub asks : (number kind : ℕ) → CallData
   asks number kind = record c { call = number; answer = kind }
@@ -52,116 +52,117 @@ module _ (q : List ℕ) (told c : CallData) where
   -- the same of one that makes a node
   abbrev pub made : CallData → (kill_priv : Bool) → ExtensionValues → CallData
   made first kill_priv ext = record first {
-    name = told.name;
-    context_name = told.context_name;
-    context = told.context;
+    name = d.name;
+    context_name = d.context_name;
+    context = d.context;
     group = unwrap_or ext.group 0;
     has = bit kill_priv KILL_PRIV + (bit (is_some ext.context) CONTEXT + bit (is_some ext.group) GROUP);
   }
 
   abbrev pub TellsByTable : Call → Type 0
   TellsByTable (call.Lookup ctx parent name) =
-      (told ≡ record (by LOOKUP ENTRY ctx parent) { name = told.name }) × IsNameIn q told.name name
-  TellsByTable (call.Forget ctx inode count) = told ≡ record (by FORGET QUIET ctx inode) { length = count }
+      (d ≡ record (by LOOKUP ENTRY ctx parent) { name = d.name }) × IsNameIn q d.name name
+  TellsByTable (call.Forget ctx inode count) = d ≡ record (by FORGET QUIET ctx inode) { length = count }
   TellsByTable (call.Getattr ctx inode handle) =
-      told ≡ record (by GETATTR ATTR ctx inode) { handle = unwrap_or handle 0; has = bit (is_some handle) HANDLE }
+      d ≡ record (by GETATTR ATTR ctx inode) { handle = unwrap_or handle 0; has = bit (is_some handle) HANDLE }
   TellsByTable (call.Setattr ctx inode attr handle valid) =
-      told ≡ record (record (by SETATTR ATTR ctx inode) { attr = setattr_of attr; flags = valid })
+      d ≡ record (record (by SETATTR ATTR ctx inode) { attr = setattr_of attr; flags = valid })
       { handle = unwrap_or handle 0; has = bit (is_some handle) HANDLE }
-  TellsByTable (call.Readlink ctx inode) = told ≡ by READLINK TEXT ctx inode
+  TellsByTable (call.Readlink ctx inode) = d ≡ by READLINK TEXT ctx inode
   TellsByTable (call.Symlink ctx text parent name ext) =
-      (told ≡ record (made (by SYMLINK ENTRY ctx parent) false ext) { other_name = told.other_name })
-      × IsNameIn q told.name name × IsNameIn q told.other_name text × TellsContext q told ext.context
+      (d ≡ record (made (by SYMLINK ENTRY ctx parent) false ext) { other_name = d.other_name })
+      × IsNameIn q d.name name × IsNameIn q d.other_name text × TellsContext q d ext.context
   TellsByTable (call.Mknod ctx inode name mode rdev umask ext) =
-      (told ≡ record (made (by MKNOD ENTRY ctx inode) false ext) { mode = mode; rdev = rdev; umask = umask })
-      × IsNameIn q told.name name × TellsContext q told ext.context
+      (d ≡ record (made (by MKNOD ENTRY ctx inode) false ext) { mode = mode; rdev = rdev; umask = umask })
+      × IsNameIn q d.name name × TellsContext q d ext.context
   TellsByTable (call.Mkdir ctx parent name mode umask ext) =
-      (told ≡ record (made (by MKDIR ENTRY ctx parent) false ext) { mode = mode; umask = umask })
-      × IsNameIn q told.name name × TellsContext q told ext.context
+      (d ≡ record (made (by MKDIR ENTRY ctx parent) false ext) { mode = mode; umask = umask })
+      × IsNameIn q d.name name × TellsContext q d ext.context
   TellsByTable (call.Unlink ctx parent name) =
-      (told ≡ record (by UNLINK DONE ctx parent) { name = told.name }) × IsNameIn q told.name name
+      (d ≡ record (by UNLINK DONE ctx parent) { name = d.name }) × IsNameIn q d.name name
   TellsByTable (call.Rmdir ctx parent name) =
-      (told ≡ record (by RMDIR DONE ctx parent) { name = told.name }) × IsNameIn q told.name name
+      (d ≡ record (by RMDIR DONE ctx parent) { name = d.name }) × IsNameIn q d.name name
   TellsByTable (call.Rename ctx olddir oldname newdir newname flags) =
-      (told ≡ record (record (by RENAME DONE ctx olddir) { other_node = newdir; flags = flags })
-      { name = told.name; other_name = told.other_name })
-      × IsNameIn q told.name oldname × IsNameIn q told.other_name newname
+      (d ≡ record (record (by RENAME DONE ctx olddir) { other_node = newdir; flags = flags })
+      { name = d.name; other_name = d.other_name })
+      × IsNameIn q d.name oldname × IsNameIn q d.other_name newname
   TellsByTable (call.Link ctx inode newparent newname) =
-      (told ≡ record (by LINK ENTRY ctx inode) { other_node = newparent; name = told.name })
-      × IsNameIn q told.name newname
+      (d ≡ record (by LINK ENTRY ctx inode) { other_node = newparent; name = d.name })
+      × IsNameIn q d.name newname
   TellsByTable (call.Open ctx inode kill_priv flags) =
-      told ≡ record (by OPEN OPENED ctx inode) { has = bit kill_priv KILL_PRIV; flags = flags }
+      d ≡ record (by OPEN OPENED ctx inode) { has = bit kill_priv KILL_PRIV; flags = flags }
   TellsByTable (call.Read ctx inode handle space size offset owner flags) =
-      told ≡ record (record (by READ DATA ctx inode) { handle = handle; size = size; offset = offset; flags = flags })
+      d ≡ record (record (by READ DATA ctx inode) { handle = handle; size = size; offset = offset; flags = flags })
       { length = space; lock_owner = unwrap_or owner 0; has = bit (is_some owner) OWNER }
   TellsByTable (call.Write ctx inode handle bytes size offset owner delayed kill_priv flags) =
-      (told ≡ record (record (record (by WRITE WRITTEN ctx inode) { handle = handle; size = size; offset = offset })
-      { «data» = told.data; flags = flags; lock_owner = unwrap_or owner 0 })
+      (d ≡ record (record (record (by WRITE WRITTEN ctx inode) { handle = handle; size = size; offset = offset })
+      { «data» = d.data; flags = flags; lock_owner = unwrap_or owner 0 })
       { has = bit (is_some owner) OWNER + (bit delayed DELAYED + bit kill_priv KILL_PRIV) })
-      × Stand q told.data bytes
-  TellsByTable (call.Statfs ctx inode) = told ≡ by STATFS STATISTICS ctx inode
+      × Stand q d.data bytes
+  TellsByTable (call.Statfs ctx inode) = d ≡ by STATFS STATISTICS ctx inode
   TellsByTable (call.Release ctx inode flags handle flush flock_release owner) =
-      told ≡ record (record (by RELEASE DONE ctx inode) { handle = handle; flags = flags })
+      d ≡ record (record (by RELEASE DONE ctx inode) { handle = handle; flags = flags })
       { lock_owner = unwrap_or owner 0; has = bit (is_some owner) OWNER + (bit flush FLUSHES + bit flock_release FLOCK_RELEASE) }
   TellsByTable (call.Fsync ctx inode datasync handle) =
-      told ≡ record (by FSYNC DONE ctx inode) { has = bit datasync DATASYNC; handle = handle }
+      d ≡ record (by FSYNC DONE ctx inode) { has = bit datasync DATASYNC; handle = handle }
   TellsByTable (call.Setxattr ctx inode name value flags extra) =
-      (told ≡ record (record (by SETXATTR DONE ctx inode) { flags = flags; more = extra })
-      { name = told.name; «data» = told.data })
-      × IsNameIn q told.name name × Stand q told.data value
+      (d ≡ record (record (by SETXATTR DONE ctx inode) { flags = flags; more = extra })
+      { name = d.name; «data» = d.data })
+      × IsNameIn q d.name name × Stand q d.data value
   TellsByTable (call.Getxattr ctx inode name size) =
-      (told ≡ record (by GETXATTR TEXT_OR_COUNT ctx inode) { name = told.name; size = size })
-      × IsNameIn q told.name name
-  TellsByTable (call.Listxattr ctx inode size) = told ≡ record (by LISTXATTR TEXT_OR_COUNT ctx inode) { size = size }
+      (d ≡ record (by GETXATTR TEXT_OR_COUNT ctx inode) { name = d.name; size = size })
+      × IsNameIn q d.name name
+  TellsByTable (call.Listxattr ctx inode size) = d ≡ record (by LISTXATTR TEXT_OR_COUNT ctx inode) { size = size }
   TellsByTable (call.Removexattr ctx inode name) =
-      (told ≡ record (by REMOVEXATTR DONE ctx inode) { name = told.name }) × IsNameIn q told.name name
+      (d ≡ record (by REMOVEXATTR DONE ctx inode) { name = d.name }) × IsNameIn q d.name name
   TellsByTable (call.Flush ctx inode handle lock_owner) =
-      told ≡ record (by FLUSH DONE ctx inode) { handle = handle; lock_owner = lock_owner }
-  TellsByTable (call.Init capable) = told ≡ record (asks INIT WANT) { length = capable }
-  TellsByTable (call.Opendir ctx inode flags) = told ≡ record (by OPENDIR OPENED ctx inode) { flags = flags }
+      d ≡ record (by FLUSH DONE ctx inode) { handle = handle; lock_owner = lock_owner }
+  TellsByTable (call.Init capable) = d ≡ record (asks INIT WANT) { length = capable }
+  TellsByTable (call.Opendir ctx inode flags) = d ≡ record (by OPENDIR OPENED ctx inode) { flags = flags }
   TellsByTable (call.Readdir ctx inode handle size offset) =
-      told ≡ record (by READDIR DIRECTORY ctx inode) { handle = handle; size = size; offset = offset }
+      d ≡ record (by READDIR DIRECTORY ctx inode) { handle = handle; size = size; offset = offset }
   TellsByTable (call.Releasedir ctx inode flags handle) =
-      told ≡ record (by RELEASEDIR DONE ctx inode) { flags = flags; handle = handle }
+      d ≡ record (by RELEASEDIR DONE ctx inode) { flags = flags; handle = handle }
   TellsByTable (call.Fsyncdir ctx inode datasync handle) =
-      told ≡ record (by FSYNCDIR DONE ctx inode) { has = bit datasync DATASYNC; handle = handle }
-  TellsByTable call.Getlk = told ≡ asks GETLK FAULT_OR_SILENCE
-  TellsByTable call.Setlk = told ≡ asks SETLK FAULT_OR_SILENCE
-  TellsByTable call.Setlkw = told ≡ asks SETLKW FAULT_OR_SILENCE
-  TellsByTable (call.Access ctx inode mask) = told ≡ record (by ACCESS DONE ctx inode) { more = mask }
+      d ≡ record (by FSYNCDIR DONE ctx inode) { has = bit datasync DATASYNC; handle = handle }
+  TellsByTable call.Getlk = d ≡ asks GETLK FAULT_OR_SILENCE
+  TellsByTable call.Setlk = d ≡ asks SETLK FAULT_OR_SILENCE
+  TellsByTable call.Setlkw = d ≡ asks SETLKW FAULT_OR_SILENCE
+  TellsByTable (call.Access ctx inode mask) = d ≡ record (by ACCESS DONE ctx inode) { more = mask }
   TellsByTable (call.Create ctx parent name mode kill_priv flags umask ext) =
-      (told ≡ record (made (by CREATE CREATED ctx parent) kill_priv ext) { mode = mode; flags = flags; umask = umask })
-      × IsNameIn q told.name name × TellsContext q told ext.context
-  TellsByTable call.Bmap = told ≡ asks BMAP FAULT_OR_SILENCE
-  TellsByTable call.Destroy = told ≡ asks DESTROY QUIET
-  TellsByTable call.Ioctl = told ≡ asks IOCTL FAULT_OR_SILENCE
-  TellsByTable call.Poll = told ≡ asks POLL FAULT_OR_SILENCE
-  TellsByTable call.NotifyReply = told ≡ asks NOTIFY_REPLY FAULT_OR_SILENCE
+      (d ≡ record (made (by CREATE CREATED ctx parent) kill_priv ext) { mode = mode; flags = flags; umask = umask })
+      × IsNameIn q d.name name × TellsContext q d ext.context
+  TellsByTable call.Bmap = d ≡ asks BMAP FAULT_OR_SILENCE
+  TellsByTable call.Destroy = d ≡ asks DESTROY QUIET
+  TellsByTable call.Ioctl = d ≡ asks IOCTL FAULT_OR_SILENCE
+  TellsByTable call.Poll = d ≡ asks POLL FAULT_OR_SILENCE
+  TellsByTable call.NotifyReply = d ≡ asks NOTIFY_REPLY FAULT_OR_SILENCE
   TellsByTable (call.BatchForget ctx pairs) =
-      (told ≡ record (by BATCH_FORGET QUIET ctx 0) { length = length pairs; «data» = told.data })
-      × (told.data.len ≡ length pairs * size_of forget_one) × Spell q told.data pairs
+      (d ≡ record (by BATCH_FORGET QUIET ctx 0) { length = length pairs; «data» = d.data })
+      × (d.data.len ≡ length pairs * size_of forget_one) × Spell q d.data pairs
   TellsByTable (call.Fallocate ctx inode handle mode offset length) =
-      told ≡ record (by FALLOCATE DONE ctx inode) { handle = handle; mode = mode; offset = offset; length = length }
+      d ≡ record (by FALLOCATE DONE ctx inode) { handle = handle; mode = mode; offset = offset; length = length }
   TellsByTable (call.Lseek ctx inode handle offset whence) =
-      told ≡ record (by LSEEK OFFSET ctx inode) { handle = handle; offset = offset; more = whence }
+      d ≡ record (by LSEEK OFFSET ctx inode) { handle = handle; offset = offset; more = whence }
+  -- (its flags are where other calls have the owner of a lock)
   TellsByTable (call.Copyfilerange ctx inode_in handle_in offset_in inode_out handle_out offset_out len flags) =
-      told ≡ record (record (by COPY WRITTEN ctx inode_in) { handle = handle_in; offset = offset_in; length = len })
+      d ≡ record (record (by COPY WRITTEN ctx inode_in) { handle = handle_in; offset = offset_in; length = len })
       { other_node = inode_out; other_handle = handle_out; other_offset = offset_out; lock_owner = flags }
-  TellsByTable (call.Syncfs ctx inode) = told ≡ by SYNCFS DONE ctx inode
-  TellsByTable call.Tmpfile = told ≡ asks TMPFILE FAULT
+  TellsByTable (call.Syncfs ctx inode) = d ≡ by SYNCFS DONE ctx inode
+  TellsByTable call.Tmpfile = d ≡ asks TMPFILE FAULT
 
 -- What is asked for is a call, or a directory, and these data tell it.
-abbrev pub TellsAsked : (q : List ℕ) → (told : CallData) → Ask → Type 0
-TellsAsked q told (Ends reply) = ⊥
-TellsAsked q told (Asks echo call) = TellsByTable q told (of_request echo told) call
-TellsAsked q told (Lists echo l) =
-    told ≡ record (by q told (of_request echo told) READDIR DIRECTORY l.ctx l.parent)
+abbrev pub TellsAsked : (q : List ℕ) → (d : CallData) → Ask → Type 0
+TellsAsked q d (Ends reply) = ⊥
+TellsAsked q d (Asks echo call) = TellsByTable q d (of_request echo d) call
+TellsAsked q d (Lists echo l) =
+    d ≡ record (by q d (of_request echo d) READDIR DIRECTORY l.ctx l.parent)
     { handle = l.handle; size = l.size; offset = l.offset; has = bit l.plus PLUS }
-TellsAsked q told (WithMemory rest) = TellsAsked q told rest
+TellsAsked q d (WithMemory rest) = TellsAsked q d rest
 
 -- these data tell what this request asks for, with the options and the room that they say
-abbrev pub AreOf : Limits → (q : List ℕ) → (told : CallData) → Type 0
-AreOf limits q told = TellsAsked q told (ask limits told.options told.room q)
+abbrev pub AreOf : Limits → (q : List ℕ) → (d : CallData) → Type 0
+AreOf limits q d = TellsAsked q d (ask limits d.options d.room q)
 
 -- the request that a request interrupts, and 0 where it is no whole INTERRUPT, or one above a limit
 abbrev pub interrupted : Limits → (q : List ℕ) → ℕ

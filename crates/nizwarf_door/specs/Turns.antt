@@ -1,6 +1,6 @@
 -- What C is promised of a request that is asked for its call, and of the call that is answered. Begin with
--- `IsAskedOrNot` and `IsAnsweredOrNot`. `call` is a call as data, and `told` what C is told besides; `room` is how
--- long the room is where a request is asked, and bytes where its call is answered.
+-- `IsAskedOrNot` and `IsAnsweredOrNot`. `call` is a call as data, and `told` what C is told besides; `room_len` is
+-- how long the room is, and `room` its bytes.
 use Rattle.std.specs.Prelude.{◌≡◌, ◌⊎◌, ◌==◌, ◌++◌, if◌then◌else◌, ℕ, ℤ, List, [], ◌∷◌, length, take, Option, Some, None, Result}
 use Rattle.fs_trait.specs.Calls.{Answer, kind_of}
 use Rattle.fs_trait.specs.Runs.{Event, Called}
@@ -24,14 +24,14 @@ use Rattle.nizwarf_door.specs.Asking.{IsNotAsked}
 use Rattle.nizwarf_door.specs.Kept.{put_of}
 use Rattle.nizwarf_door.specs.declared.data.ToldData.{ToldData}
 
-module _ (limits : Limits) (options : ℕ) (request : List ℕ) (room : ℕ) (code : ℤ) (call : CallData)
+module _ (limits : Limits) (options : ℕ) (request : List ℕ) (room_len : ℕ) (code : ℤ) (call : CallData)
     (told told_after : ToldData) (shown : List ℕ) where
   -- The call that the request asks for is told, with the options and the room that it was asked with.
   pub record TellsItsCall : Type 0 where
     pub code_is : code ≡ is_asked
     pub is_of : AreOf limits request call
     pub same_options : call.options ≡ options
-    pub same_room : call.room ≡ room
+    pub same_room : call.room ≡ room_len
     pub same_told : told_after ≡ told
     pub none_shown : shown ≡ []
 
@@ -41,7 +41,7 @@ module _ (limits : Limits) (options : ℕ) (request : List ℕ) (room : ℕ) (co
     pub turn : Turn
     pub is_turn : IsTurn limits options turn options
     pub of_request : turn.request ≡ request
-    pub in_room : length turn.room ≡ room
+    pub in_room : length turn.room ≡ room_len
     pub no_event : turn.events ≡ []
     pub code_is : code ≡ outcome_code turn.outcome
     pub no_call : call ≡ nothing
