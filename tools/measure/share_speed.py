@@ -62,7 +62,7 @@ What a program waits for files of the tree in memory, mounted by `tools/mount.sh
 over a mount of libfuse's passthrough_ll or bindfs on a tmpfs, with the same of the servers' processor time in brackets,
 and by that over a tmpfs itself. Below 1 the tree is quicker, and the greater of two is beside the quicker other.
 Medians of {rounds} rounds in turns, of 100,000 files three at most:
-`tools/measure/share-speed.sh --tree{options} {rounds}`.
+`tools/measure/share-speed.sh --tree{options} {rounds}`. [The spread](../speed/tree.tsv).
 {facts}
 
 Where Linux offers it, which its switch here says, requests of the tree come by io_uring, to a worker for each processor;
