@@ -210,6 +210,21 @@ static int give_to_group(const char *path, gid_t group)
 	return error;
 }
 
+/* Removes the socket, and then the file of the process, by whose lock no other share makes one meanwhile. It is called
+ * where the process ends, by the transport if a request doesn't come back, and by what stands by a sandbox. Where
+ * neither was made, or the process is in the sandbox, it does nothing. */
+static void remove_socket(void *user)
+{
+	(void)user;
+	vhost_user_remove_socket();
+	pid_file_remove();
+}
+
+static void remove_at_exit(void)
+{
+	remove_socket(NULL);
+}
+
 /* Listens for the owner, and for the group of those who may connect too. Who connects has the whole
  * folder, as the server has it. If it can't, the program ends: status 2 if a word can't be, or else 1. */
 static int listen_on_socket(const transport *of)
@@ -230,7 +245,8 @@ static int listen_on_socket(const transport *of)
 		refuse("there is no group ", words.socket_group);
 	if (pid_file_take(words.socket_path))
 		exit(1);
-	atexit(pid_file_remove);
+	/* (whatever fails from here on leaves nothing) */
+	atexit(remove_at_exit);
 	/* (it has its mode as soon as it is there: nobody else may connect in between) */
 	before = umask(group ? 0117 : 0177);
 	listener = vhost_user_listen(of, words.socket_path);
@@ -239,7 +255,6 @@ static int listen_on_socket(const transport *of)
 		exit(-listener);
 	if (group && give_to_group(words.socket_path, group->gr_gid)) {
 		failed(words.socket_path);
-		unlink(words.socket_path);
 		exit(1);
 	}
 	return listener;
@@ -251,17 +266,6 @@ static bool is_below(const char *path, const char *folder)
 	const size_t len = strlen(folder);
 
 	return !strncmp(path, folder, len) && (!path[len] || path[len] == '/' || folder[len - 1] == '/');
-}
-
-/* (what stands by removes it, where something does. This is called at the end, or by the transport if
- * a request doesn't come back.) */
-static void remove_socket(void *user)
-{
-	(void)user;
-	if (!words.socket_path || words.sandbox != SANDBOX_NONE)
-		return;
-	unlink(words.socket_path);
-	pid_file_remove();
 }
 
 /* The transport, and the device of a mount. */
@@ -499,22 +503,18 @@ int main(int count, char **given)
 	if (words.files.passthrough &&
 	    (words.files.backing = fuse_backing_start(&by, device, limit_backing)) < 0)
 		return 1;
-	outside.socket_path = words.socket_path;
-	outside.pid_path = pid_file_path();
+	outside.end = remove_socket;
 	outside.ready = tell_ready;
 	outside.mount = words.mount_point ? mount_folder : NULL;
 	outside.unmount = unmount_folder;
-	if (sandbox_fork((enum sandbox)words.sandbox, &words.uids, &words.gids, &outside)) {
-		if (words.socket_path)
-			unlink(words.socket_path);
+	if (sandbox_fork((enum sandbox)words.sandbox, &words.uids, &words.gids, &outside))
 		return 1;
-	}
-	/* (in a sandbox its path leads elsewhere) */
-	if (words.sandbox != SANDBOX_NONE)
+	/* (in a sandbox their paths lead elsewhere: what stands by removes them) */
+	if (words.sandbox != SANDBOX_NONE) {
+		vhost_user_leave_socket();
 		pid_file_leave();
+	}
 	/* (while there is a /proc) */
 	words.files.keeps_groups = users_keep_groups();
-	status = serve(listener);
-	remove_socket(NULL);
-	return status;
+	return serve(listener);
 }

@@ -19,7 +19,6 @@ static atomic_int file = -1;
 static int failed(void)
 {
 	fprintf(stderr, "nizwarf-share: %s: %s\n", path, strerror(errno));
-	pid_file_leave();
 	return -1;
 }
 
@@ -61,13 +60,15 @@ int pid_file_take(const char *socket_path)
 	for (int i = 0; i < TRIES && !come; i++) {
 		come = open_locked();
 		if (!come)
-			close(file);
+			pid_file_leave();
 	}
 	if (come > 0)
 		return 0;
 	if (come < 0 && errno != EWOULDBLOCK)
-		return failed();
-	fprintf(stderr, "nizwarf-share: another server has %s, or %s\n", socket_path, path);
+		failed();
+	else
+		fprintf(stderr, "nizwarf-share: another server has %s, or %s\n", socket_path, path);
+	/* (what has its name is none of this server's, and stays) */
 	pid_file_leave();
 	return -1;
 }
@@ -83,11 +84,6 @@ int pid_file_write(void)
 	return ftruncate(file, 0) || pwrite(file, text, (size_t)len, 0) != len ? failed() : 0;
 }
 
-const char *pid_file_path(void)
-{
-	return file < 0 ? NULL : path;
-}
-
 void pid_file_leave(void)
 {
 	const int left = atomic_exchange(&file, -1);
@@ -99,9 +95,12 @@ void pid_file_leave(void)
 void pid_file_remove(void)
 {
 	const int left = atomic_exchange(&file, -1);
+	struct stat own;
 
 	if (left < 0)
 		return;
-	unlink(path);
+	if (!fstat(left, &own) && is_there(&own))
+		unlink(path);
+	/* (the lock goes with it: who waits for that sees the name gone) */
 	close(left);
 }

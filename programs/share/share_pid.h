@@ -8,13 +8,10 @@ int pid_file_take(const char *socket_path);
 /* Writes the calling process into it. -1: it failed, and said why. */
 int pid_file_write(void);
 
-/* What it is called, to be removed; NULL: there is none. */
-const char *pid_file_path(void);
-
 /* Lets go of it in a process that goes into a sandbox: what stands by keeps it. */
 void pid_file_leave(void);
 
-/* Removes it. */
+/* Removes it, if there is one, unless another file has its name by now. Any thread may call it, more than once. */
 void pid_file_remove(void);
 
 #endif

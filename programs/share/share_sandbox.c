@@ -140,10 +140,8 @@ static _Noreturn void stand_by(pid_t child, const sigset_t *awaited, const struc
 	 * nothing) */
 	if (is_mounted)
 		outside->unmount(outside->user);
-	if (outside->socket_path)
-		unlink(outside->socket_path);
-	if (outside->pid_path)
-		unlink(outside->pid_path);
+	if (outside->end)
+		outside->end(outside->user);
 	if (WIFSIGNALED(status))
 		fprintf(stderr, "nizwarf-share: signal %d ended the server\n", WTERMSIG(status));
 	_exit(WIFEXITED(status) ? WEXITSTATUS(status) : end != KILLED);

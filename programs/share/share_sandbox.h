@@ -22,8 +22,8 @@ extern const bool has_filter;
 
 /* What a process does that stands by outside of the sandbox. */
 struct outside {
-	/* Are removed at the end; NULL: nothing is. */
-	const char *socket_path, *pid_path;
+	/* Removes what must not stay; NULL: nothing is to be removed. */
+	void (*end)(void *user);
 	/* Is called once the server is ready. */
 	void (*ready)(void *user);
 	/* Mounts when sandbox_mount asks for it, and unmounts at a first signal: 0, or -1: it failed,

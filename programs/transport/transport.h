@@ -226,8 +226,15 @@ int fuse_backing_open(int socket, int fd);
 int fuse_backing_close(int socket, int number);
 
 /* Listens on a new socket of this path, in place of one on which nobody listens. Answers its
- * descriptor, or -1: it failed; -2: the path can't be that of a socket. It said why. */
+ * descriptor, or -1: it failed; -2: the path can't be that of a socket. It said why. A process makes one such
+ * socket, and its path is to last as long. */
 int vhost_user_listen(const transport *by, const char *path);
+
+/* Removes that socket, if there is one, unless its path leads to another one by now: who found that nobody listens
+ * there has removed this one, and made its own. Any thread may call it, more than once. */
+void vhost_user_remove_socket(void);
+/* Has this process remove none: for one that goes into a sandbox, where the path leads elsewhere. */
+void vhost_user_leave_socket(void);
 
 /* Serves one front end, as QEMU, after another that connects to this socket, over the same workers,
  * until a signal comes, and closes it. A front end that breaks the protocol, or asks for what is

@@ -722,6 +722,49 @@ static int refuse(const transport *with, int answer, const char *path, const cha
 	return answer;
 }
 
+/* The socket that was made: its path, and its file, open so that its number is no other file's until the process
+ * ends; -1: there is none. Both are set before there are threads. */
+static struct {
+	const char *path;
+	int file;
+} made = { .file = -1 };
+
+/* (Linux can't remove a name of one file alone: one that takes its place between the look and the removing goes) */
+void vhost_user_remove_socket(void)
+{
+	struct stat own, there;
+
+	if (made.file >= 0 && !fstat(made.file, &own) && !lstat(made.path, &there) &&
+	    own.st_dev == there.st_dev && own.st_ino == there.st_ino)
+		unlink(made.path);
+}
+
+void vhost_user_leave_socket(void)
+{
+	if (made.file >= 0)
+		close(made.file);
+	made.file = -1;
+}
+
+/* Keeps the file of a socket that was just bound, to know it again. 0, or -1 with errno, and then the path leads to
+ * no socket. */
+static int keep_made(const char *path)
+{
+	const int file = open(path, O_PATH | O_NOFOLLOW | O_CLOEXEC);
+	struct stat is;
+
+	if (file < 0)
+		return -1;
+	if (fstat(file, &is) || !S_ISSOCK(is.st_mode)) {
+		close(file);
+		errno = ENOTSOCK;
+		return -1;
+	}
+	made.path = path;
+	made.file = file;
+	return 0;
+}
+
 /* What is at the path is removed only if it is a socket on which nobody listens, as one that a server left
  * which was killed. Who may write to the folder could put something else there in between, and so is to be
  * trusted; but bind(2) takes no path that is there. Signals are blocked before there is a socket, so that
@@ -755,8 +798,10 @@ int vhost_user_listen(const transport *with, const char *path)
 	listener = socket(AF_UNIX, SOCK_STREAM | SOCK_CLOEXEC | SOCK_NONBLOCK, 0);
 	if (listener < 0)
 		return refuse(with, -1, "socket", strerror(errno));
-	if (bind(listener, (struct sockaddr *)&address, sizeof(address)) || listen(listener, 1)) {
+	if (bind(listener, (struct sockaddr *)&address, sizeof(address)) || keep_made(path) ||
+	    listen(listener, 1)) {
 		refuse(with, -1, path, strerror(errno));
+		vhost_user_remove_socket();
 		close(listener);
 		return -1;
 	}

@@ -9,11 +9,9 @@
  * Status 0: a signal ended it, and the socket is gone; 1: something failed; 2: it was started
  * wrongly. */
 #define _GNU_SOURCE
-#include <fcntl.h>
 #include <stdbool.h>
 #include <stdio.h>
 #include <string.h>
-#include <sys/stat.h>
 #include <time.h>
 #include <unistd.h>
 #include "heap.h"
@@ -68,21 +66,10 @@ static int32_t serve(void *user, unsigned worker, const nizwarf_segment *request
 	return code;
 }
 
-static const char *path;
-/* The socket's file, open so that its number is no other file's until the process ends. -1: it can't be had. */
-static int made = -1;
-
-/* Removes the socket. Who has started another server on this path, as soon as this one listened no more, has
- * removed it, and made another one there, which stays. (So does this one where it isn't known which it is: the next
- * server takes its place.) */
 static void remove_socket(void *user)
 {
-	struct stat own, there;
-
 	(void)user;
-	if (made >= 0 && !fstat(made, &own) && !lstat(path, &there) && own.st_dev == there.st_dev &&
-	    own.st_ino == there.st_ino)
-		unlink(path);
+	vhost_user_remove_socket();
 }
 
 /* Prints what a word asks for. Whether it asks for something. */
@@ -130,11 +117,9 @@ int main(int count, char **words)
 	if (trace && trace_begin(&by, *trace ? trace + 1 : NULL))
 		return 1;
 	heap_begin();
-	path = words[1];
-	listener = vhost_user_listen(&by, path);
+	listener = vhost_user_listen(&by, words[1]);
 	if (listener < 0)
 		return -listener; /* 1: it failed; 2: the path can't be */
-	made = open(path, O_PATH | O_NOFOLLOW | O_CLOEXEC);
 	status = vhost_user_serve(&by, listener);
 	remove_socket(NULL);
 	return status;

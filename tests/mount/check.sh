@@ -158,6 +158,9 @@ early_signals() {
     ! umount -l "$folder" 2> /dev/null || wrong "a mount is left of an early signal"
     "${before[@]}" "$vhost" "$ends/early" || wrong "a signal just after the socket: $?"
     [ ! -e "$ends/early" ] || wrong "a socket is left of an early signal"
+    cc -shared -fPIC -Wall -Wextra -Werror -o "$ends/no_listen.so" "$here/tests/share/no_listen.c"
+    ! LD_PRELOAD=$ends/no_listen.so timeout 600 "$vhost" "$ends/early" 2> "$ends/said" || wrong "it serves a socket on which it can't listen"
+    [ ! -e "$ends/early" ] || wrong "a socket is left on which nobody listens"
 }
 
 status=0

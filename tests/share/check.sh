@@ -580,6 +580,44 @@ try_files() {
     echo "A file says which process serves, and the log what it says."
 }
 
+# A server removes its own socket and file alone, and these also if it fails once they are there.
+try_own_files() {
+    local came sandbox own=$work/own
+    rm -rf "$own"
+    mkdir -p "$own/full" "$own/folder"
+    # (as one does who has found that nobody listens there any more)
+    for sandbox in namespace chroot none; do
+        "$share" --log-level=error --sandbox="$sandbox" --socket-path="$own/socket" "$own/folder" &
+        server=$!
+        await_socket "$own/socket"
+        rm "$own/socket" "$own/socket.pid"
+        python3 -c 'import socket, sys; socket.socket(socket.AF_UNIX).bind(sys.argv[1])' "$own/socket"
+        echo other > "$own/socket.pid"
+        kill "$server"
+        wait "$server" || wrong "a server whose socket is another one's ended with $?, in the sandbox $sandbox"
+        server=
+        [ -S "$own/socket" ] || wrong "the socket of another server is removed, in the sandbox $sandbox"
+        [ "$(cat "$own/socket.pid")" = other ] || wrong "the file of another process is removed, in the sandbox $sandbox"
+        rm -f "$own/socket" "$own/socket.pid"
+    done
+    # (there is no space for the number of the process; the second one can't listen)
+    mount -t tmpfs -o size=4k none "$own/full"
+    head -c 4096 /dev/zero > "$own/full/filled"
+    cc -shared -fPIC -Wall -Wextra -Werror -o "$work/no_listen.so" "$here/tests/share/no_listen.c"
+    for sandbox in namespace none; do
+        for came in "$own/full:" "$own:$work/no_listen.so"; do
+            ! LD_PRELOAD=${came#*:} timeout 100 "$share" --sandbox="$sandbox" --socket-path="${came%%:*}/socket" \
+                "$own/folder" 2> "$work/said" || wrong "it serves with $came"
+            if [ -e "${came%%:*}/socket" ] || [ -e "${came%%:*}/socket.pid" ] || [ ! -s "$work/said" ]; then
+                wrong "a server that failed once it had a socket left it: $came, $(cat "$work/said")"
+                rm -f "${came%%:*}"/socket*
+            fi
+        done
+    done
+    umount "$own/full"
+    echo "It removes what it made, also if it fails, and nothing else."
+}
+
 # A socket for a group has its mode from the beginning; and what takes its place meanwhile isn't the group's.
 try_group() {
     local came=0 group
@@ -591,6 +629,8 @@ try_group() {
         --socket-group="$group" "$work/folder" 2> "$work/said" || came=$?
     [ "$came $(stat -c '%a %u %g' "$work/target")" = "1 600 0 0" ] ||
         wrong "a link in place of a socket: it ended with $came, $(stat -c '%a %u %g' "$work/target"), $(cat "$work/said")"
+    # (it is none of the server's)
+    rm "$work/socket"
     "$share" --log-level=error --socket-path="$work/socket" --socket-group="$group" "$work/folder" &
     server=$!
     await_socket "$work/socket"
@@ -727,6 +767,7 @@ part "words of virtiofsd"
 try_virtiofsd
 try_maps
 try_files
+try_own_files
 part "a socket for a group"
 try_group
 part "in a chroot"

@@ -184,7 +184,7 @@ int main(int count, char **given)
 {
 	const struct passthrough_options options = { .file_handles = HANDLES_NEVER };
 	const struct id_map own = { .count = 0 };
-	const struct outside outside = { .socket_path = NULL };
+	const struct outside outside = { .end = NULL };
 	struct file_handle *handle = calloc(1, sizeof(*handle) + MAX_HANDLE_SZ);
 	const bool has_ring = count == 6 && !strcmp(given[5], "ring"), is_right = count == 5 || has_ring;
 	const enum sandbox sandbox =

@@ -1,0 +1,10 @@
+/* Loaded before a server, for check.sh and tests/mount/check.sh: a socket that is bound can't be listened on. */
+#include <errno.h>
+#include <sys/socket.h>
+
+int listen(int fd, int most)
+{
+	(void)fd, (void)most;
+	errno = EADDRINUSE;
+	return -1;
+}
