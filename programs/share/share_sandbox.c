@@ -10,6 +10,7 @@
 #include <errno.h>
 #include <fcntl.h>
 #include <linux/capability.h>
+#include <poll.h>
 #include <sched.h>
 #include <signal.h>
 #include <stdio.h>
@@ -17,6 +18,7 @@
 #include <string.h>
 #include <sys/mount.h>
 #include <sys/prctl.h>
+#include <sys/signalfd.h>
 #include <sys/syscall.h>
 #include <sys/wait.h>
 #include <unistd.h>
@@ -41,30 +43,6 @@ static int failed(const char *what)
  * each pipe the first end is read, and the second written. */
 static int asks[2] = { -1, -1 }, tells[2] = { -1, -1 };
 enum { MOUNT = 'm', READY = 'r' };
-
-/* Does what the server asks, up to when it is ready. Whether it is mounted. A server that ends before
- * closes its end of the pipe, so the reading ends too. */
-static bool begin_outside(const struct outside *outside)
-{
-	bool is_mounted = false;
-	char asked;
-
-	/* (the child's ends: else it would not be seen that it has ended) */
-	close(asks[1]);
-	close(tells[0]);
-	while (read(asks[0], &asked, 1) == 1) {
-		if (asked == READY) {
-			outside->ready(outside->user);
-			break;
-		}
-		is_mounted = !outside->mount(outside->user);
-		if (!is_mounted || write(tells[1], "", 1) != 1)
-			break;
-	}
-	close(asks[0]);
-	close(tells[1]);
-	return is_mounted;
-}
 
 /* (a mount that failed is not answered: the pipe is closed in place of that) */
 int sandbox_mount(void)
@@ -92,59 +70,110 @@ enum { PATIENCE = 3 };
 /* How far the end has come: the child serves up to its last user; it is to end; it is killed. */
 enum end { NOT_ASKED, UNMOUNTED, TOLD, KILLED };
 
+/* The server, as what stands by sees it. Up to when it is ready, or has ended, it may ask. */
+struct server {
+	pid_t child;
+	const struct outside *outside;
+	bool may_ask, is_mounted;
+	enum end end;
+};
+
+/* Does what the server asks. One that ends closes its end of the pipe, and asks no more. */
+static void do_asked(struct server *server)
+{
+	const struct outside *outside = server->outside;
+	char asked;
+	const ssize_t got = read(asks[0], &asked, 1);
+
+	if (got == 1 && asked == READY) {
+		outside->ready(outside->user);
+	} else if (got == 1 && !server->is_mounted) {
+		server->is_mounted = !outside->mount(outside->user);
+		if (server->is_mounted && write(tells[1], "", 1) == 1)
+			return;
+	}
+	server->may_ask = false;
+	close(asks[0]);
+	close(tells[1]);
+}
+
+/* Waits for a signal, of which `signals` tells, and meanwhile does what the server asks: so a signal ends one too that
+ * doesn't come to be ready, as where the folder's file system does not answer. The number of the signal; 0: there is
+ * none yet; -1: the time is over in which the server was to end. */
+static int await_signal(struct server *server, int signals)
+{
+	const bool is_to_end = server->end >= TOLD || (server->end == UNMOUNTED && server->may_ask);
+	/* (one below 0 is not looked at) */
+	struct pollfd wait[] = { { signals, POLLIN, 0 }, { server->may_ask ? asks[0] : -1, POLLIN, 0 } };
+	const int came = poll(wait, 2, is_to_end ? PATIENCE * 1000 : -1);
+	struct signalfd_siginfo said;
+
+	if (!came)
+		return -1;
+	if (wait[1].revents)
+		do_asked(server);
+	if (!wait[0].revents || read(signals, &said, sizeof(said)) != sizeof(said))
+		return 0;
+	return (int)said.ssi_signo;
+}
+
 /* Passes a signal on, or has the child end otherwise, which did not by the last one: a number below 0
- * says that its time is over. Answers how far the end has come then. */
-static enum end pass_on(pid_t child, int signal, enum end end, bool is_mounted, const struct outside *outside)
+ * says that its time is over. */
+static void pass_on(struct server *server, int signal)
 {
 	const union sigval unmounted = { .sival_int = FUSE_DEVICE_UNMOUNTED };
 
 	if (signal < 0) {
 		fputs("nizwarf-share: the server doesn't end, and is killed\n", stderr);
-		kill(child, SIGKILL);
-		return KILLED;
+		kill(server->child, SIGKILL);
+		server->end = KILLED;
+		return;
 	}
 	/* (where that is in use it goes with its last user, and the server with it. The signal comes
 	 * first, by whose value the server knows that it is unmounted here.) */
-	if (is_mounted && end == NOT_ASKED && !sigqueue(child, SIGTERM, unmounted) &&
-	    !outside->unmount(outside->user))
-		return UNMOUNTED;
-	kill(child, signal);
-	return end == KILLED ? KILLED : TOLD;
+	if (server->is_mounted && server->end == NOT_ASKED && !sigqueue(server->child, SIGTERM, unmounted) &&
+	    !server->outside->unmount(server->outside->user)) {
+		server->end = UNMOUNTED;
+		return;
+	}
+	kill(server->child, signal);
+	if (server->end != KILLED)
+		server->end = TOLD;
 }
 
 /* Waits for the child, and ends as it did: with its status; or with 1 if a signal ended it, and 0 if
  * that was the one from here. Signals come only while it waits, as they are blocked. Once the child
  * was told to end it waits for PATIENCE. */
-static _Noreturn void stand_by(pid_t child, const sigset_t *awaited, const struct outside *outside)
+static _Noreturn void stand_by(pid_t child, int signals, const struct outside *outside)
 {
-	const struct timespec most = { PATIENCE, 0 };
-	const bool is_mounted = begin_outside(outside);
-	enum end end = NOT_ASKED;
+	struct server server = { .child = child, .outside = outside, .may_ask = true, .end = NOT_ASKED };
 	int status = W_EXITCODE(1, 0);
 
+	/* (the child's ends: else it would not be seen that it has ended) */
+	close(asks[1]);
+	close(tells[0]);
 	for (;;) {
-		const int signal =
-			end < TOLD ? sigwaitinfo(awaited, NULL) : sigtimedwait(awaited, NULL, &most);
+		const int signal = await_signal(&server, signals);
 
 		/* (SIGCHLD comes for what names files too, which it doesn't wait for here) */
 		if (signal == SIGCHLD && waitpid(child, &status, WNOHANG) == child)
 			break;
-		if (signal == SIGCHLD || (signal < 0 && errno == EINTR))
+		if (!signal || signal == SIGCHLD)
 			continue;
 		/* (it waits for what nothing interrupts) */
-		if (signal < 0 && end == KILLED)
+		if (signal < 0 && server.end == KILLED)
 			break;
-		end = pass_on(child, signal, end, is_mounted, outside);
+		pass_on(&server, signal);
 	}
 	/* (the child may have ended by itself; where nothing of it is mounted any more this does
 	 * nothing) */
-	if (is_mounted)
+	if (server.is_mounted)
 		outside->unmount(outside->user);
 	if (outside->end)
 		outside->end(outside->user);
 	if (WIFSIGNALED(status))
 		fprintf(stderr, "nizwarf-share: signal %d ended the server\n", WTERMSIG(status));
-	_exit(WIFEXITED(status) ? WEXITSTATUS(status) : end != KILLED);
+	_exit(WIFEXITED(status) ? WEXITSTATUS(status) : server.end != KILLED);
 }
 
 /* The signals that a server, or what stands by, waits for: they are blocked, and taken when it wants
@@ -163,6 +192,7 @@ int sandbox_fork(enum sandbox sandbox, const struct id_map *uids, const struct i
 		 const struct outside *outside)
 {
 	sigset_t awaited, child_ended;
+	int signals;
 	pid_t child;
 
 	if (sandbox == SANDBOX_NONE)
@@ -176,12 +206,16 @@ int sandbox_fork(enum sandbox sandbox, const struct id_map *uids, const struct i
 		return failed("a pipe");
 	/* (before there is a child: so neither of them loses one that comes early) */
 	block_signals(&awaited);
+	signals = signalfd(-1, &awaited, SFD_CLOEXEC);
+	if (signals < 0)
+		return failed("signalfd");
 	child = fork();
 	if (child < 0)
 		return failed("fork");
 	/* (which ends this process, and doesn't come back) */
 	if (child)
-		stand_by(child, &awaited, outside);
+		stand_by(child, signals, outside);
+	close(signals);
 	close(asks[0]);
 	close(tells[1]);
 	/* (a signal of the terminal is for what stands by) */

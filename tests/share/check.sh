@@ -68,6 +68,17 @@ await_mount() {
     done
 }
 
+# Until the server has ended; it is killed after 20 seconds, with another process.
+await_end() {
+    local i
+    for i in $(seq 200); do
+        [ -e "/proc/$server/exe" ] || return 0
+        sleep 0.1
+    done
+    wrong "it does not end for $((i / 10)) seconds"
+    kill -KILL "$server" "${1:-$server}"
+}
+
 # What a person does over a mount with these words.
 try_mount() {
     local before after lists=()
@@ -169,6 +180,39 @@ try_early_signals() {
         done
         [ ! -e "$work/early" ] || wrong "an early signal does not end what is in the background, in the sandbox $sandbox"
     done
+}
+
+# A signal ends it also before it serves, where the folder's file system does not answer.
+try_no_answer() {
+    local sandbox words child
+    cc -shared -fPIC -Wall -Wextra -Werror -o "$work/no_answer.so" "$here/tests/share/no_answer.c"
+    mkdir -p "$work/folder" "$work/mount"
+    for sandbox in namespace chroot; do
+        for words in "$work/mount" "$work/mount MOUNTED=" --socket-path="$work/unanswered"; do
+            # shellcheck disable=SC2086
+            env ${words#"${words%% *}"} LD_PRELOAD="$work/no_answer.so" "$share" --log-level=error --sandbox="$sandbox" \
+                "$@" "$work/folder" "${words%% *}" 2> "$work/said" &
+            server=$!
+            child=
+            for _ in $(seq 100); do
+                child=$(cat "/proc/$server/task/$server/children" 2> /dev/null) && [ -n "$child" ] && break
+                sleep 0.05
+            done
+            # (who asks for what is mounted would wait for it)
+            for _ in $(seq 100); do
+                [ "${words%MOUNTED=}" != "$words" ] && ! grep -qF " $work/mount " /proc/self/mounts || break
+                sleep 0.05
+            done
+            kill -TERM "$server"
+            await_end $((child))
+            wait "$server" || wrong "a signal while the folder does not answer: $?, in the sandbox $sandbox, with $words"
+            server=
+            [ ! -e "$work/unanswered" ] || wrong "a socket is left of a folder that does not answer, with $sandbox"
+            ! umount -l "$work/mount" 2> /dev/null || wrong "a mount is left of a folder that does not answer, with $sandbox"
+            rm -f "$work/unanswered"*
+        done
+    done
+    echo "A signal ends what waits for its folder before it serves."
 }
 
 try_kill() {
@@ -802,6 +846,7 @@ try_mounts() {
     try_signals --sandbox=namespace "$@"
     try_signals --sandbox=none "$@"
     try_kill "$@"
+    try_no_answer "$@"
     try_late_reads "$@"
     try_early_signals "$@"
     part "names that change"
