@@ -131,10 +131,13 @@ static void pass_on(struct server *server, int signal)
 	}
 	/* (where that is in use it goes with its last user, and the server with it. The signal comes
 	 * first, by whose value the server knows that it is unmounted here.) */
-	if (server->is_mounted && server->end == NOT_ASKED && !sigqueue(server->child, SIGTERM, unmounted) &&
-	    !server->outside->unmount(server->outside->user)) {
-		server->end = UNMOUNTED;
-		return;
+	if (server->is_mounted && server->end == NOT_ASKED && !sigqueue(server->child, SIGTERM, unmounted)) {
+		if (!server->outside->unmount(server->outside->user)) {
+			server->end = UNMOUNTED;
+			return;
+		}
+		/* (one more of the same number would be lost as long as that one isn't taken) */
+		signal = SIGHUP;
 	}
 	kill(server->child, signal);
 	if (server->end != KILLED)
@@ -142,11 +145,12 @@ static void pass_on(struct server *server, int signal)
 }
 
 /* Waits for the child, and ends as it did: with its status; or with 1 if a signal ended it, and 0 if
- * that was the one from here. Signals come only while it waits, as they are blocked. Once the child
- * was told to end it waits for PATIENCE. */
+ * that was the one from here; or with 1 if the mount is left. Signals come only while it waits, as they are
+ * blocked. Once the child was told to end it waits for PATIENCE. */
 static _Noreturn void stand_by(pid_t child, int signals, const struct outside *outside)
 {
 	struct server server = { .child = child, .outside = outside, .may_ask = true, .end = NOT_ASKED };
+	bool is_left;
 	int status = W_EXITCODE(1, 0);
 
 	/* (the child's ends: else it would not be seen that it has ended) */
@@ -167,13 +171,12 @@ static _Noreturn void stand_by(pid_t child, int signals, const struct outside *o
 	}
 	/* (the child may have ended by itself; where nothing of it is mounted any more this does
 	 * nothing) */
-	if (server.is_mounted)
-		outside->unmount(outside->user);
+	is_left = server.is_mounted && outside->unmount(outside->user);
 	if (outside->end)
 		outside->end(outside->user);
 	if (WIFSIGNALED(status))
 		fprintf(stderr, "nizwarf-share: signal %d ended the server\n", WTERMSIG(status));
-	_exit(WIFEXITED(status) ? WEXITSTATUS(status) : server.end != KILLED);
+	_exit(is_left ? 1 : WIFEXITED(status) ? WEXITSTATUS(status) : server.end != KILLED);
 }
 
 /* The signals that a server, or what stands by, waits for: they are blocked, and taken when it wants

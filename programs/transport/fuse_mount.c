@@ -85,6 +85,14 @@ static int is_there(const transport *by, const char *folder)
 	return -1;
 }
 
+/* Unmounts by a path, if something is mounted there still. 0, or -1 with errno: EBUSY, if it is in use; EPERM, if this
+ * process may not. */
+static int unmount(const char *point, int flags)
+{
+	/* (EINVAL, and of a directory that was removed ENOENT: another one has unmounted it meanwhile) */
+	return umount2(point, flags | UMOUNT_NOFOLLOW) && errno != EINVAL && errno != ENOENT ? -1 : 0;
+}
+
 int fuse_device_unmount(const transport *by, const char *folder)
 {
 	char place[NAME_MAX + 40];
@@ -93,12 +101,12 @@ int fuse_device_unmount(const transport *by, const char *folder)
 
 	if (found <= 0)
 		return found;
-	/* (EINVAL: nothing is mounted there any more. What else fails is let pass too, but EBUSY.) */
-	if (!umount2(point, UMOUNT_NOFOLLOW) || errno != EBUSY)
+	if (!unmount(point, 0))
 		return 0;
+	if (errno != EBUSY)
+		return say(by, folder);
 	fprintf(stderr, "%s: %s is in use, and goes with its last user\n", by->program, folder);
-	/* EINVAL: another one has unmounted it meanwhile. */
-	return umount2(point, MNT_DETACH | UMOUNT_NOFOLLOW) && errno != EINVAL ? say(by, folder) : 0;
+	return unmount(point, MNT_DETACH) ? say(by, folder) : 0;
 }
 
 void fuse_device_detach(const transport *by, const char *folder)
@@ -106,7 +114,7 @@ void fuse_device_detach(const transport *by, const char *folder)
 	char place[NAME_MAX + 40];
 
 	if (is_there(by, folder) > 0)
-		umount2(mount_point(folder, place, sizeof(place)), MNT_DETACH | UMOUNT_NOFOLLOW);
+		unmount(mount_point(folder, place, sizeof(place)), MNT_DETACH);
 }
 
 int fuse_device_open(const transport *by)

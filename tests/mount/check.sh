@@ -163,6 +163,22 @@ early_signals() {
     [ ! -e "$ends/early" ] || wrong "a socket is left on which nobody listens"
 }
 
+# What can't be unmounted is told, and is no good end.
+no_unmount() {
+    local came=0
+    cc -shared -fPIC -Wall -Wextra -Werror -o "$ends/no_unmount.so" "$here/tests/share/no_unmount.c"
+    LD_PRELOAD="$ends/no_unmount.so" "$transport" "$folder" 2> "$ends/said" &
+    server=$!
+    await_mounted "$folder" "$server" || wrong "it was not mounted"
+    kill -TERM "$server"
+    timeout -k 1 20 tail --pid="$server" -f /dev/null || kill -KILL "$server"
+    wait "$server" || came=$?
+    umount -l "$folder"
+    if [ "$came" != 1 ] || ! grep -qF "$folder: Operation not permitted" "$ends/said"; then
+        wrong "it may not unmount: it ended with $came, and said: $(cat "$ends/said")"
+    fi
+}
+
 status=0
 part "words that can't be"
 refuses_words || wrong "a word that can't be is not refused by its name."
@@ -175,6 +191,7 @@ session "with no_io_uring" allow_other,no_io_uring
 part "options, and signals"
 options_hold
 early_signals
+no_unmount
 part "ends"
 unshare --mount timeout 60 python3 -B "$here/tests/share/ends.py" --tree "$transport" "$vhost" "$ends" ||
     wrong "the ends of a mount and of a machine."

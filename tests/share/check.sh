@@ -142,6 +142,28 @@ try_signal() {
     rm "$work/folder/open"
 }
 
+# What can't be unmounted is told, and is no good end.
+try_no_unmount() {
+    local sandbox came
+    cc -shared -fPIC -Wall -Wextra -Werror -o "$work/no_unmount.so" "$here/tests/share/no_unmount.c"
+    for sandbox in namespace none; do
+        came=0
+        LD_PRELOAD="$work/no_unmount.so" "$share" --log-level=error --sandbox="$sandbox" "$@" "$work/folder" "$work/mount" \
+            2> "$work/said" &
+        server=$!
+        await_mount
+        kill -TERM "$server"
+        await_end
+        wait "$server" || came=$?
+        server=
+        if [ "$came" != 1 ] || ! grep -qF "$work/mount: Operation not permitted" "$work/said"; then
+            wrong "it may not unmount, in the sandbox $sandbox: it ended with $came, and said: $(cat "$work/said")"
+        fi
+        umount -l "$work/mount"
+    done
+    echo "It tells if it may not unmount."
+}
+
 # Workers that are late, and have no request, are waited for.
 try_late_reads() {
     local what
@@ -847,6 +869,7 @@ try_mounts() {
     try_signals --sandbox=none "$@"
     try_kill "$@"
     try_no_answer "$@"
+    try_no_unmount "$@"
     try_late_reads "$@"
     try_early_signals "$@"
     part "names that change"
