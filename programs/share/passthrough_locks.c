@@ -11,9 +11,9 @@
  * Workers make the calls, among them INIT and DESTROY, by which all locks go. The transport's own thread
  * recalls who waits, asks whether locks are held, and lets all go once a client has gone.
  *
- * `lock` guards the table of holders, their counts, and the list of waiters. The host is asked under it
- * who has a lock; no lock is taken, waited for or given up under it. `replying` guards the slot, and
- * neither is taken under the other.
+ * `lock` guards the table of holders, their counts, and the list of waiters. The host is asked nothing under
+ * it, as its file system may not answer: who asks has the holder in hand, so that its description stays open.
+ * `replying` guards the slot, and neither is taken under the other.
  *
  * A hostile client may name any owner and any node. It gets holders of files alone that it has open,
  * each with a descriptor that counts among those that it may have, and can give up no locks but its
@@ -211,23 +211,6 @@ static struct holder *take(const struct call *call, bool is_flock, bool makes)
 	return h;
 }
 
-/* Takes an owner's holder out of the table: its locks go at once, or else once no one has it in hand,
- * as a thread that waits does. */
-static void drop(struct locks *all, uint64_t node, uint64_t owner, bool is_flock)
-{
-	struct holder *h, **at = chain_of(all, node, owner);
-
-	pthread_mutex_lock(&all->lock);
-	/* cppcheck-suppress uninitvar */
-	while ((h = *at) && (h->node != node || h->owner != owner || h->is_flock != is_flock))
-		at = &h->next;
-	if (h)
-		*at = h->next;
-	pthread_mutex_unlock(&all->lock);
-	if (h)
-		put(all, h);
-}
-
 /* ---- the locks of the host */
 
 /* A lock as the host tells it. False: no such can be. FUSE tells the last byte, or INT64_MAX where
@@ -273,26 +256,99 @@ static int lock_host(const struct holder *h, const nizwarf_lock *lock, bool wait
 	return failed(fcntl(h->fd, waits ? F_OFD_SETLKW : F_OFD_SETLK, &host));
 }
 
-/* Which process of the client has a lock that is in the way, 0 if none is known: by its own
- * description it is not in the way. (The host tells no process of a lock that a description has.) If
- * several share it for reading, or a program of the host has it, none is found. */
-static uint32_t pid_of(struct locks *all, const nizwarf_call *asked, const struct flock *found)
+/* Takes an owner's holder out of the table: its locks go at once. (Who has it in hand, as one that asks about locks or
+ * waits for one, keeps the description, and so would keep them.) */
+static void drop(struct locks *all, uint64_t node, uint64_t owner, bool is_flock)
 {
-	uint32_t pid = 0;
+	const nizwarf_lock none = { .start = 0, .end = INT64_MAX, .type = F_UNLCK };
+	struct holder *h, **at = chain_of(all, node, owner);
+	bool is_in_hand = false;
 
 	pthread_mutex_lock(&all->lock);
-	for (unsigned i = 0; i < CHAINS && !pid; i++)
-		for (struct holder *h = all->chains[i]; h && !pid; h = h->next) {
-			struct flock again = *found;
+	/* cppcheck-suppress uninitvar */
+	while ((h = *at) && (h->node != node || h->owner != owner || h->is_flock != is_flock))
+		at = &h->next;
+	if (h) {
+		*at = h->next;
+		is_in_hand = h->users > 1;
+	}
+	pthread_mutex_unlock(&all->lock);
+	if (is_in_hand)
+		lock_host(h, &none, false);
+	if (h)
+		put(all, h);
+}
 
-			if (h->node != asked->node || h->is_flock || h->owner == asked->lock_owner)
+/* Whether a holder may have locks of fcntl(2) that are in the way of who asks: of another owner, in that file. Where
+ * nobody asks it is any one. */
+static bool is_wanted(const struct holder *h, const nizwarf_call *asked)
+{
+	return !asked || (h->node == asked->node && !h->is_flock && h->owner != asked->lock_owner);
+}
+
+/* Takes those in hand, up to `most` of them. How many there are; those that are taken the caller puts. */
+static size_t take_up_to(struct locks *all, const nizwarf_call *asked, struct holder **taken, size_t most)
+{
+	size_t count = 0;
+
+	pthread_mutex_lock(&all->lock);
+	for (unsigned i = 0; i < CHAINS; i++)
+		for (struct holder *h = all->chains[i]; h; h = h->next) {
+			if (!is_wanted(h, asked))
 				continue;
-			again.l_type = F_WRLCK;
-			again.l_pid = 0;
-			if (!fcntl(h->fd, F_OFD_GETLK, &again) && again.l_type == F_UNLCK)
-				pid = atomic_load(&h->pid);
+			if (count < most) {
+				taken[count] = h;
+				h->users++;
+			}
+			count++;
 		}
 	pthread_mutex_unlock(&all->lock);
+	return count;
+}
+
+/* Takes all of them in hand, in a list that the caller frees; but for those that come while memory is had for that.
+ * False: there is none. */
+static bool take_each(struct locks *all, const nizwarf_call *asked, struct holder ***taken, size_t *count)
+{
+	const size_t most = take_up_to(all, asked, NULL, 0);
+	size_t there;
+
+	*count = 0;
+	*taken = calloc(most + 1, sizeof(struct holder *));
+	if (!*taken)
+		return false;
+	there = take_up_to(all, asked, *taken, most);
+	*count = there < most ? there : most;
+	return true;
+}
+
+/* Whether this holder's lock is in the way: by its own description it is not. */
+static bool is_of(const struct holder *h, const struct flock *found)
+{
+	struct flock again = *found;
+
+	again.l_type = F_WRLCK;
+	again.l_pid = 0;
+	return !fcntl(h->fd, F_OFD_GETLK, &again) && again.l_type == F_UNLCK;
+}
+
+/* Which process of the client has a lock that is in the way, 0 if none is known. (The host tells no process of
+ * a lock that a description has.) If several share it for reading, or a program of the host has it, or there is
+ * no memory, none is found. */
+static uint32_t pid_of(struct locks *all, const nizwarf_call *asked, const struct flock *found)
+{
+	struct holder **others;
+	uint32_t pid = 0;
+	size_t count;
+
+	if (!take_each(all, asked, &others, &count))
+		return 0;
+	for (size_t i = 0; i < count; i++) {
+		if (!pid && is_of(others[i], found))
+			pid = atomic_load(&others[i]->pid);
+		put(all, others[i]);
+	}
+	free(others);
 	return pid;
 }
 
@@ -553,7 +609,7 @@ static struct holder *take_any(struct locks *all)
 	return h;
 }
 
-/* Whether an owner has locks. Those of fcntl(2) it may have given up, each by itself. A new
+/* Whether an owner has locks, whose holder is in hand. Those of fcntl(2) it may have given up, each by itself. A new
  * description has none, so a lock for writing of the whole file tells whether anyone has one: also a
  * program of the host, which is taken for the owner, and so is what can't be looked at. */
 static bool has_locks(const struct locks *all, const struct holder *h)
@@ -571,15 +627,20 @@ static bool has_locks(const struct locks *all, const struct holder *h)
 	return !is_free;
 }
 
+/* (where there is no memory to look they are taken to be held) */
 bool locks_are_held(struct locks *all)
 {
+	struct holder **each;
 	bool are_held = false;
+	size_t count;
 
-	pthread_mutex_lock(&all->lock);
-	for (unsigned i = 0; i < CHAINS; i++)
-		for (struct holder *h = all->chains[i]; h && !are_held; h = h->next)
-			are_held = has_locks(all, h);
-	pthread_mutex_unlock(&all->lock);
+	if (!take_each(all, NULL, &each, &count))
+		return true;
+	for (size_t i = 0; i < count; i++) {
+		are_held = are_held || has_locks(all, each[i]);
+		put(all, each[i]);
+	}
+	free(each);
 	return are_held;
 }
 

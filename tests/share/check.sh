@@ -738,6 +738,7 @@ try_chroot() {
 # A client's locks are the folder's: over a mount they are as on any file system, a program of the host is kept out,
 # and over vhost-user what waits for one holds nothing up.
 try_locks() {
+    local late=()
     rm -rf "$work/folder"
     mkdir -p "$work/folder" "$work/mount"
     touch "$work/folder/file"
@@ -755,7 +756,13 @@ try_locks() {
     umount "$work/mount"
     wait "$server" || wrong "the server with locks ended with $?, with $*"
     server=
-    timeout 300 python3 -B "$here/tests/share/waits.py" "$work" "$share" "$@" || wrong "locks that are waited for, with $*"
+    # (a sanitizer wants to be loaded first)
+    if [ "${share##*/}" = share-nizwarf_door ]; then
+        cc -shared -fPIC -Wall -Wextra -Werror -o "$work/late_locks.so" "$here/tests/share/late_locks.c"
+        late=("LATE_LOCKS=$work/late_locks.so")
+    fi
+    timeout 300 env "${late[@]}" python3 -B "$here/tests/share/waits.py" "$work" "$share" "$@" ||
+        wrong "locks that are waited for, with $*"
     rm -rf "$work"/waits*
     echo "Locks are those of the folder${*:+, with $*}."
 }

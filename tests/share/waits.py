@@ -5,7 +5,9 @@ Usage: tests/share/waits.py WORK SHARE [WORDS]: a folder to work in, and nizwarf
 
 While many locks wait, a share of one worker answers what else is asked; each comes once it is free, or ends with EINTR by
 an INTERRUPT, also by one that comes before it, and with ENOLCK by a queue that is stopped, and by memory that is shared
-anew. Neither a front end that hangs up nor a signal waits for them. Status 0: all came so.
+anew. Neither a front end that hangs up nor a signal waits for them. With LATE_LOCKS in the environment, the built
+late_locks.c, a share of two workers is asked besides who has a lock, which the host is late to say: a FLUSH doesn't wait
+for that, and the locks of who closes are free at once. Status 0: all came so.
 """
 import fcntl
 import mmap
@@ -17,7 +19,7 @@ import subprocess
 import sys
 import time
 
-LOOKUP, GETATTR, OPEN, INIT, SETLK, SETLKW, INTERRUPT = 1, 3, 14, 26, 32, 33, 36
+LOOKUP, GETATTR, OPEN, FLUSH, INIT, GETLK, SETLK, SETLKW, INTERRUPT = 1, 3, 14, 25, 26, 31, 32, 33, 36
 READ, WRITE, NONE = fcntl.F_RDLCK, fcntl.F_WRLCK, fcntl.F_UNLCK
 EINTR, EAGAIN, ENOLCK, O_RDWR, FLOCK, LOCK_FLAGS = 4, 11, 37, 2, 1, 1 << 1 | 1 << 10
 SIZE, BASE, QUEUE = 1 << 20, 1 << 32, 1
@@ -202,19 +204,34 @@ def ask_all(path):
     return one
 
 
-def main():
-    if len(sys.argv) < 3:
-        print(__doc__.strip())
-        return 0 if sys.argv[1:] in (["-h"], ["--help"]) else 2
-    work, *share = sys.argv[1:]
+def flush(one, node, handle, owner):
+    return one.error(one.ask(FLUSH, struct.pack("<QIIQ", handle, 0, 0, owner), node))
+
+
+def ask_late(path):
+    """What takes long to say holds up nothing."""
+    one, node, handle = begun(path)
+    hold("a lock", one.error(one.lock(node, handle, 1, WRITE)), 0)
+    asked = one.ask(GETLK, struct.pack("<QQQQIIII", handle, 2, 0, (1 << 63) - 1, READ, 78, 0, 0), node, 40)
+    time.sleep(0.3)
+    begun_at = time.time()
+    hold("a FLUSH of who has no lock", flush(one, node, handle, 3), 0)
+    hold("a FLUSH of who has it", flush(one, node, handle, 1), 0)
+    hold("its lock, then", one.error(one.lock(node, handle, 3, WRITE)), 0)
+    hold("a FLUSH waits for who asks", time.time() - begun_at > 3, False)
+    hold("who asks", one.error(asked), 0)
+    return one
+
+
+def tries(work, share, ask, workers, **loaded):
+    """Asks a server, which must end by a signal without a word."""
     folder, path = work + "/waits", work + "/waits.socket"
-    os.makedirs(folder, exist_ok=True)
-    open(folder + "/file", "w").close()
-    words = ["--flock", "--posix-lock", "--thread-pool-size=1", "--log-level=warn", "--socket-path=" + path, folder]
+    words = ["--flock", "--posix-lock", f"--thread-pool-size={workers}", "--log-level=warn", "--socket-path=" + path,
+             folder]
     with open(work + "/waits.said", "w+", encoding="utf-8") as said:
-        server = subprocess.Popen([*share, *words], stdout=said, stderr=subprocess.STDOUT)
+        server = subprocess.Popen([*share, *words], stdout=said, stderr=subprocess.STDOUT, env={**os.environ, **loaded})
         try:
-            one = ask_all(path)
+            one = ask(path)
             server.send_signal(signal.SIGTERM)
             ended = server.wait(LONG)
             one.end()
@@ -224,6 +241,18 @@ def main():
             server.kill()
         said.seek(0)
         hold("the server's end", (ended, said.read()), (0, ""))
+
+
+def main():
+    if len(sys.argv) < 3:
+        print(__doc__.strip())
+        return 0 if sys.argv[1:] in (["-h"], ["--help"]) else 2
+    work, *share = sys.argv[1:]
+    os.makedirs(work + "/waits", exist_ok=True)
+    open(work + "/waits/file", "w").close()
+    tries(work, share, ask_all, 1)
+    if "LATE_LOCKS" in os.environ:
+        tries(work, share, ask_late, 2, LD_PRELOAD=os.environ["LATE_LOCKS"])
     print(*faults, f"waits.py: {len(faults)} faults", sep="\n")
     return 1 if faults else 0
 
