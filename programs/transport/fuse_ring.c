@@ -49,6 +49,10 @@ struct command {
 	uint16_t queue;
 	uint8_t padding[6];
 };
+/* (struct fuse_uring_req_header and struct fuse_uring_cmd_req of linux/fuse.h, which older headers lack) */
+_Static_assert(sizeof(struct header) == 288, "a header is as Linux has it");
+_Static_assert(sizeof(struct command) == 24 && sizeof(struct command) <= URING_OWN,
+	       "what a command has of its own is as Linux has it, and fits");
 
 enum { PAGE = 4096, HEAD = sizeof(struct fuse_out_header) };
 /* How many bytes are many data, and how many requests in turn for such, more than others, let a worker leave

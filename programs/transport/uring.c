@@ -23,6 +23,8 @@
 /* How many bytes a command has with IORING_SETUP_SQE128, and where what it has of its own begins: the field
  * `cmd` of a struct io_uring_sqe. Then the files, by the numbers under which the ring has them. */
 enum { COMMAND = 128, OWN_PART = 48 };
+_Static_assert(offsetof(struct io_uring_sqe, cmd) == OWN_PART && OWN_PART + URING_OWN == COMMAND,
+	       "a command ends with what it has of its own");
 enum { DEVICE, EVENT, FILES };
 
 /* Maps a part of the ring; NULL: it can't be. */
@@ -106,19 +108,16 @@ int uring_begin(struct uring *r)
 	return enlist(r, IORING_REGISTER_ENABLE_RINGS, NULL, 0);
 }
 
-/* Puts in what begins so, with `len` bytes of its own, which are at most those after OWN_PART. There is
- * room as long as the caller has no more commands at once than it made the ring for. */
+/* Puts in what begins so, with `len` bytes of its own, and 0 after them, in place of what an earlier command had. There
+ * is room as long as the caller has no more commands at once than it made the ring for. */
 static void put(struct uring *r, const struct io_uring_sqe *sqe, const void *own, size_t len)
 {
 	const uint32_t tail = atomic_load_explicit(r->tail, memory_order_relaxed);
 	unsigned char *at = (unsigned char *)r->commands + (size_t)(tail & r->mask) * COMMAND;
 
 	memcpy(at, sqe, OWN_PART);
-	/* (what is after it has been 0 from the beginning) */
-	if (len)
-		memcpy(at + OWN_PART, own, len);
-	else
-		memset(at + OWN_PART, 0, COMMAND - OWN_PART);
+	memcpy(at + OWN_PART, own, len);
+	memset(at + OWN_PART + len, 0, URING_OWN - len);
 	atomic_store_explicit(r->tail, tail + 1, memory_order_release);
 	r->waiting++;
 }

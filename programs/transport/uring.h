@@ -20,6 +20,9 @@ struct uring {
 	unsigned waiting;
 };
 
+/* How many bytes a command may have of its own. */
+enum { URING_OWN = 80 };
+
 /* The number of what tells of the event. */
 #define URING_EVENT UINT64_MAX
 
@@ -31,8 +34,8 @@ void uring_free(struct uring *r);
 /* It is the calling thread's from now on. 0, or -1 with errno. */
 int uring_begin(struct uring *r);
 
-/* Puts in a command to the device, of this number, with what it has of its own; `memory`, which may be NULL, is a list
- * of pieces. */
+/* Puts in a command to the device, of this number, with what it has of its own, which is URING_OWN bytes at most and may
+ * differ in length; `memory`, which may be NULL, is a list of pieces. */
 void uring_put(struct uring *r, uint32_t what, uint64_t number, const void *memory, uint32_t pieces,
 	       const void *own, size_t len);
 /* Waits for the event: it is told once, or time after time. */
