@@ -103,9 +103,10 @@ struct device {
 	atomic_int stop, failed;
 	/* How many workers the first one has started, each counted once its thread is there. */
 	atomic_uint others;
-	/* Those over io_uring, which the first one starts in place of others, and those that were made before; NULL: there
-	 * are none. */
-	struct fuse_rings *rings, *made;
+	/* Those over io_uring, which the first one starts in place of others; NULL: there are none. Others look at it. And
+	 * those that were made before, which are the first one's to take. */
+	_Atomic(struct fuse_rings *) rings;
+	struct fuse_rings *made;
 	/* How many read now, and how many requests were taken. */
 	atomic_uint readers;
 	atomic_ulong taken;
@@ -484,7 +485,7 @@ static int may_look(const struct worker *w)
 {
 	const struct device *d = w->of;
 
-	return !d->rings && atomic_load(&d->wanted) == 1 && atomic_load(&d->readers) == 1 &&
+	return !atomic_load(&d->rings) && atomic_load(&d->wanted) == 1 && atomic_load(&d->readers) == 1 &&
 	       (w->short_waits || atomic_load(&d->taken) % LOOK_EACH == 0);
 }
 
@@ -556,7 +557,7 @@ static void start_rings(struct worker *w, int offered, int32_t code, size_t len)
 	const transport *by = d->by;
 	struct fuse_rings *rings = NULL;
 
-	if (!by->ring || d->rings || code != NIZWARF_OK)
+	if (!by->ring || atomic_load(&d->rings) || code != NIZWARF_OK)
 		return;
 	if (offered && is_device(w->fd))
 		rings = take_rings(d, w->fd);
@@ -564,7 +565,7 @@ static void start_rings(struct worker *w, int offered, int32_t code, size_t len)
 		by->ring->end(rings);
 		rings = NULL;
 	}
-	d->rings = rings;
+	atomic_store(&d->rings, rings);
 	if (!rings && by->wants_ring)
 		fprintf(stderr, "%s: Linux offers no io_uring here: requests come by read(2)\n", by->program);
 }
@@ -764,14 +765,15 @@ static void start_others(struct device *d)
 /* Once the first worker has answered INIT: the others serve too, if there are any. */
 static void begin_others(struct device *d)
 {
+	struct fuse_rings *rings = atomic_load(&d->rings);
 	const int fd = d->worker[0].fd;
 
-	if (!d->rings) {
+	if (!rings) {
 		start_others(d);
 		return;
 	}
 	fcntl(fd, F_SETFL, fcntl(fd, F_GETFL) | O_NONBLOCK);
-	d->by->ring->begin(d->rings);
+	d->by->ring->begin(rings);
 }
 
 /* Answers what waits to be read beside io_uring. */
@@ -825,10 +827,10 @@ static void *run(void *given)
 				begin_others(d);
 			if (outcome == SERVED)
 				rest_if_idle(w);
-			while (d->rings && outcome == SERVED && !atomic_load(&d->stop))
+			while (atomic_load(&d->rings) && outcome == SERVED && !atomic_load(&d->stop))
 				outcome = serve_beside(d);
 		} while (outcome == SERVED && !atomic_load(&d->stop));
-		if (w->number == 0 && d->rings && d->by->ring->end(d->rings))
+		if (w->number == 0 && atomic_load(&d->rings) && d->by->ring->end(atomic_load(&d->rings)))
 			outcome = FAILED;
 		if (d->by->end)
 			d->by->end(d->by->user, w->number);
@@ -914,7 +916,8 @@ static int next_tick(struct device *d, struct seen *seen)
 {
 	const unsigned long now = atomic_load(&d->taken);
 
-	if (d->by->workers == 1)
+	/* (over io_uring none rests that could be called, and the first one, which waits in poll(2), never reads) */
+	if (d->by->workers == 1 || atomic_load(&d->rings))
 		return -1;
 	look(d, seen, now);
 	seen->quiet = now == seen->taken && atomic_load(&d->readers) ? seen->quiet + seen->tick : 0;

@@ -142,6 +142,25 @@ try_signal() {
     rm "$work/folder/open"
 }
 
+# Nothing ticks while nothing is asked: how often the thread that waits for the end came to run in a second.
+try_idle() {
+    local child before after
+    "$share" --log-level=error --thread-pool-size=4 "$@" "$work/folder" "$work/mount" &
+    server=$!
+    await_mount
+    ls "$work/mount" > /dev/null
+    sleep 0.5
+    child=$(cat "/proc/$server/task/$server/children")
+    before=$(awk '/^voluntary_ctxt/ { print $2 }' "/proc/$((child))/status")
+    sleep 1
+    after=$(awk '/^voluntary_ctxt/ { print $2 }' "/proc/$((child))/status")
+    [ "$((after - before))" -le 5 ] || wrong "an idle server wakes $((after - before)) times in a second, with $*"
+    umount "$work/mount"
+    wait "$server" || wrong "an idle server ended with $?, with $*"
+    server=
+    echo "An idle server wakes $((after - before)) times in a second."
+}
+
 # What can't be unmounted is told, and is no good end.
 try_no_unmount() {
     local sandbox came
@@ -877,6 +896,7 @@ try_mounts() {
     try_kill "$@"
     try_no_answer "$@"
     try_no_unmount "$@"
+    try_idle "$@"
     try_late_reads "$@"
     try_early_signals "$@"
     part "names that change"
