@@ -8,7 +8,7 @@
  *
  * Each worker traces what it serves, on its own thread. A line is written at once, so that lines of several
  * workers stand between one another but not in one another. Of a request that is answered later a line says
- * so, in a file that it was refused; its reply is not traced. */
+ * so, in a file by the name AnsweredLater in place of an error; its reply is not traced. */
 #define _GNU_SOURCE
 #include <errno.h>
 #include <fcntl.h>
@@ -92,11 +92,13 @@ static void print_reply(const struct bytes *request, const struct bytes *reply)
 	put_line(line);
 }
 
-/* The name of a code. Others refuse no request: NIZWARF_ASKED, or that a server or the door was used
- * wrongly. */
-static const char *refusal(int32_t code)
+/* The name of a code that is not NIZWARF_OK: one word, as nizwarf-decode reads no other. NIZWARF_ASKED refuses
+ * nothing: the request was kept. The others say that a server or the door was used wrongly. */
+static const char *name_of(int32_t code)
 {
-	return code >= 1 && code <= NIZWARF_OUT_OF_MEMORY ? refusals[code - 1] : "of the server";
+	if (code == NIZWARF_ASKED)
+		return "AnsweredLater";
+	return code >= 1 && code <= NIZWARF_OUT_OF_MEMORY ? refusals[code - 1] : "WrongUse";
 }
 
 /* The two sizes of a SETXATTR that is refused for them: that which its record tells, and that of the bytes
@@ -140,7 +142,7 @@ static void record(const struct bytes *request, size_t room, int32_t code, const
 	fprintf(file, "%zu ", room);
 	record_bytes(request);
 	if (code != NIZWARF_OK) {
-		fprintf(file, "\nerr %s", refusal(code));
+		fprintf(file, "\nerr %s", name_of(code));
 		if (code == NIZWARF_INVALID_XATTR_SIZE)
 			record_sizes(request);
 	} else {
@@ -199,7 +201,7 @@ static void tell(const struct bytes *request, const nizwarf_room *room, size_t r
 	else if (code == NIZWARF_ASKED)
 		fputs("-> answered later\n", stderr);
 	else if (code != NIZWARF_OK)
-		fprintf(stderr, "-> refused=%s\n", refusal(code));
+		fprintf(stderr, "-> refused=%s\n", name_of(code));
 	else
 		print_reply(request, &reply);
 	if (reply.at)

@@ -161,6 +161,26 @@ try_idle() {
     echo "An idle server wakes $((after - before)) times in a second."
 }
 
+# Of a request that is answered later the trace says so, in a form that nizwarf-decode reads.
+try_late_trace() {
+    local answers='^(ok 0|ok [0-9]+ [0-9a-f]+|err [0-9A-Za-z]+( [0-9]+ [0-9]+)?)$'
+    rm -f "$work/trace"
+    touch "$work/folder/file"
+    "$share" --log-level=error --flock --trace="$work/trace" "$@" "$work/folder" "$work/mount" &
+    server=$!
+    await_mount
+    flock "$work/folder/file" sleep 1 &
+    sleep 0.3
+    flock "$work/mount/file" true || wrong "a lock that is waited for while it is traced"
+    wait "$!"
+    umount "$work/mount"
+    wait "$server" || wrong "a server that traces ended with $?"
+    server=
+    [ "$(grep -c '^err AnsweredLater$' "$work/trace")" = 1 ] || wrong "it is not traced that a lock is waited for"
+    [ "$(awk 'NR % 2 == 0' "$work/trace" | grep -cvE "$answers")" = 0 ] || wrong "an answer in a trace that is none"
+    echo "A trace says what is answered later."
+}
+
 # What can't be unmounted is told, and is no good end.
 try_no_unmount() {
     local sandbox came
@@ -897,6 +917,7 @@ try_mounts() {
     try_no_answer "$@"
     try_no_unmount "$@"
     try_idle "$@"
+    try_late_trace "$@"
     try_late_reads "$@"
     try_early_signals "$@"
     part "names that change"
