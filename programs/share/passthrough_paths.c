@@ -31,7 +31,7 @@ int paths_begin(struct paths *paths, struct nodes *nodes)
 	/* (the root stays, and its descriptor) */
 	paths->root = root.fd;
 	node_put(&root);
-	/* (one that was deleted is told with " (deleted)" behind it: then nothing is found below it) */
+	/* (one that was deleted is told with " (deleted)" after it: then nothing is found below it) */
 	got = readlinkat(nodes->proc, name_fd(paths->root).bytes, paths->folder, sizeof(paths->folder));
 	if (got <= 0 || (size_t)got >= sizeof(paths->folder) || *paths->folder != '/')
 		return -1;
@@ -169,7 +169,9 @@ struct place {
 struct search {
 	const struct paths *paths;
 	struct sought *chains[CHAINS];
-	size_t left;
+	/* How many are left, and how many of these are no directories and something is mounted there, which is what they
+	 * are of. */
+	size_t left, mounted;
 	struct place *places;
 	_Alignas(struct dirent64) char entries[ENTRIES];
 };
@@ -196,6 +198,13 @@ static struct place *place_in(const struct place *directory, const char *name)
 	return place;
 }
 
+/* Whether what is sought is no directory, and mounted over another file: in its directory it has the inode of that.
+ * (Linux tells it from 5.8 on. Before, such a file isn't found, and goes without a path.) */
+static bool is_mounted(const struct sought *one)
+{
+	return one->seen.stx_attributes & STATX_ATTR_MOUNT_ROOT && !S_ISDIR(one->seen.stx_mode);
+}
+
 /* Gives a path to those that are sought and were seen there. */
 static void match(struct search *s, const struct statx *seen, const char *path)
 {
@@ -211,16 +220,17 @@ static void match(struct search *s, const struct statx *seen, const char *path)
 		*at = one->next;
 		one->path = strdup(path);
 		s->left--;
+		s->mounted -= is_mounted(one);
 	}
 }
 
 /* Looks at an entry of a directory. By the inode that the directory tells most entries need no call of
- * the host; where something is mounted that is what is below it, so a directory is looked at by
- * itself, once it is open. */
+ * the host; where something is mounted that is what is below it. So a directory is looked at by
+ * itself, once it is open; and other files each, as long as one is sought that is mounted. */
 static void look_at_entry(struct search *s, const struct place *directory, int fd,
 			  const struct dirent64 *entry)
 {
-	const bool is_sought = *chain_of(s, entry->d_ino) != NULL;
+	const bool is_sought = s->mounted || *chain_of(s, entry->d_ino);
 	bool is_directory = entry->d_type == DT_DIR;
 	struct place *place;
 	struct statx seen;
@@ -282,6 +292,7 @@ void search_paths(const struct paths *paths, struct sought *sought, size_t count
 
 		sought[i].next = *chain;
 		*chain = &sought[i];
+		s->mounted += is_mounted(&sought[i]);
 	}
 	/* (the folder, whose path is empty) */
 	s->places = calloc(1, sizeof(*s->places) + 1);

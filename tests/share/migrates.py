@@ -261,6 +261,29 @@ def places():
     subprocess.run(["rm", "-rf", folder], check=True)
 
 
+def covered():
+    """A file that is mounted over another one, and of which Linux tells no path, since its first name is gone."""
+    folder, apart = make_folder(), tempfile.mkdtemp(dir=WORK)
+    pathlib.Path(apart, "first").write_bytes(b"mounted")
+    os.link(apart + "/first", apart + "/second")
+    subprocess.run(["mount", "--bind", apart + "/first", folder + "/d/file"], check=True)
+    source, target = Server(folder), Server(folder)
+    one, other = source.machine(), target.machine()
+    one.begin().init()
+    node = one.look_up(b"file", one.look_up(b"d"))
+    handle = one.open(node)
+    os.unlink(apart + "/first")
+    one.stop()
+    state = one.save()
+    hold("a file that is mounted over another one is loaded", bool(state) and other.load(state), True)
+    other.begin()
+    hold("READ of it", other.read(node, handle), (0, b"mounted"))
+    for it in (one, other, source, target):
+        it.end()
+    subprocess.run(["umount", "-l", folder + "/d/file"], check=True)
+    subprocess.run(["rm", "-rf", folder, apart], check=True)
+
+
 def parts_of(state):
     """The header, and the records, each a kind and bytes."""
     at, records = struct.calcsize(HEADER), []
@@ -541,6 +564,7 @@ if __name__ == "__main__":
         errors()
         options()
         places()
+        covered()
         marks()
         gone()
         tried = states()
