@@ -99,16 +99,22 @@ has_library() {
     echo "not here"
 }
 
-# A server for sshfs. (It reads no link of such a server, with libfuse's own library either.)
+# A server for sshfs, at a port that it writes to the file `port`. (It reads no link of such a server, with libfuse's
+# own library either.)
 serve_ssh() {
     mkdir -p /run/sshd
     ssh-keygen -q -t ed25519 -N '' -f key
     ssh-keygen -q -t ed25519 -N '' -f host
     cp key.pub allowed
-    printf '%s\n' "HostKey $folder/host" "AuthorizedKeysFile $folder/allowed" "StrictModes no" \
-        "PidFile $folder/sshd.pid" "UsePAM no" "Subsystem sftp internal-sftp" "ListenAddress 127.0.0.1:42722" > config
-    /usr/sbin/sshd -f config
-    rm served/many/link
+    for _ in {1..50}; do
+        # (it ends where another one has that)
+        echo $((20000 + RANDOM)) > port
+        printf '%s\n' "HostKey $folder/host" "AuthorizedKeysFile $folder/allowed" "StrictModes no" \
+            "PidFile $folder/sshd.pid" "UsePAM no" "Subsystem sftp internal-sftp" \
+            "ListenAddress 127.0.0.1:$(cat port)" > config
+        ! /usr/sbin/sshd -f config || { rm served/many/link && return; }
+    done
+    return 1
 }
 
 # Mounts the tree by a program, and compares it.

@@ -10,6 +10,7 @@ import itertools
 import os
 import pathlib
 import shutil
+import socket
 import struct
 import subprocess
 import sys
@@ -368,6 +369,22 @@ RIGHT = ("--tag=" + "t" * 36, "--inode-file-handles=fallback", "--log-level=WARN
          "--translate-uid=guest:1:2:3 --translate-uid=host:1:2:3 --translate-uid=guest:4:2:3")
 
 
+def is_served(server, path):
+    """Whether a daemon answers on its socket, asked for features of vhost-user (GET_FEATURES), or ends."""
+    until = time.monotonic() + 60
+    while server.poll() is None and time.monotonic() < until:
+        with socket.socket(socket.AF_UNIX) as one:
+            one.settimeout(1)
+            try:
+                one.connect(path)
+                one.sendall(struct.pack("<III", 1, 1, 0))
+                if one.recv(100):
+                    return True
+            except OSError:
+                time.sleep(0.005)
+    return False
+
+
 def starts(text):
     """Whether a daemon with these words serves, or refuses them and says what it can't take."""
     given = [text] if text.startswith("--xattrmap") else text.split(" ")
@@ -375,10 +392,7 @@ def starts(text):
     with open(WORK + "/said", "w+b") as said:
         server = subprocess.Popen([*DAEMON, *given, "--shared-dir", WORK + "/folder", "--socket-path", path],
                                   stdout=said, stderr=said)
-        while server.poll() is None and not os.path.exists(path):
-            time.sleep(0.005)
-        time.sleep(0.05)
-        is_right = server.poll() is None
+        is_right = is_served(server, path)
         server.terminate()
         server.wait(20)
         if os.path.exists(path):
