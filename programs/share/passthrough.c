@@ -100,7 +100,8 @@ static int32_t answer_call(struct call *call, const nizwarf_session *session, co
 		return NIZWARF_ASKED;
 	/* (the slot that it was asked with has memory for the reply) */
 	code = nizwarf_reply(&call->worker->slot, session, asked, answer, room, rooms, told);
-	if (asked->call == NIZWARF_INIT || asked->call == NIZWARF_DESTROY)
+	/* (its client may have gone meanwhile, and the next one have agreed on others) */
+	if ((asked->call == NIZWARF_INIT || asked->call == NIZWARF_DESTROY) && is_there(call))
 		atomic_store(&all->agreed, told->options);
 	if (told->give_back)
 		node_forget(&all->nodes, told->give_back, 1);
@@ -166,6 +167,7 @@ int32_t passthrough_serve(void *user, unsigned worker, const nizwarf_segment *re
 	nizwarf_told told = { 0 };
 	struct call call = { .all = all,
 			     .worker = w,
+			     .client = atomic_load(&all->clients),
 			     .asked = &asked,
 			     .request = request->at,
 			     .data = NULL,
@@ -232,6 +234,7 @@ void passthrough_parted(void *user)
 	if (all->locks)
 		locks_forget_all(all->locks);
 	nodes_forget_all(&all->nodes);
+	atomic_fetch_add(&all->clients, 1);
 	atomic_store(&all->agreed, 0);
 	atomic_store(&all->lacks_option, false);
 }

@@ -708,15 +708,25 @@ static void want_further(const struct call *call)
 	call->answer->text_len = sizeof(more);
 }
 
+/* INIT and DESTROY: what the client had goes, unless it has gone itself while the host did not answer: then it is the
+ * next one's. */
+static void forget_all(const struct call *call)
+{
+	struct passthrough *all = call->all;
+
+	if (all->locks && is_there(call))
+		locks_forget_all(all->locks);
+	if (is_there(call))
+		nodes_forget_all(&all->nodes);
+}
+
 /* INIT: of a new client, or of one that began anew. */
 static int agree(const struct call *call)
 {
 	struct passthrough *all = call->all;
 	const uint64_t offered = nizwarf_init_offered(call->asked);
 
-	if (all->locks)
-		locks_forget_all(all->locks);
-	nodes_forget_all(&all->nodes);
+	forget_all(call);
 	/* (it would let in whom they deny) */
 	if (all->options.posix_acl && ~offered & HAS_LISTS) {
 		if (!atomic_exchange(&all->lacks_option, true))
@@ -754,9 +764,7 @@ int make_call(struct call *call)
 	case NIZWARF_INIT:
 		return agree(call);
 	case NIZWARF_DESTROY:
-		if (all->locks)
-			locks_forget_all(all->locks);
-		nodes_forget_all(&all->nodes);
+		forget_all(call);
 		return 0;
 	case NIZWARF_FORGET:
 		node_forget(&all->nodes, asked->node, nizwarf_forget_lookups(asked));

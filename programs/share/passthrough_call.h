@@ -49,8 +49,9 @@ struct passthrough {
 	struct locks *locks;
 	/* NULL: files are read and written by requests. */
 	struct backings *backings;
-	/* The options that are agreed on with the client. */
+	/* The options that are agreed on with the client, and how many clients have gone. */
 	atomic_ullong agreed;
+	atomic_uint clients;
 	/* It was said that the client lacks what it must have. */
 	atomic_bool lacks_option;
 	/* For how many milliseconds it may remember names and attributes, and those of regular files. */
@@ -67,6 +68,8 @@ struct passthrough {
 struct call {
 	struct passthrough *all;
 	struct worker *worker;
+	/* Which client asks, by `clients`. */
+	unsigned client;
 	const nizwarf_call *asked;
 	const uint8_t *request;
 	/* The data of a WRITE, or the room for those of a READ: they are changed. */
@@ -76,6 +79,12 @@ struct call {
 	struct open_file *file;
 	nizwarf_answer *answer;
 };
+
+/* Whether the client that asks is still there. */
+static inline bool is_there(const struct call *call)
+{
+	return call->client == atomic_load(&call->all->clients);
+}
 
 /* The options that are wanted of those that a client offers. */
 uint64_t wanted(const struct passthrough *all);

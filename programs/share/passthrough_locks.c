@@ -596,17 +596,20 @@ static bool end_waiting(struct locks *all)
 	return is_idle;
 }
 
-/* Takes one out of the table; NULL: there is none. */
-static struct holder *take_any(struct locks *all)
+/* Takes all out of the table: the first one of a list. */
+static struct holder *take_all(struct locks *all)
 {
-	struct holder *h = NULL;
+	struct holder *gone = NULL, *h;
 
 	pthread_mutex_lock(&all->lock);
-	for (unsigned i = 0; i < CHAINS && !h; i++)
-		if ((h = all->chains[i]))
+	for (unsigned i = 0; i < CHAINS; i++)
+		while ((h = all->chains[i])) {
 			all->chains[i] = h->next;
+			h->next = gone;
+			gone = h;
+		}
 	pthread_mutex_unlock(&all->lock);
-	return h;
+	return gone;
 }
 
 /* Whether an owner has locks, whose holder is in hand. Those of fcntl(2) it may have given up, each by itself. A new
@@ -648,11 +651,13 @@ bool locks_are_held(struct locks *all)
  * when it ends. */
 void locks_forget_all(struct locks *all)
 {
-	struct holder *h;
+	struct holder *h, *next;
 
 	end_waiting(all);
-	while ((h = take_any(all)))
+	for (h = take_all(all); h; h = next) {
+		next = h->next;
 		put(all, h);
+	}
 }
 
 bool locks_free(struct locks *all)

@@ -699,15 +699,13 @@ static void trim_heap(void)
 	malloc_trim(0);
 }
 
-void nodes_forget_all(struct nodes *all)
+/* Takes all nodes but the root out of the table: the first one of a list. */
+static struct node *take_nodes(struct nodes *all, uint32_t *count)
 {
-	struct node *gone = NULL, *next;
-	struct counted *file;
-	uint32_t count;
+	struct node *gone = NULL;
 
 	pthread_rwlock_wrlock(&all->nodes.lock);
-	count = all->nodes.count;
-	/* (the root stays) */
+	*count = all->nodes.count;
 	for (uint32_t i = ROOT_NODE + 1; i < all->nodes.used && all->nodes.count > 1; i++) {
 		struct node *node = (struct node *)thing_in(&all->nodes, i);
 
@@ -718,23 +716,45 @@ void nodes_forget_all(struct nodes *all)
 		gone = node;
 	}
 	pthread_rwlock_unlock(&all->nodes.lock);
-	for (; gone; gone = next) {
-		next = gone->next;
-		free_node(gone);
+	return gone;
+}
+
+/* The same of open files. */
+static struct open_file *take_files(struct nodes *all)
+{
+	struct open_file *gone = NULL;
+
+	pthread_rwlock_wrlock(&all->files.lock);
+	for (uint32_t i = 1; i < all->files.used && all->files.count; i++) {
+		struct open_file *file = (struct open_file *)thing_in(&all->files, i);
+
+		if (!file)
+			continue;
+		take(&all->files, &file->counted);
+		file->next = gone;
+		gone = file;
+	}
+	pthread_rwlock_unlock(&all->files.lock);
+	return gone;
+}
+
+/* All that there are go at once, and are closed without a lock. (To close a file may take as long as its file system
+ * does not answer; what another client opens meanwhile stays.) */
+void nodes_forget_all(struct nodes *all)
+{
+	struct open_file *file = take_files(all), *next_file;
+	uint32_t count;
+	struct node *node = take_nodes(all, &count), *next;
+
+	for (; node; node = next) {
+		next = node->next;
+		free_node(node);
 	}
 	if (count >= MANY)
 		trim_heap();
-	for (uint32_t i = 1;; i++) {
-		pthread_rwlock_wrlock(&all->files.lock);
-		if (i >= all->files.used || !all->files.count) {
-			pthread_rwlock_unlock(&all->files.lock);
-			break;
-		}
-		file = thing_in(&all->files, i);
-		if (file)
-			take(&all->files, file);
-		pthread_rwlock_unlock(&all->files.lock);
-		file_put((struct open_file *)file);
+	for (; file; file = next_file) {
+		next_file = file->next;
+		file_put(file);
 	}
 }
 

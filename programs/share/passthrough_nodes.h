@@ -107,6 +107,8 @@ struct open_file {
 	uint64_t offset;
 	/* The end was met after what was told last. */
 	bool is_at_end;
+	/* The next one of those that go at once. */
+	struct open_file *next;
 };
 
 struct nodes {

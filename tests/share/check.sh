@@ -510,9 +510,14 @@ try_closed() {
 
 # What waits, for a lease, a file system or a front end, keeps neither the next one nor a signal waiting.
 try_ends() {
-    local ends=$work/ends
+    local ends=$work/ends late=()
     mkdir "$ends"
-    timeout -k 5 900 unshare --mount \
+    # (a sanitizer wants to be loaded first)
+    if [ "${share##*/}" = share-nizwarf_door ]; then
+        cc -shared -fPIC -Wall -Wextra -Werror -o "$work/late_close.so" "$here/tests/share/late_close.c"
+        late=("LATE_CLOSE=$work/late_close.so")
+    fi
+    timeout -k 5 900 env "${late[@]}" unshare --mount \
         python3 -B "$here/tests/share/ends.py" "$share" "$ends" "$@" 2> "$ends/said" ||
         { cat "$ends/said" >&2 && wrong "tests/share/ends.py with $*"; }
     ! grep -E 'ERROR: |WARNING: ThreadSanitizer|runtime error' "$ends/said" >&2 || wrong "a sanitizer, at an end"

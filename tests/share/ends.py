@@ -1,7 +1,8 @@
 """Ends of a share, for check.sh: a request that waits, for a lease or a file system that does not answer, or
 an event that is full, keeps nobody: neither the next front end, nor a signal. And what is unmounted is what was
 mounted. Usage: ends.py SHARE WORK [WORDS]; and for tests/mount/check.sh ends.py --tree MOUNT VHOST WORK. It
-wants root, in a namespace of mounts of its own."""
+wants root, in a namespace of mounts of its own. With LATE_CLOSE in the environment, the built late_close.c, a machine
+begins anew, which takes long, and goes meanwhile: what the next one has stays."""
 
 import atexit, contextlib, ctypes, fcntl, mmap, os, select, signal, socket, struct, subprocess, sys, time
 
@@ -105,9 +106,10 @@ class Front:
 
 
 class Server:
-    def __init__(self, *more, program=None):
+    def __init__(self, *more, program=None, **loaded):
         self.mounts = point in more
-        self.process = subprocess.Popen([*(program or [share, "--log-level=error", *words]), *more])
+        self.process = subprocess.Popen([*(program or [share, "--log-level=error", *words]), *more],
+                                        env={**os.environ, **loaded})
         atexit.register(self.process.kill)
         if not wait_for(lambda: mounted(point) if self.mounts else os.path.exists(path), 20):
             raise OSError("there is no server")
@@ -222,6 +224,29 @@ def waits_for_file_system(ends_by_signal):
     return None
 
 
+def begins_anew():
+    """What a machine had is closed, while it goes and the next one opens a file."""
+    with open(folder + "/late", "w") as late:
+        late.write("x" * 4242)
+    server, one = Server("--socket-path=" + path, folder, LD_PRELOAD=os.environ["LATE_CLOSE"]), Front()
+    one.init()
+    for name in (b"late\0", b"leased\0", b"leased\0"):
+        error = one.ask(14, bytes(8), struct.unpack_from("<Q", one.ask(1, name)[1])[0])[0]
+        hold(error == 0, f"a file is opened: {error}")
+    # (they are closed by this)
+    one.post(26, struct.pack("<IIII", 7, 38, 1 << 20, 1 << 30) + bytes(48))
+    time.sleep(0.3)
+    one.hang_up()
+    other = next_is_served("a machine that begins anew")
+    node = struct.unpack_from("<Q", other.ask(1, b"leased\0")[1])[0]
+    handle = struct.unpack_from("<Q", other.ask(14, bytes(8), node)[1])[0]
+    time.sleep(4)
+    error = other.ask(15, struct.pack("<QQIIQII", handle, 0, 16, 0, 0, 0, 0), node)[0]
+    hold(error == 0, f"a file that the next machine opened comes to the error {error}")
+    other.hang_up()
+    server.ends("a signal, once a machine began anew")
+
+
 def mount_waits(how, *sandbox):
     """Who uses the mount waits, and a signal ends it."""
     hung = Hung(folder + "/hung") if how == "a file system" else None
@@ -290,6 +315,8 @@ for ends_by_signal in (False, True):
     full_event(ends_by_signal)
     waits_for_lease(ends_by_signal)
     waits_for_file_system(ends_by_signal)
+if "LATE_CLOSE" in os.environ:
+    begins_anew()
 alone = "--sandbox=none" in words
 for sandbox in ([[]] if alone else [["--sandbox=namespace"], ["--sandbox=none"]]):
     mount_waits("a lease", *sandbox)
