@@ -6,6 +6,7 @@
 #include <stdatomic.h>
 #include <stdbool.h>
 #include <stdio.h>
+#include <stdlib.h>
 #include <string.h>
 #include <sys/file.h>
 #include <sys/stat.h>
@@ -48,6 +49,15 @@ static int open_locked(void)
 	return is_there(&opened);
 }
 
+/* Keeps the path from the root on, as the server changes its working directory. */
+static void keep_whole_path(void)
+{
+	char whole[PATH_MAX];
+
+	if (realpath(path, whole))
+		memcpy(path, whole, strlen(whole) + 1);
+}
+
 int pid_file_take(const char *socket_path)
 {
 	enum { TRIES = 100 };
@@ -62,8 +72,10 @@ int pid_file_take(const char *socket_path)
 		if (!come)
 			pid_file_leave();
 	}
-	if (come > 0)
+	if (come > 0) {
+		keep_whole_path();
 		return 0;
+	}
 	if (come < 0 && errno != EWOULDBLOCK)
 		failed();
 	else

@@ -227,7 +227,7 @@ int fuse_backing_close(int socket, int number);
 
 /* Listens on a new socket of this path, in place of one on which nobody listens. Answers its
  * descriptor, or -1: it failed; -2: the path can't be that of a socket. It said why. A process makes one such
- * socket, and its path is to last as long. */
+ * socket. */
 int vhost_user_listen(const transport *by, const char *path);
 
 /* Removes that socket, if there is one, unless its path leads to another one by now: who found that nobody listens

@@ -14,8 +14,10 @@
 #define _GNU_SOURCE
 #include <errno.h>
 #include <fcntl.h>
+#include <limits.h>
 #include <poll.h>
 #include <stdio.h>
+#include <stdlib.h>
 #include <string.h>
 #include <sys/eventfd.h>
 #include <sys/mman.h>
@@ -722,10 +724,11 @@ static int refuse(const transport *with, int answer, const char *path, const cha
 	return answer;
 }
 
-/* The socket that was made: its path, and its file, open so that its number is no other file's until the process
- * ends; -1: there is none. Both are set before there are threads. */
+/* The socket that was made: its path from the root on, as a server may change its working directory, and its file, open
+ * so that its number is no other file's until the process ends; -1: there is none. Both are set before there are
+ * threads. */
 static struct {
-	const char *path;
+	char path[PATH_MAX];
 	int file;
 } made = { .file = -1 };
 
@@ -752,17 +755,19 @@ static int keep_made(const char *path)
 {
 	const int file = open(path, O_PATH | O_NOFOLLOW | O_CLOEXEC);
 	struct stat is;
+	int why;
 
 	if (file < 0)
 		return -1;
-	if (fstat(file, &is) || !S_ISSOCK(is.st_mode)) {
-		close(file);
-		errno = ENOTSOCK;
-		return -1;
+	errno = ENOTSOCK;
+	if (!fstat(file, &is) && S_ISSOCK(is.st_mode) && realpath(path, made.path)) {
+		made.file = file;
+		return 0;
 	}
-	made.path = path;
-	made.file = file;
-	return 0;
+	why = errno;
+	close(file);
+	errno = why;
+	return -1;
 }
 
 /* What is at the path is removed only if it is a socket on which nobody listens, as one that a server left

@@ -710,6 +710,21 @@ try_own_files() {
         [ "$(cat "$own/socket.pid")" = other ] || wrong "the file of another process is removed, in the sandbox $sandbox"
         rm -f "$own/socket" "$own/socket.pid"
     done
+    # (a server has another working directory)
+    for sandbox in namespace chroot none; do
+        cd "$own"
+        "$share" --log-level=error --sandbox="$sandbox" --socket-path=near folder &
+        server=$!
+        await_socket near
+        kill "$server"
+        wait "$server" || wrong "a server with a path from its folder on ended with $?, in the sandbox $sandbox"
+        server=
+        cd "$OLDPWD"
+        if [ -e "$own/near" ] || [ -e "$own/near.pid" ]; then
+            wrong "a socket is left whose path begins at the working directory, in the sandbox $sandbox"
+            rm -f "$own"/near*
+        fi
+    done
     # (there is no space for the number of the process; the second one can't listen)
     mount -t tmpfs -o size=4k none "$own/full"
     head -c 4096 /dev/zero > "$own/full/filled"
