@@ -1,4 +1,4 @@
-/* Mounts the file system behind the library on a folder, over /dev/fuse, and serves it until it is
+/* Mounts the file system of the library on a folder, over /dev/fuse, and serves it until it is
  * unmounted. It wants root, who may mount, and serves root alone, or all with allow_other.
  *
  * Usage: nizwarf-mount [-o OPTIONS] [--trace[=FILE]] FOLDER

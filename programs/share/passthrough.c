@@ -1,4 +1,8 @@
-/* A passthrough, for the transports: passthrough.h. */
+/* A passthrough, for the transports: passthrough.h.
+ *
+ * passthrough_new() makes all that workers share, passthrough_begin() what each has for itself, on its own thread, and
+ * passthrough_serve() answers a request there. passthrough_end() is called once no worker is left; but one that waits
+ * for a lock of the host may be, and then nothing is freed. */
 #define _GNU_SOURCE
 #include <errno.h>
 #include <linux/fuse.h>

@@ -1,4 +1,9 @@
-/* The calls of a passthrough: passthrough.h. */
+/* The calls of a passthrough: passthrough.h. A request has been read by the library, which says what it asks for; here
+ * that is made of calls of the host, and what is answered is put into the call. Workers run it, any number at once.
+ *
+ * make_call() is what they begin with. make_with_node() takes in hand what the call is of, the node, and an open file or
+ * a second node if it has such, and puts each at the end, whatever the call comes to: so the functions between
+ * those have them, and neither free nor close them. */
 #define _GNU_SOURCE
 #include <errno.h>
 #include <fcntl.h>

@@ -1,4 +1,8 @@
-/* Entries and attributes of a passthrough. */
+/* Entries and attributes of a passthrough: what a client is told of a file, and for how long that holds. Workers run
+ * it, any number at once, without a lock of its own.
+ *
+ * An entry that is told is a lookup of its node, which the client gives back by FORGET. Whoever makes an entry, and
+ * can't tell it, gives the lookup back itself (answer_call). */
 #define _GNU_SOURCE
 #include <errno.h>
 #include <fcntl.h>

@@ -1,4 +1,13 @@
-/* Nodes and open files of a passthrough: passthrough_nodes.h. */
+/* Nodes and open files of a passthrough: passthrough_nodes.h.
+ *
+ * Each is in a table as long as its number leads to it, and is counted: the table is one user, and each call that has
+ * it in hand is one. The last user closes its descriptor and frees it, whoever that is; so what a client forgets or
+ * releases stays until the calls that are at it have come back.
+ *
+ * The lock of a table guards its slots and counts, the numbers of its things, and that of the nodes their chains too. It
+ * is held for reading to find a thing and take it in hand, or to add a lookup, which is atomic; and for writing to
+ * enter a thing or take it out. The host is not called under it, and nothing is closed or freed: so no file system that
+ * does not answer holds up who only looks. Neither of the two locks is taken under the other. */
 #define _GNU_SOURCE
 #include <errno.h>
 #include <fcntl.h>
@@ -883,7 +892,7 @@ uint64_t file_add(struct nodes *all, uint64_t node, int fd, int flags, struct ba
 
 	if (file) {
 		pthread_rwlock_wrlock(&all->files.lock);
-		/* (behind the lock a client that guesses the number may have released it) */
+		/* (once the lock is given up a client that guesses the number may have released it) */
 		if (add(&all->files, &file->counted))
 			number = file->counted.number;
 		pthread_rwlock_unlock(&all->files.lock);

@@ -95,12 +95,13 @@ struct open_file {
 	bool at_end;
 	/* And O_DIRECT, up to when something is written that this doesn't take. */
 	atomic_bool is_direct;
+	/* Is held for reading by who writes, and for writing by who changes either of the two. */
 	pthread_rwlock_t writing;
 	/* The node that it was opened of. */
 	uint64_t node;
 	/* NULL: the client was not told that it may have the file by itself. */
 	struct backing *backing;
-	/* Of a directory: what was read and not told yet, and the offset of that. */
+	/* Of a directory, under the lock: what was read and not told yet, and the offset of that. */
 	pthread_mutex_t lock;
 	char *buffer;
 	size_t at, end;

@@ -1,4 +1,7 @@
-/* Inode numbers of a passthrough: passthrough_numbers.h. */
+/* Inode numbers of a passthrough: passthrough_numbers.h.
+ *
+ * A replacement is made as the first number is told that wants it, and is never taken back, as the client may know such
+ * numbers for as long as it is there. The lock is held for reading to find one, and for writing to add one. */
 #define _GNU_SOURCE
 #include <pthread.h>
 #include <stdbool.h>

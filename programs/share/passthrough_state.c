@@ -683,7 +683,7 @@ static int load_end(struct loading *l)
 	memcpy(&told, l->body, sizeof(told));
 	if (told.nodes != l->end.nodes || told.files != l->end.files || told.sum != l->sum_before)
 		return refuse("the state is damaged");
-	return transport_get_state(l->from, &more, 1) ? refuse("the state goes on behind its end") : 0;
+	return transport_get_state(l->from, &more, 1) ? refuse("the state goes on after its end") : 0;
 }
 
 /* Loads one record: -1, or 0; or 1, if it was the end. */

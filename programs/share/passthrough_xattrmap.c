@@ -78,7 +78,7 @@ static const char *read_rule(char **rest, struct rule *rule)
 	int found = word ? one_of(word, types) : -1;
 
 	if (!word)
-		return "the sign that it begins with is missing behind its type";
+		return "the sign that it begins with is missing after its type";
 	if (found < 0)
 		return "its type is none of prefix, ok, bad, unsupported, map";
 	rule->type = (enum type)found;
@@ -144,7 +144,7 @@ static const char *read_rules(char *rest, struct xattr_map *map)
 			while (is_space(*rest))
 				rest++;
 			if (*rest)
-				return "behind a rule of type map there is no other";
+				return "after a rule of type map there is no other";
 			map->count += expand(rule);
 			break;
 		}

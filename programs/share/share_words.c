@@ -202,7 +202,7 @@ static void take_xattr_map(const char *rules)
 static const char *const sandboxes[] = { "none", "chroot", "namespace", NULL };
 
 /* The same of those that have a value. (`none` of a cache is virtiofsd's word of old for never, and
- * stands behind the others, as no number of the enum is its own.) */
+ * stands after the others, as no number of the enum is its own.) */
 static bool take_setting(const char *key, char *value)
 {
 	static const char *const caches[] = { "never", "auto", "always", "metadata", "none", NULL };
@@ -271,8 +271,8 @@ static void take_option(const char *key, char *value)
 		refuse("there is no such option, or its value can't be: ", key);
 }
 
-/* The next option of a list. In the path of a source a comma is doubled: the two are made one where
- * they lie, and the option goes on behind it. */
+/* The next option of a list. In the path of a source a comma is doubled: the two are made one in place, and the
+ * option goes on after it. */
 static char *next_option(char **rest)
 {
 	char *option = strsep(rest, ",");
@@ -781,7 +781,7 @@ static char **copies_of(int count, char **given)
 		fprintf(stderr, "nizwarf-share: %s\n", strerror(errno));
 		exit(1);
 	}
-	/* (the texts stand behind the pointers, of which the last one is NULL) */
+	/* (the texts stand after the pointers, of which the last one is NULL) */
 	at = (char *)(copies + count + 1);
 	for (int i = 0; i < count; i++, at += len) {
 		len = strlen(given[i]) + 1;

@@ -115,13 +115,14 @@ struct device {
 	/* The calling thread waits for no tick, but to be told by `busy`. */
 	atomic_int sleeps;
 	int busy;
-	/* Those that rest, and how many of them are called. */
+	/* Those that rest, and how many of them are called, under the lock. (`wanted` changes under it, and is
+	 * looked at without.) */
 	pthread_mutex_t lock;
 	pthread_cond_t call;
 	unsigned resting, called;
 	/* The requests that are answered later. */
 	struct later_list later;
-	/* Beside io_uring: whoever reads for the first one. */
+	/* Beside io_uring: is held by whoever reads for the first one, whose memory that takes. */
 	pthread_mutex_t reading;
 	struct worker worker[TRANSPORT_MOST_WORKERS];
 	/* What each worker has begun and ended: odd while it has a request. They are apart in memory. */
@@ -701,9 +702,10 @@ static enum outcome serve_one(struct worker *w, uint32_t *opcode)
 
 static void *run(void *given);
 
-/* Starts a worker over a descriptor, which is its own then. */
+/* Starts a worker over a descriptor, which is its own then. If that is below 0, errno says why. */
 static int start(struct device *d, unsigned number, int fd)
 {
+	const int error = errno;
 	struct worker *w = &d->worker[number];
 	unsigned char *memory = aligned_alloc(PAGE, 2 * LONGEST + 4 * PAGE);
 
@@ -720,7 +722,7 @@ static int start(struct device *d, unsigned number, int fd)
 		w->page = memory + (size_t)(2 * LONGEST + 3 * PAGE);
 	}
 	atomic_fetch_add(&d->active, 1);
-	errno = ENOMEM;
+	errno = fd < 0 ? error : ENOMEM;
 	if (memory && fd >= 0 && !(errno = pthread_create(&w->thread, NULL, run, w)))
 		return 0;
 	atomic_fetch_sub(&d->active, 1);

@@ -78,7 +78,7 @@ struct worker {
 	/* How many entries there may be, how many there are, and of how many the request isn't kept. */
 	unsigned most, count, left;
 	struct entry *entries;
-	/* Those whose requests were kept, and have a reply now. */
+	/* Those whose requests were kept, and have a reply now: whoever completes one adds it, under the lock. */
 	pthread_mutex_t lock;
 	struct entry *completed;
 };
@@ -95,7 +95,8 @@ struct fuse_rings {
 	atomic_int stop, failed;
 	/* The last queue that was asked for many data. */
 	atomic_uint bulky;
-	/* How many workers are ready to begin, or can't be. */
+	/* How many workers are ready to begin, or can't be; how many of the last ones have handed their entries over; and
+	 * whether all begin: under the lock, and each change is told. */
 	pthread_mutex_t lock;
 	pthread_cond_t change;
 	unsigned ready, broken, handed_over;

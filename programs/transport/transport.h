@@ -1,6 +1,6 @@
 /* Transports of requests: each takes requests, hands each to a function of yours, and completes it
  * with what that answers. fuse_device.c serves /dev/fuse, which fuse_mount.c mounts, vhost_user.c the
- * virtio-fs device of a virtual machine. Behind the function stands what answers requests: nizwarf_message, a table of
+ * virtio-fs device of a virtual machine. The function calls what answers requests: nizwarf_message, a table of
  * nizwarf_ops.h, or a file system over the door of nizwarf.h.
  *
  * Workers. Each is a thread of its own, which calls `begin` first, then `serve` for one request

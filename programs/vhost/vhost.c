@@ -1,4 +1,4 @@
-/* The file system behind the library, for vhost-user: the virtio-fs device of a virtual machine.
+/* The file system of the library, for vhost-user: the virtio-fs device of a virtual machine.
  *
  * Usage: nizwarf-vhost [--trace[=FILE]] SOCKET
  *
