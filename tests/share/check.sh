@@ -261,7 +261,9 @@ try_no_answer() {
             done
             # (who asks for what is mounted would wait for it)
             for _ in $(seq 100); do
-                [ "${words%MOUNTED=}" != "$words" ] && ! grep -qF " $work/mount " /proc/self/mounts || break
+                if [ "${words%MOUNTED=}" = "$words" ] || grep -qF " $work/mount " /proc/self/mounts; then
+                    break
+                fi
                 sleep 0.05
             done
             kill -TERM "$server"
