@@ -230,17 +230,64 @@ void passthrough_finish(void *user, unsigned worker)
 	nizwarf_end_slot(&w->slot);
 }
 
-/* Its descriptors would be missing to who comes next. */
+/* What a client had that has gone, out of the tables. It is freed by who closes it. */
+struct left {
+	struct passthrough *all;
+	struct holder *locks;
+	struct gone gone;
+};
+
+static void *close_left(void *given)
+{
+	struct left *left = given;
+	struct passthrough *all = left->all;
+
+	nodes_let_go(&left->gone);
+	if (all->locks)
+		locks_let_go(all->locks, left->locks);
+	files_let_go(&left->gone);
+	free(left);
+	atomic_fetch_sub(&all->closing, 1);
+	return NULL;
+}
+
+/* Closes it on a thread of its own, which is waited for a second, as a request is: who comes next would lack its
+ * descriptors, and meet its locks, but isn't held up by a file system that does not answer. */
+static void await_closed(struct left *left)
+{
+	struct timespec until;
+	pthread_t thread;
+
+	atomic_fetch_add(&left->all->closing, 1);
+	if (pthread_create(&thread, NULL, close_left, left)) {
+		close_left(left);
+		return;
+	}
+	clock_gettime(CLOCK_REALTIME, &until);
+	until.tv_sec++;
+	if (pthread_timedjoin_np(thread, NULL, &until))
+		pthread_detach(thread);
+}
+
 void passthrough_parted(void *user)
 {
 	struct passthrough *all = user;
+	struct left *left = calloc(1, sizeof(*left));
 
-	if (all->locks)
-		locks_forget_all(all->locks);
-	nodes_forget_all(&all->nodes);
+	if (left) {
+		left->all = all;
+		left->locks = all->locks ? locks_take_all(all->locks) : NULL;
+		nodes_take_all(&all->nodes, &left->gone);
+	} else {
+		if (all->locks)
+			locks_forget_all(all->locks);
+		nodes_forget_all(&all->nodes);
+	}
 	atomic_fetch_add(&all->clients, 1);
 	atomic_store(&all->agreed, 0);
 	atomic_store(&all->lacks_option, false);
+	if (left)
+		await_closed(left);
 }
 
 /* What waits for a lock is answered now. */
@@ -365,6 +412,6 @@ int passthrough_watch(struct passthrough *all)
 void passthrough_end(struct passthrough *all)
 {
 	/* (who waits for the host still uses what there is) */
-	if (!all->locks || locks_free(all->locks))
+	if (!atomic_load(&all->closing) && (!all->locks || locks_free(all->locks)))
 		free_passthrough(all);
 }

@@ -52,6 +52,8 @@ struct passthrough {
 	/* The options that are agreed on with the client, and how many clients have gone. */
 	atomic_ullong agreed;
 	atomic_uint clients;
+	/* How many threads close what such had. */
+	atomic_uint closing;
 	/* It was said that the client lacks what it must have. */
 	atomic_bool lacks_option;
 	/* For how many milliseconds it may remember names and attributes, and those of regular files. */

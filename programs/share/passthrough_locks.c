@@ -649,15 +649,25 @@ bool locks_are_held(struct locks *all)
 
 /* What waits still after a second, since the host does not come back, keeps its holder, and puts it
  * when it ends. */
-void locks_forget_all(struct locks *all)
+struct holder *locks_take_all(struct locks *all)
 {
-	struct holder *h, *next;
-
 	end_waiting(all);
-	for (h = take_all(all); h; h = next) {
+	return take_all(all);
+}
+
+void locks_let_go(struct locks *all, struct holder *first)
+{
+	struct holder *next;
+
+	for (struct holder *h = first; h; h = next) {
 		next = h->next;
 		put(all, h);
 	}
+}
+
+void locks_forget_all(struct locks *all)
+{
+	locks_let_go(all, locks_take_all(all));
 }
 
 bool locks_free(struct locks *all)

@@ -7,6 +7,7 @@
 #include "nizwarf.h"
 
 struct call;
+struct holder;
 struct locks;
 struct nodes;
 
@@ -30,5 +31,8 @@ void locks_recall(struct locks *all);
 bool locks_are_held(struct locks *all);
 /* Of a client that has gone, or begins anew: it has no locks, and waits for none. */
 void locks_forget_all(struct locks *all);
+/* The same in two steps: what it has is a list after the first one, which is closed by the second. */
+struct holder *locks_take_all(struct locks *all);
+void locks_let_go(struct locks *all, struct holder *first);
 
 #endif

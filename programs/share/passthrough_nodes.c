@@ -708,7 +708,7 @@ static void trim_heap(void)
 	malloc_trim(0);
 }
 
-/* Takes all nodes but the root out of the table: the first one of a list. */
+/* Takes all nodes but the root out of the table: the first one of a list, and how many. */
 static struct node *take_nodes(struct nodes *all, uint32_t *count)
 {
 	struct node *gone = NULL;
@@ -747,24 +747,41 @@ static struct open_file *take_files(struct nodes *all)
 	return gone;
 }
 
-/* All that there are go at once, and are closed without a lock. (To close a file may take as long as its file system
- * does not answer; what another client opens meanwhile stays.) */
-void nodes_forget_all(struct nodes *all)
+void nodes_take_all(struct nodes *all, struct gone *gone)
 {
-	struct open_file *file = take_files(all), *next_file;
-	uint32_t count;
-	struct node *node = take_nodes(all, &count), *next;
+	gone->file = take_files(all);
+	gone->node = take_nodes(all, &gone->count);
+}
 
-	for (; node; node = next) {
+void nodes_let_go(struct gone *gone)
+{
+	struct node *next;
+
+	for (struct node *node = gone->node; node; node = next) {
 		next = node->next;
 		free_node(node);
 	}
-	if (count >= MANY)
+	if (gone->count >= MANY)
 		trim_heap();
-	for (; file; file = next_file) {
-		next_file = file->next;
+}
+
+void files_let_go(struct gone *gone)
+{
+	struct open_file *next;
+
+	for (struct open_file *file = gone->file; file; file = next) {
+		next = file->next;
 		file_put(file);
 	}
+}
+
+void nodes_forget_all(struct nodes *all)
+{
+	struct gone gone;
+
+	nodes_take_all(all, &gone);
+	nodes_let_go(&gone);
+	files_let_go(&gone);
 }
 
 void nodes_empty(struct nodes *all)

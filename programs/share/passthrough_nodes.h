@@ -206,6 +206,16 @@ void node_forget(struct nodes *all, uint64_t number, uint64_t count);
 
 /* Lets go of all nodes but the root, and of all open files. */
 void nodes_forget_all(struct nodes *all);
+/* The same in steps: no number leads to any of them after the first one; then the descriptors of nodes are closed, which
+ * opened nothing, and last those of open files, which may wait for a file system that does not answer. */
+struct gone {
+	struct node *node;
+	struct open_file *file;
+	uint32_t count;
+};
+void nodes_take_all(struct nodes *all, struct gone *gone);
+void nodes_let_go(struct gone *gone);
+void files_let_go(struct gone *gone);
 
 /* The name of a descriptor in /proc/self/fd. */
 struct fd_name {

@@ -247,6 +247,21 @@ def begins_anew():
     server.ends("a signal, once a machine began anew")
 
 
+def closes_late():
+    """What a machine had is closed once it has gone: the next one isn't held up, nor a signal."""
+    server, one = Server("--socket-path=" + path, folder, LD_PRELOAD=os.environ["LATE_CLOSE"]), Front()
+    for ends_by_signal in (False, True):
+        one.init()
+        error = one.ask(14, bytes(8), struct.unpack_from("<Q", one.ask(1, b"late\0")[1])[0])[0]
+        hold(error == 0, f"a file is opened: {error}")
+        from_then = time.monotonic()
+        one.hang_up()
+        if not ends_by_signal:
+            one = next_is_served("a file that is closed late")
+            hold(time.monotonic() - from_then < 2.5, "a machine waits until what another one had is closed")
+    server.ends("a signal while a file is closed")
+
+
 def mount_waits(how, *sandbox):
     """Who uses the mount waits, and a signal ends it."""
     hung = Hung(folder + "/hung") if how == "a file system" else None
@@ -317,6 +332,7 @@ for ends_by_signal in (False, True):
     waits_for_file_system(ends_by_signal)
 if "LATE_CLOSE" in os.environ:
     begins_anew()
+    closes_late()
 alone = "--sandbox=none" in words
 for sandbox in ([[]] if alone else [["--sandbox=namespace"], ["--sandbox=none"]]):
     mount_waits("a lease", *sandbox)
