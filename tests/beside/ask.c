@@ -6,7 +6,7 @@
  * hexadecimal digits joined by `+`. Each segment and each room gets a descriptor of its own. Once a line is read it
  * prints
  *   LENGTH HEX        what the daemon completed it with: a length, and that many bytes of the room
- *   .. behind HEX     the same, if other bytes of the room were written: the whole room
+ *   .. after HEX      the same, if other bytes of the room were written: the whole room
  *   none              not completed within three seconds, or PATIENCE of a tenth; no line is asked after that
  *   hung up           the daemon closed the socket; nor after that
  * After the line `save FILE` the queues stop, the daemon's state goes to that file, and it prints `saved`, or `not
@@ -212,7 +212,7 @@ int main(int count, char **words)
 		for (last = total; last && !memory[ROOM + last - 1]; last--)
 			;
 		if (last > (size_t)len) {
-			printf(" behind ");
+			printf(" after ");
 			show(total);
 		}
 		putchar('\n');

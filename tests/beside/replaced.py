@@ -93,7 +93,7 @@ class Daemon:
 def plain(client, request, answer):
     """What of an answer counts. Bytes after the reply, if there are any, are left as they are."""
     parts = answer.split(" ")
-    if not re.fullmatch(r"\d+", parts[0]) or len(parts) < 2 or parts[1] == "behind":
+    if not re.fullmatch(r"\d+", parts[0]) or len(parts) < 2 or parts[1] == "after":
         return answer
     reply = bytes.fromhex(parts[1])
     if len(reply) >= 16 and reply[4:8] == bytes(4):

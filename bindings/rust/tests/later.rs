@@ -156,7 +156,7 @@ fn a_call_that_is_taken_is_answered_later() {
     let mut slot = Slot::new();
     serve(&server, &ends, || {
         ends.send(lock(33, 1, 0));
-        // One thread serves, and the next request is not behind the lock.
+        // One thread serves, and the next request does not wait for the lock.
         assert_eq!(ends.ask(Request::new(17, 1)).len(), 96);
         let (unique, call, client) = taken.recv().unwrap();
         assert_eq!(unique, 7);

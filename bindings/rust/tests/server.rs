@@ -205,8 +205,8 @@ fn data_go_to_a_file_and_come_from_one() {
     // A buffer for 10 bytes is filled.
     let (_, bytes) = serve_in(&server, &read, 26, 20);
     assert_eq!(bytes, reply(&data[..10]));
-    let behind = Request::new(15, 5).u64(8).u64(1 << 63).u32(9).bytes(&[0; 20]).done();
-    let (_, bytes) = serve_in(&server, &behind, 64, 0);
+    let beyond = Request::new(15, 5).u64(8).u64(1 << 63).u32(9).bytes(&[0; 20]).done();
+    let (_, bytes) = serve_in(&server, &beyond, 64, 0);
     assert_eq!(bytes, fault(22));
 }
 
