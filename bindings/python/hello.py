@@ -11,6 +11,7 @@ from ctypes import POINTER, Structure, byref, c_char, c_char_p, c_int, c_size_t,
 
 # The structs of nizwarf.h. Fields that are not used here have no names.
 def struct(name, size, *fields):
+    """Declares a struct, which must have this size: fields that were left out show so."""
     kind = type(name, (Structure,), {"_fields_": fields})
     assert ctypes.sizeof(kind) == size, name
     return kind

@@ -18,10 +18,12 @@ import sys
 
 INIT, GETATTR = 26, 3
 HEAD, REPLY = struct.Struct("<IIQQIIIHH"), struct.Struct("<IiQ")
+# In bytes: more than a message has room for, where setsockopt does nothing; and more than any here has.
 LONG, LONGEST = 300 << 10, 1 << 20
 
 
 def serve(how, descriptor):
+    """The program that CHECK starts: answers what is handed on, until CHECK has gone."""
     behind = socket.socket(fileno=int(descriptor))
     while request := behind.recv(LONGEST):
         _, opcode, unique, *_ = HEAD.unpack_from(request)
@@ -32,6 +34,8 @@ def serve(how, descriptor):
 
 
 class Check:
+    """A process of CHECK, with its program, and the peer's end of the socket."""
+
     def __init__(self, program, how):
         self.peer, other = socket.socketpair(socket.AF_UNIX, socket.SOCK_SEQPACKET)
         self.peer.settimeout(10)
@@ -49,6 +53,7 @@ class Check:
         try:
             self.peer.send(HEAD.pack(size, opcode, unique, 1, 0, 0, 0, 0, 0) + body.ljust(size - HEAD.size, b"\0"))
             while True:
+                # (a notice has another number)
                 _, error, of = REPLY.unpack_from(self.peer.recv(LONGEST))
                 if of == unique:
                     return error
@@ -56,6 +61,7 @@ class Check:
             return f"{why}"
 
     def end(self):
+        """The status of CHECK once its peer has gone, or that it goes on."""
         self.peer.close()
         try:
             return self.process.communicate(timeout=10) and self.process.returncode
@@ -65,6 +71,7 @@ class Check:
 
 
 def main(program):
+    """Asks a check what it can't hand on, and another one whose program says something unasked."""
     faults = 0
 
     def step(what, got, wanted):

@@ -218,6 +218,7 @@ def many():
         pids.append(pid)
     left = set(pids)
 
+    # (each is asked without waiting: one that hangs must not hold up the others)
     def gone():
         left.difference_update([pid for pid in left if os.waitpid(pid, os.WNOHANG)[0]])
         return not left

@@ -81,15 +81,17 @@ def named(does):
 
 
 def flock(fd, how):
+    """What flock(2) comes to."""
     return named(lambda: fcntl.flock(fd, how))
 
 
 def packed(kind, start, length):
-    # A struct flock: l_type, l_whence, which is SEEK_SET, l_start, l_len, l_pid.
+    """A struct flock: l_type, l_whence, which is SEEK_SET, l_start, l_len, l_pid."""
     return struct.pack("hhqqi4x", kind, 0, start, length, 0)
 
 
 def setlk(fd, kind, start=0, length=0, command=fcntl.F_SETLK):
+    """What F_SETLK comes to, or another command. (a length of 0 is up to the end, whatever that is)"""
     return named(lambda: fcntl.fcntl(fd, command, packed(kind, start, length)))
 
 
@@ -118,6 +120,7 @@ def waits(lock):
 def interrupted(lock):
     """A lock that an alarm ends, which comes after twice LATER: what a process does, for `started`."""
     def ring(*_):
+        # (after a handler that returns Python would begin the call anew)
         raise Alarm
 
     def does(fd, _):
@@ -135,6 +138,7 @@ def interrupted(lock):
 
 
 def setlkw(fd):
+    """What a lock of the whole file comes to that is waited for."""
     return setlk(fd, WRITE, command=fcntl.F_SETLKW)
 
 

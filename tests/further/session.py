@@ -130,6 +130,7 @@ def others(news):
     def wait():
         begun = time.time()
         woken.append((poll.poll(5000), time.time() - begun))
+    # (poll(2) waits on a thread of its own, while this one has the event come)
     thread = threading.Thread(target=wait)
     thread.start()
     time.sleep(0.4)
@@ -149,6 +150,7 @@ def others(news):
 
 
 def refused(does, *words):
+    """The name of the error that a function came to, or `done`."""
     try:
         does(*words)
     except OSError as error:

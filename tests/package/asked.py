@@ -29,6 +29,7 @@ def main():
     asking = subprocess.Popen([ASK, SOCKET], stdin=subprocess.PIPE, stdout=subprocess.PIPE, text=True)
 
     def ask(text):
+        """The error, and what comes after the header of a reply."""
         asking.stdin.write(text + "\n")
         asking.stdin.flush()
         reply = bytes.fromhex(asking.stdout.readline().split()[1])
