@@ -358,7 +358,7 @@ if [ -n "$check" ]; then
 fi
 mkdir -p "$out"
 # (of an older version: what lies there is one version)
-rm -f "$out"/*nizwarf*.deb "$out"/nizwarf-*.tar.gz
+rm -f "$out"/{libnizwarf0,libnizwarf-dev,nizwarf}_*.deb "$out"/nizwarf-*.tar.gz
 mv "$work"/out/* "$out/"
 (cd "$out" && stat -c '%8s  %n' ./*nizwarf* | sed 's,\./,,')
 echo "They are in $out."

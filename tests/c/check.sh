@@ -200,7 +200,13 @@ if ! command -v pkg-config > /dev/null; then
 fi
 part "what is packed, and installed"
 compile tests/c/hello.c
+mkdir "$folder/packages"
+touch "$folder/packages"/{libnizwarf0,virtiofsd-nizwarf}_0.1.deb
 "$here/tools/package.sh" --unproved --no-demo --out "$folder/packages" > "$folder/said" 2>&1 || { cat "$folder/said" >&2 && exit 1; }
+if [ -e "$folder/packages/libnizwarf0_0.1.deb" ] || ! [ -e "$folder/packages/virtiofsd-nizwarf_0.1.deb" ]; then
+    echo "In its folder the packages are of more than one version, or one of something else is gone." >&2
+    exit 1
+fi
 grep '^Missing' "$folder/said" >&2 || true
 tar -xzf "$folder"/packages/*.tar.gz -C "$folder"
 installer=$(echo "$folder"/nizwarf-*/install.sh)
