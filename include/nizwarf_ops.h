@@ -411,11 +411,14 @@ static inline int nizwarf_add_direntry(nizwarf_dir *dir, const char *name, uint6
 
 /* Adds an item for readdirplus, with what a lookup of the name answers; of `.` and `..` only their
  * attributes are looked at. 0: it wasn't added, since there is no more room, and was given back: by
- * `forget`, which is called here. */
+ * `forget`, which is called here. In readdir, whose reply has no entries, each is given back. */
 static inline int nizwarf_add_direntry_plus(nizwarf_dir *dir, const char *name, const nizwarf_entry_param *e,
 					    uint64_t off)
 {
+	const uint64_t held = nizwarf_is_dot(name) ? 0 : e->ino;
+	const int plus = (dir->req->call->has & NIZWARF_PLUS) != 0;
 	nizwarf_item item;
+	int is_added;
 
 	memset(&item, 0, sizeof(item));
 	item.ino = e->attr.ino;
@@ -423,12 +426,11 @@ static inline int nizwarf_add_direntry_plus(nizwarf_dir *dir, const char *name, 
 	/* (the type of a file, S_IFMT of its mode, as DT_REG ..) */
 	item.type = e->attr.mode >> 12 & 15;
 	item.entry = nizwarf_entry_of(e);
-	if (nizwarf_is_dot(name))
-		item.entry.node = 0;
-	if (nizwarf_add_item(dir, name, &item, 1))
-		return 1;
-	nizwarf_give_back(dir, item.entry.node);
-	return 0;
+	item.entry.node = plus ? held : 0;
+	is_added = nizwarf_add_item(dir, name, &item, plus);
+	if (!is_added || !plus)
+		nizwarf_give_back(dir, held);
+	return is_added;
 }
 
 /* From here on to nizwarf_serve_ops: how a call is made by the table, by the kind of its answer. A function

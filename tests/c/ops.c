@@ -476,6 +476,7 @@ static void data(void)
 static void directories(void)
 {
 	struct fuse_read_in read = { .fh = 4, .offset = 6, .size = 4096 };
+	nizwarf_ops some = ops;
 
 	expect_record(NIZWARF_READDIR, &read, 40, NULL, NULL, "readdir 2 6 4 2", 16 + 32 + 32);
 	CHECK(u64(ours + 16) == 1 && ours[40] == '.' && u64(ours + 48) == 50);
@@ -500,6 +501,16 @@ static void directories(void)
 	failure = EDOM;
 	expect_record(READDIRPLUS, &read, 40, NULL, NULL, "readdirplus 2 6 4 4 forget 5 1 forget 6 1", 16);
 	failure = 0;
+	/* (a reply to READDIR has no entry, which the client would hold a lookup of) */
+	some.readdir = note_readdirplus;
+	table = &some;
+	expect_record(NIZWARF_READDIR, &read, 40, NULL, NULL, "readdirplus 2 6 4 forget 5 1 forget 6 1 4",
+		      16 + 4 * 32);
+	failure = EDOM;
+	expect_record(NIZWARF_READDIR, &read, 40, NULL, NULL, "readdirplus 2 6 4 forget 5 1 forget 6 1 4",
+		      16);
+	failure = 0;
+	table = &ops;
 }
 
 /* An entry whose reply doesn't fit is given back, and none where there is a fault. */
