@@ -8,6 +8,10 @@ enum {
 	FIRST_BUFFER = 1 << 20, /* bytes */
 	/* The longest text of a link that Linux takes. */
 	LONGEST_LINK = 4095, /* bytes, without a 0 */
+	/* The longest record that may be longer than the caller's room: an IOCTL's, which names ranges of
+	 * memory. */
+	LONGEST_RETRY = sizeof(struct fuse_ioctl_out) +
+			FUSE_IOCTL_MAX_IOV * sizeof(struct fuse_ioctl_iovec), /* bytes */
 	HEADER = sizeof(struct fuse_out_header),
 	/* Of a reply without a text: the longest is CREATE's. */
 	SMALL_ROOM = HEADER + sizeof(struct fuse_entry_out) + sizeof(struct fuse_open_out),
@@ -264,6 +268,19 @@ static void fill_entry(struct fuse_entry_out *out, const struct fuse_entry_param
 	spell_entry((nizwarf_entry *)(void *)out, e);
 }
 
+/* How many bytes pieces have. It is libfuse's iov_length, but for a length that is none, as one below 0: that makes no
+ * small sum with others, by which a piece would be copied past its room. */
+static inline size_t length_of(const struct iovec *iov, int count)
+{
+	size_t len = 0;
+	int i;
+
+	for (i = 0; i < count; i++)
+		if (__builtin_add_overflow(len, iov[i].iov_len, &len))
+			return SIZE_MAX;
+	return len;
+}
+
 /* Copies pieces together. There is room for all. */
 static void gather(void *to, const struct iovec *iov, int count)
 {
@@ -283,7 +300,7 @@ static inline const char *record_of(void *to, size_t size, const struct iovec *i
 {
 	if (count == 1)
 		return iov->iov_len == size ? iov->iov_base : NULL;
-	if (iov_length(iov, count) != size)
+	if (length_of(iov, count) != size)
 		return NULL;
 	gather(to, iov, count);
 	return to;
@@ -451,11 +468,14 @@ static int tell_number(nizwarf_answer *answer, const struct iovec *iov, int coun
  * that is what is told then. ERANGE: the caller wants fewer bytes. */
 static int tell_text(const nizwarf_call *call, struct door_thread *t, const struct iovec *iov, int count)
 {
-	const size_t len = iov_length(iov, count);
+	const size_t len = length_of(iov, count);
 	nizwarf_answer *answer = &t->answer;
 	nizwarf_ioctl record;
 
 	if (call->call == NIZWARF_READLINK && len > LONGEST_LINK)
+		return 0;
+	/* (it isn't copied first: there may be no such bytes) */
+	if (nizwarf_is_record(call) && len > LONGEST_RETRY && len - sizeof(record) > call->size)
 		return 0;
 	if (call->answer == NIZWARF_TEXT_OR_COUNT && len > call->size) {
 		answer->error = ERANGE;
@@ -496,7 +516,7 @@ static int tell(fuse_req_t req, struct door_thread *t, nizwarf_init_more *more, 
 
 	switch (call->answer) {
 	case NIZWARF_DONE:
-		return !iov_length(iov, count); /* nothing but the error 0 */
+		return !length_of(iov, count); /* nothing but the error 0 */
 	case NIZWARF_WANT:
 		return tell_init(req, answer, more, iov, count);
 	case NIZWARF_ENTRY:
@@ -689,7 +709,7 @@ static int send_data(fuse_req_t req, struct iovec *iov, int count)
 {
 	const nizwarf_call *call = call_of(req);
 	_Alignas(struct fuse_out_header) uint8_t header[HEADER];
-	size_t len = iov_length(iov + 1, count - 1), whole;
+	size_t len = length_of(iov + 1, count - 1), whole;
 
 	if (call->answer == NIZWARF_DIRECTORY && len) {
 		/* (Linux would refuse the reply, and the caller wait) */

@@ -222,7 +222,15 @@ static void on_getxattr(fuse_req_t req, fuse_ino_t ino, const char *name, size_t
 		fuse_reply_buf(req, text, ino == 2 ? size : size + 1);
 }
 
-/* As on_getxattr. */
+/* Answers by pieces whose lengths have the sum 8, if nobody looks for an overflow. */
+static void answer_around(fuse_req_t req)
+{
+	const struct iovec pieces[] = { { text, 16 }, { text, SIZE_MAX - 7 } };
+
+	fuse_reply_iov(req, pieces, 2);
+}
+
+/* As on_getxattr; of node 5 by pieces that are too long. */
 static void on_read(fuse_req_t req, fuse_ino_t ino, size_t size, off_t off, struct fuse_file_info *fi)
 {
 	struct fuse_bufvec endless = FUSE_BUFVEC_INIT(SIZE_MAX);
@@ -231,6 +239,8 @@ static void on_read(fuse_req_t req, fuse_ino_t ino, size_t size, off_t off, stru
 	endless.buf[0].mem = text;
 	if (ino == 4)
 		fuse_reply_data(req, &endless, 0);
+	else if (ino == 5)
+		answer_around(req);
 	else
 		fuse_reply_buf(req, text, ino == 2 ? size : size + 1);
 }
@@ -331,6 +341,10 @@ static void on_readdir(fuse_req_t req, fuse_ino_t ino, size_t size, off_t off, s
 		list_many(req);
 		return;
 	}
+	if (ino == 9) {
+		answer_around(req);
+		return;
+	}
 	if (ino == 3)
 		memcpy(at + 16, &long_name, 4);
 	else if (ino == 4)
@@ -352,13 +366,17 @@ static void on_open(fuse_req_t req, fuse_ino_t ino, struct fuse_file_info *fi)
 		fuse_reply_err(req, 0);
 }
 
-/* Of node 4 half a record, of 3 a byte more than was asked for. */
+/* Of node 4 half a record, of 3 a byte more than was asked for, of 5 and 6 by a length that is -1. */
 static void on_ioctl(fuse_req_t req, fuse_ino_t ino, unsigned int cmd, void *arg, struct fuse_file_info *fi,
 		     unsigned flags, const void *in, size_t in_size, size_t out_size)
 {
 	(void)cmd, (void)arg, (void)fi, (void)flags, (void)in, (void)in_size;
 	if (ino == 4)
 		fuse_reply_buf(req, text, 8);
+	else if (ino == 5)
+		fuse_reply_ioctl(req, 0, text, SIZE_MAX);
+	else if (ino == 6)
+		fuse_reply_buf(req, text, SIZE_MAX);
 	else
 		fuse_reply_ioctl(req, 0, text, ino == 2 ? out_size : out_size + 1);
 }
@@ -528,14 +546,18 @@ static const struct request wrong[] = {
 	{ FUSE_GETXATTR, 2, &length, sizeof(length.in) + 7, EIO, "a value for its length", 0 },
 	{ FUSE_READ, 3, &reading, sizeof(reading), EIO, "65 bytes for 64", 0 },
 	{ FUSE_READ, 4, &reading, sizeof(reading), EIO, "2^64 - 1 bytes for 64", 0 },
+	{ FUSE_READ, 5, &reading, sizeof(reading), EIO, "2^64 + 8 bytes for 64", 0 },
 	{ FUSE_READDIR, 3, &reading, sizeof(reading), EIO, "a name past its record", 0 },
 	{ FUSE_READDIR, 4, &reading, sizeof(reading), EIO, "a record without a name", 0 },
 	{ FUSE_READDIR, 5, &reading, sizeof(reading), EIO, "a name with a 0", 0 },
 	{ FUSE_READDIR, 6, &reading, sizeof(reading), EIO, "records for more than the size", 0 },
+	{ FUSE_READDIR, 9, &reading, sizeof(reading), EIO, "2^64 + 8 bytes of records", 0 },
 	{ FUSE_OPEN, 3, &opening, sizeof(opening), EIO, "an OPEN that was written", 0 },
 	{ FUSE_OPEN, 4, &opening, sizeof(opening), EIO, "an OPEN without a handle", 0 },
 	{ FUSE_IOCTL, 3, &asking, sizeof(asking), EIO, "9 bytes for 8 of an IOCTL", 0 },
 	{ FUSE_IOCTL, 4, &asking, sizeof(asking), EIO, "half a record of an IOCTL", 0 },
+	{ FUSE_IOCTL, 5, &asking, sizeof(asking), EIO, "2^64 - 1 bytes after a record", 0 },
+	{ FUSE_IOCTL, 6, &asking, sizeof(asking), EIO, "2^64 - 1 bytes of a record", 0 },
 };
 
 /* What comes by a pipe. */
