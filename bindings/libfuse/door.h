@@ -5,6 +5,7 @@
 
 /* (SSE2, which each x86-64 has: listings.h looks at 16 bytes of a name at once) */
 #include <emmintrin.h>
+#include <limits.h>
 #include <nizwarf.h>
 #include <time.h>
 

@@ -703,23 +703,24 @@ static __attribute__((noinline)) int join_pieces(struct iovec *iov, int count, s
 	return 1;
 }
 
-/* A reply with data, which are sent from where they are. Those of a directory are looked at first, as Linux ends a
- * listing at a record that is wrong. */
+/* A reply with data, which are sent from where they are, unless they are in more pieces than writev(2) takes. Those of a
+ * directory are looked at first, as Linux ends a listing at a record that is wrong. */
 static int send_data(fuse_req_t req, struct iovec *iov, int count)
 {
 	const nizwarf_call *call = call_of(req);
+	const int is_listing = call->answer == NIZWARF_DIRECTORY;
 	_Alignas(struct fuse_out_header) uint8_t header[HEADER];
 	size_t len = length_of(iov + 1, count - 1), whole;
 
-	if (call->answer == NIZWARF_DIRECTORY && len) {
-		/* (Linux would refuse the reply, and the caller wait) */
-		if (len > call->size)
-			return send_plain(req, EIO);
-		if (unlikely(count > 2)) {
-			if (!join_pieces(iov, count, len))
-				return send_plain(req, ENOMEM);
-			count = 2;
-		}
+	/* (Linux would refuse the reply, and the caller wait) */
+	if (len > call->size)
+		return send_plain(req, EIO);
+	if (unlikely(count > (is_listing ? 2 : IOV_MAX))) {
+		if (!join_pieces(iov, count, len))
+			return send_plain(req, ENOMEM);
+		count = 2;
+	}
+	if (is_listing && len) {
 		len = count_whole(call, iov[1].iov_base, len);
 		/* (also where the first record is cut: no progress could be made) */
 		if (unlikely(!len))
@@ -729,7 +730,7 @@ static int send_data(fuse_req_t req, struct iovec *iov, int count)
 	whole = put_data_header(req, len, header);
 	if (unlikely(!whole))
 		return send_header(req, -ENOMEM);
-	/* (the door says an error in place of data that are more than were asked for) */
+	/* (the door says an error in place of data that it has no room for) */
 	return send_put(req, header, HEADER, iov, whole > HEADER ? count : 1);
 }
 

@@ -15,6 +15,7 @@
 #include <errno.h>
 #include <fcntl.h>
 #include <fuse_lowlevel.h>
+#include <limits.h>
 #include <linux/fuse.h>
 #include <malloc.h>
 #include <pthread.h>
@@ -68,13 +69,17 @@ void *realloc(void *at, size_t size)
 }
 #endif
 
-/* Takes what libfuse writes to a kernel: a reply, or a notice. */
+/* Takes what libfuse writes to a kernel: a reply, or a notice. (in as many pieces as writev(2) takes) */
 static ssize_t take_reply(int fd, struct iovec *iov, int count, void *user)
 {
 	size_t at = 0;
 	int i;
 
 	(void)fd, (void)user;
+	if (count > IOV_MAX) {
+		errno = EINVAL;
+		return -1;
+	}
 	for (i = 0; i < count; i++) {
 		if (at + iov[i].iov_len > sizeof(reply))
 			abort();
@@ -230,7 +235,22 @@ static void answer_around(fuse_req_t req)
 	fuse_reply_iov(req, pieces, 2);
 }
 
-/* As on_getxattr; of node 5 by pieces that are too long. */
+/* Answers by as many pieces as a kernel takes from nobody, of a byte each. */
+enum { PIECES = 2000 };
+
+static void answer_by_pieces(fuse_req_t req)
+{
+	struct iovec pieces[PIECES];
+	size_t i;
+
+	for (i = 0; i < PIECES; i++) {
+		pieces[i].iov_base = text + i;
+		pieces[i].iov_len = 1;
+	}
+	fuse_reply_iov(req, pieces, PIECES);
+}
+
+/* As on_getxattr; of node 5 by pieces that are too long, and of node 6 by many. */
 static void on_read(fuse_req_t req, fuse_ino_t ino, size_t size, off_t off, struct fuse_file_info *fi)
 {
 	struct fuse_bufvec endless = FUSE_BUFVEC_INIT(SIZE_MAX);
@@ -241,6 +261,8 @@ static void on_read(fuse_req_t req, fuse_ino_t ino, size_t size, off_t off, stru
 		fuse_reply_data(req, &endless, 0);
 	else if (ino == 5)
 		answer_around(req);
+	else if (ino == 6)
+		answer_by_pieces(req);
 	else
 		fuse_reply_buf(req, text, ino == 2 ? size : size + 1);
 }
@@ -578,6 +600,7 @@ static const struct request good[] = {
 	{ FUSE_READLINK, 2, NULL, 0, 0, "READLINK", 0 },
 	{ FUSE_GETXATTR, 2, &value, sizeof(value.in) + 7, 0, "GETXATTR", 0 },
 	{ FUSE_READ, 2, &reading, sizeof(reading), 0, "READ", 0 },
+	{ FUSE_READ, 6, &much, sizeof(much), 0, "READ by many pieces", 0 },
 	{ FUSE_READDIR, 2, &reading, sizeof(reading), 0, "READDIR", 0 },
 	{ FUSE_READDIR, 7, &reading, sizeof(reading), 0, "READDIR by pieces", 0 },
 	{ FUSE_WRITE, 2, &writing, sizeof(writing), 0, "WRITE", 0 },
@@ -787,9 +810,10 @@ static void try_names(void)
 	judge("names of each length", right == LONGEST_NAME * (LONGEST_NAME + 3) / 2);
 }
 
-/* Records that come by several pieces are one listing. */
+/* Data and records come whole by any number of pieces. */
 static void try_pieces(void)
 {
+	static const struct request many = { FUSE_READ, 6, &much, sizeof(much), 0, "data by pieces", 0 };
 	static const struct request asked = { FUSE_READDIR, 7, &reading, sizeof(reading), 0, "pieces", 0 };
 	struct fuse_dirent record[2];
 	const char *at = reply + sizeof(struct fuse_out_header);
@@ -801,6 +825,9 @@ static void try_pieces(void)
 					     reply_len == sizeof(struct fuse_out_header) + 64 &&
 					     record[0].namelen == 4 && record[1].namelen == 5 &&
 					     !memcmp(at + 24, "name", 4) && !memcmp(at + 56, "other", 5));
+	send_request(&many);
+	judge(many.what, is_answered(&many) && reply_len == sizeof(struct fuse_out_header) + PIECES &&
+				 !memcmp(at, text, PIECES));
 }
 
 /* Makes a listing: with types, without, or with inode numbers that look like the length of a name and a type. */
