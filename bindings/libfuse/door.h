@@ -63,8 +63,9 @@ static struct fuse_session *door_take_session(void);
 /* The end of a request that others knew. In place of libfuse's free: it is in no list any more, and has no channel. */
 static void door_give_req(struct fuse_req *req);
 
-/* From now on an interrupt finds the request; and it knows of one that came before. */
-static void door_watch(fuse_req_t req);
+/* From now on an interrupt finds the request; and it knows of one that came before. 0: it has ended, and what is set of
+ * it would be the next request's, which has its memory. */
+static int door_watch(fuse_req_t req);
 /* Ends a request of which no other thread knows, if it hasn't ended. 0: others know, and nothing was done. */
 static int door_end_alone(fuse_req_t req);
 /* Ends what a session keeps. No other thread has that any more. */

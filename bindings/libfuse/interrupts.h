@@ -97,15 +97,17 @@ static void interrupt(fuse_req_t req, uint64_t unique)
 }
 
 /* (libfuse calls it at the beginning of fuse_req_interrupted and of fuse_req_interrupt_func) */
-static void door_watch(fuse_req_t req)
+static int door_watch(fuse_req_t req)
 {
 	struct fuse_session *se = req->se;
+	int known;
 
 	if (!has_interrupts(se))
-		return;
+		return 1;
 	pthread_mutex_lock(&se->lock);
+	known = own_of(req)->known;
 	/* (once: it is in the list from then on, up to its end) */
-	if (own_of(req)->known == DOOR_ALONE) {
+	if (known == DOOR_ALONE) {
 		own_of(req)->known = DOOR_KNOWN;
 		list_add_req(req, &se->list);
 		/* (one that came before is not told again) */
@@ -113,6 +115,9 @@ static void door_watch(fuse_req_t req)
 			req->interrupted = 1;
 	}
 	pthread_mutex_unlock(&se->lock);
+	if (known == DOOR_ENDED)
+		fuse_log(FUSE_LOG_ERR, "fuse: a request was asked about after its answer\n");
+	return known != DOOR_ENDED;
 }
 
 /* Ends the interrupt that is kept of a request, which ends now: its number may be another's soon. */

@@ -33,8 +33,8 @@ OWN = (
     (r"\(struct fuse_session \*\) ?calloc\(1, sizeof\(struct fuse_session\)\)", "door_take_session()"),
     (r"pthread_mutex_destroy\(&req->lock\);\n\tfree\(req\);", "door_give_req(req);"),
     (r"(void fuse_free_req\(fuse_req_t req\)\n\{\n)", r"\1\tif (door_end_alone(req))\n\t\treturn;\n\n"),
-    (r"(void fuse_req_interrupt_func\([^{]*\{\n)", r"\1\tdoor_watch(req);\n"),
-    (r"(int fuse_req_interrupted\([^{]*\{\n)", r"\1\tdoor_watch(req);\n"),
+    (r"(void fuse_req_interrupt_func\([^{]*\{\n)", r"\1\tif (!door_watch(req))\n\t\treturn;\n"),
+    (r"(int fuse_req_interrupted\([^{]*\{\n)", r"\1\tif (!door_watch(req))\n\t\treturn 0;\n"),
     (r"(void fuse_session_destroy\([^{]*\{\n)", r"\1\tdoor_end_session(se);\n"),
 )
 # The memory for what a client sends.

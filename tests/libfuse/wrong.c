@@ -158,6 +158,18 @@ static void give_times(fuse_req_t req, size_t i)
 	fuse_reply_entry(req, &entry);
 }
 
+/* A request that waits for its answer, and how often it was told of an interrupt. (on_getattr answers nothing: end()
+ * does) */
+static fuse_req_t waiting;
+static int interrupts;
+
+/* Called by libfuse as an interrupt comes, or at once if it came before. */
+static void on_interrupt(fuse_req_t req, void *data)
+{
+	(void)data;
+	interrupts += req == waiting;
+}
+
 /* How many answers to one request were taken. */
 static int taken; /* as libfuse says by 0 */
 
@@ -175,6 +187,8 @@ static void answer_again(fuse_req_t req)
 	taken += !fuse_reply_buf(req, text, 3);
 	taken += !fuse_reply_data(req, &data, 0);
 	taken += !fuse_reply_readlink(req, "link");
+	fuse_req_interrupt_func(req, on_interrupt, NULL);
+	taken += fuse_req_interrupted(req);
 	fuse_reply_none(req);
 }
 
@@ -411,23 +425,11 @@ static void on_forget(fuse_req_t req, fuse_ino_t ino, uint64_t lookups)
 	fuse_reply_none(req);
 }
 
-/* A request that waits for its answer, and how often it was told of an interrupt. (on_getattr answers nothing: end()
- * does) */
-static fuse_req_t waiting;
-static int interrupts;
-
 /* (the memory of a request stays its own until it's answered) */
 static void on_getattr(fuse_req_t req, fuse_ino_t ino, struct fuse_file_info *fi)
 {
 	(void)ino, (void)fi;
 	waiting = req;
-}
-
-/* Called by libfuse as an interrupt comes, or at once if it came before. */
-static void on_interrupt(fuse_req_t req, void *data)
-{
-	(void)data;
-	interrupts += req == waiting;
 }
 
 /* How many bytes came of what a notice asked for. */
@@ -1147,12 +1149,19 @@ static void refuse_each(const struct request *r, int receives)
 static void try_again(void)
 {
 	static const struct request r = { FUSE_LOOKUP, 1, "again", 6, ENOENT, "again", 0 };
+	const int before = interrupts;
+	int i;
 
 	send_request(&r);
 	judge("answers to one request", is_answered(&r) && taken == 1);
 	send_request(&good[0]);
 	owed++;
 	judge("a request after it", is_answered(&good[0]) && held == owed);
+	/* (the next request has its memory, and not what was set after the end) */
+	begin(0, 0);
+	i = fuse_req_interrupted(waiting);
+	interrupt(7);
+	end("a function that was set after the end", !i && interrupts == before);
 }
 
 /* Interrupts alone, of requests that never come, take no more memory than some do. */
