@@ -109,9 +109,12 @@ pub(crate) fn receive(socket: &UnixStream) -> io::Result<Option<File>> {
         flags: 0,
     };
     // SAFETY: all pointers are valid for this call, and have these lengths.
-    let len = unsafe { recvmsg(socket.as_raw_fd(), &mut message, MSG_CMSG_CLOEXEC) };
-    if len < 0 {
-        return Err(io::Error::last_os_error());
+    while unsafe { recvmsg(socket.as_raw_fd(), &mut message, MSG_CMSG_CLOEXEC) } < 0 {
+        let error = io::Error::last_os_error();
+        // A signal of the program's is no failure of the mount.
+        if error.kind() != io::ErrorKind::Interrupted {
+            return Err(error);
+        }
     }
     // The length of a header and one descriptor.
     let one = size_of::<Control>() - size_of::<c_int>();
@@ -132,3 +135,41 @@ fn done(failed: c_int) -> io::Result<()> {
 const _: () = assert!(size_of::<Message<'_>>() == 56);
 const _: () = assert!(size_of::<Control>() == 24);
 const _: () = assert!(size_of::<Polled>() == 8);
+
+#[cfg(test)]
+mod tests {
+    use super::*;
+    use std::thread;
+    use std::time::Duration;
+
+    extern "C" {
+        fn signal(number: c_int, handler: extern "C" fn(c_int)) -> usize;
+        fn siginterrupt(number: c_int, interrupts: c_int) -> c_int;
+        fn pthread_self() -> c_ulong;
+        fn pthread_kill(thread: c_ulong, number: c_int) -> c_int;
+    }
+
+    extern "C" fn do_nothing(_: c_int) {}
+
+    #[test]
+    fn a_signal_does_not_end_what_is_received() {
+        const SIGUSR1: c_int = 10;
+        let (ours, theirs) = UnixStream::pair().unwrap();
+        // SAFETY: the function is one for signals, and this thread goes on while it is sent them.
+        let this = unsafe {
+            signal(SIGUSR1, do_nothing);
+            siginterrupt(SIGUSR1, 1);
+            pthread_self()
+        };
+        let other = thread::spawn(move || {
+            for _ in 0..20 {
+                thread::sleep(Duration::from_millis(10));
+                // SAFETY: as above.
+                unsafe { pthread_kill(this, SIGUSR1) };
+            }
+            drop(theirs);
+        });
+        assert!(receive(&ours).unwrap().is_none());
+        other.join().unwrap();
+    }
+}
