@@ -855,7 +855,8 @@ NIZWARF_HOLDS(sizeof(nizwarf_lock) == 24 && sizeof(nizwarf_ioctl) == 16 && sizeo
  * answer. `call` comes to an ask with `call` 0. Of `answer` the first 224 bytes are read: text and
  * items come by themselves. After both, told.put bytes are copied out: nizwarf_copy_slot_at copies
  * the bytes from place `at` on, as many as there are and the piece has room for, and answers how
- * many. */
+ * many. An error above 511 is replied as it is, and a listing ends before an item that can't be told:
+ * nizwarf_reply answers EIO in place of both, and so does who calls these. */
 int32_t nizwarf_ask_at(nizwarf_slot *slot, const nizwarf_session *session, const nizwarf_segment *request,
 		       size_t segments, size_t room, nizwarf_call *call, nizwarf_told *told);
 int32_t nizwarf_answer_at(nizwarf_slot *slot, const nizwarf_session *session, const nizwarf_call *call,
