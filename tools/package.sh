@@ -281,7 +281,7 @@ make_tarball() {
 
 # The packages of Debian, from the tree of the tarball. Programs link the shared library there.
 make_debs() {
-    local tree=$1 folder=$2 out=$3 lib=usr/lib/$triplet root
+    local tree=$1 folder=$2 out=$3 lib=usr/lib/$triplet root script
     root=$folder/libnizwarf0
     mkdir -p "$root/$lib" "$root/DEBIAN"
     cp -P "$tree/lib/$soname"* "$root/$lib/"
@@ -316,6 +316,10 @@ make_debs() {
     find "$tree/share/man" -mindepth 1 -maxdepth 1 ! -name man3 -exec cp -R {} "$root/usr/share/man/" \;
     put_system "$root/usr"
     sed -i 's,/usr/local/,/usr/,' "$root"/usr/lib/systemd/system/*.service
+    mkdir -p "$root/DEBIAN"
+    for script in postinst prerm postrm; do
+        install -m 755 "$packaging/scripts/$script.sh" "$root/DEBIAN/$script"
+    done
     make_deb nizwarf "$root" "$out"
 }
 

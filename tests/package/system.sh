@@ -6,7 +6,8 @@
 #   - has systemd mount one by its line, and serve another by a socket, to which asked.py connects as a machine does;
 #   - holds the units against `systemd-analyze verify`, and the service against 3.5 of `systemd-analyze security`;
 #
-# and tests/package/pages.sh does what the manual pages show as examples.
+# then tests/package/pages.sh does what the manual pages show as examples, and tests/package/removed.sh upgrades and
+# removes the package.
 #
 # Usage: tests/package/system.sh [--clean]
 # It takes half a minute once the packages' parts are built, and nothing of it is left. With --clean it is no copy, but a new Debian 12 with libvirt and
@@ -99,9 +100,9 @@ checks="$here/tests/package/inside.sh /root/check && $here/tests/package/pages.s
 if [ -n "$clean" ]; then
     put_page_files
     # (the page installs the packages itself)
-    checks="$here/tests/package/page.sh /srv/check && $checks /srv/check"
+    checks="$here/tests/package/page.sh /srv/check && $checks /srv/check && $here/tests/package/removed.sh /srv/check"
 else
-    checks="$checks /root/check"
+    checks="$checks /root/check && $here/tests/package/removed.sh /root/check"
     chroot "$root" sh -c 'dpkg -i /root/check/*.deb' > "$work/said" 2>&1 || { cat "$work/said" >&2 && exit 1; }
 fi
 cat > "$root/etc/systemd/system/nizwarf-check.service" << UNIT
