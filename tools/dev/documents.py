@@ -279,7 +279,8 @@ check_order(lambda text: faults.append(f"docs/PROMISE.md: {text}"), "\n".join(re
 COUNTS = re.compile(r"(\d+) definitions,? (?:of )?([\d,]+) lines")
 # What is told as so much more than the session, and begins with these.
 BESIDE = {"the clause `memory`": ["fuse_server/Sparing.IsSparing"],
-          "the door": ["nizwarf_door/Turns.IsAskedOrNot", "nizwarf_door/Turns.IsAnsweredOrNot", "nizwarf_door/Kept.HoldsAnswer"]}
+          "the door": ["nizwarf_door/Turns.IsAskedOrNot", "nizwarf_door/Turns.IsAnsweredOrNot", "nizwarf_door/Kept.HoldsAnswer",
+                       "nizwarf_door/Kept.HoldsFor"]}
 further = []
 for what, starts in BESIDE.items():
     *files, ends = subprocess.run(["tools/measure/statement.sh", "--files", "fuse_server/Session.IsSession", *starts],

@@ -6,6 +6,7 @@ use Rattle.fuse_segments.specs.Lengths.{lengths_from}
 use Rattle.fuse_segments.specs.Segments.{flat_bytes, lengths_of}
 use Rattle.fuse_segments.specs.Unread.{Unread}
 use Rattle.fuse_segments.specs.Written.{Written, whole}
+use Rattle.fs_trait.specs.Calls.{Call, Lookup, Kind, Data, kind_of}
 use Rattle.fuse_grammar.specs.Ask.{ask}
 use Rattle.fuse_grammar.specs.Forms.{Ask, Ends, Asks, Lists, WithMemory}
 use Rattle.fuse_grammar.specs.Reply.{Refusal}
@@ -24,13 +25,18 @@ use Rattle.door_ask.specs.declared.asked.Asked.{Asked}
 use Rattle.door_ask.specs.declared.asked.Asked.TheVariants as asked
 use Rattle.c_rooms.specs.Codes.{is_asked, length_of, no_memory, outcome_code}
 use Rattle.nizwarf_door.specs.Asking.{AsksOrNot, unread_in}
-use Rattle.nizwarf_door.specs.Kept.{HasFor, Holds, HoldsAnswer, HoldsFor, TellsOrNot, put_of}
+use Rattle.nizwarf_door.specs.Kept.{HasFor, Holds, HoldsAnswer, HoldsFor, TellsOrNot, put_of, put_of_kind}
 use Rattle.nizwarf_door.specs.Rooms.{HasRoomFor}
 use Rattle.nizwarf_door.specs.declared.data.ToldData.{ToldData}
 use Rattle.nizwarf_door.specs.declared.memory.Memory.{Memory}
 use Rattle.nizwarf_door.specs.declared.memory.Part.{Part}
 use Rattle.nizwarf_door.specs.Shown.{AreFirst, shown_of}
 use Rattle.nizwarf_door.proofs.Leaving.{Keeps, replied_keeps, are_first, shorter}
+
+-- how much of a reply is put goes by the kind of answer that its call has
+put_by_kind : (c : Call) (len : ℕ) → put_of (shape_of c) len ≡ put_of_kind (kind_of c) len
+put_by_kind (Lookup ctx parent name) len = refl
+put_by_kind _ len = refl
 
 -- memory for what a request may come to that asks this is memory for any answer to its call
 answer_has : (request : List ℕ) (options interrupts room : ℕ) (asks : Ask) (before after : Written) (told : CallData)
@@ -40,7 +46,7 @@ answer_has q o n room (Ends reply) before after told p t has = absurd t
 answer_has q o n room (Asks echo call) before after told p t has =
     let same : put_of told told.room ≡ put_of (shape_of call) room =
     ap (λ (c : CallData). put_of c c.room) t.1.numbers in
-    subst (λ (k : ℕ). HasRoomFor k p) (sym same) has
+    subst (λ (k : ℕ). HasRoomFor k p) (sym (same ∙ put_by_kind call room)) has
 answer_has q o n room (Lists echo l) before after told p t has =
     let same : put_of told told.room ≡ room = ap (λ (c : CallData). put_of c c.room) t.1 in
     subst (λ (k : ℕ). HasRoomFor k p) (sym same) has
@@ -56,11 +62,15 @@ pub put_within : (call : CallData) (len : ℕ) (is : Bool) → (call.answer == k
 put_within call len true is = rw is (omega arith)
 put_within call len false is = rw is (omega arith)
 
+kind_within : (k : Kind) (len : ℕ) → put_of_kind k len ≤ len
+kind_within (Data size) len = omega arith
+kind_within _ len = omega arith
+
 -- it is memory for any answer, whatever is asked
 has_any : (less : ℕ) (asks : Ask) (p : Part) → HasRoomFor less p → HasFor less asks p
 has_any less (Ends reply) p has = tt
 has_any less (Asks echo call) p has =
-    fewer less (put_of (shape_of call) less) p (put_within (shape_of call) less ((shape_of call).answer == kind.DATA) refl) has
+    fewer less (put_of_kind (kind_of call) less) p (kind_within (kind_of call) less) has
 has_any less (Lists echo l) p has = has
 has_any less (WithMemory rest) p has = has_any less rest p has
 
@@ -82,7 +92,7 @@ pub stays_for : (less : ℕ) (asks : Ask) (old new : Option Memory) → (IsSome 
 stays_for less (Ends reply) old new some keeps h =
     let s = some_is new (some (rw h.is refl)) in record { memory = s.0; is = s.1; answer = tt }
 stays_for less (Asks echo call) old new some keeps h =
-    let k = keeps (put_of (shape_of call) less) (record { memory = h.memory; is = h.is; has = h.answer }) in
+    let k = keeps (put_of_kind (kind_of call) less) (record { memory = h.memory; is = h.is; has = h.answer }) in
     record { memory = k.memory; is = k.is; answer = k.has }
 stays_for less (Lists echo l) old new some keeps h =
     let k = keeps less (record { memory = h.memory; is = h.is; has = h.answer }) in

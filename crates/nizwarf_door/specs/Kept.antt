@@ -1,8 +1,9 @@
--- Which memory a slot has. Of the promise `put_of` is to be read, and of the clause `kept` `Holds`
--- and `HoldsAnswer`.
+-- Which memory a slot has: for the answer to a call that is told, `HoldsAnswer`, and for what comes of a request,
+-- `HoldsFor`.
 use Rattle.std.specs.Prelude.{◌≡◌, ◌==◌, ◌⊎◌, if◌then◌else◌, ⊤, ℕ, ℤ, min, Option, Some}
+use Rattle.fs_trait.specs.Calls.{Kind, Data, kind_of}
 use Rattle.fuse_grammar.specs.Forms.{Ask, Ends, Asks, Lists, WithMemory}
-use Rattle.door_calls.specs.Shapes.{nothing, shape_of}
+use Rattle.door_calls.specs.Shapes.{nothing}
 use Rattle.door_calls.specs.declared.call.CallData.{CallData}
 use Rattle.door_calls.specs.declared.call.kind.TheConstants as kind
 use Rattle.c_rooms.specs.Codes.{is_asked, no_memory}
@@ -15,17 +16,10 @@ use Rattle.nizwarf_door.specs.declared.memory.Memory.{Memory}
 abbrev pub put_of : CallData → (len : ℕ) → ℕ
 put_of call len = if call.answer == kind.DATA then min len 16 else len
 
--- A call is told, and then this holds; or for want of memory none is.
-abbrev pub TellsOrNot : (code : ℤ) → (call call_after : CallData) → (kept : Type 0) → Type 0
-TellsOrNot code call call_after kept =
-    ((code ≡ is_asked) × (call_after ≡ call) × kept) ⊎ ((code ≡ no_memory) × (call_after ≡ nothing))
-
--- this memory has room for any answer to the call that a request asks for, if it asks for one, with that much room
-abbrev pub HasFor : (room : ℕ) → Ask → Part → Type 0
-HasFor room (Ends reply) p = ⊤
-HasFor room (Asks echo call) p = HasRoomFor (put_of (shape_of call) room) p
-HasFor room (Lists echo l) p = HasRoomFor room p
-HasFor room (WithMemory rest) p = HasFor room rest p
+-- the same, by the kind of answer that the call has
+abbrev pub put_of_kind : Kind → (len : ℕ) → ℕ
+put_of_kind (Data size) len = min len 16
+put_of_kind _ len = len
 
 -- a slot has memory for an answer of that many bytes
 pub record Holds (count : ℕ) (slot : Option Memory) : Type 0 where
@@ -37,9 +31,23 @@ pub record Holds (count : ℕ) (slot : Option Memory) : Type 0 where
 abbrev pub HoldsAnswer : CallData → Option Memory → Type 0
 HoldsAnswer call slot = Holds (put_of call call.room) slot
 
+-- this memory has room for any answer to the call that a request asks for, if it asks for one, with that much room
+abbrev pub HasFor : (room : ℕ) → Ask → Part → Type 0
+HasFor room (Ends reply) p = ⊤
+HasFor room (Asks echo call) p = HasRoomFor (put_of_kind (kind_of call) room) p
+HasFor room (Lists echo l) p = HasRoomFor room p
+HasFor room (WithMemory rest) p = HasFor room rest p
+
 -- A slot has memory for what comes of a request that asks this, with that much room: for any answer to its call, if it
 -- asks for one. For the reply to one that asks for none, any slot that has memory has it.
 pub record HoldsFor (room : ℕ) (asks : Ask) (slot : Option Memory) : Type 0 where
   pub memory : Memory
   pub is : slot ≡ Some memory
   pub answer : HasFor room asks memory.answers
+
+-- ---- no more is of the promise: the rest is for contracts of parts
+
+-- A call is told, and then this holds; or for want of memory none is.
+abbrev pub TellsOrNot : (code : ℤ) → (call call_after : CallData) → (kept : Type 0) → Type 0
+TellsOrNot code call call_after kept =
+    ((code ≡ is_asked) × (call_after ≡ call) × kept) ⊎ ((code ≡ no_memory) × (call_after ≡ nothing))
