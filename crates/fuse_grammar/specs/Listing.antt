@@ -129,8 +129,8 @@ module _ (ctx : Context) (parent : ℕ) where
   abbrev pub line_events : (plus : Bool) → Line → List Event
   line_events plus l = Taken (Some l.item) ∷ lookup_got plus (is_dot l.item.name) l.item.name l.got
 
-  -- the events of a stop: an entry that was not written is given back, whatever its node is, and
-  -- that of `.` or `..` too
+  -- the events of a stop: an entry that was not written is given back, whatever its node is. That of `.` or `..` too,
+  -- which nobody looked up: a forget of node 0, as virtiofsd makes it. Nothing is looked up after the stop
   abbrev pub stop_events : (plus : Bool) → Stop → List Event
   stop_events plus End = Taken None ∷ []
   stop_events plus (At l) = line_events plus l ++ given_back ctx (node_got l.got)

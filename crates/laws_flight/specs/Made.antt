@@ -29,7 +29,9 @@ AreUnderWay limits [] = Unit {0}
 AreUnderWay limits (g ∷ gs) = IsUnderWay limits g × AreUnderWay limits gs
 
 -- What is seen is seen for a request that waits, and a request is answered by a turn whose events are those that
--- were seen for it. What still waits at the end is under way.
+-- were seen for it. What still waits at the end is under way. So this is not said of a flight in which a caller looks up
+-- items for a READDIRPLUS after the one at which the reply stops, or the reply stops at `.` or `..` and the caller makes
+-- no forget of node 0: such a turn has other events than were seen.
 abbrev pub AreSeen : Limits → (going : List Going) → List Point → Type 0
 AreSeen limits going [] = AreUnderWay limits going
 AreSeen limits going (Asked w ∷ points) =

@@ -74,6 +74,9 @@ Suffice limits request call =
 module _ (a : AnswerData) (text : List ℕ) (items : List ItemData) where
   -- What happened since the request was asked, which asks this: the call, with the answer that the data say, and that
   -- the entry was given back which is told to be; or that the directory was read from the items that were offered.
+  -- That reading ends with the item at which the reply stopped. So what C did besides is in no event: lookups of items
+  -- that it offers after that one, which it is to give back too. And one event is none that C is told to make: if the
+  -- reply stopped at `.` or `..`, a forget of node 0.
   abbrev pub Happened : Ask → (room : List ℕ) → ToldData → List Event → Type 0
   Happened (Ends reply) room told events = ⊥
   Happened (Asks echo asked) room told events =
