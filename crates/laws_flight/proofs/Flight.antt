@@ -5,14 +5,14 @@ use Rattle.fuse_grammar.specs.declared.limits.Limits.{Limits}
 use Rattle.fuse_grammar.specs.Books.{KeepsBooks}
 use Rattle.laws_turns.proofs.EachTurn.{kept}
 use Rattle.laws_turns.proofs.InOrder.{AreEachTurns, keeps_books}
-use Rattle.laws_flight.specs.Flight.{Waiting, Moment, Asked, Answered, turns_answered, AreInFlight, IsAlone, AreAskedInTime}
+use Rattle.laws_flight.specs.Flight.{Waiting, Moment, Began, Completed, turns_answered, AreInFlight, IsAlone, AreAskedInTime}
 
 are_each_turns : (limits : Limits) (waiting : List Waiting) (moments : List Moment)
     → AreInFlight limits waiting moments → AreEachTurns limits (turns_answered moments)
 are_each_turns limits waiting [] are = tt
-are_each_turns limits waiting (Asked w ∷ moments) are =
+are_each_turns limits waiting (Began w ∷ moments) are =
     are_each_turns limits (w ∷ waiting) moments are
-are_each_turns limits waiting (Answered w t after ∷ moments) are = (
+are_each_turns limits waiting (Completed w t after ∷ moments) are = (
   (w.options, after, are.3.turn),
   are_each_turns limits (are.0 ++ are.1) moments are.4,
 )
@@ -52,9 +52,9 @@ in_order_from : (limits : Limits) (options : ℕ) (waiting : List Waiting) (mome
     → AllUnder options waiting → AreAskedInTime limits options waiting moments
     → (after : ℕ) × AreTurns limits options (turns_answered moments) after
 in_order_from limits options waiting [] all are = (options, refl)
-in_order_from limits options waiting (Asked w ∷ moments) all are =
+in_order_from limits options waiting (Began w ∷ moments) all are =
     in_order_from limits options (w ∷ waiting) moments (are.0, all) are.1
-in_order_from limits options waiting (Answered w t after ∷ moments) all are =
+in_order_from limits options waiting (Completed w t after ∷ moments) all are =
     let parts = under_parts options are.0 w are.1
     (subst (λ (ws : List Waiting). AllUnder options ws) are.2 all) in
     let turn : IsTurn limits options t after =

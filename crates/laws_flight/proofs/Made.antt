@@ -11,7 +11,7 @@ use Rattle.fuse_grammar.specs.declared.error.Error.{Error}
 use Rattle.laws_turns.proofs.OneTurn.{turn_books, turn_last}
 use Rattle.laws_turns.proofs.Replying.{LastOnly}
 use Rattle.laws_flight.specs.Flight.{Waiting, IsTurnOf}
-use Rattle.laws_flight.specs.Made.{Going, Point, Asked, Seen, Answered, IsUnderWay, AreUnderWay, AreSeen, events_seen, turns_seen, given_back_by, given_back_in, NoCountIsBelow}
+use Rattle.laws_flight.specs.Made.{Going, Point, Began, Seen, Completed, IsUnderWay, AreUnderWay, AreSeen, events_seen, turns_seen, given_back_by, given_back_in, NoCountIsBelow}
 
 -- ---- a part of what was seen is under way
 
@@ -36,7 +36,7 @@ append_one (x ∷ xs) y ys = ap (λ (l : List Event). x ∷ l) (append_one xs y 
 under_way : (limits : Limits) (going : List Going) (points : List Point)
     → AreSeen limits going points → AreUnderWay limits going
 under_way limits going [] seen = seen
-under_way limits going (Asked w ∷ points) seen =
+under_way limits going (Began w ∷ points) seen =
     (under_way limits (record { waiting = w; events = [] } ∷ going) points seen).1
 under_way limits going (Seen event ∷ points) (before, following, g, is, seen) =
     let later : Going = record g { events = g.events ++ event ∷ [] } in
@@ -49,7 +49,7 @@ under_way limits going (Seen event ∷ points) (before, following, g, is, seen) 
       parts.0.4 ∙ append_one g.events event parts.0.2,
     ) in
     subst (AreUnderWay limits) (sym is) (under_joined limits before g following one parts.1)
-under_way limits going (Answered t after ∷ points) (before, following, g, is, turn, same, seen) =
+under_way limits going (Completed t after ∷ points) (before, following, g, is, turn, same, seen) =
     let one : IsUnderWay limits g = (t, after, [], turn, same ∙ sym (append-nil g.events)) in
     subst (AreUnderWay limits) (sym is)
     (under_joined limits before g following one (under_way limits (before ++ following) points seen))
@@ -59,7 +59,7 @@ first_points : (limits : Limits) (going : List Going) (points : List Point) (k :
     → AreSeen limits going points → AreSeen limits going (take k points)
 first_points limits going points zero seen = under_way limits going points seen
 first_points limits going [] (suc k) seen = seen
-first_points limits going (Asked w ∷ points) (suc k) seen =
+first_points limits going (Began w ∷ points) (suc k) seen =
     first_points limits (record { waiting = w; events = [] } ∷ going) points k seen
 first_points limits going (Seen event ∷ points) (suc k) (before, following, g, is, seen) = (
   before,
@@ -68,7 +68,7 @@ first_points limits going (Seen event ∷ points) (suc k) (before, following, g,
   is,
   first_points limits (before ++ record g { events = g.events ++ event ∷ [] } ∷ following) points k seen,
 )
-first_points limits going (Answered t after ∷ points) (suc k) (before, following, g, is, turn, same, seen) =
+first_points limits going (Completed t after ∷ points) (suc k) (before, following, g, is, turn, same, seen) =
     (before, following, g, is, turn, same, first_points limits (before ++ following) points k seen)
 
 -- ---- one turn
@@ -152,7 +152,7 @@ module _ (n : ℕ) (some : n ≢ 0) (limits : Limits) where
   within going [] seen =
       let all = all_within going seen in
       omega (arith, all)
-  within going (Asked w ∷ points) seen =
+  within going (Began w ∷ points) seen =
       let g : Going = record { waiting = w; events = [] } in
       let rest = within (g ∷ going) points seen in
       let s = sum_by-cons sent_for g going in
@@ -174,7 +174,7 @@ module _ (n : ℕ) (some : n ≢ 0) (limits : Limits) where
       let s''' = sum_by-cons (sent_by n) event (events_seen points) in
       let a''' = sum_by-cons (answered_by n) event (events_seen points) in
       omega (arith, rest, s, a, b, s', a', b', s'', a'', s''', a''')
-  within going (Answered t after ∷ points) (before, following, g, is, turn, same, seen) =
+  within going (Completed t after ∷ points) (before, following, g, is, turn, same, seen) =
       let rest = within (before ++ following) points seen in
       let s = ap (sum_by sent_for) is ∙ apart sent_for before g following in
       let a = ap (sum_by answered_for) is ∙ apart answered_for before g following in

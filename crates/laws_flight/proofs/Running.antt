@@ -5,7 +5,7 @@ use Rattle.fs_trait.specs.Calls.{Call, Handed, Plain, Iterator}
 use Rattle.fs_trait.specs.Runs.{Event, Called, OpenedDirectory, Taken, IsRun}
 use Rattle.fs_trait.specs.Values.{Item}
 use Rattle.fuse_grammar.specs.declared.limits.Limits.{Limits}
-use Rattle.laws_flight.specs.Made.{Going, Point, Asked, Seen, Answered, AreSeen, events_seen}
+use Rattle.laws_flight.specs.Made.{Going, Point, Began, Seen, Completed, AreSeen, events_seen}
 use Rattle.laws_flight.specs.Running.{Running, AloneRun, AreAlone, AreMade, FlightsRun, Leads, calls_in}
 
 module _ {S I : Type 0} (allows : S → Call → Handed I → S → Type 0) (gives : I → Option Item → I → Type 0) where
@@ -17,7 +17,7 @@ module _ {S I : Type 0} (allows : S → Call → Handed I → S → Type 0) (giv
     seen : (running : List (Running I)) (old new : S) (points : List Point)
         → AreMade allows gives limits running old points new → AreSeen limits (goings running) points
     seen running old new [] made = made.0
-    seen running old new (Asked w ∷ points) made =
+    seen running old new (Began w ∷ points) made =
         seen (record { going = record { waiting = w; events = [] }; iterator = None } ∷ running) old new points made
     seen running old new (Seen event ∷ points) (before, following, r, is, it, next, leads, made) =
         let later : Running I = record {
@@ -32,7 +32,7 @@ module _ {S I : Type 0} (allows : S → Call → Handed I → S → Type 0) (giv
               (map-append (λ (x : Running I). x.going) before (later ∷ following))
               (seen (before ++ later ∷ following) next new points made),
         )
-    seen running old new (Answered t after ∷ points) (before, following, r, is, turn, same, made) = (
+    seen running old new (Completed t after ∷ points) (before, following, r, is, turn, same, made) = (
       goings before,
       goings following,
       r.going,
@@ -49,7 +49,7 @@ module _ {S I : Type 0} (allows : S → Call → Handed I → S → Type 0) (giv
         → AreMade allows gives limits running old points new
         → IsRun allows gives it old (calls_in (events_seen points)) new
     run it running old new [] made = made.1
-    run it running old new (Asked w ∷ points) made =
+    run it running old new (Began w ∷ points) made =
         run it (record { going = record { waiting = w; events = [] }; iterator = None } ∷ running) old new points made
     run it running old new (Seen (Called call answer) ∷ points) (before, following, r, is, at, next, leads, made) = (
       next,
@@ -74,7 +74,7 @@ module _ {S I : Type 0} (allows : S → Call → Handed I → S → Type 0) (giv
           iterator = at;
         } ∷ following) next new points made in
         subst (λ (s : S). IsRun allows gives it s (calls_in (events_seen points)) new) leads.5 goes_on
-    run it running old new (Answered t after ∷ points) (before, following, r, is, turn, same, made) =
+    run it running old new (Completed t after ∷ points) (before, following, r, is, turn, same, made) =
         run it (before ++ following) old new points made
 
     -- the one that waits alone
@@ -121,9 +121,9 @@ module _ {S I : Type 0} (allows : S → Call → Handed I → S → Type 0) (giv
         → AtHand r.iterator it → AreMade allows gives limits (waiting waits r) old points new
         → AreAlone waits points → IsRun allows gives it old (events_seen points) new
     alone it waits r old new [] has made by = made.1
-    alone it false r old new (Asked w ∷ points) has made by =
+    alone it false r old new (Began w ∷ points) has made by =
         alone it true (record { going = record { waiting = w; events = [] }; iterator = None }) old new points (inr refl) made by
-    alone it true r old new (Asked w ∷ points) has made by = absurd by
+    alone it true r old new (Began w ∷ points) has made by = absurd by
     alone it false r old new (Seen event ∷ points) has made by = absurd by
     alone it true r old new (Seen event ∷ points) has (before, following, x, is, at, next, leads, made) by =
         let one = the_one r before x following is in
@@ -138,8 +138,8 @@ module _ {S I : Type 0} (allows : S → Call → Handed I → S → Type 0) (giv
         subst (λ (y : Running I). Leads allows gives limits y.iterator old event at next) one.1 leads in
         led_on it r.iterator at old next new event (events_seen points) has led
         (λ now h. alone now true later next new points h here by)
-    alone it false r old new (Answered t after ∷ points) has made by = absurd by
-    alone it true r old new (Answered t after ∷ points) has (before, following, x, is, turn, same, made) by =
+    alone it false r old new (Completed t after ∷ points) has made by = absurd by
+    alone it true r old new (Completed t after ∷ points) has (before, following, x, is, turn, same, made) by =
         let one = the_one r before x following is in
         let here : AreMade allows gives limits [] old points new =
         subst (λ (ys : List (Running I)). AreMade allows gives limits ys old points new) one.2

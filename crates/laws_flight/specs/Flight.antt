@@ -13,17 +13,17 @@ pub record Waiting : Type 0 where
   pub options : ℕ
   pub room_len : ℕ
 
--- A moment of a transport: it asked a request, or it answered one, by this turn, with these options from
--- then on. What the calls of a turn are is seen when it is answered: its events.
+-- A moment of a transport: it asked a request, which began so, or it answered one, by this turn, with these options
+-- from then on. What the calls of a turn are is seen when it is answered: its events.
 pub data Moment : Type 0 where
-  Asked : (w : Waiting) → Moment
-  Answered : (w : Waiting) (t : Turn) (after : ℕ) → Moment
+  Began : (w : Waiting) → Moment
+  Completed : (w : Waiting) (t : Turn) (after : ℕ) → Moment
 
 -- the turns among moments, in the order of the answers
 abbrev pub turns_answered : List Moment → List Turn
 turns_answered [] = []
-turns_answered (Asked w ∷ moments) = turns_answered moments
-turns_answered (Answered w t after ∷ moments) = t ∷ turns_answered moments
+turns_answered (Began w ∷ moments) = turns_answered moments
+turns_answered (Completed w t after ∷ moments) = t ∷ turns_answered moments
 
 -- a turn of a request that waits, under the options that it was asked with
 pub record IsTurnOf (limits : Limits) (w : Waiting) (t : Turn) (after : ℕ) : Type 0 where
@@ -34,8 +34,8 @@ pub record IsTurnOf (limits : Limits) (w : Waiting) (t : Turn) (after : ℕ) : T
 -- Each answer is that of a request that waits, which then waits no more.
 abbrev pub AreInFlight : Limits → (waiting : List Waiting) → List Moment → Type 0
 AreInFlight limits waiting [] = Unit {0}
-AreInFlight limits waiting (Asked w ∷ moments) = AreInFlight limits (w ∷ waiting) moments
-AreInFlight limits waiting (Answered w t after ∷ moments) =
+AreInFlight limits waiting (Began w ∷ moments) = AreInFlight limits (w ∷ waiting) moments
+AreInFlight limits waiting (Completed w t after ∷ moments) =
     (before following : List Waiting) × (waiting ≡ before ++ w ∷ following)
     × IsTurnOf limits w t after
     × AreInFlight limits (before ++ following) moments
@@ -49,9 +49,9 @@ pub record IsAlone (t : Turn) (others : List Waiting) : Type 0 where
 -- left. INIT and DESTROY are alone in flight.
 abbrev pub AreAskedInTime : Limits → (options : ℕ) → (waiting : List Waiting) → List Moment → Type 0
 AreAskedInTime limits options waiting [] = Unit {0}
-AreAskedInTime limits options waiting (Asked w ∷ moments) =
+AreAskedInTime limits options waiting (Began w ∷ moments) =
     (w.options ≡ options) × AreAskedInTime limits options (w ∷ waiting) moments
-AreAskedInTime limits options waiting (Answered w t after ∷ moments) =
+AreAskedInTime limits options waiting (Completed w t after ∷ moments) =
     (before following : List Waiting) × (waiting ≡ before ++ w ∷ following)
     × IsTurnOf limits w t after
     × IsAlone t (before ++ following)

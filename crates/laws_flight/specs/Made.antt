@@ -14,9 +14,9 @@ pub record Going : Type 0 where
 -- A point of a transport's time: it asked a request; this was seen of the file system for one that waits; or it
 -- answered one, by this turn, with these options from then on.
 pub data Point : Type 0 where
-  Asked : (w : Waiting) → Point
+  Began : (w : Waiting) → Point
   Seen : (event : Event) → Point
-  Answered : (t : Turn) (after : ℕ) → Point
+  Completed : (t : Turn) (after : ℕ) → Point
 
 -- a request comes to a turn that begins with what was seen for it so far
 abbrev pub IsUnderWay : Limits → Going → Type 0
@@ -34,12 +34,12 @@ AreUnderWay limits (g ∷ gs) = IsUnderWay limits g × AreUnderWay limits gs
 -- no forget of node 0: such a turn has other events than were seen.
 abbrev pub AreSeen : Limits → (going : List Going) → List Point → Type 0
 AreSeen limits going [] = AreUnderWay limits going
-AreSeen limits going (Asked w ∷ points) =
+AreSeen limits going (Began w ∷ points) =
     AreSeen limits (record { waiting = w; events = [] } ∷ going) points
 AreSeen limits going (Seen event ∷ points) =
     (before following : List Going) × (g : Going) × (going ≡ before ++ g ∷ following)
     × AreSeen limits (before ++ record g { events = g.events ++ event ∷ [] } ∷ following) points
-AreSeen limits going (Answered t after ∷ points) =
+AreSeen limits going (Completed t after ∷ points) =
     (before following : List Going) × (g : Going) × (going ≡ before ++ g ∷ following)
     × IsTurnOf limits g.waiting t after × (t.events ≡ g.events)
     × AreSeen limits (before ++ following) points
@@ -47,16 +47,16 @@ AreSeen limits going (Answered t after ∷ points) =
 -- what was seen of the file system, in order
 abbrev pub events_seen : List Point → List Event
 events_seen [] = []
-events_seen (Asked w ∷ points) = events_seen points
+events_seen (Began w ∷ points) = events_seen points
 events_seen (Seen event ∷ points) = event ∷ events_seen points
-events_seen (Answered t after ∷ points) = events_seen points
+events_seen (Completed t after ∷ points) = events_seen points
 
 -- the turns of what was answered, in order
 abbrev pub turns_seen : List Point → List Turn
 turns_seen [] = []
-turns_seen (Asked w ∷ points) = turns_seen points
+turns_seen (Began w ∷ points) = turns_seen points
 turns_seen (Seen event ∷ points) = turns_seen points
-turns_seen (Answered t after ∷ points) = t ∷ turns_seen points
+turns_seen (Completed t after ∷ points) = t ∷ turns_seen points
 
 -- the forgets of a node in a request's bytes
 abbrev pub given_back_by : (n : ℕ) → Waiting → ℕ
@@ -65,9 +65,9 @@ given_back_by n w = forgotten n (forgets_in (opcode_in w.request) w.request)
 -- the forgets of a node in all requests that were asked
 abbrev pub given_back_in : (n : ℕ) → List Point → ℕ
 given_back_in n [] = 0
-given_back_in n (Asked w ∷ points) = given_back_by n w + given_back_in n points
+given_back_in n (Began w ∷ points) = given_back_by n w + given_back_in n points
 given_back_in n (Seen event ∷ points) = given_back_in n points
-given_back_in n (Answered t after ∷ points) = given_back_in n points
+given_back_in n (Completed t after ∷ points) = given_back_in n points
 
 -- The client gives back what it was told, as a kernel does: its forgets of a node, asked until now, are no more
 -- than the entries of that node which were delivered until now.

@@ -5,7 +5,7 @@ use Rattle.fs_trait.specs.Runs.{Event, Called, OpenedDirectory, Taken, IsRun}
 use Rattle.fs_trait.specs.Values.{Item}
 use Rattle.fuse_grammar.specs.declared.limits.Limits.{Limits}
 use Rattle.laws_flight.specs.Flight.{IsTurnOf}
-use Rattle.laws_flight.specs.Made.{Going, Point, Asked, Seen, Answered, AreUnderWay, AreSeen, events_seen}
+use Rattle.laws_flight.specs.Made.{Going, Point, Began, Seen, Completed, AreUnderWay, AreSeen, events_seen}
 
 -- a request that waits, and what is left of the directory that is read for it
 pub record Running (I : Type 0) : Type 0 where
@@ -34,7 +34,7 @@ module _ {S I : Type 0} (allows : S → Call → Handed I → S → Type 0) (giv
   -- the one before it left, for whichever request that was.
   abbrev pub AreMade : (running : List (Running I)) → (old : S) → List Point → (new : S) → Type 0
   AreMade running old [] new = AreUnderWay limits (map (λ r. r.going) running) × (new ≡ old)
-  AreMade running old (Asked w ∷ points) new =
+  AreMade running old (Began w ∷ points) new =
       AreMade (record { going = record { waiting = w; events = [] }; iterator = None } ∷ running) old points new
   AreMade running old (Seen event ∷ points) new =
       (before following : List (Running I)) × (r : Running I) × (running ≡ before ++ r ∷ following)
@@ -43,7 +43,7 @@ module _ {S I : Type 0} (allows : S → Call → Handed I → S → Type 0) (giv
         going = record r.going { events = r.going.events ++ event ∷ [] };
         iterator = it;
       } ∷ following) next points new
-  AreMade running old (Answered t after ∷ points) new =
+  AreMade running old (Completed t after ∷ points) new =
       (before following : List (Running I)) × (r : Running I) × (running ≡ before ++ r ∷ following)
       × IsTurnOf limits r.going.waiting t after × (t.events ≡ r.going.events)
       × AreMade (before ++ following) old points new
@@ -59,9 +59,9 @@ FlightsRun {S} {I} allows gives =
 -- each request is answered before the next one is asked; the last one may be under way
 abbrev pub AreAlone : (waits : Bool) → List Point → Type 0
 AreAlone waits [] = Unit {0}
-AreAlone false (Asked w ∷ points) = AreAlone true points
+AreAlone false (Began w ∷ points) = AreAlone true points
 AreAlone true (Seen event ∷ points) = AreAlone true points
-AreAlone true (Answered t after ∷ points) = AreAlone false points
+AreAlone true (Completed t after ∷ points) = AreAlone false points
 AreAlone _ points = ⊥
 
 -- those of requests that are handed over one by one are a run with their takings too, as that of a server is

@@ -42,16 +42,16 @@ TellsContext q d (Some context) =
 -- its names and values are in the request where they say so. What it has not is { 0, 0 }.
 module _ (q : List ℕ) (d c : CallData) where
   -- data of this call, which has this kind of answer; and of one by this caller, of this node
-  abbrev pub asks : (number kind : ℕ) → CallData
-  asks number kind = record c { call = number; answer = kind }
+  abbrev pub numbered : (number kind : ℕ) → CallData
+  numbered number kind = record c { call = number; answer = kind }
 
   abbrev pub by : (number kind : ℕ) → Context → (node : ℕ) → CallData
   by number kind ctx node =
-      record (asks number kind) { uid = ctx.uid; gid = ctx.gid; pid = ctx.pid; node = node }
+      record (numbered number kind) { uid = ctx.uid; gid = ctx.gid; pid = ctx.pid; node = node }
 
   -- the same of one that makes a node
-  abbrev pub made : CallData → (kill_priv : Bool) → ExtensionValues → CallData
-  made first kill_priv ext = record first {
+  abbrev pub making : CallData → (kill_priv : Bool) → ExtensionValues → CallData
+  making first kill_priv ext = record first {
     name = d.name;
     context_name = d.context_name;
     context = d.context;
@@ -70,13 +70,13 @@ module _ (q : List ℕ) (d c : CallData) where
       { handle = unwrap_or handle 0; has = bit (is_some handle) HANDLE }
   TellsByTable (call.Readlink ctx inode) = d ≡ by READLINK TEXT ctx inode
   TellsByTable (call.Symlink ctx text parent name ext) =
-      (d ≡ record (made (by SYMLINK ENTRY ctx parent) false ext) { other_name = d.other_name })
+      (d ≡ record (making (by SYMLINK ENTRY ctx parent) false ext) { other_name = d.other_name })
       × IsNameIn q d.name name × IsNameIn q d.other_name text × TellsContext q d ext.context
   TellsByTable (call.Mknod ctx inode name mode rdev umask ext) =
-      (d ≡ record (made (by MKNOD ENTRY ctx inode) false ext) { mode = mode; rdev = rdev; umask = umask })
+      (d ≡ record (making (by MKNOD ENTRY ctx inode) false ext) { mode = mode; rdev = rdev; umask = umask })
       × IsNameIn q d.name name × TellsContext q d ext.context
   TellsByTable (call.Mkdir ctx parent name mode umask ext) =
-      (d ≡ record (made (by MKDIR ENTRY ctx parent) false ext) { mode = mode; umask = umask })
+      (d ≡ record (making (by MKDIR ENTRY ctx parent) false ext) { mode = mode; umask = umask })
       × IsNameIn q d.name name × TellsContext q d ext.context
   TellsByTable (call.Unlink ctx parent name) =
       (d ≡ record (by UNLINK DONE ctx parent) { name = d.name }) × IsNameIn q d.name name
@@ -117,7 +117,7 @@ module _ (q : List ℕ) (d c : CallData) where
       (d ≡ record (by REMOVEXATTR DONE ctx inode) { name = d.name }) × IsNameIn q d.name name
   TellsByTable (call.Flush ctx inode handle lock_owner) =
       d ≡ record (by FLUSH DONE ctx inode) { handle = handle; lock_owner = lock_owner }
-  TellsByTable (call.Init capable) = d ≡ record (asks INIT WANT) { length = capable }
+  TellsByTable (call.Init capable) = d ≡ record (numbered INIT WANT) { length = capable }
   TellsByTable (call.Opendir ctx inode flags) = d ≡ record (by OPENDIR OPENED ctx inode) { flags = flags }
   TellsByTable (call.Readdir ctx inode handle size offset) =
       d ≡ record (by READDIR DIRECTORY ctx inode) { handle = handle; size = size; offset = offset }
@@ -125,18 +125,18 @@ module _ (q : List ℕ) (d c : CallData) where
       d ≡ record (by RELEASEDIR DONE ctx inode) { flags = flags; handle = handle }
   TellsByTable (call.Fsyncdir ctx inode datasync handle) =
       d ≡ record (by FSYNCDIR DONE ctx inode) { has = bit datasync DATASYNC; handle = handle }
-  TellsByTable call.Getlk = d ≡ asks GETLK FAULT_OR_SILENCE
-  TellsByTable call.Setlk = d ≡ asks SETLK FAULT_OR_SILENCE
-  TellsByTable call.Setlkw = d ≡ asks SETLKW FAULT_OR_SILENCE
+  TellsByTable call.Getlk = d ≡ numbered GETLK FAULT_OR_SILENCE
+  TellsByTable call.Setlk = d ≡ numbered SETLK FAULT_OR_SILENCE
+  TellsByTable call.Setlkw = d ≡ numbered SETLKW FAULT_OR_SILENCE
   TellsByTable (call.Access ctx inode mask) = d ≡ record (by ACCESS DONE ctx inode) { more = mask }
   TellsByTable (call.Create ctx parent name mode kill_priv flags umask ext) =
-      (d ≡ record (made (by CREATE CREATED ctx parent) kill_priv ext) { mode = mode; flags = flags; umask = umask })
+      (d ≡ record (making (by CREATE CREATED ctx parent) kill_priv ext) { mode = mode; flags = flags; umask = umask })
       × IsNameIn q d.name name × TellsContext q d ext.context
-  TellsByTable call.Bmap = d ≡ asks BMAP FAULT_OR_SILENCE
-  TellsByTable call.Destroy = d ≡ asks DESTROY QUIET
-  TellsByTable call.Ioctl = d ≡ asks IOCTL FAULT_OR_SILENCE
-  TellsByTable call.Poll = d ≡ asks POLL FAULT_OR_SILENCE
-  TellsByTable call.NotifyReply = d ≡ asks NOTIFY_REPLY FAULT_OR_SILENCE
+  TellsByTable call.Bmap = d ≡ numbered BMAP FAULT_OR_SILENCE
+  TellsByTable call.Destroy = d ≡ numbered DESTROY QUIET
+  TellsByTable call.Ioctl = d ≡ numbered IOCTL FAULT_OR_SILENCE
+  TellsByTable call.Poll = d ≡ numbered POLL FAULT_OR_SILENCE
+  TellsByTable call.NotifyReply = d ≡ numbered NOTIFY_REPLY FAULT_OR_SILENCE
   TellsByTable (call.BatchForget ctx pairs) =
       (d ≡ record (by BATCH_FORGET QUIET ctx 0) { length = length pairs; «data» = d.data })
       × (d.data.len ≡ length pairs * size_of forget_one) × Spell q d.data pairs
@@ -149,7 +149,7 @@ module _ (q : List ℕ) (d c : CallData) where
       d ≡ record (record (by COPY WRITTEN ctx inode_in) { handle = handle_in; offset = offset_in; length = len })
       { other_node = inode_out; other_handle = handle_out; other_offset = offset_out; lock_owner = flags }
   TellsByTable (call.Syncfs ctx inode) = d ≡ by SYNCFS DONE ctx inode
-  TellsByTable call.Tmpfile = d ≡ asks TMPFILE FAULT
+  TellsByTable call.Tmpfile = d ≡ numbered TMPFILE FAULT
 
 -- What is asked for is a call, or a directory, and these data tell it.
 abbrev pub TellsAsked : (q : List ℕ) → (d : CallData) → Ask → Type 0

@@ -17,7 +17,7 @@ ghost use Rattle.door_calls.specs.Shapes.{no_range};
 ghost use Rattle.door_calls.specs.declared.call.CallData.{CallData};
 ghost use Rattle.door_ask.specs.Asked.{IsEnough, IsTold};
 ghost use Rattle.laws_flight.specs.Flight.{Waiting, IsTurnOf};
-ghost use Rattle.laws_flight.specs.Made.{Answered as IsAnswered, Asked as IsAsked, Point, Seen as IsSeen, events_seen, ForgetsWhatItWasTold, given_back_by};
+ghost use Rattle.laws_flight.specs.Made.{Began, Completed, Point, Seen, events_seen, ForgetsWhatItWasTold, given_back_by};
 ghost use Rattle.laws_flight.specs.OneTurn.{IsAnsweredTurn, IsFinishedTurn};
 ghost use Rattle.laws_flight.specs.Running.{AreMade, EachCallKeeps};
 ghost use Rattle.laws_flight.specs.Table.{TellsByTable, of_request};
@@ -126,7 +126,7 @@ fn a_reading_alone_is_a_run<F: FileSystem>()
     ensures { (limits : Limits) (w : Waiting) (t : Turn) (after : ℕ) (call : Call) (item : Option Item)
         (old new : F) →
         AreMade F.allows F.DirIter.gives limits [] old
-        (IsAsked w ∷ IsSeen (OpenedDirectory call) ∷ IsSeen (Taken item) ∷ IsAnswered t after ∷ [])
+        (Began w ∷ Seen (OpenedDirectory call) ∷ Seen (Taken item) ∷ Completed t after ∷ [])
         new →
         IsRun F.allows F.DirIter.gives None old (OpenedDirectory call ∷ Taken item ∷ []) new }
 {

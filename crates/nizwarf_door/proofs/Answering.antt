@@ -21,7 +21,7 @@ use Rattle.c_rooms.specs.Codes.{outcome_code, length_of}
 use Rattle.nizwarf_door.specs.Answering.{AnswersOrNot}
 use Rattle.nizwarf_door.specs.Kept.{put_of}
 use Rattle.nizwarf_door.specs.Rooms.{HasRoomFor}
-use Rattle.nizwarf_door.specs.Shown.{shown_of}
+use Rattle.nizwarf_door.specs.Shown.{first_shown}
 use Rattle.nizwarf_door.specs.declared.data.ToldData.{ToldData}
 use Rattle.nizwarf_door.specs.declared.memory.Part.{Part}
 use Rattle.nizwarf_door.proofs.Leaving.{Keeps, replied_keeps, same_keeps, keeps_room, are_first, shorter}
@@ -134,7 +134,7 @@ module _ (limits : Limits) (call : CallData) (a : AnswerData) (text : List ℕ) 
       → Clauses result → result ≡ Some came → start ≡ length before.passed → length before.lengths ≡ 1
       → code ≡ outcome_code came.outcome → len ≡ length_of came.outcome → put ≡ put_of call len
       → AnswersOrNot limits call a text items code told (told_by told came len put)
-      (shown_of after.lengths (whole after) start put)
+      (first_shown after.lengths (whole after) start put)
   told_answered code start len put came clauses some_is at one number length_is put_is =
       let n = length_of came.outcome in
       let is : Clauses (Some came) = subst Clauses some_is clauses in

@@ -30,7 +30,7 @@ use Rattle.nizwarf_door.specs.Rooms.{HasRoomFor}
 use Rattle.nizwarf_door.specs.declared.data.ToldData.{ToldData}
 use Rattle.nizwarf_door.specs.declared.memory.Memory.{Memory}
 use Rattle.nizwarf_door.specs.declared.memory.Part.{Part}
-use Rattle.nizwarf_door.specs.Shown.{AreFirst, shown_of}
+use Rattle.nizwarf_door.specs.Shown.{AreFirst, first_shown}
 use Rattle.nizwarf_door.proofs.Leaving.{Keeps, replied_keeps, are_first, shorter}
 
 -- how much of a reply is put goes by the kind of answer that its call has
@@ -212,7 +212,7 @@ module _ (limits : Limits) (options : ℕ) (request : List ℕ) (room : ℕ) (ca
       → start ≡ length before.passed → length before.lengths ≡ 1
       → code ≡ outcome_code outcome → len ≡ length_of outcome
       → AsksOrNot limits options request room code call_after told (told_by told len interrupts)
-      (shown_of after.lengths (whole after) start len)
+      (first_shown after.lengths (whole after) start len)
   told_finished code start len outcome interrupts finished at one number length_is =
       let n = length_of outcome in
       let tells = asked_as (asked.Finished outcome interrupts) finished in
@@ -244,7 +244,7 @@ pub told_or_not : (limits : Limits) (options : ℕ) (request : List ℕ) (room :
 told_or_not limits options request room code other call call_after told shown kept same asks none (inl t) =
     rw (same, t.0, t.1, none) asks
 told_or_not limits options request room code other call call_after told shown kept same asks none (inr n) =
-    inr (record { why = inl (same ∙ n.0); no_call = n.1; same_told = refl; nothing = none })
+    inr (record { why = inl (same ∙ n.0); no_call = n.1; same_told = refl; none_shown = none })
 
 pub code_of_tells : (code : ℤ) (call call_after : CallData) (kept : Type 0) → TellsOrNot code call call_after kept
     → (code ≡ is_asked) ⊎ (code ≡ no_memory)

@@ -31,8 +31,8 @@ use Rattle.door_answer.proofs.Using.{agrees, in_room}
 use Rattle.door_answer.specs.Told.{CallIsAnswered, IsShort, TellsCall, TellsEcho}
 use Rattle.door_answer.specs.declared.answered.Answered.{Answered}
 use Rattle.c_rooms.specs.Codes.{ok, no_memory, too_long, is_asked, outcome_code, length_of}
-use Rattle.nizwarf_door.specs.Answering.{AnswersOrNot, IsPassedOn}
-use Rattle.nizwarf_door.specs.Asking.{AsksOrNot, IsPassedOn as IsAskedOn}
+use Rattle.nizwarf_door.specs.Answering.{AnswersOrNot, IsAnswerTold}
+use Rattle.nizwarf_door.specs.Asking.{AsksOrNot, IsAskTold}
 use Rattle.nizwarf_door.specs.Checking.{Checks, checked_code, interrupts_of}
 use Rattle.nizwarf_door.specs.Kept.{put_of}
 use Rattle.nizwarf_door.specs.UsesRest.{IsCallOf, interrupt_of_7, request_of_99}
@@ -54,7 +54,7 @@ IsNotServed code call told_after shown =
 finished_so : (interrupts : ℕ) (before after : Written) (result : Asked) (call : CallData) (code : ℤ)
     (told told_after : ToldData) (shown : List ℕ) → length before.left ≡ 4096
     → IsFinished (Bytes not_served_reply) interrupts before result after call
-    → IsAskedOn result before after code told told_after shown → IsNotServed code call told_after shown
+    → IsAskTold result before after code told told_after shown → IsNotServed code call told_after shown
 finished_so i before after asked.Call call code told told_after shown room f on = absurd f
 finished_so i before after (asked.Finished outcome n) call code told told_after shown room f on =
     let w : Writes (Bytes not_served_reply) before outcome after = f.0 in
@@ -118,7 +118,7 @@ no_call_lacks is = cc
 module _ (some : Limits) (options : ℕ) (request : List ℕ) (room : ℕ) (code : ℤ) (call : CallData)
     (told told_after : ToldData) (shown : List ℕ) where
   no_call_by : (before after : Written) (result : Asked) → IsAsked some options request before result after call
-      → IsAskedOn result before after code told told_after shown → code ≡ no_memory → call ≡ nothing
+      → IsAskTold result before after code told told_after shown → code ≡ no_memory → call ≡ nothing
   no_call_by before after asked.Call is on lacks = absurd (no_call_lacks (sym on.0 ∙ lacks))
   no_call_by before after (asked.Finished outcome n) is on lacks =
       none_told ⊤ request options (interrupted_by some request) (length before.left)
@@ -129,7 +129,7 @@ module _ (some : Limits) (options : ℕ) (request : List ℕ) (room : ℕ) (code
   no_call_without (inl s) lacks = no_call_by s.before s.after s.result s.asked s.passed_on lacks
   no_call_without (inr s) lacks = s.no_call
 
-  not_long : (before after : Written) (result : Asked) → IsAskedOn result before after code told told_after shown
+  not_long : (before after : Written) (result : Asked) → IsAskTold result before after code told told_after shown
       → code ≡ too_long → ⊥
   not_long before after asked.Call on long = no_call_is_long (sym on.0 ∙ long)
   not_long before after (asked.Finished outcome n) on long = never_long outcome (sym on.0 ∙ long)
@@ -138,7 +138,7 @@ module _ (some : Limits) (options : ℕ) (request : List ℕ) (room : ℕ) (code
   pub too_long_together : AsksOrNot some options request room code call told told_after shown → code ≡ too_long
       → (2 ^ 64 ≤ length request) × (call ≡ nothing) × (told_after ≡ told) × (shown ≡ [])
   too_long_together (inl s) long = absurd (not_long s.before s.after s.result s.passed_on long)
-  too_long_together (inr s) long = (most s.why, s.no_call, s.same_told, s.nothing)
+  too_long_together (inr s) long = (most s.why, s.no_call, s.same_told, s.none_shown)
     where
       most : (code ≡ no_memory) ⊎ ((code ≡ too_long) × (2 ^ 64 ≤ length request)) → 2 ^ 64 ≤ length request
       most (inl none) = absurd (let e = sym none ∙ long in cc)
@@ -184,7 +184,7 @@ module _ (call : CallData) (a : AnswerData) (text : List ℕ) (items : List Item
       (enough : (space : ℕ) → IsShort (kind_of c) space 0 → ⊥) where
     of_result : (before after_it : Written) (result : Option Answered)
         → MatchOption result ⊥ (λ came. CallIsAnswered limits (echo_of call) c call.options a text before came after_it)
-        → IsPassedOn result call before after_it code told told_after shown → told_after.options ≡ n
+        → IsAnswerTold result call before after_it code told told_after shown → told_after.options ≡ n
     of_result before after_it None h on = absurd h
     of_result before after_it (Some came) h on =
         ap (λ (t : ToldData). t.options) on.1 ∙ after before after_it came h
@@ -198,7 +198,7 @@ module _ (call : CallData) (a : AnswerData) (text : List ℕ) (items : List Item
     options_then (inr s) fine = absurd (let e = sym s.why ∙ fine in cc)
 
   by_taken : (before after : Written) (result : Option Answered) → IfSome result (λ came. came.taken ≤ length items)
-      → IsPassedOn result call before after code told told_after shown → code ≡ ok → told_after.taken ≤ length items
+      → IsAnswerTold result call before after code told told_after shown → code ≡ ok → told_after.taken ≤ length items
   by_taken before after None within on fine = absurd (let e = sym on.0 ∙ fine in cc)
   by_taken before after (Some came) within on fine =
       subst (λ (k : ℕ). k ≤ length items) (sym (ap (λ (t : ToldData). t.taken) on.1)) within

@@ -9,7 +9,7 @@ use Rattle.fuse_grammar.specs.declared.error.Error.{Error}
 use Rattle.door_calls.specs.declared.call.CallData.{CallData}
 use Rattle.nizwarf_door.specs.Kept.{Holds, HoldsAnswer, TellsOrNot, put_of}
 use Rattle.nizwarf_door.specs.Rooms.{HasRoomFor}
-use Rattle.nizwarf_door.specs.Shown.{AreFirst, bytes_in, bytes_shown, shown_of}
+use Rattle.nizwarf_door.specs.Shown.{AreFirst, bytes_shown, first_shown, part_shown}
 use Rattle.nizwarf_door.specs.declared.memory.Memory.{Memory}
 use Rattle.nizwarf_door.specs.declared.memory.Part.{Part}
 
@@ -60,7 +60,7 @@ shorter old new following k =
     }
 
 one_segment : (lengths bytes : List ℕ) (start shown : ℕ) → length lengths ≡ 1
-    → shown_of lengths bytes start shown ≡ take shown (drop start bytes)
+    → first_shown lengths bytes start shown ≡ take shown (drop start bytes)
 one_segment (n ∷ []) bytes start shown one = refl
 one_segment [] bytes start shown one = absurd (let e = one in cc)
 one_segment (n ∷ m ∷ lengths) bytes start shown one = absurd (omega (arith, one))
@@ -68,7 +68,7 @@ one_segment (n ∷ m ∷ lengths) bytes start shown one = absurd (omega (arith, 
 -- the first bytes of the room that came back
 pub are_first : (count start : ℕ) (before after : Written) → Keeps before after
     → start ≡ length before.passed → length before.lengths ≡ 1
-    → AreFirst count before after (shown_of after.lengths (whole after) start count)
+    → AreFirst count before after (first_shown after.lengths (whole after) start count)
 are_first count start before after keeps at one =
     let same : length after.lengths ≡ 1 = ap length keeps.leaves.same_segments ∙ one in
     let following : drop start (whole after) ≡ keeps.room_after =
@@ -80,7 +80,7 @@ are_first count start before after keeps at one =
     }
 
 -- nothing is shown of no byte
-pub none_shown : (lengths bytes : List ℕ) (start : ℕ) → shown_of lengths bytes start 0 ≡ []
+pub none_shown : (lengths bytes : List ℕ) (start : ℕ) → first_shown lengths bytes start 0 ≡ []
 none_shown [] bytes start = refl
 none_shown (n ∷ []) bytes start = refl
 none_shown (n ∷ m ∷ lengths) bytes start = refl
@@ -88,7 +88,7 @@ none_shown (n ∷ m ∷ lengths) bytes start = refl
 pub nothing_shown : (m : Memory) → m.shown ≡ 0 → bytes_shown m ≡ []
 nothing_shown m none =
     let p : Part = if m.was_asked then m.asked else m.answers in
-    ap (bytes_in p) none ∙ none_shown p.writer.lengths (whole p.writer) p.start
+    ap (part_shown p) none ∙ none_shown p.writer.lengths (whole p.writer) p.start
 
 -- a part whose writer keeps what it had passed has as much room as before
 pub keeps_room : (n : ℕ) (old new : Part) → Keeps old.writer new.writer → HasRoomFor n old → HasRoomFor n new

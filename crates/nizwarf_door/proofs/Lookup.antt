@@ -31,8 +31,8 @@ use Rattle.door_answer.specs.Told.{TellsEcho, TellsCall, CallIsAnswered}
 use Rattle.door_answer.specs.declared.answered.Answered.{Answered}
 use Rattle.door_answer.proofs.Using.{in_room}
 use Rattle.c_rooms.specs.Codes.{ok, no_memory, is_asked, outcome_code, length_of}
-use Rattle.nizwarf_door.specs.Answering.{AnswersIn, AnswersOrNot, IsPassedOn}
-use Rattle.nizwarf_door.specs.Asking.{AsksOrNot, IsPassedOn as IsAskedOn}
+use Rattle.nizwarf_door.specs.Answering.{AnswersIn, AnswersOrNot, IsAnswerTold}
+use Rattle.nizwarf_door.specs.Asking.{AsksOrNot, IsAskTold}
 use Rattle.nizwarf_door.specs.Kept.{put_of}
 use Rattle.nizwarf_door.specs.Shown.{AreFirst}
 use Rattle.nizwarf_door.specs.Uses.{IsLookupOfA, no_such_name}
@@ -81,11 +81,11 @@ IsLookedUp code call told told_after shown =
 by_asked : (interrupts space : ℕ) (before after : Written) (result : Asked) (call : CallData)
     (code : ℤ) (told told_after : ToldData) (shown : List ℕ) → space ≡ 4096 → length before.left ≡ space
     → Tells ⊤ lookup_of_a 0 interrupts (length before.left) (WithMemory (asks_call echo lookup)) before result after call
-    → IsAskedOn result before after code told told_after shown
+    → IsAskTold result before after code told told_after shown
     → IsLookedUp code call told told_after shown
 by_asked i space before after result call code told told_after shown room is (inl t) on =
-    let p : IsAskedOn asked.Call before after code told told_after shown =
-    subst (λ (r : Asked). IsAskedOn r before after code told told_after shown) t.0 on in
+    let p : IsAskTold asked.Call before after code told told_after shown =
+    subst (λ (r : Asked). IsAskTold r before after code told told_after shown) t.0 on in
     let told_is : IsTold lookup_of_a 0 4096 echo lookup call =
     subst (λ (n : ℕ). IsTold lookup_of_a 0 n echo lookup call) (is ∙ room) t.1 in
     inl (p.0, told_lookup call told_is, p.1, p.2)
@@ -174,7 +174,7 @@ IsRefused told_after shown =
 of_came : (call : CallData) (a : AnswerData) (text : List ℕ) (before after : Written) (came : Answered)
     (code : ℤ) (told told_after : ToldData) (shown : List ℕ) → IsLookupOfA call → a.error ≡ pos 2
     → length before.left ≡ 4096 → CallIsAnswered limits echo lookup call.options a text before came after
-    → IsPassedOn (Some came) call before after code told told_after shown → IsRefused told_after shown
+    → IsAnswerTold (Some came) call before after code told told_after shown → IsRefused told_after shown
 of_came call a text before after came code told told_after shown is two space h on =
     let no : h.answer ≡ Failed (Some 2) = refused_by a text before.left h.answer two h.said in
     let w : Came came.options (Failed (Some 2)) before came.outcome after =
@@ -197,7 +197,7 @@ by_result : (call : CallData) (a : AnswerData) (text : List ℕ) (before after :
     (result : Option Answered) (code : ℤ) (told told_after : ToldData) (shown : List ℕ)
     → IsLookupOfA call → a.error ≡ pos 2 → length before.left ≡ 4096
     → MatchOption result ⊥ (AnsweredSo call a text before after)
-    → IsPassedOn result call before after code told told_after shown → code ≡ ok
+    → IsAnswerTold result call before after code told told_after shown → code ≡ ok
     → IsRefused told_after shown
 by_result call a text before after None code told told_after shown is two space h on fine = absurd h
 by_result call a text before after (Some came) code told told_after shown is two space h on fine =
@@ -245,7 +245,7 @@ no_want : (call : CallData) (a : AnswerData) (text : List ℕ) (before after : W
     (result : Option Answered) (code : ℤ) (told told_after : ToldData) (shown : List ℕ)
     → a.error ≡ pos 0
     → MatchOption result ⊥ (AnsweredSo call a text before after)
-    → IsPassedOn result call before after code told told_after shown → code ≡ no_memory → ⊥
+    → IsAnswerTold result call before after code told told_after shown → code ≡ no_memory → ⊥
 no_want call a text before after None code told told_after shown fine h on want = h
 no_want call a text before after (Some came) code told told_after shown fine h on want =
     let found = found_by a text before.left h.answer fine h.said in

@@ -146,7 +146,7 @@ pub none_unnamed : (limits : Limits) (options : ℕ) (q : List ℕ) (room : ℕ)
     (shown : List ℕ) → code ≡ no_memory → call ≡ nothing → shown ≡ []
     → AsksOffered limits options q room Unnamed code call told told shown
 none_unnamed limits options q room code call told shown code_is call_is none =
-    (nothing, inr (record { why = inl code_is; no_call = refl; same_told = refl; nothing = none }), rw code_is call_is)
+    (nothing, inr (record { why = inl code_is; no_call = refl; same_told = refl; none_shown = none }), rw code_is call_is)
 
 -- a request of no row is asked as the promise says
 pub promised : (limits : Limits) (options : ℕ) (q : List ℕ) (room : ℕ) (what : What) (code : ℤ) (call_after : CallData)

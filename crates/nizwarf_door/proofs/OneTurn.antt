@@ -18,15 +18,15 @@ use Rattle.door_answer.specs.declared.answered.Answered.{Answered}
 use Rattle.fuse_messages.proofs.Rooms.{with_none_after}
 use Rattle.laws_flight.specs.OneTurn.{AreOneTurn}
 use Rattle.c_rooms.specs.Codes.{no_memory, not_asked, too_long, is_asked}
-use Rattle.nizwarf_door.specs.Answering.{AnswersOrNot, IsPassedOn as IsAnswerTold}
-use Rattle.nizwarf_door.specs.Asking.{AsksOrNot, IsPassedOn}
+use Rattle.nizwarf_door.specs.Answering.{AnswersOrNot, IsAnswerTold}
+use Rattle.nizwarf_door.specs.Asking.{AsksOrNot, IsAskTold}
 use Rattle.nizwarf_door.specs.Kept.{put_of}
 use Rattle.nizwarf_door.specs.Uses.{IsOneTurn}
 use Rattle.nizwarf_door.specs.declared.data.ToldData.{ToldData}
 use Rattle.nizwarf_door.proofs.Asking.{no_call}
 
 call_told : (result : Asked) (before after : Written) (code : ℤ) (told told_after : ToldData)
-    (shown : List ℕ) → IsPassedOn result before after code told told_after shown → code ≡ is_asked
+    (shown : List ℕ) → IsAskTold result before after code told told_after shown → code ≡ is_asked
     → result ≡ asked.Call
 call_told asked.Call before after code told told_after shown on is = refl
 call_told (asked.Finished outcome n) before after code told told_after shown on is =
@@ -34,7 +34,7 @@ call_told (asked.Finished outcome n) before after code told told_after shown on 
 
 -- nothing else is told then
 same_told : (result : Asked) (before after : Written) (code : ℤ) (told told_after : ToldData)
-    (shown : List ℕ) → IsPassedOn result before after code told told_after shown → code ≡ is_asked
+    (shown : List ℕ) → IsAskTold result before after code told told_after shown → code ≡ is_asked
     → told_after ≡ told
 same_told asked.Call before after code told told_after shown on is = on.1
 same_told (asked.Finished outcome n) before after code told told_after shown on is =

@@ -34,9 +34,8 @@ use Rattle.laws_flight.proofs.OneTurn.{came_back, are_finished_turns}
 use Rattle.laws_flight.proofs.Servable.{HasHeader, IsServable, is_servable}
 use Rattle.laws_flight.proofs.Table.{are_of, tells_call, interrupted_same}
 use Rattle.c_rooms.specs.Codes.{length_of}
-use Rattle.nizwarf_door.specs.Answering.{AnswersOrNot}
-use Rattle.nizwarf_door.specs.Answering.{IsPassedOn as IsAnswerTold}
-use Rattle.nizwarf_door.specs.Asking.{AsksOrNot, IsPassedOn, finished}
+use Rattle.nizwarf_door.specs.Answering.{AnswersOrNot, IsAnswerTold}
+use Rattle.nizwarf_door.specs.Asking.{AsksOrNot, IsAskTold, finished}
 use Rattle.nizwarf_door.specs.Kept.{put_of}
 use Rattle.nizwarf_door.specs.Turns.{IsAskedOrNot, IsAnsweredOrNot, Happened, Suffice, read_of, read_of_directory}
 use Rattle.nizwarf_door.specs.declared.data.ToldData.{ToldData}
@@ -59,7 +58,7 @@ none_told q o n room (WithMemory rest) before after outcome number told (inr t) 
 module _ (limits : Limits) (options : ℕ) (request : List ℕ) (room : ℕ) (code : ℤ) (c : CallData)
     (told told_after : ToldData) (shown : List ℕ) where
   asked_so : (result : Asked) (before after : Written) → length before.left ≡ room
-      → IsAsked limits options request before result after c → IsPassedOn result before after code told told_after shown
+      → IsAsked limits options request before result after c → IsAskTold result before after code told told_after shown
       → IsAskedOrNot limits options request room code c told told_after shown
   asked_so asked.Call before after all is on =
       let t = are_of limits request options room before after c is all in
@@ -377,4 +376,4 @@ pub answered_or_not : (limits : Limits) (are : AreLimits limits) (c : CallData) 
 answered_or_not limits are c a text items code told told_after shown (inl s) =
     answered_so limits are c a text items s.before s.after s.space code told told_after shown s.result s.calls s.listings s.passed_on
 answered_or_not limits are c a text items code told told_after shown (inr n) =
-    inr (record { why = inl (n.why, n.entry_back); none_shown = n.nothing })
+    inr (record { why = inl (n.why, n.entry_back); none_shown = n.none_shown })

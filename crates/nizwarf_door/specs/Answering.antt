@@ -35,11 +35,11 @@ answered call came told = record told {
 
 -- What is told of this: the number of the outcome, and the reply's bytes to be copied out; or that the
 -- call can't be answered.
-abbrev pub IsPassedOn : Option Answered → CallData → (before after : Written) → (code : ℤ)
+abbrev pub IsAnswerTold : Option Answered → CallData → (before after : Written) → (code : ℤ)
     → (told told_after : ToldData) → (shown : List ℕ) → Type 0
-IsPassedOn None call before after code told told_after shown =
+IsAnswerTold None call before after code told told_after shown =
     (code ≡ not_asked) × (told_after ≡ told) × (shown ≡ [])
-IsPassedOn (Some came) call before after code told told_after shown =
+IsAnswerTold (Some came) call before after code told told_after shown =
     (code ≡ outcome_code came.outcome)
     × (told_after ≡ answered call came told)
     × AreFirst (put_of call (length_of came.outcome)) before after shown
@@ -56,7 +56,7 @@ pub record AnswersIn (limits : Limits) (call : CallData) (a : AnswerData) (text 
   pub calls : AnswersEachCall limits call a text before result after
   pub listings : AnswersEachListing limits call a items before result after
   pub within : IfSome result (λ came. came.taken ≤ length items)
-  pub passed_on : IsPassedOn result call before after code told told_after shown
+  pub passed_on : IsAnswerTold result call before after code told told_after shown
 
 -- The call was not answered, for want of memory: an entry is to be given back, no item is in a reply, and nothing is
 -- there to be copied out. The rest of what was told stays.
@@ -64,7 +64,7 @@ pub record IsNotAnswered (call : CallData) (a : AnswerData) (code : ℤ) (told t
     (shown : List ℕ) : Type 0 where
   pub why : code ≡ no_memory
   pub entry_back : told_after ≡ record told { give_back = entry_of call a; taken = 0 }
-  pub nothing : shown ≡ []
+  pub none_shown : shown ≡ []
 
 -- a call was answered, or not
 abbrev pub AnswersOrNot : (limits : Limits) → (call : CallData) → (a : AnswerData) → (text : List ℕ)

@@ -26,11 +26,11 @@ finished outcome interrupts told = record told {
 
 -- What is told of this: that a call is told; or the number of the outcome, and the reply's bytes to be
 -- copied out.
-abbrev pub IsPassedOn : Asked → (before after : Written) → (code : ℤ) → (told told_after : ToldData)
+abbrev pub IsAskTold : Asked → (before after : Written) → (code : ℤ) → (told told_after : ToldData)
     → (shown : List ℕ) → Type 0
-IsPassedOn asked.Call before after code told told_after shown =
+IsAskTold asked.Call before after code told told_after shown =
     (code ≡ is_asked) × (told_after ≡ told) × (shown ≡ [])
-IsPassedOn (asked.Finished outcome interrupts) before after code told told_after shown =
+IsAskTold (asked.Finished outcome interrupts) before after code told told_after shown =
     (code ≡ outcome_code outcome)
     × (told_after ≡ finished outcome interrupts told)
     × AreFirst (length_of outcome) before after shown
@@ -44,7 +44,7 @@ pub record AsksOver (limits : Limits) (options : ℕ) (request : List ℕ) (room
   pub result : Asked
   pub after : Written
   pub asked : IsAsked limits options request before result after call_after
-  pub passed_on : IsPassedOn result before after code told told_after shown
+  pub passed_on : IsAskTold result before after code told told_after shown
 
 -- The request was not asked, for want of memory, perhaps for an answer to its call, or since the lengths of its
 -- pieces sum past the largest count. No call is told, and nothing is there to be copied out.
@@ -53,7 +53,7 @@ pub record IsNotAsked (request : List ℕ) (code : ℤ) (call_after : CallData) 
   pub why : (code ≡ no_memory) ⊎ ((code ≡ too_long) × (2 ^ 64 ≤ length request))
   pub no_call : call_after ≡ nothing
   pub same_told : told_after ≡ told
-  pub nothing : shown ≡ []
+  pub none_shown : shown ≡ []
 
 -- a request with that many bytes of room was asked, or not
 abbrev pub AsksOrNot : (limits : Limits) → (options : ℕ) → (request : List ℕ) → (room : ℕ)

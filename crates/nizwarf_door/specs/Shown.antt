@@ -5,17 +5,17 @@ use Rattle.nizwarf_door.specs.declared.memory.Part.{Part}
 use Rattle.nizwarf_door.specs.declared.memory.Memory.{Memory}
 
 -- of memory with one segment, the first bytes of its last room
-abbrev pub shown_of : (lengths : List ℕ) → (bytes : List ℕ) → (start shown : ℕ) → List ℕ
-shown_of (n ∷ []) bytes start shown = take shown (drop start bytes)
-shown_of lengths bytes start shown = []
+abbrev pub first_shown : (lengths : List ℕ) → (bytes : List ℕ) → (start shown : ℕ) → List ℕ
+first_shown (n ∷ []) bytes start shown = take shown (drop start bytes)
+first_shown lengths bytes start shown = []
 
 -- the first bytes of the last room of a part
-abbrev pub bytes_in : Part → (shown : ℕ) → List ℕ
-bytes_in p shown = shown_of p.writer.lengths (whole p.writer) p.start shown
+abbrev pub part_shown : Part → (shown : ℕ) → List ℕ
+part_shown p shown = first_shown p.writer.lengths (whole p.writer) p.start shown
 
 -- the bytes that are there to be copied out of this memory
 abbrev pub bytes_shown : Memory → List ℕ
-bytes_shown m = bytes_in (if m.was_asked then m.asked else m.answers) m.shown
+bytes_shown m = part_shown (if m.was_asked then m.asked else m.answers) m.shown
 
 -- those of a slot
 abbrev pub shown_in : Option Memory → List ℕ

@@ -1,6 +1,6 @@
 -- What C is promised of a request that is asked for its call, and of the call that is answered. Begin with
--- `IsAskedOrNot` and `IsAnsweredOrNot`. `call` is a call as data, and `told` what C is told besides; `room_len` is
--- how long the room is, and `room` its bytes.
+-- `IsAskedOrNot` and `IsAnsweredOrNot`. `call` is a call as data, and `told` what C is told besides; `shown` are the
+-- bytes that are there to be copied out; `room_len` is how long the room is, and `room` its bytes.
 use Rattle.std.specs.Prelude.{◌≡◌, ◌⊎◌, ◌==◌, ◌++◌, if◌then◌else◌, ℕ, ℤ, List, [], ◌∷◌, length, take, Option, Some, None, Result}
 use Rattle.fs_trait.specs.Calls.{Answer, kind_of}
 use Rattle.fs_trait.specs.Runs.{Event, Called}
@@ -68,8 +68,8 @@ read_of_directory c = record nothing { uid = c.uid; gid = c.gid; pid = c.pid; no
 -- request asks for. No name and no value is read.
 abbrev pub Suffice : Limits → (request : List ℕ) → CallData → Type 0
 Suffice limits request call =
-    (told : CallData) × AreOf limits request told × (read_of call ≡ read_of told)
-    × (told.answer ≡ DIRECTORY → read_of_directory call ≡ read_of_directory told)
+    (d : CallData) × AreOf limits request d × (read_of call ≡ read_of d)
+    × (d.answer ≡ DIRECTORY → read_of_directory call ≡ read_of_directory d)
 
 module _ (a : AnswerData) (text : List ℕ) (items : List ItemData) where
   -- What happened since the request was asked, which asks this: the call, with the answer that the data say, and that

@@ -15,7 +15,7 @@ use Rattle.door_ask.specs.Asked.{IsNameIn}
 use Rattle.door_answer.specs.declared.answered.Answered.{Answered}
 use Rattle.laws_flight.specs.OneTurn.{IsAnsweredTurn}
 use Rattle.c_rooms.specs.Codes.{outcome_code, length_of}
-use Rattle.nizwarf_door.specs.Answering.{IsPassedOn}
+use Rattle.nizwarf_door.specs.Answering.{IsAnswerTold}
 use Rattle.nizwarf_door.specs.Turns.{Happened}
 use Rattle.nizwarf_door.specs.declared.data.ToldData.{ToldData}
 
@@ -62,4 +62,4 @@ pub record IsOneTurn (limits : Limits) (options : ℕ) (request : List ℕ) (roo
   pub turn : (following : List ℕ) → length before.left + length following ≡ room
       → IsAnsweredTurn limits options request a text items (with_after before following) came
       (with_after after following)
-  pub passed_on : IsPassedOn (Some came) call before after code told told_after shown
+  pub passed_on : IsAnswerTold (Some came) call before after code told told_after shown

@@ -18,7 +18,7 @@ pub struct Part {
 }
 
 impl Part {
-    ghost use Rattle.nizwarf_door.specs.Shown.{bytes_in};
+    ghost use Rattle.nizwarf_door.specs.Shown.{part_shown};
 
     /// None yet.
     fn new(alloc: Global) -> Part {
@@ -88,9 +88,9 @@ impl Part {
     // Copies the first `shown` bytes of the last room, from place `at` on, over the first ones of a piece, as many
     // as both have. Answers how many.
     fn copy_out(&self, shown: usize, at: usize, piece: &mut [u8]) -> usize
-        ensures count { result ≡ min (length (drop at (bytes_in self.now shown))) (length piece.old) }
+        ensures count { result ≡ min (length (drop at (part_shown self.now shown))) (length piece.old) }
         ensures copied { piece.new ≡
-            take result (drop at (bytes_in self.now shown)) ++ drop result piece.old }
+            take result (drop at (part_shown self.now shown)) ++ drop result piece.old }
     {
         let segments = self.writer.segments();
         if segments.len() != 1 {

@@ -3,7 +3,7 @@ use Rattle.std.proofs.lemmas.List.Sums.{sum_by-cons}
 use Rattle.fs_trait.specs.Runs.{Event}
 use Rattle.fuse_grammar.specs.Books.{delivered}
 use Rattle.laws_flight.specs.Flight.{Waiting}
-use Rattle.laws_flight.specs.Made.{Going, Point, Asked, Seen, Answered}
+use Rattle.laws_flight.specs.Made.{Going, Point, Began, Seen, Completed}
 use Rattle.laws_flight.proofs.uses.crossing_calls_keep_counts.Goals as goal
 
 abbrev going : Waiting → List Event → Going
@@ -11,7 +11,7 @@ going w events = record { waiting = w; events = events }
 
 pub returns : goal.returns
 returns c limits a b s t x y n d e some turn_a events_a turn_b events_b within =
-    let points : List Point = Asked a ∷ Asked b ∷ Seen e ∷ Seen d ∷ Answered s x ∷ Answered t y ∷ [] in
+    let points : List Point = Began a ∷ Began b ∷ Seen e ∷ Seen d ∷ Completed s x ∷ Completed t y ∷ [] in
     let one = sum_by-cons (delivered n) s (t ∷ []) in
     let other = sum_by-cons (delivered n) t [] in
     c.no_count_falls_below_zero_in_flight.ensures limits points n 6 some (

@@ -1,6 +1,6 @@
 use Rattle.std.proofs.Common.{[], ◌∷◌, refl}
 use Rattle.fuse_grammar.specs.Turn.{Turn}
-use Rattle.laws_flight.specs.Flight.{Asked, Answered, IsAlone}
+use Rattle.laws_flight.specs.Flight.{Began, Completed, IsAlone}
 use Rattle.laws_flight.proofs.uses.one_after_another.Goals as goal
 
 alone : (t : Turn) → IsAlone t []
@@ -9,5 +9,5 @@ alone t = record { init = λ offered want init. refl; destroy = λ answer destro
 pub returns : goal.returns
 returns c = λ limits a b s t x y first under then.
     c.turns_in_flight_are_in_order.ensures limits a.options
-    (Asked a ∷ Answered a s x ∷ Asked b ∷ Answered b t y ∷ [])
+    (Began a ∷ Completed a s x ∷ Began b ∷ Completed b t y ∷ [])
     (refl, ([], [], refl, first, alone s, (under, ([], [], refl, then, alone t, tt))))

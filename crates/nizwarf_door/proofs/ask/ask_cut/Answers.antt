@@ -9,7 +9,7 @@ returns-in-Err-clause-asked c =
       why = inl (search rules);
       no_call = search rules;
       same_told = refl;
-      nothing = nothing_shown (record c.args.memory.now { shown = 0 }) refl;
+      none_shown = nothing_shown (record c.args.memory.now { shown = 0 }) refl;
     })
 
 not_less : (n : ℕ) → (n < 2 ^ 64 → ⊥) → 2 ^ 64 ≤ n

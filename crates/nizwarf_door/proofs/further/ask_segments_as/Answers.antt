@@ -9,5 +9,5 @@ returns-in-Err-DescriptorChainOverflow-clause-asked c =
       why = inr (search rules, too_long_as _ (search rules));
       no_call = search rules;
       same_told = refl;
-      nothing = nothing_shown (record c.args.memory.now { shown = 0 }) refl;
+      none_shown = nothing_shown (record c.args.memory.now { shown = 0 }) refl;
     })
