@@ -122,7 +122,7 @@ def cells(data, *tables):
         else:
             rows[-1][0] += piece
             rows[-1][1].append(field.split(".")[-1])
-    return [(f"0 x {len(piece)}" if number == 0 and len(names) > 1 else piece.hex(),
+    return [(f"{len(piece)} zeros" if number == 0 and len(names) > 1 else piece.hex(),
              names[0] + (f" .. {names[-1]}" if len(names) > 1 else ""), str(number)) for piece, names, number in rows]
 
 
@@ -181,7 +181,7 @@ def lookup(found):
 
 Stored in `crates/test_sessions/stdin`, below `LOOKUP of a finds node {node}`:
 
-{block(("request", [*request, (name.hex(), "tail", text_of(name[:-1]))]), ("room", f"0 x {it.room}"),
+{block(("request", [*request, (name.hex(), "tail", text_of(name[:-1]))]), ("room", f"{it.room} zeros"),
        ("form_of", form_of(opcode)), ("ask", "WithMemory (Asks echo call), echo.unique = 9"), ("call", call),
        ("answer", f"Found entry, entry.inode = {node}"), ("kind_of", "Entries"),
        ("events", "Called call answer ∷ []"), ("outcome", it.outcome),
@@ -190,7 +190,7 @@ Stored in `crates/test_sessions/stdin`, below `LOOKUP of a finds node {node}`:
 
 That `ask` gives this is proved (`lookup_of_a`, `crates/{EXAMPLES}`). The next stored line has less room, so the entry is given back:
 
-{block(("room", f"0 x {cut.room}"), ("events", f"Called call answer ∷ Called (Forget ctx {node} 1) Done ∷ []"),
+{block(("room", f"{cut.room} zeros"), ("events", f"Called call answer ∷ Called (Forget ctx {node} 1) Done ∷ []"),
        ("outcome", cut.outcome), ("room_after", f"the first {cut.room} bytes of the reply above"),
        (f"of node {node}", books(1, 0, 0, 1)))}"""
 
@@ -216,7 +216,7 @@ def interrupt(found):
 
 Below `INTERRUPT: no call and no reply`:
 
-{block(("request", [*request, (it.request[40:].hex(), "rest", "not looked at")]), ("room", f"0 x {it.room}"),
+{block(("request", [*request, (it.request[40:].hex(), "rest", "not looked at")]), ("room", f"{it.room} zeros"),
        ("form_of", form_of(opcode)), ("ask", "Ends NoReply"), ("events", "[]"), ("outcome", it.outcome),
        ("room_after", "room"), ("after", "options"))}"""
 
@@ -244,13 +244,13 @@ def readdir(found):
 
 Below `READDIR of . and .. with a size of {size}`:
 
-{block(("request", request), ("room", f"0 x {it.room}"), ("form_of", form_of(opcode)),
+{block(("request", request), ("room", f"{it.room} zeros"), ("form_of", form_of(opcode)),
        ("ask", f"Lists echo l, where l.parent = 1, l.size = {size}, l.space = {space}"),
        ("events", f"OpenedDirectory (Readdir ctx 1 0 {size} 0) ∷ Taken (Some dot) ∷ Taken (Some dots) ∷ []"),
        ("dot, dots", [(*row, "") for row in zip(*told)]), ("records", f"dot's {len(records)} bytes"),
        ("answer", f"Ok {len(records)}"), ("outcome", it.outcome),
        ("room_after", [*cells(it.left, "out_header"), *record, (name.hex(), "name", text_of(name)),
-                       (f"0 x {len(records) - 24 - len(name)}", "to a multiple of 8", ""),
+                       (f"{len(records) - 24 - len(name)} zeros", "to a multiple of 8", ""),
                        (f"the last {it.room - len(it.left)}", "are any", "")]), ("after", "options"))}"""
 
 

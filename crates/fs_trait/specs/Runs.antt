@@ -11,6 +11,9 @@ pub data Event : Type 0 where
   OpenedDirectory : (call : Call) → Event
   Taken : (item : Option Item) → Event
 
+-- Of a file system with states S and iterators I, as its own contract states them: `allows` says that a call may lead
+-- from one state to another and hand back this, and `gives` that a taking from an iterator may give this item, or none
+-- at the end, and leave that iterator.
 module _ {S I : Type 0}
     (allows : S → Call → Handed I → S → Type 0) (gives : I → Option Item → I → Type 0) where
   -- A run: the file system comes from one state to another, with this iterator at hand to begin with,
