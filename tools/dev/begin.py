@@ -188,7 +188,7 @@ Stored in `crates/test_sessions/stdin`, below `LOOKUP of a finds node {node}`:
        ("room_after", cells(it.left, "out_header", "entry_out")), ("after", "options"),
        (f"of node {node}", books(1, 0, 1, 0)))}
 
-That `ask` gives this is proved (`lookup_of_a`, `crates/{EXAMPLES}`). The next stored line has less room, so the entry is given back:
+`ask` is proved (`lookup_of_a`, `crates/{EXAMPLES}`). The next stored line has less room, so the entry is given back:
 
 {block(("room", f"{cut.room} zeros"), ("events", f"Called call answer ∷ Called (Forget ctx {node} 1) Done ∷ []"),
        ("outcome", cut.outcome), ("room_after", f"the first {cut.room} bytes of the reply above"),
@@ -202,7 +202,7 @@ def memory():
     expect(tried, "tests/allocations/check.sh refuses another allocation")
     return f"""## It lacks memory: the same LOOKUP
 
-A name in two segments is copied first. Without memory for that the other side of `⊎` follows (`tests/allocations/check.sh`, of the server):
+A name in two segments is copied first. Without memory for that the other side of `⊎` follows (`tests/allocations/check.sh`):
 
 {block(("events", "[]"), ("outcome", "Err OutOfMemory"), ("room_after", "room"), ("after", "options"))}"""
 
@@ -263,7 +263,7 @@ def begin():
                                             (BOOKS, ["KeepsBooks"]))]
     return f"""# To begin with
 
-The five definitions of [the promise](PROMISE.md), and a turn for each case of `Follows`; [key](PROMISE.md#key). At the left are fields of `Turn` and names in `Follows`. Other words: [in order](PROMISE.md#reading-order).
+The five definitions of [the promise](PROMISE.md), and a turn for each case of `Follows`; [key](PROMISE.md#key). At the left are fields of `Turn` and names in `Follows`.
 
 `Server::handle_session` ensures `IsSession`:
 

@@ -277,17 +277,33 @@ check_order(lambda text: faults.append(f"docs/PROMISE.md: {text}"), "\n".join(re
 *reached, counted, decoded = subprocess.run(["tools/measure/statement.sh", "--files"], capture_output=True, text=True,
                                             check=True).stdout.splitlines()
 COUNTS = re.compile(r"(\d+) definitions,? (?:of )?([\d,]+) lines")
-# What is told as so much more than the session, and begins with these.
-BESIDE = {"the clause `memory`": ["fuse_server/Sparing.IsSparing"],
-          "the door": ["nizwarf_door/Turns.IsAskedOrNot", "nizwarf_door/Turns.IsAnsweredOrNot", "nizwarf_door/Kept.HoldsAnswer",
-                       "nizwarf_door/Kept.HoldsFor"]}
-further = []
-for what, starts in BESIDE.items():
+# What is told as so much more than the session, or than these other definitions too, and begins with these.
+DOOR = ["nizwarf_door/Turns.IsAskedOrNot", "nizwarf_door/Turns.IsAnsweredOrNot", "nizwarf_door/Kept.HoldsAnswer",
+        "nizwarf_door/Kept.HoldsFor"]
+BESIDE = [("the clause `memory`", [], ["fuse_server/Sparing.IsSparing"]),
+          ("one message", [], ["fuse_server/Step.IsStep", "fuse_server/Step.ReadsDirectories"]),
+          ("the door", [], DOOR),
+          ("its clauses", DOOR, ["nizwarf_door/Session.limits_of", "nizwarf_door/Session.options_of",
+                                 "nizwarf_door/Shown.shown_in", "fuse_grammar/Limits.AreLimits"]),
+          ("flights", DOOR, ["laws_flight/Flight.turns_answered", "laws_flight/Flight.AreInFlight",
+                             "laws_flight/Flight.AreAskedInTime", "fuse_grammar/Turn.AreTurns",
+                             "laws_flight/Made.NoCountIsBelow", "laws_flight/Running.FlightsRun",
+                             "laws_flight/Running.AloneRun", "laws_flight/ToldCall.TableIsCall"])]
+
+
+def counted_with(starts):
+    """What is reached from IsSession and these, a line for each file, and how many definitions and lines."""
     *files, ends = subprocess.run(["tools/measure/statement.sh", "--files", "fuse_server/Session.IsSession", *starts],
                                   capture_output=True, text=True, check=True).stdout.splitlines()[:-1]
-    more = [int(it) - int(server) for it, server in zip(COUNTS.search(ends).groups(), COUNTS.search(counted).groups())]
+    return files, [int(it) for it in COUNTS.search(ends).groups()]
+
+
+further = []
+for what, others, starts in BESIDE:
+    files, all_of_them = counted_with(others + starts)
+    more = [these - before for these, before in zip(all_of_them, counted_with(others)[1])]
     further += files
-    if f"Of {what} {more[0]} definitions of {more[1]:,} lines more" not in order:
+    if f"Of {what} {more[0]}, {more[1]:,}: `" not in order:
         faults.append(f"docs/PROMISE.md: of {what} there are {more[0]} definitions of {more[1]:,} lines more")
 for path in sorted({line.split(":")[0] for line in reached + further}):
     crate, file = path.split("/")[0], path.split("/")[-1]
@@ -296,7 +312,13 @@ for path in sorted({line.split(":")[0] for line in reached + further}):
 # In these files what is of the promise ends at a line, or the first comment says what it is.
 specs = Specs()
 SESSION = specs.reach([start_of(specs, "fuse_server/Session.IsSession")])
-PROMISED = specs.reach([start_of(specs, it) for it in ["fuse_server/Session.IsSession", *sum(BESIDE.values(), [])]])
+PROMISED = specs.reach([start_of(specs, it) for it in ["fuse_server/Session.IsSession", *sum((starts for _, _, starts in BESIDE), [])]])
+# The files of the types of the code that it names are there too.
+for _, it in sorted(it for it in SESSION if it[0] == "declared"):
+    crate, *module = it.split(".specs.declared.")[0], *it.split(".specs.declared.")[1].split(".")[:-1]
+    file = f"{module[0] if module else 'lib'}.rt"
+    if crate != "std" and not re.search(rf"`{crate}/src/[^;]*`?{file}`", order):
+        faults.append(f"docs/PROMISE.md: the reading order lacks crates/{crate}/src/{file}, which has the type {it.split('.')[-1]}")
 for path in sorted({f"crates/{line.split(':')[0]}" for line in reached + further}):
     module, text = path[len("crates/"):-len(".antt")].replace("/", "."), sources[path]
     above, line, after = text.partition("-- ---- no more is of the promise")
@@ -309,6 +331,11 @@ for path in sorted({f"crates/{line.split(':')[0]}" for line in reached + further
 # The signs of the definitions' language, and those that some file of the reading order has and the key does not say.
 SIGNS = r"[^\w\s(){}\[\],;.:λ=\"]+|λ|==|\b(?:abbrev|unfoldable|opaque|record|data|module|where|elim|let|suc|zero|pos|tt)\b"
 WORDS = sources["crates/fuse_server/specs/Session.antt"].split("\nuse ")[0]
+# Those lines of them that are read first.
+last = WORDS.count("\n") + 1
+first = WORDS[:WORDS.index("-- `declared` in an import")].count("\n") + 1
+if f"Read first lines {first} to {last} of `fuse_server/specs/Session.antt`" not in read("docs/PROMISE.md"):
+    faults.append(f"docs/PROMISE.md: what is read first of fuse_server/specs/Session.antt are lines {first} to {last}")
 key = " ".join(CODE.findall(read("docs/PROMISE.md").split("## Key")[1].split("\n## ")[0] + WORDS))
 unsaid = {}
 for path in sorted({f"crates/{it.split(':')[0]}" for it in reached + further} | {f"crates/{it}" for it in CODE.findall(order)}):

@@ -1,4 +1,5 @@
--- The sizes that a server goes by, and what follows of them, for contracts of parts and for proofs.
+-- The sizes that a server goes by, and what follows of them, for contracts of parts and for proofs. Of the promise only
+-- `AreLimits` is to be read.
 use Rattle.std.specs.Prelude.{◌≤◌, ◌+◌, ◌-◌, ◌/◌, ℕ}
 use Rattle.fuse_flags.specs.declared.constants.TheConstants.{LEAST_MAX_BUFFER, GREATEST_MAX_BUFFER, DEFAULT_MAX_BUFFER}
 use Rattle.fuse_grammar.specs.declared.limits.Limits.{Limits}

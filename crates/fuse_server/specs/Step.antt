@@ -65,6 +65,8 @@ ReadsDirectories allows gives old request writer outcome writer_after new =
     → ask old.limits old.options (length writer.left) request ≡ Lists echo listing
     → ReadsListing allows gives listing echo.unique old request writer outcome writer_after new
 
+-- ---- no more is of the promise: the rest is for contracts of parts
+
 -- The file system of a server was called so, as its own relation allows; the options and the limits
 -- stay.
 abbrev pub migrates_over : {S : Type 0} → (S → MigrationCall → MigrationAnswer → S → Type 0)

@@ -71,6 +71,8 @@ AloneRun {S} {I} allows gives =
     → AreMade allows gives limits [] old points new → AreAlone false points
     → IsRun allows gives None old (events_seen points) new
 
+-- ---- no more is of the promise: the rest is for callers
+
 -- what each call of a file system keeps
 abbrev pub EachCallKeeps : {S I : Type 0} → (S → Call → Handed I → S → Type 0) → (keeps : S → Bool) → Type 0
 EachCallKeeps {S} {I} allows keeps =

@@ -1,4 +1,4 @@
--- What is told determines the call, and is what the table says.
+-- What is told determines the call, and is what the table says. Of the promise only `TableIsCall` is to be read.
 use Rattle.std.specs.Prelude.{◌≡◌, ◌↔◌, ℕ, List}
 use Rattle.fs_trait.specs.Calls.{Call}
 use Rattle.fuse_grammar.specs.Reply.{Echo}

@@ -22,6 +22,8 @@ abbrev pub shown_in : Option Memory → List ℕ
 shown_in None = []
 shown_in (Some m) = bytes_shown m
 
+-- ---- no more is of the promise: the rest is for contracts of parts
+
 -- These are the first `count` bytes of the room that a writer had left, as they are afterwards.
 pub record AreFirst (count : ℕ) (before after : Written) (bytes : List ℕ) : Type 0 where
   pub room : List ℕ
