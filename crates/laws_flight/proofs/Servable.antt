@@ -19,7 +19,7 @@ use Rattle.fuse_grammar.specs.Records.{size_of}
 use Rattle.fuse_grammar.specs.Words.{ask_header, refused}
 use Rattle.fuse_grammar.specs.declared.limits.Limits.{Limits}
 use Rattle.fuse_grammar.specs.declared.error.Error.{Error}
-use Rattle.fuse_grammar.specs.declared.error.Error.TheVariants.{DecodeMessage, EncodeMessage}
+use Rattle.fuse_grammar.specs.declared.error.Error.TheVariants.{DecodeMessage}
 use Rattle.laws_turns.proofs.Table.{Shows, form_shown}
 use Rattle.laws_flight.proofs.Asking.{room_for_records}
 

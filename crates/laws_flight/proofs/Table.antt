@@ -1,5 +1,5 @@
 -- What is told of a request is in the row of its call, and what the row says is what an answer wants.
-use Rattle.std.proofs.Common.{◌≡◌, ◌+◌, ◌-◌, ◌≤◌, ◌∙◌, ◌==◌, ◌||◌, not, nat_lt, if◌then◌else◌, drop, ℕ, Bool, true, false, List, Option, None, Some, Result, Ok, Err, is_some, length, refl, ap, sym, subst, inl, inr, arith}
+use Rattle.std.proofs.Common.{◌≡◌, ◌+◌, ◌-◌, ◌≤◌, ◌∙◌, ◌==◌, ◌||◌, not, nat_lt, if◌then◌else◌, drop, ℕ, Bool, true, false, List, Option, None, Some, Ok, Err, is_some, length, refl, ap, sym, subst, inl, inr, arith}
 use Rattle.std.proofs.lemmas.Bool.Decides.{nat_tests}
 use Rattle.std.proofs.lemmas.List.{length-drop, length-take}
 use Rattle.std.specs.Prelude.{⊤}
@@ -26,7 +26,7 @@ use Rattle.door_calls.specs.declared.call.CallData.{CallData}
 use Rattle.door_calls.specs.declared.call.Range.{Range}
 use Rattle.door_calls.specs.declared.call.has.TheConstants.{HANDLE, OWNER, CONTEXT, GROUP, KILL_PRIV, DELAYED, FLUSHES, FLOCK_RELEASE}
 use Rattle.door_answer.specs.Told.{TellsEcho, TellsOffer, TellsCall}
-use Rattle.door_ask.specs.Asked.{IsAsked, IsTold, IsNameIn, IsContextPlaced, Stand, bytes_in, long_range, of_context, with_its_ranges, without_places, told_of, told_of_listing, interrupted_by, interrupted_or_none, unique_or_none}
+use Rattle.door_ask.specs.Asked.{IsAsked, IsTold, IsNameIn, IsContextPlaced, Stand, bytes_in, long_range, of_context, with_its_ranges, without_places, told_of, interrupted_by, interrupted_or_none, unique_or_none}
 use Rattle.door_ask.specs.Asked.{Tells as TellsWith}
 use Rattle.door_ask.specs.declared.asked.Asked.TheVariants as asked
 use Rattle.laws_flight.specs.Table.{TellsByTable, TellsAsked, TellsContext, AreOf, of_request, interrupted}

@@ -1,7 +1,10 @@
 -- Requests in flight, seen with each call at its place between ask and answer.
-use Rattle.std.specs.Prelude.{◌≡◌, ◌≢◌, ◌≤◌, ◌+◌, ◌++◌, ℕ, List, [], ◌∷◌, take, sum_by}
-use Rattle.fs_trait.specs.Runs.{Event}
-use Rattle.fuse_grammar.specs.Books.{opcode_in, forgotten, forgets_in, answered, sent, delivered}
+use Rattle.std.specs.Prelude.{◌≡◌, ◌≢◌, ◌≤◌, ◌+◌, ◌++◌, ◌⊎◌, ℕ, List, [], ◌∷◌, take, sum_by, Some}
+use Rattle.fs_trait.specs.Calls.{Call, Lookup, Forget, Answer}
+use Rattle.fs_trait.specs.Runs.{Event, Called, OpenedDirectory, Taken}
+use Rattle.fs_trait.specs.declared.entry.Context.{Context}
+use Rattle.fuse_grammar.specs.Books.{entry_node, opcode_in, forgotten, forgets_in, answered, sent, delivered}
+use Rattle.fuse_grammar.specs.Listing.{given_back}
 use Rattle.fuse_grammar.specs.Turn.{Turn}
 use Rattle.fuse_grammar.specs.declared.limits.Limits.{Limits}
 use Rattle.laws_flight.specs.Flight.{Waiting, IsTurnOf}
@@ -18,20 +21,40 @@ pub data Point : Type 0 where
   Seen : (event : Event) → Point
   Completed : (t : Turn) (after : ℕ) → Point
 
--- a request comes to a turn that begins with what was seen for it so far
+-- a call beside those of a turn: a name is looked up, and the node that is found is to be given back; or one is
+abbrev pub IsCallBeside : (back : List ℕ) → Call → Answer → (back_after : List ℕ) → Type 0
+IsCallBeside back (Lookup ctx parent name) answer after = after ≡ entry_node answer ++ back
+IsCallBeside back (Forget ctx node count) answer after =
+    (before following : List ℕ) × (count ≡ 1) × (back ≡ before ++ node ∷ following) × (after ≡ before ++ following)
+IsCallBeside back _ answer after = ⊥
+
+-- What a caller does for a READDIRPLUS whose reply has fewer items than it takes: these calls, and takings. `back` are
+-- the nodes that it looked up so and did not give back yet.
+abbrev pub IsBeside : (back : List ℕ) → Event → (back_after : List ℕ) → Type 0
+IsBeside back (Called call answer) after = IsCallBeside back call answer after
+IsBeside back (OpenedDirectory call) after = ⊥
+IsBeside back (Taken item) after = after ≡ back
+
+-- What was seen for a request is what its turn has, in that order, with what is beside it. A forget of node 0 that a
+-- turn ends with, of `.` or `..`, need not be made.
+abbrev pub AreSeenOf : (back : List ℕ) → (seen turn : List Event) → Type 0
+AreSeenOf back [] turn = (turn ≡ []) ⊎ ((ctx : Context) × (turn ≡ given_back ctx (Some 0)))
+AreSeenOf back (e ∷ seen) turn =
+    ((rest : List Event) × (turn ≡ e ∷ rest) × AreSeenOf back seen rest)
+    ⊎ ((after : List ℕ) × IsBeside back e after × AreSeenOf after seen turn)
+
+-- a request comes to a turn, by what was seen for it so far and more
 abbrev pub IsUnderWay : Limits → Going → Type 0
 IsUnderWay limits g =
     (t : Turn) × (after : ℕ) × (rest : List Event)
-    × IsTurnOf limits g.waiting t after × (t.events ≡ g.events ++ rest)
+    × IsTurnOf limits g.waiting t after × AreSeenOf [] (g.events ++ rest) t.events
 
 abbrev pub AreUnderWay : Limits → List Going → Type 0
 AreUnderWay limits [] = Unit {0}
 AreUnderWay limits (g ∷ gs) = IsUnderWay limits g × AreUnderWay limits gs
 
--- What is seen is seen for a request that waits, and a request is answered by a turn whose events are those that
--- were seen for it. What still waits at the end is under way. So this is not said of a flight in which a caller looks up
--- items for a READDIRPLUS after the one at which the reply stops, or the reply stops at `.` or `..` and the caller makes
--- no forget of node 0: such a turn has other events than were seen.
+-- What is seen is seen for a request that waits, and a request is answered by a turn of which that was seen. What still
+-- waits at the end is under way.
 abbrev pub AreSeen : Limits → (going : List Going) → List Point → Type 0
 AreSeen limits going [] = AreUnderWay limits going
 AreSeen limits going (Began w ∷ points) =
@@ -41,7 +64,7 @@ AreSeen limits going (Seen event ∷ points) =
     × AreSeen limits (before ++ record g { events = g.events ++ event ∷ [] } ∷ following) points
 AreSeen limits going (Completed t after ∷ points) =
     (before following : List Going) × (g : Going) × (going ≡ before ++ g ∷ following)
-    × IsTurnOf limits g.waiting t after × (t.events ≡ g.events)
+    × IsTurnOf limits g.waiting t after × AreSeenOf [] g.events t.events
     × AreSeen limits (before ++ following) points
 
 -- what was seen of the file system, in order

@@ -5,7 +5,7 @@ use Rattle.fs_trait.specs.Runs.{Event, Called, OpenedDirectory, Taken, IsRun}
 use Rattle.fs_trait.specs.Values.{Item}
 use Rattle.fuse_grammar.specs.declared.limits.Limits.{Limits}
 use Rattle.laws_flight.specs.Flight.{IsTurnOf}
-use Rattle.laws_flight.specs.Made.{Going, Point, Began, Seen, Completed, AreUnderWay, AreSeen, events_seen}
+use Rattle.laws_flight.specs.Made.{Going, Point, Began, Seen, Completed, AreSeenOf, AreUnderWay, AreSeen, events_seen}
 
 -- a request that waits, and what is left of the directory that is read for it
 pub record Running (I : Type 0) : Type 0 where
@@ -45,7 +45,7 @@ module _ {S I : Type 0} (allows : S → Call → Handed I → S → Type 0) (giv
       } ∷ following) next points new
   AreMade running old (Completed t after ∷ points) new =
       (before following : List (Running I)) × (r : Running I) × (running ≡ before ++ r ∷ following)
-      × IsTurnOf limits r.going.waiting t after × (t.events ≡ r.going.events)
+      × IsTurnOf limits r.going.waiting t after × AreSeenOf [] r.going.events t.events
       × AreMade (before ++ following) old points new
 
 -- Calls that are made so for requests in flight are a run of the file system, in the order in which they are made, as

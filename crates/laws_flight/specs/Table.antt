@@ -1,6 +1,6 @@
 -- Which data tell which call of a request: a row for each call, as `form_of` has one for each opcode. `q` are the
 -- bytes of the request, and `d` the data. ENTRY is the number of `Entries`, and so on: `kind_told` of door_answer.
-use Rattle.std.specs.Prelude.{◌≡◌, ◌+◌, ◌*◌, ◌==◌, ◌||◌, not, nat_lt, if◌then◌else◌, drop, ℕ, List, Bool, true, false, length, is_some, Option, Some, None, unwrap_or}
+use Rattle.std.specs.Prelude.{◌≡◌, ◌+◌, ◌*◌, ◌==◌, ◌||◌, not, nat_lt, if◌then◌else◌, drop, ℕ, List, Bool, false, length, is_some, Option, Some, None, unwrap_or}
 use Rattle.fs_trait.specs.Calls.{Call}
 use Rattle.fs_trait.specs.Calls as call
 use Rattle.fs_trait.specs.Values.{ExtensionValues}

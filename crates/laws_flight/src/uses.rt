@@ -1,14 +1,15 @@
 //! What a transport knows of requests in flight, by the laws alone.
 
-ghost use Rattle.std.specs.declared.option.Option.TheVariants.{None};
+ghost use Rattle.std.specs.declared.option.Option.TheVariants.{None, Some};
 ghost use Rattle.std.specs.Prelude.{◌≡◌, ◌≢◌, ◌≤◌, ◌+◌, ℕ, Bool, List, Option, [], ◌∷◌, length, true, IfSome};
 ghost use Rattle.fuse_flags.specs.Flags.{fs_options_bits};
 ghost use Rattle.fuse_messages.specs.Rooms.{with_after};
-ghost use Rattle.fs_trait.specs.Calls.{Call, Getattr, Lookup, Mkdir, Read};
+ghost use Rattle.fs_trait.specs.Calls.{Call, Done, Forget, Found, Getattr, Lookup, Mkdir, Read};
 ghost use Rattle.fs_trait.specs.Values.{ExtensionValues, Item};
 ghost use Rattle.fs_trait.specs.declared.entry.Context.{Context};
+ghost use Rattle.fs_trait.specs.declared.entry.Entry.{Entry};
 ghost use Rattle.fuse_grammar.specs.Limits.{AreLimits};
-ghost use Rattle.fs_trait.specs.Runs.{Event, IsRun, OpenedDirectory, Taken};
+ghost use Rattle.fs_trait.specs.Runs.{Called, Event, IsRun, OpenedDirectory, Taken};
 ghost use Rattle.fuse_grammar.specs.Books.{KeepsBooks, answered, delivered, sent};
 ghost use Rattle.fuse_grammar.specs.Turn.{AreTurns, Turn};
 ghost use Rattle.fuse_grammar.specs.declared.limits.Limits.{Limits};
@@ -17,7 +18,7 @@ ghost use Rattle.door_calls.specs.Shapes.{no_range};
 ghost use Rattle.door_calls.specs.declared.call.CallData.{CallData};
 ghost use Rattle.door_ask.specs.Asked.{IsEnough, IsTold};
 ghost use Rattle.laws_flight.specs.Flight.{Waiting, IsTurnOf};
-ghost use Rattle.laws_flight.specs.Made.{Began, Completed, Point, Seen, events_seen, ForgetsWhatItWasTold, given_back_by};
+ghost use Rattle.laws_flight.specs.Made.{AreSeen, Began, Completed, Point, Seen, events_seen, ForgetsWhatItWasTold, given_back_by};
 ghost use Rattle.laws_flight.specs.OneTurn.{IsAnsweredTurn, IsFinishedTurn};
 ghost use Rattle.laws_flight.specs.Running.{AreMade, EachCallKeeps};
 ghost use Rattle.laws_flight.specs.Table.{TellsByTable, of_request};
@@ -104,6 +105,22 @@ fn crossing_calls_keep_counts()
         IsTurnOf limits a s x → s.events ≡ d ∷ [] → IsTurnOf limits b t y → t.events ≡ e ∷ [] →
         given_back_by n a + given_back_by n b ≤ delivered n s + delivered n t →
         sent n (e ∷ d ∷ []) ≤ answered n (e ∷ d ∷ []) }
+{
+    no_count_falls_below_zero_in_flight();
+}
+
+/// The reply to a READDIRPLUS stops at `.`, of which its turn gives back node 0, and the caller doesn't; but it looked up
+/// the item after that, and gives this back. Counts are kept of such a flight too.
+fn a_lookup_beside_a_turn_is_seen()
+    ensures seen { (limits : Limits) (w : Waiting) (t : Turn) (after : ℕ) (call : Call) (dot more : Item)
+        (ctx : Context) (parent : ℕ) (entry : Entry) → IsTurnOf limits w t after →
+        t.events ≡ OpenedDirectory call ∷ Taken (Some dot) ∷ Called (Forget ctx 0 1) Done ∷ [] →
+        AreSeen limits [] (Began w ∷ Seen (OpenedDirectory call) ∷ Seen (Taken (Some dot))
+        ∷ Seen (Taken (Some more)) ∷ Seen (Called (Lookup ctx parent more.name) (Found entry))
+        ∷ Seen (Called (Forget ctx entry.inode 1) Done) ∷ Completed t after ∷ []) }
+    ensures counts { (limits : Limits) (points : List Point) (n : ℕ) → n ≢ 0 → AreSeen limits [] points →
+        ForgetsWhatItWasTold n points →
+        sent n (events_seen points) ≤ answered n (events_seen points) }
 {
     no_count_falls_below_zero_in_flight();
 }

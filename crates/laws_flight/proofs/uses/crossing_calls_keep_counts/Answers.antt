@@ -4,6 +4,7 @@ use Rattle.fs_trait.specs.Runs.{Event}
 use Rattle.fuse_grammar.specs.Books.{delivered}
 use Rattle.laws_flight.specs.Flight.{Waiting}
 use Rattle.laws_flight.specs.Made.{Going, Point, Began, Seen, Completed}
+use Rattle.laws_flight.proofs.Made.{are_seen}
 use Rattle.laws_flight.proofs.uses.crossing_calls_keep_counts.Goals as goal
 
 abbrev going : Waiting → List Event → Going
@@ -30,8 +31,8 @@ returns c limits a b s t x y n d e some turn_a events_a turn_b events_b within =
           going a (d ∷ []),
           refl,
           turn_a,
-          events_a,
-          ([], [], going b (e ∷ []), refl, turn_b, events_b, tt),
+          are_seen (d ∷ []) s.events events_a,
+          ([], [], going b (e ∷ []), refl, turn_b, are_seen (e ∷ []) t.events events_b, tt),
         ),
       ),
     )
