@@ -2,7 +2,8 @@
 
 ghost use Rattle.std.specs.Prelude.{◌≡◌};
 ghost use Rattle.fs_trait.specs.Values.{name_text};
-ghost use Rattle.fs_trait.specs.CallValue.{answer_of, IsEntry, IsAttributes, IsDone, IsCreation};
+ghost use Rattle.fs_trait.specs.Calls.{Plain, kind_of};
+ghost use Rattle.fs_trait.specs.CallValue.{call_of, answer_of, IsEntry, IsAttributes, IsDone, IsCreation, IsOfKind};
 ghost use Rattle.fs_small.specs.MemFs.{MemFsAllows, AnswersAttr, AnswersEntry, TakesOut, Makes, attr_at, file_named, place_of, refusal_of};
 
 use super::entries::root_entries;
@@ -86,6 +87,24 @@ impl MemFs {
         let entry = self.add(name, MemFile::new(Vec::new(self.alloc)))?;
         Ok(Given::Created(entry, None, OpenOptions::empty()))
     }
+
+    // What a call answers.
+    #[inline(always)]
+    fn given(&mut self, asked: &CallValue<'_>) -> Result<Given, Fault>
+        ensures answer { MemFsAllows self.old (call_of asked.now) (Plain (answer_of result))
+            self.new }
+        ensures kind { IsOfKind (kind_of (call_of asked.now)) result }
+    {
+        match asked {
+            CallValue::Init { .. } => Ok(Given::Options(FsOptions::DO_READDIRPLUS)),
+            CallValue::Lookup { parent, name, .. } => self.look_up(*parent, *name),
+            CallValue::Getattr { inode, .. } => self.attributes(*inode),
+            CallValue::Unlink { parent, name, .. } => self.unlink_file(*parent, *name),
+            CallValue::Create { parent, name, .. } => self.create_file(*parent, *name),
+            // No lookups are counted, so a FORGET is among these.
+            other => unserved(other),
+        }
+    }
 }
 
 impl PartialFileSystem for MemFs {
@@ -95,15 +114,7 @@ impl PartialFileSystem for MemFs {
 
     #[inline(always)]
     fn call(&mut self, asked: CallValue<'_>) -> Result<Given, Fault> {
-        match &asked {
-            CallValue::Init { .. } => Ok(Given::Options(FsOptions::DO_READDIRPLUS)),
-            CallValue::Lookup { parent, name, .. } => self.look_up(*parent, *name),
-            CallValue::Getattr { inode, .. } => self.attributes(*inode),
-            CallValue::Unlink { parent, name, .. } => self.unlink_file(*parent, *name),
-            CallValue::Create { parent, name, .. } => self.create_file(*parent, *name),
-            // No lookups are counted, so a FORGET is among these.
-            other => unserved(other),
-        }
+        self.given(&asked)
     }
 
     fn read_data<W: ZeroCopyWriter>(
