@@ -1,6 +1,8 @@
 //! A node: a directory, a file, a symbolic link, or what `mknod(2)` makes.
 
-ghost use Rattle.std.specs.Prelude.{◌≡◌, ℕ, List, length, take, if◌then◌else◌, Some, MatchResult};
+ghost use Rattle.std.specs.Prelude.{◌≡◌, ℕ, List, length, take, if◌then◌else◌, Some, IfErr, OnOk, MatchResult};
+ghost use Rattle.std.specs.Ordering.{nat_cmp};
+ghost use Rattle.std.specs.BTreeMap.{Updates, insert_entry};
 ghost use Rattle.fuse_flags.specs.Numbers.{enomem};
 ghost use Rattle.fuse_flags.specs.Flags.{setattr_valid_bits};
 ghost use Rattle.fs_nodes.specs.Children.{is_link};
@@ -14,9 +16,10 @@ use crate::xattrs::Xattrs;
 use bitflags::Flags;
 use fs_contents::Contents;
 use fs_trait::{Entry, ZeroCopyReader};
-use fuse_flags::{Fault, GuestGid, GuestUid, SetattrValid};
+use fuse_flags::{Errno, Fault, GuestGid, GuestUid, SetattrValid};
 use fuse_wire::{Attr, SetattrIn};
 use std::alloc::Global;
+use std::collections::BTreeMap;
 use std::time::Duration;
 
 /// How long a client may rely on an answer: a day, since nobody else changes what it was told.
@@ -398,4 +401,18 @@ fn pick<T: Copy>(set: bool, new: T, old: T) -> T
     ensures { result ≡ (if set then new else old) }
 {
     if set { new } else { old }
+}
+
+/// Puts a node under a number. ENOMEM where there is no memory for it, and all stays.
+pub fn put_node(nodes: &mut BTreeMap<u64, Node>, number: u64, node: Node) -> Result<(), Fault>
+    ensures ok { OnOk result (nodes.new.entries
+        ≡ insert_entry nat_cmp nodes.old.entries number node) }
+    ensures updates { OnOk result (Updates nat_cmp nodes.old nodes.new number (Some node)) }
+    ensures err { IfErr result (λ fault.
+        (fault ≡ Some enomem) × (nodes.new.entries ≡ nodes.old.entries)) }
+{
+    match nodes.insert(number, node) {
+        Ok(_) => Ok(()),
+        Err(_) => Err(Some(Errno::ENOMEM)),
+    }
 }
