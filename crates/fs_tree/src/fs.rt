@@ -21,7 +21,7 @@ ghost use Rattle.fs_tree.specs.Tree.{makes, makes_nameless, make_refusal, first_
 
 use crate::naming::add_name;
 use bitflags::Flags;
-use fs_nodes::{Child, Held, Kind, Node, Time, directory, first_held, is_idle};
+use fs_nodes::{Child, Held, Kind, Node, Time, directory, first_held, is_idle, put_node};
 use fs_trait::{CStr, Context, Entry};
 use fuse_flags::{Errno, Fault, FsOptions, GuestGid, GuestUid, ROOT_ID};
 use std::alloc::Global;
@@ -119,21 +119,19 @@ impl TreeFs {
         let mut root = Node::new(alloc, now, uid, gid, kind, permissions, ROOT_ID, &[])?;
         root.lookups = 0;
         let mut nodes = BTreeMap::new(alloc);
-        match nodes.insert(ROOT_ID, root) {
-            Ok(_) => Ok(TreeFs {
-                alloc,
-                nodes,
-                held: Held::new(alloc),
-                next: ROOT_ID + 1,
-                used: 0,
-                inodes: 1,
-                limits,
-                writeback,
-                offered: FsOptions::empty(),
-                now,
-            }),
-            Err(_) => Err(Some(Errno::ENOMEM)),
-        }
+        put_node(&mut nodes, ROOT_ID, root)?;
+        Ok(TreeFs {
+            alloc,
+            nodes,
+            held: Held::new(alloc),
+            next: ROOT_ID + 1,
+            used: 0,
+            inodes: 1,
+            limits,
+            writeback,
+            offered: FsOptions::empty(),
+            now,
+        })
     }
 
     /// Says what time it is: what is made, changed or read from now on bears it.
@@ -279,9 +277,7 @@ impl TreeFs {
     {
         let number = self.next;
         let (weight, is_held) = (node.weight(), !is_idle(&node));
-        if self.nodes.insert(number, node).is_err() {
-            return Err(Some(Errno::ENOMEM));
-        }
+        put_node(&mut self.nodes, number, node)?;
         if let Err(fault) = add_name(self.alloc, &mut self.nodes, self.now, parent, name, child) {
             self.nodes.remove(&number);
             return Err(fault);
@@ -302,9 +298,7 @@ impl TreeFs {
         ensures err { IfErr result (λ fault. (fault ≡ Some enomem) × (self.new ≡ self.old)) }
     {
         let (weight, is_held) = (node.weight(), !is_idle(&node));
-        if self.nodes.insert(self.next, node).is_err() {
-            return Err(Some(Errno::ENOMEM));
-        }
+        put_node(&mut self.nodes, self.next, node)?;
         self.held.note(self.next, is_held);
         self.next += 1;
         self.used += weight;

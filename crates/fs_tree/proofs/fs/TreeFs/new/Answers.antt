@@ -1,5 +1,5 @@
 use Rattle.std.proofs.Common.{rules}
 use Rattle.fs_tree.proofs.fs.TreeFs.new.Goals as goal
 
-pub returns-in-Ok : goal.returns-in-Ok
-returns-in-Ok c = search rules
+pub returns : goal.returns
+returns c = search rules
