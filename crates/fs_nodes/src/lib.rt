@@ -21,7 +21,7 @@ pub use children::{Child, Children};
 pub use held::{Held, first_held, is_idle};
 pub use kind::Kind;
 pub use listing::entries_after;
-pub use node::{Node, Time, is_other, put_node};
+pub use node::{Node, Time, is_other, put_node, remove_node};
 pub use refusals::{
     check_contents, check_namespace, directory, holds_names, is_directory, is_improper, no_device,
     no_place, too_big,

@@ -1,8 +1,9 @@
 //! A node: a directory, a file, a symbolic link, or what `mknod(2)` makes.
 
-ghost use Rattle.std.specs.Prelude.{◌≡◌, ℕ, List, length, take, if◌then◌else◌, Some, IfErr, OnOk, MatchResult};
+ghost use Rattle.std.specs.Prelude.{◌≡◌, ℕ, List, length, take, if◌then◌else◌, None, Some, IfErr, OnOk, MatchResult};
 ghost use Rattle.std.specs.Ordering.{nat_cmp};
-ghost use Rattle.std.specs.BTreeMap.{Updates, insert_entry};
+ghost use Rattle.std.specs.BTreeMap.{Updates, insert_entry, is_at};
+ghost use Rattle.std.specs.Map.{remove_entry};
 ghost use Rattle.fuse_flags.specs.Numbers.{enomem};
 ghost use Rattle.fuse_flags.specs.Flags.{setattr_valid_bits};
 ghost use Rattle.fs_nodes.specs.Children.{is_link};
@@ -415,4 +416,13 @@ pub fn put_node(nodes: &mut BTreeMap<u64, Node>, number: u64, node: Node) -> Res
         Ok(_) => Ok(()),
         Err(_) => Err(Some(Errno::ENOMEM)),
     }
+}
+
+/// Takes the node of a number out, if there is one, and lets it go.
+pub fn remove_node(nodes: &mut BTreeMap<u64, Node>, number: u64)
+    ensures entries { nodes.new.entries
+        ≡ remove_entry (is_at (nat_cmp number)) nodes.old.entries }
+    ensures updates { Updates nat_cmp nodes.old nodes.new number None }
+{
+    nodes.remove(&number);
 }

@@ -21,7 +21,9 @@ ghost use Rattle.fs_tree.specs.Tree.{makes, makes_nameless, make_refusal, first_
 
 use crate::naming::add_name;
 use bitflags::Flags;
-use fs_nodes::{Child, Held, Kind, Node, Time, directory, first_held, is_idle, put_node};
+use fs_nodes::{
+    Child, Held, Kind, Node, Time, directory, first_held, is_idle, put_node, remove_node,
+};
 use fs_trait::{CStr, Context, Entry};
 use fuse_flags::{Errno, Fault, FsOptions, GuestGid, GuestUid, ROOT_ID};
 use std::alloc::Global;
@@ -279,7 +281,7 @@ impl TreeFs {
         let (weight, is_held) = (node.weight(), !is_idle(&node));
         put_node(&mut self.nodes, number, node)?;
         if let Err(fault) = add_name(self.alloc, &mut self.nodes, self.now, parent, name, child) {
-            self.nodes.remove(&number);
+            remove_node(&mut self.nodes, number);
             return Err(fault);
         }
         self.held.note(number, is_held);
@@ -369,7 +371,7 @@ impl TreeFs {
           inodes = self.old.inodes - 1;
         } }
     {
-        self.nodes.remove(&number);
+        remove_node(&mut self.nodes, number);
         self.held.pass(number, true);
         self.used = self.used.saturating_sub(weight);
         self.inodes = self.inodes.saturating_sub(1);
