@@ -1,13 +1,13 @@
 #!/usr/bin/env bash
 # Builds examples/c/serve.c with the library for C, and runs it: it answers an INIT, a MKDIR and a LOOKUP, and
 # checks the replies. Then tests/c/tree.c holds the library against what the header says, also where each
-# allocation is refused in turn. tests/c/hello.c asks a few requests of examples/c/hello.c, a file system over the
-# library nizwarf_door, and checked.py of examples/c/check.c; door.c, door-cases.c, door-threads.c, init.c, notices.c,
-# offered.c, ops.c, ops-threads.c and text.c hold that library against what the headers say, and largest.c asks both
-# for as much memory as they are ever asked for; as root mounted.c mounts a table of wrong answers. All that runs under
-# the sanitizers of the compiler too, if it has them. The structs are laid out as in version 0.2, and a program of that
-# version runs with what is built and what is packed: tests/c/version-0.2. All names that the libraries define begin with
-# `nizwarf_`, and none that C calls takes 64 KiB of stack.
+# allocation is refused in turn, and tree-session.c against sessions as data. tests/c/hello.c asks a few requests of
+# examples/c/hello.c, a file system over the library nizwarf_door, and checked.py of examples/c/check.c; door.c,
+# door-cases.c, door-threads.c, init.c, notices.c, offered.c, ops.c, ops-threads.c and text.c hold that library against
+# what the headers say, and largest.c asks both for as much memory as they are ever asked for; as root mounted.c mounts
+# a table of wrong answers. All that runs under the sanitizers of the compiler too, if it has them. The structs are laid
+# out as in version 0.2, and a program of that version runs with what is built and what is packed: tests/c/version-0.2.
+# All names that the libraries define begin with `nizwarf_`, and none that C calls takes 64 KiB of stack.
 # Records and numbers of crates are those of the kernel's header, the machine's and the newest that Debian has, by
 # tests/c/kernel.py, and the door's those of nizwarf.h, by tests/c/data.py.
 # Last, tools/package.sh packs the libraries, and the examples are built by pkg-config against what is installed of
@@ -89,6 +89,8 @@ run_all() {
     "$folder/serve"
     compile tests/c/tree.c "$@" "${counted[@]}"
     "$folder/program"
+    compile tests/c/tree-session.c "$@" "${counted[@]}"
+    "$folder/program" "$here/tests/c/tree-session.txt"
     make_program "$folder" hello "$@"
     compile tests/c/hello.c "$@"
     timeout 60 "$folder/program" "$folder/hello"

@@ -35,8 +35,6 @@ mod support;
 #[cfg(test)]
 mod transfers;
 #[cfg(test)]
-mod tree;
-#[cfg(test)]
 mod usage;
 #[cfg(test)]
 mod wire;
