@@ -4,6 +4,9 @@ use fs_trait::{CStr, Context, Extensions};
 use fuse_flags::Fault;
 use std::alloc::{AllocError, Global};
 
+mod answers;
+mod calls;
+
 /// Lines, each with two spaces before it.
 ///
 /// A call begins a line, its arguments go on with it, each as ` NAME=VALUE`, and `end` ends it; an
@@ -12,6 +15,7 @@ use std::alloc::{AllocError, Global};
 pub struct Notes {
     text: String,
     lacks: bool,
+    process: u32,
 }
 
 impl Notes {
@@ -20,6 +24,7 @@ impl Notes {
         Notes {
             text: String::new(alloc),
             lacks: false,
+            process: 0,
         }
     }
 
@@ -28,6 +33,7 @@ impl Notes {
         Ok(Notes {
             text: String::with_capacity(alloc, bytes)?,
             lacks: false,
+            process: 0,
         })
     }
 
@@ -41,18 +47,24 @@ impl Notes {
         self.lacks
     }
 
+    /// The process of the last caller that was noted, without a sign, as the request's header has it;
+    /// 0 at first.
+    pub fn process(&self) -> u32 {
+        self.process
+    }
+
     /// Begins the line of a call that has no caller.
     pub fn call(&mut self, name: &str) {
         let noted = write!(self.text, "  call {name}");
         self.keep(noted);
     }
 
-    /// Begins the line of a call, with its caller's user, group and process. The process is shown
-    /// without a sign, as the request's header has it.
+    /// Begins the line of a call, with its caller's user, group and process.
     pub fn call_by(&mut self, name: &str, ctx: &Context) {
         let uid = ctx.uid.into_inner();
         let gid = ctx.gid.into_inner();
         let pid = ctx.pid.cast_unsigned();
+        self.process = pid;
         let noted = write!(self.text, "  call {name} ctx={uid},{gid},{pid}");
         self.keep(noted);
     }

@@ -52,18 +52,16 @@ mod calls;
 #[derive(Drop)]
 pub struct SeededFs<'a> {
     alloc: Global,
-    word: u32,
     told: &'a RefCell<VecDeque<Told>>,
     notes: Notes,
 }
 
 impl<'a> SeededFs<'a> {
-    /// A file system with the word 0 and no notes, which takes the answers that it is told from
+    /// A file system with no notes, and so the word 0, which takes the answers that it is told from
     /// `told`.
     pub fn new(alloc: Global, told: &'a RefCell<VecDeque<Told>>) -> SeededFs<'a> {
         SeededFs {
             alloc,
-            word: 0,
             told,
             notes: Notes::new(alloc),
         }
@@ -77,7 +75,6 @@ impl<'a> SeededFs<'a> {
     ) -> Result<SeededFs<'a>, AllocError> {
         Ok(SeededFs {
             alloc,
-            word: 0,
             told,
             notes: Notes::with_room(alloc, bytes)?,
         })
@@ -86,24 +83,6 @@ impl<'a> SeededFs<'a> {
     /// The notes of all calls so far.
     pub fn notes(&self) -> &Notes {
         &self.notes
-    }
-
-    // Begins to note a call, and takes its word.
-    fn begin_call(&mut self, call: &str, ctx: &Context) {
-        self.notes.call_by(call, ctx);
-        self.word = ctx.pid.cast_unsigned();
-    }
-
-    // The same of a call whose first argument is this node.
-    fn begin(&mut self, call: &str, ctx: &Context, word: &str, node: u64) {
-        self.begin_call(call, ctx);
-        self.notes.number(word, node);
-    }
-
-    // The same of a call whose second argument is a name.
-    fn begin_named(&mut self, call: &str, ctx: &Context, word: &str, node: u64, name: CStr<'_>) {
-        self.begin(call, ctx, word, node);
-        self.notes.name("name", name);
     }
 
     // The answer that is told for this call, if one is.
@@ -116,8 +95,9 @@ impl<'a> SeededFs<'a> {
 
     // The seed, or the fault that is the answer.
     fn seed(&self) -> Result<Source, Fault> {
-        let seed = self.word / 8;
-        if self.word % 8 == 7 {
+        let word = self.notes.process();
+        let seed = word / 8;
+        if word % 8 == 7 {
             Err(fault_of(seed % 160))
         } else {
             Ok(Source::Seed(seed))
@@ -272,38 +252,5 @@ impl<'a> SeededFs<'a> {
         } else {
             Ok(Given::Text(bytes(self.alloc, seed, seed / 3 % 500)?))
         }
-    }
-
-    // Notes an answer, and the numbers that it shows.
-    fn note_answer(&mut self, answer: &Result<Given, Fault>) {
-        self.notes.answer(answer);
-        match answer {
-            Ok(Given::Options(want)) => self.notes.bits("want", want.bits()),
-            Ok(Given::Found(entry)) => self.notes.number("node", entry.inode),
-            Ok(Given::Opened(handle, options)) => self.note_opening(*handle, *options),
-            Ok(Given::Created(entry, handle, options)) => {
-                self.notes.number("node", entry.inode);
-                self.note_opening(*handle, *options);
-            }
-            Ok(Given::Offset(offset)) => self.notes.number("offset", *offset),
-            Ok(Given::Wrote(count)) => self.notes.number("count", u64::from(*count)),
-            _ => {}
-        }
-        self.notes.end();
-    }
-
-    // Notes a handle and how to use it.
-    fn note_opening(&mut self, handle: Option<u64>, options: OpenOptions) {
-        self.notes.option("handle", handle);
-        self.notes.number("opts", u64::from(options.bits()));
-    }
-
-    // Notes an answer that says how many bytes were moved.
-    fn note_moved(&mut self, answer: &Result<usize, Fault>) {
-        self.notes.answer(answer);
-        if let Ok(count) = answer {
-            self.notes.number("count", *count as u64);
-        }
-        self.notes.end();
     }
 }
