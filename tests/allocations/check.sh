@@ -3,7 +3,7 @@
 # looks at how that run ends: until one meets no refusal.
 #
 # After its line `refusals` test_sessions makes calls one after another, each in a part of its own
-# (crates/test_corpus/src/refusals.rt has their form). Of the allocations of a part one is refused.
+# (crates/test_sessions/src/refusals.rt has their form). Of the allocations of a part one is refused.
 # That part is right where it ends in one of these ways, and all others where they are those of a
 # run that is refused nothing:
 #

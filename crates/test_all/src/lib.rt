@@ -9,8 +9,6 @@ mod files;
 #[cfg(test)]
 mod flags;
 #[cfg(test)]
-mod hostile;
-#[cfg(test)]
 mod lines;
 #[cfg(test)]
 mod long_requests;

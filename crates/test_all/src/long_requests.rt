@@ -2,44 +2,74 @@
 //! tails. The calls are then those of the uncut request, with all that stood in it.
 
 use crate::support::{holds, request};
+use fuse_segments::{Reader, Writer};
+use fuse_server::server::Server;
 use std::alloc::{AllocError, Global};
+use std::cell::RefCell;
+use std::collections::VecDeque;
 use std::test::Fail;
-use test_corpus::{Cut, Message, Way, serve};
+use test_seeded::SeededFs;
+use text_run::{PAGE_SIZE, answer_to, parse_line};
+
+/// A server over the seeded file system, which shows with what each call came.
+type SeededServer<'a> = Server<SeededFs<'a>>;
+
+/// How long the reply to a request in these pieces is, with a room of that many bytes.
+fn reply_to(
+    alloc: Global,
+    server: &mut SeededServer<'_>,
+    pieces: &[&[u8]],
+    room: usize,
+) -> Result<usize, Fail> {
+    let reader = Reader::new(alloc, pieces)?;
+    let mut rooms = Vec::new(alloc);
+    rooms.push(vec![in alloc; 0u8; room]?)?;
+    let mut writer = Writer::new(alloc, rooms)?;
+    Ok(server.handle_message(alloc, reader, &mut writer)?)
+}
+
+/// Agrees on what a request needs, by the requests of these lines.
+fn agree(alloc: Global, server: &mut SeededServer<'_>, before: &[&str]) -> Result<(), Fail> {
+    for line in before {
+        if let Some(line) = parse_line(alloc, line.as_bytes())? {
+            answer_to(alloc, server, &line)?;
+        }
+    }
+    Ok(())
+}
+
+/// Whether a request is answered by that many bytes, whole and cut in its middle.
+fn is_answered(
+    alloc: Global,
+    server: &mut SeededServer<'_>,
+    bytes: &[u8],
+    reply: usize,
+) -> Result<bool, Fail> {
+    let (first, rest) = bytes.split_at(bytes.len() / 2);
+    Ok(
+        reply_to(alloc, server, &[bytes], reply)? == reply
+            && reply_to(alloc, server, &[first, rest], reply)? == reply,
+    )
+}
 
 /// Whether a request is answered by that many bytes and makes this call, whole and cut in its middle,
 /// once the lines before it agreed on what it needs.
 fn makes_its_call(
     alloc: Global,
-    before: &'static str,
+    before: &[&str],
     bytes: &[u8],
     reply: usize,
     call: &str,
 ) -> Result<bool, Fail> {
-    let message = Message {
-        name: "",
-        before,
-        line: "",
-    };
-    let cuttings = [
-        (Cut::Whole, Cut::Whole),
-        (Cut::At(bytes.len() / 2), Cut::Whole),
-    ];
-    let served = serve(
-        alloc,
-        &message,
-        bytes,
-        reply,
-        &cuttings,
-        Way::Messages,
-        &mut (),
-    )?;
-    let calls = served.calls.as_bytes();
+    let told = RefCell::new(VecDeque::new(alloc));
+    let mut server = Server::new(SeededFs::new(alloc, &told), PAGE_SIZE);
+    agree(alloc, &mut server, before)?;
+    let noted = server.fs().notes().text().len();
+    let answered = is_answered(alloc, &mut server, bytes, reply)?;
+    let notes = server.fs().notes().text().as_bytes();
+    let calls = notes.get(noted..).unwrap_or(b"");
     let (uncut, cut) = calls.split_at(calls.len() / 2);
-    Ok(
-        served.outcomes.as_slice() == [Ok(reply), Ok(reply)].as_slice()
-            && uncut == cut
-            && uncut.starts_with(call.as_bytes()),
-    )
+    Ok(answered && uncut == cut && uncut.starts_with(call.as_bytes()))
 }
 
 /// So many bytes, each one more than that before it, from 0 on and again after 255.
@@ -81,7 +111,7 @@ fn sets_a_value(alloc: Global, count: u32) -> Result<bool, Fail> {
         " flags=0 extra=0\n",
     )?;
     let request = request(alloc, 21, 1, &following)?;
-    makes_its_call(alloc, "", &request, 16, call.as_str())
+    makes_its_call(alloc, &[], &request, 16, call.as_str())
 }
 
 /// As long as Linux lets a value be, and as long as the largest payload by default.
@@ -109,7 +139,7 @@ fn forgets_each(alloc: Global) -> Result<bool, Fail> {
     }
     call.push('\n')?;
     let request = request(alloc, 42, 0, &following)?;
-    makes_its_call(alloc, "", &request, 0, call.as_str())
+    makes_its_call(alloc, &[], &request, 0, call.as_str())
 }
 
 #[test]
@@ -119,13 +149,10 @@ fn a_payload_of_pairs_arrives(rt: HostRuntime) -> Result<(), Fail> {
 
 /// The lines that agree on SECURITY_CTX: a FORGET, by whose process the scripted file system wants
 /// all options, and an INIT that offers this one.
-static AGREED: &str = concat!(
-    "0 30000000020000000900000000000000000000000000000000000000000000001000000000000000",
-    "0100000000000000\n",
-    "80 680000001a000000090000000000000000000000000000000000000000000000000000000000000007000000",
-    "260000000000020000000040010000000000000000000000000000000000000000000000000000000000000000",
-    "000000000000000000000000000000000000000000000000000000\n",
-);
+static AGREED: [&str; 2] = [
+    "0 300000000200000009000000000000000000000000000000000000000000000010000000000000000100000000000000",
+    "80 680000001a00000009000000000000000000000000000000000000000000000000000000000000000700000026000000000002000000004001000000000000000000000000000000000000000000000000000000000000000000000000000000000000000000000000",
+];
 
 /// What comes after the header of a CREATE of `n` with a context of the name `s` and this value:
 /// its record, the name, and the context with its two headers.
@@ -150,7 +177,7 @@ fn creates_with_context(alloc: Global, count: u32) -> Result<bool, Fail> {
         " group=none\n",
     )?;
     let request = request(alloc, 35, 1, &create_with(alloc, &value, count)?)?;
-    makes_its_call(alloc, AGREED, &request, 160, call.as_str())
+    makes_its_call(alloc, &AGREED, &request, 160, call.as_str())
 }
 
 #[test]

@@ -11,9 +11,9 @@
 //!   changed, over servers of its own. A line is written for each: its name, how many forms of it
 //!   there are, how many requests these are in all cuttings, and the checksum of what the uncut
 //!   forms came to; after it the first form that came to something else in a cutting, if one did.
-//!   The last line has the sums.
+//!   The last line has the sums. After `corpus sessions` the cuttings of a form are one session.
 //! - `refusals`: calls that ask for memory, each with what came of it, the requests of all lines
-//!   after this one last. `try_calls` of `test_corpus` says what is written; it is written at once.
+//!   after this one last. The module `refusals` says what is written; it is written at once.
 //! - A line that begins with `#` is passed over.
 //!
 //! The first line of all may be `limit N` in place of one of these, as in `text_demo`.
@@ -27,7 +27,11 @@
 #![tactic(auto)]
 
 mod corpus;
+mod cuttings;
+mod hostile;
+mod refusals;
 mod run;
+mod table;
 
 use std::process::ExitCode;
 use text_run::{
@@ -40,6 +44,7 @@ const PROGRAM: Program = Program {
     more_lines: "  answer ANSWER   What the next call is answered: N, fault N, fault none, items ITEM ..
                   or endless ITEM .., where an ITEM is INO,OFFSET,TYPE,NAME.
   corpus          The corpus of hostile messages, cut, shortened and changed.
+  corpus sessions The same, the cuttings of each form in one session.
   refusals        Calls that ask for memory; the lines following it are requests of such calls.
   # ..            Nothing.
 ",

@@ -1,12 +1,13 @@
 //! A session: the lines of a text, answered one after another.
 
 use crate::corpus::push_corpus;
+use crate::cuttings::Way;
+use crate::refusals::try_calls;
 use fuse_server::server::Server;
 use std::alloc::Global;
 use std::cell::RefCell;
 use std::collections::VecDeque;
 use std::io;
-use test_corpus::try_calls;
 use test_seeded::{SeededFs, Told, parse_told};
 use text_run::{
     Line, RunError, answer_to, lines_before_requests, lines_of, parse_line, server_for, write_all,
@@ -15,8 +16,10 @@ use text_run::{
 /// What a line with an answer begins with.
 const ANSWER: &[u8] = b"answer ";
 
-/// The line that has the corpus tried.
+/// The lines that have the corpus tried, each form by messages and as a session.
 const CORPUS: &[u8] = b"corpus";
+
+const CORPUS_OF_SESSIONS: &[u8] = b"corpus sessions";
 
 /// The line after which all others are requests to which memory can be refused.
 const REFUSALS: &[u8] = b"refusals";
@@ -28,8 +31,8 @@ enum Said {
     Request(Line),
     /// The answer of a call that is still to come.
     Answer(Told),
-    /// The corpus of hostile messages is to be tried.
-    Corpus,
+    /// The corpus of hostile messages is to be tried in this way.
+    Corpus(Way),
     /// Nothing to do.
     Comment,
 }
@@ -62,29 +65,54 @@ fn before_refusals<'l, 'a>(lines: &'l [&'a [u8]]) -> (&'l [&'a [u8]], Option<&'l
     }
 }
 
-// Answers each line before the first bad one.
+// Answers each line before the first bad one, by a new server.
 fn answer_all(alloc: Global, lines: &[&[u8]], answers: &mut String) -> Result<(), RunError> {
     let told = RefCell::new(VecDeque::new(alloc));
     let mut server = server_for(SeededFs::new(alloc, &told), lines);
+    answer_each(alloc, lines, &mut server, &told, answers)
+}
+
+// The same by this server, which takes the answers of calls from `told`.
+fn answer_each(
+    alloc: Global,
+    lines: &[&[u8]],
+    server: &mut Server<SeededFs<'_>>,
+    told: &RefCell<VecDeque<Told>>,
+    answers: &mut String,
+) -> Result<(), RunError> {
     let before = lines_before_requests(lines);
     for (index, line) in lines.iter().enumerate().skip(before) {
-        match read_line(alloc, line)? {
-            Some(Said::Request(request)) => {
-                push_answer(alloc, &mut server, &request, answers)?;
-            }
-            Some(Said::Answer(answer)) => {
-                if let Ok(mut told) = told.try_borrow_mut() {
-                    told.push_back(answer)?;
-                }
-            }
-            Some(Said::Corpus) => push_corpus(alloc, answers)?,
-            Some(Said::Comment) => {}
-            None => {
-                let number = index + 1;
-                writeln!(answers, "bad line {number}")?;
-                return Err(RunError::BadLine(number));
-            }
+        if !answer_line(alloc, line, server, told, answers)? {
+            let number = index + 1;
+            writeln!(answers, "bad line {number}")?;
+            return Err(RunError::BadLine(number));
         }
+    }
+    Ok(())
+}
+
+// Answers a line, if it is of its form; whether it is.
+fn answer_line(
+    alloc: Global,
+    line: &[u8],
+    server: &mut Server<SeededFs<'_>>,
+    told: &RefCell<VecDeque<Told>>,
+    answers: &mut String,
+) -> Result<bool, RunError> {
+    match read_line(alloc, line)? {
+        Some(Said::Request(request)) => push_answer(alloc, server, &request, answers)?,
+        Some(Said::Answer(answer)) => tell(told, answer)?,
+        Some(Said::Corpus(way)) => push_corpus(alloc, way, answers)?,
+        Some(Said::Comment) => {}
+        None => return Ok(false),
+    }
+    Ok(true)
+}
+
+// Tells the answer of a call that is still to come.
+fn tell(told: &RefCell<VecDeque<Told>>, answer: Told) -> Result<(), RunError> {
+    if let Ok(mut told) = told.try_borrow_mut() {
+        told.push_back(answer)?;
     }
     Ok(())
 }
@@ -95,7 +123,10 @@ fn read_line(alloc: Global, line: &[u8]) -> Result<Option<Said>, RunError> {
         return Ok(Some(Said::Comment));
     }
     if line == CORPUS {
-        return Ok(Some(Said::Corpus));
+        return Ok(Some(Said::Corpus(Way::Messages)));
+    }
+    if line == CORPUS_OF_SESSIONS {
+        return Ok(Some(Said::Corpus(Way::Session)));
     }
     if let Some(told) = line.strip_prefix(ANSWER) {
         return Ok(parse_told(alloc, told)?.map(Said::Answer));

@@ -1,5 +1,5 @@
 use Rattle.std.proofs.Common.{◌≡◌, ◌≤◌, length, vec_len}
-use Rattle.test_corpus.proofs.cuttings.readers_over.Given as goal
+use Rattle.test_sessions.proofs.cuttings.readers_over.Given as goal
 
 abbrev pub invariant-loop-count : goal.invariant-loop-count
 invariant-loop-count l =

@@ -1,7 +1,7 @@
 //! The hostile forms of a message: cut short, with other lengths in its header, and with less room.
 //! Each must come to the same in every cutting.
 
-use crate::cuttings::{Cut, Cutting, Served, Way, serve};
+use crate::cuttings::{Asked, Cut, Cutting, Served, Way, serve};
 use crate::table::Message;
 use std::alloc::{AllocError, Global};
 use text_run::{RunError, answer_line};
@@ -123,18 +123,20 @@ fn try_form(
     tally: &mut Tally,
 ) -> Result<(), RunError> {
     let request = bytes_of(alloc, bytes, form)?;
-    let whole = [(Cut::Whole, Cut::Whole)];
-    let uncut = serve(
-        alloc,
-        message,
-        &request,
-        form.room,
-        &whole,
-        Way::Messages,
-        &mut (),
-    )?;
+    let whole = Asked {
+        bytes: &request,
+        room: form.room,
+        cuttings: &[(Cut::Whole, Cut::Whole)],
+        way: Way::Messages,
+    };
+    let uncut = serve(alloc, message, whole, &mut ())?;
     tally.digest = digest(tally.digest, text_of(alloc, &uncut)?.as_bytes());
-    let served = serve(alloc, message, &request, form.room, cuttings, way, &mut ())?;
+    let cut = Asked {
+        cuttings,
+        way,
+        ..whole
+    };
+    let served = serve(alloc, message, cut, &mut ())?;
     let wrong = count_wrong(&uncut, &served, leaves_room_open(&request));
     if wrong > 0 && tally.first_wrong.is_none() {
         tally.first_wrong = Some(form);

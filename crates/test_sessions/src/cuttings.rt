@@ -78,19 +78,21 @@ pub struct Served {
 
 /// Bytes, cut.
 pub fn pieces<'a>(alloc: Global, bytes: &'a [u8], cut: Cut) -> Result<Vec<&'a [u8]>, AllocError> {
-    let mut pieces = Vec::new(alloc);
     match cut {
-        Cut::Whole => pieces.push(bytes)?,
-        Cut::Bytes => {
-            for byte in bytes.chunks(1) {
-                pieces.push(byte)?;
-            }
-        }
+        Cut::Whole => Ok(Vec::from_array(alloc, [bytes])?),
+        Cut::Bytes => single_bytes(alloc, bytes),
         Cut::At(place) => {
             let (first, rest) = bytes.split_at(place.min(bytes.len()));
-            pieces.push(first)?;
-            pieces.push(rest)?;
+            Ok(Vec::from_array(alloc, [first, rest])?)
         }
+    }
+}
+
+// Bytes, cut between all of them.
+fn single_bytes<'a>(alloc: Global, bytes: &'a [u8]) -> Result<Vec<&'a [u8]>, AllocError> {
+    let mut pieces = Vec::new(alloc);
+    for byte in bytes.chunks(1) {
+        pieces.push(byte)?;
     }
     Ok(pieces)
 }
@@ -105,37 +107,68 @@ pub fn rooms(alloc: Global, length: usize, cut: Cut) -> Result<Vec<Vec<u8>>, All
     Ok(rooms)
 }
 
-/// Agrees on what a message needs: hands the server the lines before it.
-pub fn agree(
+// Agrees on what a message needs: hands the server the lines before it.
+fn agree(
     alloc: Global,
     server: &mut Server<SeededFs<'_>>,
     message: &Message,
 ) -> Result<(), RunError> {
     for line in &lines_of(alloc, message.before.as_bytes())? {
-        let Some(request) = parse_line(alloc, line)? else {
-            return Err(RunError::BadLine(1));
-        };
-        answer_to(alloc, server, &request)?;
+        agree_on(alloc, server, line)?;
     }
     Ok(())
 }
 
-/// Hands a new server the bytes of a request again and again, in each of these cuttings of them and
-/// of a room of that many bytes, once what the message needs is agreed on.
+// Hands the server the request of a line.
+fn agree_on(alloc: Global, server: &mut Server<SeededFs<'_>>, line: &[u8]) -> Result<(), RunError> {
+    match parse_line(alloc, line)? {
+        Some(request) => {
+            answer_to(alloc, server, &request)?;
+            Ok(())
+        }
+        None => Err(RunError::BadLine(1)),
+    }
+}
+
+/// The bytes of a request, how many bytes its room has, where both are cut, again and again, and how
+/// they are handed over.
+#[derive(Clone, Copy)]
+pub struct Asked<'a> {
+    /// The request.
+    pub bytes: &'a [u8],
+
+    /// The length of its room.
+    pub room: usize,
+
+    /// How it is cut, each time that it is handed over.
+    pub cuttings: &'a [Cutting],
+
+    /// By which call.
+    pub way: Way,
+}
+
+/// Hands a new server a request again and again, once what the message needs is agreed on.
 pub fn serve<W: Watch>(
     alloc: Global,
     message: &Message,
-    bytes: &[u8],
-    room: usize,
-    cuttings: &[Cutting],
-    way: Way,
+    asked: Asked<'_>,
     watch: &mut W,
 ) -> Result<Served, RunError> {
     let told = RefCell::new(VecDeque::new(alloc));
     let mut server = Server::new(SeededFs::with_room(alloc, &told, NOTES)?, PAGE_SIZE);
     agree(alloc, &mut server, message)?;
+    serve_by(alloc, &mut server, asked, watch)
+}
+
+// Hands a server a request again and again.
+fn serve_by<W: Watch>(
+    alloc: Global,
+    server: &mut Server<SeededFs<'_>>,
+    asked: Asked<'_>,
+    watch: &mut W,
+) -> Result<Served, RunError> {
     let noted = server.fs().notes().text().len();
-    let (outcomes, rooms) = hand_over(alloc, &mut server, bytes, room, cuttings, way, watch)?;
+    let (outcomes, rooms) = hand_over(alloc, server, asked, watch)?;
     Ok(Served {
         outcomes,
         rooms,
@@ -144,28 +177,24 @@ pub fn serve<W: Watch>(
     })
 }
 
-// Hands over the bytes of a request in each of these cuttings. The outcomes, and the bytes of the
-// rooms afterwards.
+// Hands over a request in each of its cuttings. The outcomes, and the bytes of the rooms afterwards.
 fn hand_over<W: Watch>(
     alloc: Global,
     server: &mut Server<SeededFs<'_>>,
-    bytes: &[u8],
-    room: usize,
-    cuttings: &[Cutting],
-    way: Way,
+    asked: Asked<'_>,
     watch: &mut W,
 ) -> Result<(Vec<fuse_server::Result<usize>>, Vec<Vec<u8>>), RunError> {
-    let (pieces, counts) = cut_each(alloc, bytes, cuttings)?;
+    let (pieces, counts) = cut_each(alloc, asked.bytes, asked.cuttings)?;
     let readers = readers_over(alloc, &pieces, &counts)?;
-    let mut writers = writers_for(alloc, room, cuttings)?;
-    let mut outcomes = vec![in alloc; Ok(0); cuttings.len()]?;
+    let mut writers = writers_for(alloc, asked.room, asked.cuttings)?;
+    let mut outcomes = vec![in alloc; Ok(0); asked.cuttings.len()]?;
     handle_all(
         alloc,
         server,
         readers,
         &mut writers,
         &mut outcomes,
-        way,
+        asked.way,
         watch,
     )?;
     Ok((outcomes, bytes_of(alloc, writers)?))

@@ -1,6 +1,6 @@
 //! The messages of the corpus, over the scripted file system.
 
-use crate::cuttings::{Cut, Cutting, Way, serve};
+use crate::cuttings::{Asked, Cut, Cutting, Way, serve};
 use crate::refusals::parts::Parts;
 use crate::table::{Message, messages};
 use std::alloc::Global;
@@ -53,6 +53,12 @@ fn try_cut<W: io::Write + Drop>(
     let name = message.name;
     parts.call_next(format!(in alloc; "{name}, {how}")?);
     let (bytes, room) = message.request(alloc)?;
-    let served = serve(alloc, message, &bytes, room, cuttings, way, parts)?;
+    let asked = Asked {
+        bytes: &bytes,
+        room,
+        cuttings,
+        way,
+    };
+    let served = serve(alloc, message, asked, parts)?;
     parts.tell_served(&served)
 }
