@@ -13,13 +13,9 @@ mod lines;
 #[cfg(test)]
 mod long_requests;
 #[cfg(test)]
-mod messages;
-#[cfg(test)]
 mod migration;
 #[cfg(test)]
 mod mock;
-#[cfg(test)]
-mod readers;
 #[cfg(test)]
 mod segments;
 #[cfg(test)]
@@ -36,5 +32,3 @@ mod transfers;
 mod usage;
 #[cfg(test)]
 mod wire;
-#[cfg(test)]
-mod wire_more;

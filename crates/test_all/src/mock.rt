@@ -5,8 +5,7 @@ mod rows;
 
 use crate::mock::rows::{Noted, Row, rows};
 use crate::support::{
-    Outcome, ScriptServer, handle, holds, none_is_wrong, reply_by_script, script_server,
-    server_over,
+    ScriptServer, holds, none_is_wrong, reply, reply_by_script, script_server, server_over,
 };
 use bitflags::Flags;
 use fs_mock::{Note, Recorder, Script, ScriptDirectory, ScriptFile, ScriptItem};
@@ -157,11 +156,6 @@ fn a_recorder_notes_each_call_that_a_script_answers(rt: HostRuntime) -> Result<(
 /// A server over a file system that serves nothing, with a note of each call.
 type UnservedServer = Server<Recorder<Unserved>>;
 
-/// Hands such a server the message of a row.
-fn handle_unserved(alloc: Global, server: &mut UnservedServer, row: &Row) -> Result<Outcome, Fail> {
-    handle(alloc, server, row.message, &[160], 0)
-}
-
 /// Whether the call of a row is the last note of such a server.
 fn is_noted_unserved(server: &UnservedServer, row: &Row) -> bool {
     is_last(server.fs(), &note_of(row, row.unserved))
@@ -170,7 +164,7 @@ fn is_noted_unserved(server: &UnservedServer, row: &Row) -> bool {
 /// The opcode of the first message whose note is another where nothing is served.
 fn wrongly_noted(alloc: Global, server: &mut UnservedServer) -> Result<Option<u8>, Fail> {
     for row in rows() {
-        handle_unserved(alloc, server, row)?;
+        reply(alloc, server, row.message, 160)?;
         if !is_noted_unserved(server, row) {
             return Ok(Some(row.message.0));
         }

@@ -3,7 +3,7 @@
 use crate::support::{have_texts, holds, request};
 use example_client::{data, lookup, read, said};
 use example_tree::Docs;
-use fs_small::{ReadOnly, name_position};
+use fs_small::ReadOnly;
 use fuse_flags::Errno;
 use fuse_server::server::Server;
 use fuse_server::transport::{ServeError, serve};
@@ -114,12 +114,4 @@ fn lacks_room(alloc: Global) -> Result<bool, Fail> {
 fn a_transport_tells_why_there_is_no_reply(rt: HostRuntime) -> Result<(), Fail> {
     holds(lacks_room(rt.alloc()))?;
     holds(have_texts(rt.alloc(), &TEXTS))
-}
-
-/// Names, the last two of them the same.
-static NAMES: [&[u8]; 3] = [b"a", b"b", b"b"];
-
-#[test]
-fn a_name_is_at_its_first_place(rt: HostRuntime) {
-    assert!(rt; name_position(&NAMES, b"b") == Some(1) && name_position(&NAMES, b"c") == None);
 }

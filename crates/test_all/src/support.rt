@@ -8,10 +8,6 @@ use std::alloc::{AllocError, Global};
 use std::fmt::{Debug, Display};
 use std::test::Fail;
 
-/// What came of a request that was not refused: the reply's length, and the bytes of the room
-/// afterwards.
-pub type Outcome = (usize, Vec<u8>);
-
 /// A request with this opcode and node, and these bytes after its header. Its `len` counts all of
 /// them, its `unique` is 9, and all else in the header is 0.
 pub fn request(
@@ -60,19 +56,6 @@ pub fn filled(alloc: Global, lengths: &[usize], byte: u8) -> Result<Vec<Vec<u8>>
     Ok(segments)
 }
 
-/// Whether segments have these bytes.
-pub fn are(segments: &[Vec<u8>], want: &[&[u8]]) -> bool {
-    if segments.len() != want.len() {
-        return false;
-    }
-    for i in 0..want.len() {
-        if segments[i].as_slice() != want[i] {
-            return false;
-        }
-    }
-    true
-}
-
 /// The bytes of segments, one after another.
 pub fn joined(alloc: Global, segments: &[Vec<u8>]) -> Result<Vec<u8>, AllocError> {
     let mut all = Vec::new(alloc);
@@ -101,37 +84,19 @@ pub fn have_texts<E: Display>(alloc: Global, rows: &[(E, &str)]) -> Result<bool,
 /// A message: its opcode, its node, and the bytes after its header.
 pub type Message<'a> = (u8, u8, &'a [u8]);
 
-/// Hands a server a message with a room of segments of these lengths, without a zero in them, of
-/// which the first `held` bytes are held.
-pub fn handle<F: FileSystem>(
+/// The reply of a server to a message with a room of that many bytes, without a zero in it.
+pub fn reply<F: FileSystem>(
     alloc: Global,
     server: &mut Server<F>,
     (opcode, node, following): Message<'_>,
-    room: &[usize],
-    held: usize,
-) -> Result<Outcome, Fail> {
+    room: usize,
+) -> Result<Vec<u8>, Fail> {
     let request = request(alloc, opcode, node, following)?;
-    handle_request(alloc, server, &request, room, held)
-}
-
-/// A writer over a room of segments of these lengths, of which the first `held` bytes are held.
-pub fn writer_over(alloc: Global, room: &[usize], held: usize) -> Result<Writer, Fail> {
-    let mut writer = Writer::new(alloc, filled(alloc, room, 0xaa)?)?;
-    writer.hold(held)?;
-    Ok(writer)
-}
-
-/// The same of a request.
-fn handle_request<F: FileSystem>(
-    alloc: Global,
-    server: &mut Server<F>,
-    request: &[u8],
-    room: &[usize],
-    held: usize,
-) -> Result<Outcome, Fail> {
-    let mut writer = writer_over(alloc, room, held)?;
-    let len = hand_over(alloc, server, request, &mut writer)?;
-    Ok((len, joined(alloc, &writer.into_segments())?))
+    let mut writer = Writer::new(alloc, filled(alloc, &[room], 0xaa)?)?;
+    let len = hand_over(alloc, server, &request, &mut writer)?;
+    let mut reply = joined(alloc, &writer.into_segments())?;
+    reply.truncate(len);
+    Ok(reply)
 }
 
 /// How long the reply to a request is that a server puts into a writer.
@@ -166,25 +131,12 @@ pub fn script_server(alloc: Global, script: Script, n: usize) -> Result<ScriptSe
     server_over(alloc, script, n)
 }
 
-/// `handle` of such a server. It is a function of its own, so that it is proved once for all tests.
-pub fn handle_by_script(
-    alloc: Global,
-    server: &mut ScriptServer,
-    message: Message<'_>,
-    room: &[usize],
-    held: usize,
-) -> Result<Outcome, Fail> {
-    handle(alloc, server, message, room, held)
-}
-
-/// The reply of such a server to a message with a room of that many bytes in one piece.
+/// `reply` of such a server. It is a function of its own, so that it is proved once for all tests.
 pub fn reply_by_script(
     alloc: Global,
     server: &mut ScriptServer,
     message: Message<'_>,
     room: usize,
 ) -> Result<Vec<u8>, Fail> {
-    let (len, mut room) = handle_by_script(alloc, server, message, &[room], 0)?;
-    room.truncate(len);
-    Ok(room)
+    reply(alloc, server, message, room)
 }
