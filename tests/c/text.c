@@ -161,6 +161,8 @@ static void hold_examples(void)
 	CHECK(!strcmp(text, "-> unique=3 error=ENOENT (2)"));
 	nizwarf_print_reply(request, 43, NULL, 0, text, sizeof(text));
 	CHECK(!strcmp(text, "-> no reply"));
+	nizwarf_print_reply(request, 43, &refused, sizeof(refused) - 1, text, sizeof(text));
+	CHECK(!strcmp(text, "-> refused=DecodeMessage"));
 	CHECK(nizwarf_check(NULL, request, 43, 0, NULL, NULL) == NIZWARF_NULL);
 }
 

@@ -30,6 +30,7 @@ Status 0: each is noticed or known, or a part was looked at; 1: one is neither; 
 """
 import argparse
 import collections
+import concurrent.futures
 import hashlib
 import os
 import re
@@ -40,7 +41,7 @@ import tempfile
 import time
 
 import conjuncts
-import terms
+import reading
 import uses
 
 HERE = os.path.dirname(os.path.dirname(os.path.dirname(os.path.abspath(__file__))))
@@ -131,7 +132,21 @@ class Prover:
         texts = uses.Texts(f"{HERE}/crates")
         self.named, self.reached = uses.Named(f"{HERE}/crates", f"{self.kit}/rattle", of_kit), texts.all()
         self.words_of(texts)
-        self.terms, self.read = terms.Kept(texts, f"{HERE}/crates", f"{kept}/crates", self.kit), set()
+        self.kept, self.uses = kept, {}
+
+    def above(self, name):
+        """A crate and those that stand on it."""
+        return [name, *[one for one in self.below if name in self.all_below[one]]]
+
+    def read_terms(self, names, jobs):
+        """Reads the terms of these crates' proofs, and of those above, so many at once."""
+        wanted = [it for it in self.below if any(it in self.above(name) for name in names) and is_kept(it, f"{self.kept}/crates")]
+        with concurrent.futures.ProcessPoolExecutor(jobs, max_tasks_per_child=1) as pool:
+            all_ = [pool.submit(reading.uses_of, it, all_below(it, self.below), f"{HERE}/crates", f"{self.kept}/crates", self.kit, f"{HERE}/out/weaken/{it}.uses") for it in wanted]
+            for it, one in zip(wanted, all_):
+                for place, where in one.result().items():
+                    self.uses.setdefault(place, where)
+                print(f"The terms of {it} are read.", file=sys.stderr)
 
     def words_of(self, texts):
         """Counts the words of all code and of all proofs, without where a proof takes its own goals from."""
@@ -150,15 +165,8 @@ class Prover:
 
     def used(self, name, it):
         """Where the term of a proof, as the checker kept it, uses a conjunct: in its own crate or one above."""
-        for crate in [name, *[one for one in self.below if name in self.all_below[one]]]:
-            if crate not in self.read and is_kept(crate, self.terms.kept):
-                self.terms.crate(crate)
-            self.read.add(crate)
-        for file, owner in self.terms.used.get((f"{HERE}/crates/{name}/{it.file}", it.start, it.end), ()):
-            crate = os.path.relpath(file, f"{HERE}/crates").split("/")[0]
-            if crate == name or name in self.all_below[crate]:
-                return f"{os.path.relpath(file, f'{HERE}/crates').removeprefix(f'{name}/')} {owner}"
-        return None
+        where = self.uses.get((f"{HERE}/crates/{name}/{it.file}", it.start, it.end))
+        return where.removeprefix(f"{name}/") if where else None
 
     def prove(self, name):
         """Proves a crate as it is, if it is not proved yet."""
@@ -749,6 +757,7 @@ def main():
     parser.add_argument("--only", action="append", default=[], metavar="WORD")
     parser.add_argument("--pause", default="", metavar="FILE")
     parser.add_argument("--kept", default=HERE, metavar="FOLDER")
+    parser.add_argument("--jobs", type=int, default=1, metavar="N")
     parser.add_argument("--minutes", type=float, default=float("inf"), metavar="N")
     words = parser.parse_args()
     facts = conjuncts.predicates(f"{HERE}/crates")
@@ -767,6 +776,8 @@ def main():
             results.keep(name, set())
     os.makedirs(f"{HERE}/out/weaken", exist_ok=True)
     prover = None if words.tell else Prover(words.pause, os.path.abspath(words.kept))
+    if prover:
+        prover.read_terms(words.crates, words.jobs)
     for name in words.crates:
         with tempfile.TemporaryDirectory(dir=f"{HERE}/out") as folder:
             if prover:

@@ -1,0 +1,430 @@
+"""Which conjuncts the terms of proofs use, by types that are inferred of the terms themselves. A conjunct is the node of a
+definition's or a clause's term that its text became, and it is used where a value of that type is projected, applied or taken
+by cases, or is handed to what wants another type, as a lemma or another clause."""
+import hashlib
+import json
+import os
+import re
+import sys
+import threading
+
+from places import Places
+from terms import Library, ALONG, APP, CASES, CONSTRUCTOR, DEF, LAM, LET, LITERAL, PROJECTION, RECORD, SUFFIX, TYPED, TYPES, VAR
+from values import ENDS, Lost, Machine, Thunk
+
+# What opens the types of its arguments, and is kept in no form that is read here.
+OPENING = ("mathlib.Core.Path.", "Prim.J", "Prim.coerced", "Prim.absurd")
+SUBSTITUTION = {"mathlib.Core.Path.subst": False, "mathlib.Core.Path.subst⁻¹": True}
+MOST_STEPS = 30_000
+# What crates that are read one after the other have in common.
+SHARED = {}
+
+
+class Reader:
+    """Reads the terms of proofs, and notes what they use."""
+
+    def __init__(self, library, places):
+        self.library, self.machine, self.places = library, Machine(library), places
+        self.used, self.unknown, self.unread = {}, 0, 0
+        self.machine.type_of_path = self.known_type
+
+    # What is used.
+
+    def note(self, state):
+        if state in self.places:
+            self.found.update(self.places[state])
+
+    def value(self, thunk):
+        if thunk is None:
+            return None
+        self.machine.steps = MOST_STEPS
+        try:
+            return self.machine.value(thunk)
+        except (Lost, RecursionError, TypeError, KeyError, IndexError):
+            self.unknown += 1
+            return None
+
+    def taken(self, thunk):
+        """A value of this type is projected, applied or taken by cases."""
+        value = self.value(thunk)
+        if value is not None:
+            for state in thunk.trail:
+                self.note(state)
+        return value
+
+    def handed(self, given, wanted):
+        """A value of the first type is handed to what wants the second."""
+        if given is None or wanted is None or self.value(given) is None or self.value(wanted) is None:
+            return
+        if not given.trail or not wanted.trail:
+            return
+        first = wanted.trail[0]
+        # (any type will do)
+        if self.library.item(first[0]).nodes[first[1]][0] == VAR:
+            return
+        states = set(wanted.trail)
+        for state in given.trail:
+            if state not in states:
+                self.note(state)
+
+    # Types.
+
+    def type_of(self, name):
+        it = self.library.item(name)
+        if it is None or it.kind not in (0, 4, 5):
+            return None
+        root = it.roots[0]
+        if it.kind == 4 and it.nodes[root][0] == 35:
+            root = it.nodes[root][1]
+        return Thunk(it, root, None)
+
+    def field(self, thunk, whole, label):
+        """The type of a field of a value of this type."""
+        value = self.value(thunk)
+        if value is None:
+            return None
+        if value[0] == "fields":
+            item, fields, env = value[1:]
+        elif value[0] == "stuck" and value[1][0] == "type":
+            item = self.library.item(value[1][1])
+            if item is None or item.kind != 2 or len(value[2]) != len(item.parameters) or any(isinstance(it, str) for it in value[2]):
+                return None
+            fields, env = item.fields, None
+            for it in value[2]:
+                env = (it, None, env)
+        else:
+            return None
+        for word, node in fields:
+            if word == label:
+                return Thunk(item, node, env)
+            env = (self.machine.applied(whole, [word]), None, env)
+        return None
+
+    def infer(self, item, node, env, more=(), wanted=None):
+        """The type of a term that is given more, or None, where it is gone through as one of the type that is wanted; what
+        it uses is noted."""
+        steps, base, nodes = [], node, item.nodes
+        while nodes[base][0] in (APP, PROJECTION, TYPED):
+            if nodes[base][0] != TYPED:
+                steps.append((base, env))
+            base = nodes[base][2 if nodes[base][0] == TYPED else 1]
+        steps = [*reversed(steps), *more]
+        it, is_given = nodes[base], bool(steps) and nodes[steps[0][0]][0] == APP
+        tag = it[0]
+        if wanted is not None and not steps and tag in (RECORD, CONSTRUCTOR, LAM):
+            self.check(item, base, env, wanted)
+            return None
+        if tag == VAR:
+            one = env
+            for _ in range(it[1]):
+                one = one[2]
+            if isinstance(one[1], tuple):
+                # (a choice that has a name)
+                return self.infer(item, *one[1][:2], steps) if steps else one[1][2]
+            return self.through(item, one[1], steps)
+        if tag == DEF:
+            return self.infer_named(item, item.module.named(it[1]), steps, env)
+        if tag == CASES:
+            type_, steps = self.infer_cases(item, it, steps, env)
+            return self.through(item, type_, steps)
+        if tag == LAM and is_given:
+            step, at = steps[0]
+            argument = nodes[step][2]
+            return self.infer(item, it[2], (Thunk(item, argument, at), self.infer(item, argument, at), env), steps[1:], wanted)
+        if tag == LET:
+            return self.infer(item, it[4], self.bound(item, it, env), steps, wanted)
+        if tag == RECORD and steps and not is_given:
+            type_ = None
+            for label, one in it[1]:
+                got = self.infer(item, one, env)
+                type_ = got if label == nodes[steps[0][0]][2] else type_
+            return self.through(item, type_, steps[1:])
+        self.walk(item, base, env)
+        return self.through(item, self.type_along(item, it, env) if tag == ALONG else None, steps)
+
+    def type_along(self, item, it, env):
+        """The type of what is carried along a path of types to its end, or None."""
+        line, end = item.nodes[it[3]], item.nodes[it[2]][0]
+        if line[0] != 27 or end not in (17, 18):
+            return None
+        return Thunk(item, line[2], (Thunk(value=ENDS[end - 17]), None, env))
+
+    def known_type(self, item, node, env):
+        """A type, with nothing noted."""
+        found, seen, self.found, self.seen = self.found, self.seen, set(), set()
+        try:
+            return self.infer(item, node, env)
+        finally:
+            self.found, self.seen = found, seen
+
+    def through(self, item, type_, steps):
+        """The type of what is projected and applied, from a value of this type on."""
+        for step, env in steps:
+            one = item.nodes[step]
+            if one[0] == PROJECTION:
+                self.taken(type_) if type_ else None
+                type_ = self.field(type_, Thunk(item, one[1], env), one[2]) if type_ else None
+                continue
+            value = self.taken(type_) if type_ else None
+            if value is not None and value[0] == "function":
+                self.check(item, one[2], env, Thunk(value[1], value[2], value[4]))
+                type_ = Thunk(value[1], value[3], (Thunk(item, one[2], env), None, value[4]))
+            else:
+                self.infer(item, one[2], env)
+                type_ = None
+        return type_
+
+    def infer_named(self, item, word, steps, env):
+        """A definition that is given these."""
+        nodes = item.nodes
+        if word in SUBSTITUTION and len(steps) >= 6 and all(nodes[one][0] == APP and at is env for one, at in steps[:6]):
+            return self.through(item, self.infer_substitution(item, SUBSTITUTION[word], [nodes[one][2] for one, _ in steps[:6]], env), steps[6:])
+        type_ = self.type_of(word)
+        if type_ is None and word.startswith(OPENING):
+            for one, at in steps:
+                if nodes[one][0] == APP:
+                    self.of_path(item, nodes[one][2], at)
+            return None
+        return self.through(item, type_, steps)
+
+    def infer_substitution(self, item, is_back, given, env):
+        """`subst P p u`, of x ≡ y: from `P x` to `P y`, or back."""
+        family, x, y = (Thunk(item, given[i], env) for i in (1, 2, 3))
+        self.of_path(item, given[4], env)
+        self.check(item, given[5], env, self.machine.applied(family, [y if is_back else x]))
+        return self.machine.applied(family, [x if is_back else y])
+
+    def bound(self, item, it, env):
+        type_ = Thunk(item, it[2], env)
+        if item.module.strings[it[1]].endswith(".elim"):
+            return (Thunk(item, it[3], env), (it[3], env, type_), env)
+        inferred = self.infer(item, it[3], env)
+        if inferred is None:
+            self.check_only_new(item, it[3], env, type_)
+        return (Thunk(item, it[3], env), inferred or type_, env)
+
+    def check_only_new(self, item, node, env, type_):
+        if item.nodes[node][0] in (LAM, RECORD, CONSTRUCTOR):
+            self.check(item, node, env, type_)
+
+    def infer_cases(self, item, it, steps, env):
+        """A choice by cases. Gives the type, and the steps that are left."""
+        name, nodes = item.module.named(it[1]), item.nodes
+        data = self.machine.data(name)
+        count = data[0] + 1 + len(data[1]) + 1 if data else 0
+        # (as a function, it has no scrutinee yet)
+        is_function = len(steps) == count - 1
+        if data is None or len(steps) < count - is_function or any(nodes[one][0] != APP for one, _ in steps[:count]):
+            for one, at in steps:
+                if nodes[one][0] == APP:
+                    self.infer(item, nodes[one][2], at)
+            return None, []
+        given = [(nodes[one][2], at) for one, at in steps[:count]]
+        thunks = [Thunk(item, *one) for one in given]
+        motive = thunks[data[0]]
+        if is_function:
+            scrutinee = Thunk(value=("stuck", ("type", name), tuple(thunks[: data[0]])))
+        else:
+            scrutinee = self.infer(item, *given[-1])
+        of = self.taken(scrutinee) if scrutinee else None
+        parameters = list(of[2]) if of and of[0] == "stuck" and of[1] == ("type", name) else thunks[: data[0]]
+        for (word, args), (method, at) in zip(data[1], given[data[0] + 1 :]):
+            self.check_method(item, method, at, (name, word, args, parameters[: data[0]], scrutinee, motive))
+        return (None, []) if is_function else (self.machine.applied(motive, [thunks[-1]]), steps[count:])
+
+    def check_method(self, item, method, env, case):
+        """What is said of one constructor."""
+        name, word, args, parameters, scrutinee, motive = case
+        declared, types, built, again = self.library.item(name), None, [], []
+        for one in parameters:
+            types = (one, None, types)
+        for one in args:
+            variable = self.machine.variable()
+            if one is None:
+                again.append(variable)
+            built.append((variable, scrutinee if one is None else Thunk(declared, one, types) if declared else None))
+            types = (variable, None, types)
+        for variable, type_ in [*built, *[(self.machine.variable(), self.machine.applied(motive, [one])) for one in again]]:
+            if item.nodes[method][0] != LAM:
+                self.infer(item, method, env)
+                return
+            env, method = (variable, type_, env), item.nodes[method][2]
+        whole = Thunk(value=("built", word, tuple(one for one, _ in built)))
+        self.check(item, method, env, self.machine.applied(motive, [whole]))
+
+    def check(self, item, node, env, wanted):
+        """Goes through a term that is to be of a type."""
+        it = item.nodes[node]
+        tag = it[0]
+        if tag in TYPES or self.is_seen(item, node, env):
+            return
+        if tag == TYPED:
+            self.check(item, it[2], env, wanted)
+        elif tag == LAM:
+            value = self.value(wanted)
+            variable = self.machine.variable()
+            if value is not None and value[0] == "function":
+                self.check(item, it[2], (variable, Thunk(value[1], value[2], value[4]), env), Thunk(value[1], value[3], (variable, None, value[4])))
+            else:
+                self.infer(item, it[2], (variable, None, env))
+        elif tag == LET:
+            self.check(item, it[4], self.bound(item, it, env), wanted)
+        elif tag == RECORD:
+            whole = Thunk(item, node, env)
+            for label, one in it[1]:
+                type_ = self.field(wanted, whole, label) if wanted else None
+                if type_ is not None:
+                    self.check(item, one, env, type_)
+                else:
+                    self.infer(item, one, env)
+        elif tag == CONSTRUCTOR:
+            self.check_built(item, it, env, wanted)
+        elif tag == 30 and env is None:
+            # (a term under a key, whose type is a function of the key)
+            value = self.value(wanted)
+            if value is not None and value[0] == "function":
+                wanted = Thunk(value[1], value[3], (self.machine.variable(), None, value[4]))
+                self.check(item, it[2], env, wanted)
+            else:
+                self.infer(item, it[2], env)
+        else:
+            self.handed(self.infer(item, node, env, (), wanted), wanted)
+
+    def is_seen(self, item, node, env):
+        key = (item.name, node, id(env))
+        if key in self.seen:
+            return True
+        self.seen.add(key)
+        self.kept.append(env)
+        return False
+
+    def check_built(self, item, it, env, wanted):
+        value = self.value(wanted) if wanted else None
+        word = item.module.named(it[1])
+        types, declared = None, None
+        if value is not None and value[0] == "stuck" and value[1][0] == "type":
+            declared = self.library.item(value[1][1])
+            args = next((given for one, given in declared.constructors if one == word), None) if declared and declared.kind == 1 else None
+            if args is not None and len(args) == len(it[2]) and len(value[2]) >= len(declared.parameters):
+                for one in value[2][: len(declared.parameters)]:
+                    types = (one, None, types)
+                for one, kind in zip(it[2], args):
+                    self.check(item, one, env, wanted if kind is None else Thunk(declared, kind, types))
+                    types = (Thunk(item, one, env), None, types)
+                return
+        for one in it[2]:
+            self.infer(item, one, env)
+
+    def walk(self, item, node, env):
+        """Goes through a term of another form."""
+        it = item.nodes[node]
+        tag = it[0]
+        if tag in TYPES or tag in (LITERAL, 49, 16, 17, 18, 19, 23, 24, 26, VAR, DEF) or self.is_seen(item, node, env):
+            return
+        if tag == LAM:
+            self.infer(item, it[2], (self.machine.variable(), None, env))
+        elif tag == RECORD:
+            for _, one in it[1]:
+                self.infer(item, one, env)
+        elif tag == CONSTRUCTOR:
+            for one in it[2]:
+                self.infer(item, one, env)
+        elif tag in (27, 28, 31, 33):
+            self.infer(item, it[2], (self.machine.variable(), None, env))
+        elif tag in (32, 38):
+            # (the type of a path, with its ends)
+            for one in it[1] if tag == 38 else it[1:]:
+                self.infer(item, one, env)
+        elif tag == 34:
+            self.of_path(item, it[2], env)
+        elif tag == 39:
+            self.of_path(item, it[3], env)
+            self.of_path(item, it[4], env)
+        elif tag in (20, 21, 22, 25, 30, 35, 36):
+            for one in it[1:]:
+                self.of_path(item, one, env)
+
+    def of_path(self, item, node, env):
+        """An argument of one of the logic's own terms, which opens its type."""
+        type_ = self.infer(item, node, env)
+        if type_ is not None:
+            self.taken(type_)
+
+    def read(self, item, where):
+        """Reads an item's term."""
+        self.seen, self.kept, self.found = set(), [], set()
+        if item.kind != 0:
+            return
+        try:
+            self.check(item, item.roots[1], None, Thunk(item, item.roots[0], None))
+        except (RecursionError, TypeError):
+            # (a form of the logic's that binds more than is known here)
+            self.unread += 1
+            return
+        for it in self.found:
+            self.used.setdefault(it, where)
+
+
+def of_crate(crate, below, crates, kept, kit):
+    """Of each place of a conjunct that the proofs of a crate use, where."""
+    if (crates, kept) not in SHARED:
+        library = Library(kept, kit)
+        SHARED[(crates, kept)] = library, Places(library, crates)
+    library, places = SHARED[(crates, kept)]
+    for it in (*below, crate):
+        places.crate(it)
+    reader, folder = Reader(library, places.of), library.folder(crate)
+    start = f"Rattle-{crate}-proofs."
+    for file in sorted(os.listdir(folder)) if folder else ():
+        name = file[: -len(".oantt")]
+        path = name[len(start) :].replace(".", "/")
+        if not file.endswith(".oantt") or not name.startswith(start):
+            continue
+        where, is_written = f"proofs/{path}.antt", os.path.isfile(f"{crates}/{crate}/proofs/{path}.antt")
+        if not is_written:
+            parts = path.split("/")
+            files = [*(f"src/{'/'.join(parts[:i])}.rt" for i in range(len(parts) - 1, 0, -1)), "src/lib.rt", "src/main.rt"]
+            where = next(it for it in files if os.path.isfile(f"{crates}/{crate}/{it}"))
+            with open(f"{crates}/{crate}/{where}", encoding="utf-8") as opened:
+                # (what was kept of a function that is no more stays)
+                if parts[-1] != "Proof" or not re.search(rf"\b{re.escape(parts[-2])}\b", opened.read()):
+                    continue
+        module = library.module(name)
+        for it in list(module.items.values()) if module else ():
+            reader.read(it, f"{crate}/{where} {SUFFIX.sub('', it.name)[len(name) + 1 :]}")
+        if name.endswith((".Proof", ".Answers", ".Invariants")):
+            library.forget(name.rpartition(".")[0] + ".")
+    return reader.used
+
+
+def text_of(folder):
+    """All that stands in a crate."""
+    found = []
+    for part in ("src", "specs", "proofs"):
+        for path, _, files in sorted(os.walk(f"{folder}/{part}")):
+            for file in sorted(files):
+                with open(f"{path}/{file}", encoding="utf-8", errors="replace") as it:
+                    found.append(f"{path[len(folder) :]}/{file}\n{it.read()}")
+    return "\n".join(found)
+
+
+def uses_of(crate, below, crates, kept, kit, file):
+    """The same, from the file that keeps it, as long as what it was read of stays."""
+    with open(__file__, encoding="utf-8") as own:
+        texts = [own.read(), *(text_of(f"{crates}/{it}") for it in (*below, crate))]
+    key = hashlib.sha256("\n".join(texts).encode()).hexdigest()
+    if os.path.isfile(file):
+        with open(file, encoding="utf-8") as opened:
+            was = json.load(opened)
+        if was["of"] == key:
+            return {(f"{crates}/{path}", start, end): where for path, start, end, where in was["uses"]}
+    found = {}
+    # (terms are deep)
+    sys.setrecursionlimit(200_000)
+    threading.stack_size(512 << 20)
+    worker = threading.Thread(target=lambda: found.update(of_crate(crate, below, crates, kept, kit)))
+    worker.start()
+    worker.join()
+    with open(file, "w", encoding="utf-8") as opened:
+        json.dump({"of": key, "uses": [[path[len(crates) + 1 :], start, end, where] for (path, start, end), where in found.items()]}, opened)
+    return found

@@ -1,0 +1,183 @@
+"""What terms come to, as far as their first sign, with each whole term on the way to it."""
+from terms import APP, AT, CASES, CONSTRUCTOR, DATA, DEF, LAM, LET, LITERAL, PI, PROJECTION, RECORD, RECORD_NAMED, RECORD_TYPE, SORT, TYPED, VAR
+
+ZERO, SUC = "Prim.Native.Nat.zero", "Prim.Native.Nat.suc"
+# The constructors of types that no module declares, with which of their arguments recur.
+NATIVE = {"Prim.Native.Nat.ℕ": [(ZERO, []), (SUC, [None])], "Prim.⊥": []}
+# The type of paths, which is not opened here, and the ends of one.
+PATHS = "mathlib.Core.Path.◌≡◌"
+ENDS = [("stuck", ("other", 17), ()), ("stuck", ("other", 18), ())]
+
+
+class Thunk:
+    """A term in what its variables stand for, whose value is worked out once, with each whole term on the way to it."""
+
+    __slots__ = ("item", "node", "env", "value", "trail", "make")
+
+    def __init__(self, item=None, node=0, env=None, value=None, make=None):
+        self.item, self.node, self.env, self.value, self.trail, self.make = item, node, env, value, (), make
+
+
+class Lost(Exception):
+    """A value took too many steps, or is of a form that is not known."""
+
+
+class Machine:
+    """Works out values, as far as their first sign."""
+
+    def __init__(self, library):
+        self.library, self.steps, self.fresh, self.type_of_path = library, 0, 0, None
+
+    def variable(self):
+        self.fresh += 1
+        return Thunk(value=("stuck", ("variable", self.fresh), ()))
+
+    def value(self, thunk):
+        if thunk.value is None:
+            if thunk.make:
+                thunk.value, thunk.trail = thunk.make()
+            else:
+                thunk.value, thunk.trail = self.run(thunk.item, thunk.node, thunk.env, [])
+        return thunk.value
+
+    def applied(self, thunk, more):
+        """A thunk of a value with these arguments and projections."""
+        def make():
+            value, trail, stack = self.value(thunk), [], list(reversed(more))
+            return self.go_on(value, stack, trail if more else list(thunk.trail))
+        return Thunk(make=make)
+
+    def go_on(self, value, stack, trail):
+        """A value with what it is given."""
+        while stack:
+            kind, top = value[0], stack[-1]
+            if kind == "lambda" and isinstance(top, Thunk):
+                stack.pop()
+                return self.run(value[1], value[2], (top, None, value[3]), stack, trail)
+            if kind == "record" and isinstance(top, str):
+                stack.pop()
+                field = value[1].get(top)
+                if field is None:
+                    raise Lost
+                value = self.value(field)
+                if not stack:
+                    trail.extend(field.trail)
+                continue
+            if kind == "stuck":
+                stack.pop()
+                value = ("stuck", value[1], (*value[2], top))
+                if value[1][0] == "cases":
+                    chosen = self.chosen(value)
+                    if chosen:
+                        method, given = chosen
+                        stack.extend(reversed(given))
+                        value = self.value(method)
+                        if not stack:
+                            trail.extend(method.trail)
+                continue
+            raise Lost
+        return value, trail
+
+    def data(self, name):
+        """How many parameters, and the constructors with which of their arguments recur."""
+        if name in NATIVE:
+            return 0, NATIVE[name]
+        it = self.library.item(name)
+        return (len(it.parameters), it.constructors) if it and it.kind == 1 else None
+
+    def chosen(self, value):
+        """The method of a choice whose scrutinee is known, and what it is given."""
+        name, spine = value[1][1], value[2]
+        data = self.data(name)
+        if data is None or len(spine) != data[0] + 1 + len(data[1]) + 1 or any(isinstance(it, str) for it in spine):
+            return None
+        scrutinee = self.value(spine[-1])
+        if scrutinee[0] == "literal":
+            scrutinee = ("built", ZERO, ()) if scrutinee[1] == 0 else ("built", SUC, (Thunk(value=("literal", scrutinee[1] - 1)),))
+        if scrutinee[0] != "built":
+            return None
+        for i, (word, given) in enumerate(data[1]):
+            if word == scrutinee[1] and len(given) == len(scrutinee[2]):
+                again = [self.applied(Thunk(value=("stuck", value[1], spine[:-1])), [one]) for one, kind in zip(scrutinee[2], given) if kind is None]
+                return spine[data[0] + 1 + i], [*scrutinee[2], *again]
+        return None
+
+    def run(self, item, node, env, stack, trail=None):
+        trail = [] if trail is None else trail
+        while True:
+            self.steps -= 1
+            if self.steps < 0:
+                raise Lost
+            if not stack:
+                trail.append((item.name, node))
+            it = item.nodes[node]
+            tag = it[0]
+            if tag == APP:
+                stack.append(Thunk(item, it[2], env))
+                node = it[1]
+            elif tag == PROJECTION:
+                stack.append(it[2])
+                node = it[1]
+            elif tag == VAR:
+                for _ in range(it[1]):
+                    env = env[2]
+                thunk = env[0]
+                value = self.value(thunk)
+                if not stack:
+                    trail.extend(thunk.trail)
+                return self.go_on(value, stack, trail)
+            elif tag == LAM and stack and isinstance(stack[-1], Thunk):
+                env, node = (stack.pop(), None, env), it[2]
+            elif tag == LET:
+                env, node = (Thunk(item, it[3], env), None, env), it[4]
+            elif tag == TYPED:
+                node = it[2]
+            elif tag == AT:
+                end = self.end_of(item, it, env)
+                if end is None:
+                    return self.go_on(("stuck", ("other", tag), ()), stack, trail)
+                value = self.value(end)
+                if not stack:
+                    trail.extend(end.trail)
+                return self.go_on(value, stack, trail)
+            elif tag == DEF:
+                name = item.module.named(it[1])
+                target = self.library.item(name) if name != PATHS else None
+                if target is None or target.kind != 0:
+                    return self.go_on(("stuck", ("name", name), ()), stack, trail)
+                item, node, env = target, target.roots[1], None
+            else:
+                return self.go_on(self.plain(item, it, env), stack, trail)
+
+    def end_of(self, item, it, env):
+        """What a path has at one of its ends, or None."""
+        at = self.value(Thunk(item, it[3], env))
+        if at not in ENDS or self.type_of_path is None:
+            return None
+        type_ = self.type_of_path(item, it[2], env)
+        value = self.value(type_) if type_ else None
+        if value is None or value[0] != "stuck" or value[1] != ("name", PATHS) or len(value[2]) != 3:
+            return None
+        return value[2][1 + ENDS.index(at)]
+
+    def plain(self, item, it, env):
+        tag = it[0]
+        if tag == LAM:
+            return ("lambda", item, it[2], env)
+        if tag == PI:
+            return ("function", item, it[2], it[3], env)
+        if tag == RECORD_TYPE:
+            return ("fields", item, it[1], env)
+        if tag == RECORD:
+            return ("record", {label: Thunk(item, one, env) for label, one in it[1]})
+        if tag == CONSTRUCTOR:
+            return ("built", item.module.named(it[1]), tuple(Thunk(item, one, env) for one in it[2]))
+        if tag == LITERAL:
+            return ("literal", it[1])
+        if tag in (DATA, RECORD_NAMED):
+            return ("stuck", ("type", item.module.named(it[1])), ())
+        if tag == CASES:
+            return ("stuck", ("cases", item.module.named(it[1])), ())
+        if tag == SORT:
+            return ("sort",)
+        return ("stuck", ("other", tag), ())
