@@ -139,8 +139,9 @@ class Places:
                 if re.search(r"\bfor\b", words) or not re.search(r"\w", words):
                     continue
                 owner = re.search(r"\w+", words)[0] + "."
-            name = f"Rattle-{crate}-specs.contracts.{module}{owner}{head[2]}"
-            found = self.library.module(name)
+            path = self.path_of(crate, module, owner + head[2])
+            name = f"Rattle-{crate}-specs.contracts.{path}"
+            found = self.library.module(name) if path else None
             if found is None:
                 continue
             count = 0
@@ -149,7 +150,7 @@ class Places:
                 count += 1
                 label = (it[1] or "").strip() or str(count)
                 stop = conjuncts.end_of(text, at - 1, end) - 1
-                self.read_as(crate, file, at, stop, f"Rattle-{crate}-proofs.{module}{owner}{head[2]}.Reads", label)
+                self.read_as(crate, file, at, stop, f"Rattle-{crate}-proofs.{path}.Reads", label)
                 for one in found.items.values():
                     if one.name in (f"{name}.ensures-{label}-text.where.abbrev", f"{name}.ensures-{label}-text", f"{name}.ensures-{label}.where.abbrev"):
                         node = one.roots[1] if one.kind == 0 else None
@@ -157,6 +158,14 @@ class Places:
                             node = one.nodes[node][2]
                         if node is not None and one.nodes[node][0] == APP and one.nodes[one.nodes[node][1]][0] == PROJECTION and one.nodes[one.nodes[node][1]][2] == "⌜◌⌝":
                             self.pair(file, at, stop, one, one.nodes[node][2])
+
+    def path_of(self, crate, module, name):
+        """The path of a function, or of a method, which is in the module of its type; None if it is not known."""
+        start, folder = f"Rattle-{crate}-specs.contracts.", self.library.folder(crate)
+        if folder is None or os.path.isfile(f"{folder}/{start}{module}{name}.oantt"):
+            return module + name if folder else None
+        found = [it for it in os.listdir(folder) if it.startswith(start) and it.endswith(f".{name}.oantt")] if "." in name else []
+        return found[0][len(start) : -len(".oantt")] if len(found) == 1 else None
 
     def read_as(self, crate, file, start, end, module, label):
         """A clause as its callers read it."""

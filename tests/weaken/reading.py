@@ -256,7 +256,7 @@ class Reader:
         """Goes through a term that is to be of a type."""
         it = item.nodes[node]
         tag = it[0]
-        if tag in TYPES or self.is_seen(item, node, env):
+        if tag in TYPES or self.is_seen(item, node, env, "checked"):
             return
         if tag == TYPED:
             self.check(item, it[2], env, wanted)
@@ -290,8 +290,8 @@ class Reader:
         else:
             self.handed(self.infer(item, node, env, (), wanted), wanted)
 
-    def is_seen(self, item, node, env):
-        key = (item.name, node, id(env))
+    def is_seen(self, item, node, env, how):
+        key = (item.name, node, id(env), how)
         if key in self.seen:
             return True
         self.seen.add(key)
@@ -319,7 +319,7 @@ class Reader:
         """Goes through a term of another form."""
         it = item.nodes[node]
         tag = it[0]
-        if tag in TYPES or tag in (LITERAL, 49, 16, 17, 18, 19, 23, 24, 26, VAR, DEF) or self.is_seen(item, node, env):
+        if tag in TYPES or tag in (LITERAL, 49, 16, 17, 18, 19, 23, 24, 26, VAR, DEF) or self.is_seen(item, node, env, "walked"):
             return
         if tag == LAM:
             self.infer(item, it[2], (self.machine.variable(), None, env))
@@ -409,9 +409,11 @@ def text_of(folder):
 
 
 def uses_of(crate, below, crates, kept, kit, file):
-    """The same, from the file that keeps it, as long as what it was read of stays."""
-    with open(__file__, encoding="utf-8") as own:
-        texts = [own.read(), *(text_of(f"{crates}/{it}") for it in (*below, crate))]
+    """The same, from the file that keeps it, as long as what it was read of stays, and what reads it."""
+    texts = [text_of(f"{crates}/{it}") for it in (*below, crate)]
+    for it in ("terms", "values", "places", "reading"):
+        with open(f"{os.path.dirname(os.path.abspath(__file__))}/{it}.py", encoding="utf-8") as own:
+            texts.append(own.read())
     key = hashlib.sha256("\n".join(texts).encode()).hexdigest()
     if os.path.isfile(file):
         with open(file, encoding="utf-8") as opened:
