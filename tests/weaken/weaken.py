@@ -1,7 +1,7 @@
 #!/usr/bin/env python3
 """Weakens each conjunct of what crates define and promise, and tells which nothing notices.
 
-Usage: tests/weaken/weaken.py [--list] [--tell] [--only WORD] [--minutes N] [--pause FILE] [--kept FOLDER] [--anew] CRATE..
+Usage: tests/weaken/weaken.py [--list] [--tell] [--only WORD] [--minutes N] [--pause FILE] [--kept FOLDER] [--jobs N] [--anew] CRATE..
 A conjunct is a factor or a field of a definition in specs, or a clause (or a factor of it) of a public function. Many are
 weakened at once, in a copy of the crate: each becomes an equation of a number of its own with itself, so that what the
 prover refuses names those that it misses. A proof that only builds one gives that equation instead, and does not count,
@@ -11,7 +11,7 @@ refusal tells one from another, and at last one by one.
 How each ends (a use within the field or the part of the same name or number does not count):
   named    the text of a proof uses it for something else, as written types and names say: this needs no check
   used     the term of a proof uses it for something else, as `rt check` kept it: nor does this. If a search found the term,
-           another search might do without it
+           another search might do without it: of 8 that were chosen at random, the prover missed each
   cited    a proof uses it for something else
   goal     a goal is not proved any more
   nothing  all is proved, here and in the crates above that name it, or it is of a function that nothing in Rattle calls
@@ -24,7 +24,7 @@ tests/weaken/noticed.tsv keeps that, with where it shows, so that a run goes on 
 again once its text has changed, or the file that noticed it. --only takes those whose file or text has the word, --list
 shows them and checks nothing, --tell prints what is known so far. While the file of --pause is there, nothing starts.
 --kept names another checkout of the same text, which is proved, whose terms are read: else those of this one are, as far
-as it is proved. --anew forgets what these crates have. tests/weaken/known.txt has what nothing may notice, and why. Before
+as it is proved; --jobs reads so many crates at once, and out/weaken keeps what they use. --anew forgets what these crates have. tests/weaken/known.txt has what nothing may notice, and why. Before
 anything is checked the crate itself is proved, with all below (`rt check`).
 Status 0: each is noticed or known, or a part was looked at; 1: one is neither; 2: it could not start.
 """
