@@ -11,7 +11,7 @@ refusal tells one from another, and at last one by one.
 How each ends (a use within the field or the part of the same name or number does not count):
   named    the text of a proof uses it for something else, as written types and names say: this needs no check
   used     the term of a proof uses it for something else, as `rt check` kept it: nor does this. If a search found the term,
-           another search might do without it: of 8 that were chosen at random, the prover missed each
+           another search might do without it: of 8, chosen at random, the prover missed 7, and refused a line for the 8th
   cited    a proof uses it for something else
   goal     a goal is not proved any more
   nothing  all is proved, here and in the crates above that name it, or it is of a function that nothing in Rattle calls
