@@ -11,7 +11,8 @@ refusal tells one from another, and at last one by one.
 How each ends (a use within the field or the part of the same name or number does not count):
   named    the text of a proof uses it for something else, as written types and names say: this needs no check
   used     the term of a proof uses it for something else, as `rt check` kept it: nor does this. If a search found the term,
-           another search might do without it: of 8, chosen at random, the prover missed 7, and refused a line for the 8th
+           another search might do without it: of 8, drawn from the lowest crates, the prover missed 7, and
+           refused a line for the 8th
   cited    a proof uses it for something else
   goal     a goal is not proved any more
   nothing  all is proved, here and in the crates above that name it, or it is of a function that nothing in Rattle calls
@@ -24,8 +25,9 @@ tests/weaken/noticed.tsv keeps that, with where it shows, so that a run goes on 
 again once its text has changed, or the file that noticed it. --only takes those whose file or text has the word, --list
 shows them and checks nothing, --tell prints what is known so far. While the file of --pause is there, nothing starts.
 --kept names another checkout of the same text, which is proved, whose terms are read: else those of this one are, as far
-as it is proved; --jobs reads so many crates at once, and out/weaken keeps what they use. --anew forgets what these crates have. tests/weaken/known.txt has what nothing may notice, and why. Before
-anything is checked the crate itself is proved, with all below (`rt check`).
+as it is proved; --jobs reads that many crates at once, and out/weaken keeps what they use. --anew forgets what these crates have.
+tests/weaken/known.txt has what nothing may notice, and why. Before anything is checked the crate itself is proved, with all
+below (`rt check`).
 Status 0: each is noticed or known, or a part was looked at; 1: one is neither; 2: it could not start.
 """
 import argparse
