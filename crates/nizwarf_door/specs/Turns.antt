@@ -81,8 +81,7 @@ module _ (a : AnswerData) (text : List ℕ) (items : List ItemData) where
   Happened (Ends reply) room told events = ⊥
   Happened (Asks echo asked) room told events =
       (answer : Answer) × IsSaid a text room (kind_of asked) answer
-      × (events ≡ Called asked answer
-      ∷ given_back echo.ctx (if told.give_back == 0 then None else Some told.give_back))
+      × (events ≡ Called asked answer ∷ given_back echo.ctx (if told.give_back == 0 then None else Some told.give_back))
       × (told.taken ≡ 0)
   Happened (Lists echo l) room told events =
       (records : List ℕ) × (answer : Result ℕ (Option ℕ)) × (read : IsDirectory l events records answer)
@@ -100,8 +99,7 @@ module _ (limits : Limits) (call : CallData) (a : AnswerData) (text : List ℕ) 
     pub room_after : List ℕ
     pub length_is : length room ≡ put_of call call.room
     pub turn : (request following : List ℕ) → Suffice limits request call → length (room ++ following) ≡ call.room
-        → (events : List Event)
-        × Happened a text items (ask limits call.options call.room request) (room ++ following) told_after events
+        → (events : List Event) × Happened a text items (ask limits call.options call.room request) (room ++ following) told_after events
         × IsTurn limits call.options (record {
           request = request;
           room = room ++ following;
