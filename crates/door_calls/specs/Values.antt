@@ -39,15 +39,25 @@ attr_of a = record {
 -- the record of a reply with this entry
 abbrev pub entry_out_for : EntryData → EntryOut
 entry_out_for e = record {
-  nodeid = e.node; generation = e.generation; entry_valid = e.entry_seconds; attr_valid = e.attr_seconds;
-  entry_valid_nsec = min e.entry_nanoseconds most_nanoseconds; attr_valid_nsec = min e.attr_nanoseconds most_nanoseconds;
+  nodeid = e.node;
+  generation = e.generation;
+  entry_valid = e.entry_seconds;
+  attr_valid = e.attr_seconds;
+  entry_valid_nsec = min e.entry_nanoseconds most_nanoseconds;
+  attr_valid_nsec = min e.attr_nanoseconds most_nanoseconds;
   attr = attr_of e.attr;
 }
 
 abbrev pub statistics_of : StatisticsData → Statvfs64
 statistics_of s = record {
-  f_bsize = s.bsize; f_frsize = s.frsize; f_blocks = s.blocks; f_bfree = s.bfree; f_bavail = s.bavail;
-  f_files = s.files; f_ffree = s.ffree; f_namemax = s.namemax;
+  f_bsize = s.bsize;
+  f_frsize = s.frsize;
+  f_blocks = s.blocks;
+  f_bfree = s.bfree;
+  f_bavail = s.bavail;
+  f_files = s.files;
+  f_ffree = s.ffree;
+  f_namemax = s.namemax;
 }
 
 abbrev pub handle_of : AnswerData → Option ℕ
