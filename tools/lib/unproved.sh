@@ -73,7 +73,9 @@ if [[ $out == *.a ]]; then
     # The crates without what was built, since `rt` refuses links to them.
     root=$folder/tree
     tests=(--test)
-    for crate in "$here"/crates/*/; do
+    # (a folder without sources is what a crate that is gone has left in `out`)
+    for crate in "$here"/crates/*/src; do
+        crate=${crate%/src}
         it=$root/crates/$(basename "$crate")
         mkdir -p "$it"
         cp -R "$crate/src" "$it/"
