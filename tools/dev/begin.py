@@ -265,11 +265,11 @@ def begin():
 
 The five definitions of [the promise](PROMISE.md), and a turn for each case of `Follows`; [key](PROMISE.md#key). At the left are fields of `Turn` and names in `Follows`.
 
-`Server::handle_session` ensures `IsSession`:
+`Server::handle_session` ensures `IsSession`. `ServerState`: options, limits, file system. `Unread`, `Written`: readers, writers; `left`: their bytes, room. `IsRun`: calls as `allows` has them, items as `gives`; `AreServed`: `IsServed` of each, by the options left before it; `Leaves`: the room became `room_after`:
 
 {quotes[0]}
 
-A request's bytes `ask` one of `Ends`, `Asks`, `Lists`, maybe in `WithMemory`. `echo`: kept of them for the reply; `reply_of`: that; `IsReplied`: put into the room; `unseen`: not fitting.
+A request's bytes `ask` one of `Ends`, `Asks`, `Lists`, maybe in `WithMemory`. `echo`: kept of them for the reply; `reply_of`: that of an answer; `IsReplied`: put into the room; `unseen`: the entry's node if it does not fit; `given_back`: its `Forget`; `options_after`: INIT's, by DESTROY 0, else the old.
 
 {quotes[1]}
 

@@ -2,7 +2,7 @@
 import glob, os, re, subprocess, sys
 
 sys.path.append("tools/measure")
-from statement import WORD, Specs, start_of
+from statement import WORD, Specs, is_held, start_of
 
 KIT = os.environ["kit"]
 COUNTED = ["README.md", *sorted(glob.glob("docs/*.md")), "CONTRIBUTING.md", "CHANGELOG.md", "NOTICE.md",
@@ -313,8 +313,8 @@ for path in sorted({line.split(":")[0] for line in reached + further}):
 specs = Specs()
 SESSION = specs.reach([start_of(specs, "fuse_server/Session.IsSession")])
 PROMISED = specs.reach([start_of(specs, it) for it in ["fuse_server/Session.IsSession", *sum((starts for _, _, starts in BESIDE), [])]])
-# The files of the types of the code that it names are there too.
-for _, it in sorted(it for it in SESSION if it[0] == "declared"):
+# The files of the types of the code that these name are there too.
+for _, it in sorted(it for it in PROMISED if it[0] == "declared"):
     crate, *module = it.split(".specs.declared.")[0], *it.split(".specs.declared.")[1].split(".")[:-1]
     file = f"{module[0] if module else 'lib'}.rt"
     if crate != "std" and not re.search(rf"`{crate}/src/[^;]*`?{file}`", order):
@@ -324,7 +324,9 @@ for path in sorted({f"crates/{line.split(':')[0]}" for line in reached + further
     above, line, after = text.partition("-- ---- no more is of the promise")
     for name in specs.of[module]:
         places = [bool(re.search(rf"\bpub (?:record |data )?{name}\b", it)) for it in (above, after)]
-        if line and (places[0] if (module, name) not in PROMISED else places[1] and (module, name) in SESSION):
+        # (what is held against a header may stand above the line)
+        if line and (places[0] and not is_held(specs, (module, name)) if (module, name) not in PROMISED
+                     else places[1] and (module, name) in SESSION):
             faults.append(f"{path}: {name} is on the wrong side of the line below which no more is of the promise")
         elif not line and (module, name) not in PROMISED and "to be read" not in text.split("\nuse ")[0]:
             faults.append(f"{path}: no line, and no first comment, says that {name} is not of the promise")
@@ -334,7 +336,7 @@ WORDS = sources["crates/fuse_server/specs/Session.antt"].split("\nuse ")[0]
 # Those lines of them that are read first.
 last = WORDS.count("\n") + 1
 first = WORDS[:WORDS.index("-- `declared` in an import")].count("\n") + 1
-if f"Read first lines {first} to {last} of `fuse_server/specs/Session.antt`" not in read("docs/PROMISE.md"):
+if f"Read first lines {first} to {last} of `fuse_server/specs/Session.antt`" not in order.split("\n1. ")[0]:
     faults.append(f"docs/PROMISE.md: what is read first of fuse_server/specs/Session.antt are lines {first} to {last}")
 key = " ".join(CODE.findall(read("docs/PROMISE.md").split("## Key")[1].split("\n## ")[0] + WORDS))
 unsaid = {}

@@ -1,6 +1,5 @@
 -- The numbers that C sees of what a call came to. Those of a request's outcome are 0, where it was
--- answered, and 1 to 10, by the error. Of the door's promise only `length_of` is to be read: `tests/c/data.py`
--- compiles the codes and `outcome_code` against `nizwarf.h`.
+-- answered, and 1 to 10, by the error. `tests/c/data.py` compiles the codes and `outcome_code` against `nizwarf.h`.
 use Rattle.std.specs.Prelude.{ℕ, ℤ, pos, nat_lt, if◌then◌else◌, Result, Ok, Err}
 use Rattle.fuse_grammar.specs.declared.error.Error.{Error}
 use Rattle.fuse_grammar.specs.declared.error.Error.TheVariants.{DecodeMessage, EncodeMessage, FlushMessage, MissingParameter, InvalidCString, InvalidCString2, InvalidHeaderLength, InvalidXattrSize, MissingExtension, OutOfMemory}
@@ -51,6 +50,8 @@ outcome_code (Err OutOfMemory) = no_memory
 abbrev pub length_of : Result ℕ Error → ℕ
 length_of (Ok len) = len
 length_of (Err error) = 0
+
+-- ---- no more is of the promise: the rest is for contracts of parts
 
 -- how many bytes of a room of that many are there to be copied out: the reply's; and all of them where
 -- the reply was too long for the room, and the room has space for its header of 16 bytes

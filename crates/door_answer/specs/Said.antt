@@ -10,7 +10,7 @@ use Rattle.door_calls.specs.declared.data.AnswerData.{AnswerData}
 use Rattle.fuse_grammar.specs.Records.{size_of}
 
 -- that many bytes of data can be in the reply to a READ of this size, in a room of this length, which has the
--- reply's header too
+-- reply's header too (the `Fits..` of Answers are of widths, and this of a room)
 pub record FitsData (size room_len count : ℕ) : Type 0 where
   pub asked_for : count ≤ size
   pub room_for : size_of out_header + count ≤ room_len

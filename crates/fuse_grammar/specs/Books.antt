@@ -25,7 +25,8 @@ forgotten n pairs = sum_by (λ pair. if pair.0 == n then pair.1 else 0) pairs
 
 -- ---- events
 
--- the node of an answer's entry, where it has one: 0 too, which `node_answered` of Turn leaves out
+-- the node of an answer's entry, a list of one, or of none where it has no entry. Node 0 too, which `node_answered` of
+-- Turn leaves out, since that is for what is given back
 abbrev pub entry_node : Answer → List ℕ
 entry_node (Found entry) = entry.inode ∷ []
 entry_node (Created entry handle opening) = entry.inode ∷ []

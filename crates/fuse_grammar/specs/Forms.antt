@@ -20,7 +20,8 @@ use Rattle.fs_trait.specs.Calls as call
 
 -- What a request asks: to be ended without a call, by this coming back; a call, or that a directory
 -- be read, with what is kept of the request for its reply; or one of these, where there is memory
--- for a copy of some of its bytes, if one is needed.
+-- for a copy of some of its bytes, if one is needed. `WithMemory` alone lets each such request be refused; which may not
+-- be, the clause `memory` of `handle_session` says.
 pub data Ask : Type 0 where
   Ends : (reply : Reply) → Ask
   Asks : (echo : Echo) (call : Call) → Ask
@@ -111,7 +112,8 @@ ask_init h r following =
     else Asks (record (echo_of h) { max_readahead = r.max_readahead })
     (call.Init (bit_and (flags2 * 2 ^ 32 + r.flags) known_fs_options)))
 
--- the record after a header: none, with this value in its place, or one that this `Table` spells
+-- what comes right after a request's header: no record, in whose place is this value; or one, whose bytes this `Table`
+-- says. What follows that is of the `Form`
 pub data Layout (R : Type 0) : Type 0 where
   Without : R → Layout R
   Record : Table R → Layout R
@@ -120,7 +122,7 @@ pub data Layout (R : Type 0) : Type 0 where
 abbrev pub no_record : Layout (Unit {0})
 no_record = Without tt
 
--- the bytes that it has
+-- how many bytes it has
 abbrev pub layout_size : {R : Type 0} → Layout R → ℕ
 layout_size (Without r) = 0
 layout_size (Record t) = size_of t
@@ -164,7 +166,8 @@ pub data Form : Type 1 where
   NotServed : Form
 
 module _ (h : InHeader) (rest : List ℕ) where
-  -- what a request asks whose tail follows its record, which may want memory for the tail
+  -- what a request with a tail asks: the record is read, and then the tail after it, by `tail_of`; what `next` makes of
+  -- both is asked if there is memory, for a tail that is cut between two segments is copied
   abbrev pub with_tail : {R : Type 0} → Layout R → (next : R → (tail : List ℕ) → Ask) → Ask
   with_tail layout next = refused_or (layout_record layout rest) (λ r.
       refused_or (tail_of h (layout_size layout) (drop (layout_size layout) rest)) (λ tail.

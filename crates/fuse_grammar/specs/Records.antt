@@ -4,7 +4,8 @@ use Rattle.fuse_wire.specs.Fields.{Table, value_of}
 use Rattle.fuse_grammar.specs.declared.error.Error.{Error}
 use Rattle.fuse_grammar.specs.declared.error.Error.TheVariants.{DecodeMessage}
 
--- the bytes that a record has
+-- how many bytes a record has (sizes, lengths and places count bytes; a request, a room, a name and a text are lists of
+-- bytes)
 abbrev pub size_of : {R : Type 0} → Table R → ℕ
 size_of t = sum t.widths
 

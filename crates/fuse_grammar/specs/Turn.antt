@@ -13,8 +13,8 @@ use Rattle.fuse_grammar.specs.declared.limits.Limits.{Limits}
 use Rattle.fuse_grammar.specs.declared.error.Error.{Error}
 use Rattle.fuse_grammar.specs.declared.error.Error.TheVariants.{OutOfMemory}
 
--- the node of the entry in an answer of this kind, where there is one and its lookups are counted,
--- as those of every node but 0 are
+-- the node that is given back if the reply doesn't fit: that of the entry in an answer of this kind, where there is one,
+-- but for node 0, whose lookups are not counted. (`entry_node` of Books, which the books count by, has node 0 too)
 abbrev pub node_answered : Kind → Answer → Option ℕ
 node_answered Entries (Found entry) = if entry.inode == 0 then None else Some entry.inode
 node_answered Creations (Created entry _ _) = if entry.inode == 0 then None else Some entry.inode

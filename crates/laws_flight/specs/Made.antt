@@ -28,8 +28,8 @@ IsCallBeside back (Forget ctx node count) answer after =
     (before following : List ℕ) × (count ≡ 1) × (back ≡ before ++ node ∷ following) × (after ≡ before ++ following)
 IsCallBeside back _ answer after = ⊥
 
--- What a caller does for a READDIRPLUS whose reply has fewer items than it takes: these calls, and takings. `back` are
--- the nodes that it looked up so and did not give back yet.
+-- What a caller may do beside a turn: these calls, and takings. It does so for a READDIRPLUS whose reply has fewer items
+-- than it takes; here it is allowed of any request. `back` are the nodes that it looked up so and did not give back yet.
 abbrev pub IsBeside : (back : List ℕ) → Event → (back_after : List ℕ) → Type 0
 IsBeside back (Called call answer) after = IsCallBeside back call answer after
 IsBeside back (OpenedDirectory call) after = ⊥

@@ -1,5 +1,4 @@
--- What C is told of a call that was answered. Of the promise only `entry_of` is to be read: the rest is for the
--- clause `answered`, which says the same over writers.
+-- What C is told of a call that was answered.
 use Rattle.std.specs.Prelude.{◌≡◌, ◌≤◌, ◌==◌, ◌||◌, ◌&&◌, if◌then◌else◌, ◌⊎◌, ℕ, ℤ, pos, List, [], length, Option, Some, None, IfSome}
 use Rattle.std.specs.Ordering.{int_eq}
 use Rattle.fuse_segments.specs.Written.{Written}
@@ -22,6 +21,8 @@ abbrev pub entry_of : CallData → AnswerData → ℕ
 entry_of call a =
     if (call.answer == kind.ENTRY || call.answer == kind.CREATED) && int_eq a.error (pos 0) then a.entry.node
     else 0
+
+-- ---- no more is of the promise: the rest is for the clause `answered`, which says the same over writers
 
 -- what is told of an answer: how long the reply is, the options, and what is to be given back
 abbrev pub answered : CallData → Answered → ToldData → ToldData

@@ -76,7 +76,8 @@ module _ (a : AnswerData) (text : List ℕ) (items : List ItemData) where
   -- the entry was given back which is told to be; or that the directory was read from the items that were offered.
   -- That reading ends with the item at which the reply stopped. So what C did besides is in no event: lookups of items
   -- that it offers after that one, which it is to give back too. And one event is none that C is told to make: if the
-  -- reply stopped at `.` or `..`, a forget of node 0. `AreSeenOf` of laws_flight takes both into account.
+  -- reply stopped at `.` or `..`, a forget of node 0. (What is said of flights allows both: `AreSeenOf` of Made, which the
+  -- reading order has after this.)
   abbrev pub Happened : Ask → (room : List ℕ) → ToldData → List Event → Type 0
   Happened (Ends reply) room told events = ⊥
   Happened (Asks echo asked) room told events =
