@@ -104,17 +104,17 @@ module _ (q : List ℕ) (options room : ℕ) (echo : Echo) (told : CallData) whe
   row (call.Readlink ctx inode) is =
       exact (call.Readlink ctx inode) is
   row (call.Symlink ctx text parent name ext) is =
-      (own_has told _ _ (own_context told _ (own_other told _ (own_name told _ (exact (call.Symlink ctx text parent name ext) is)))) (ap (λ n. bit false KILL_PRIV + n) (bits ext)), is.places.0, is.places.1, context_told q told ext.context (ap (λ (c : CallData). c.context_name) is.others) (ap (λ (c : CallData). c.context) is.others) is.places.2)
+      (((own_has told _ _ (own_context told _ (own_other told _ (own_name told _ (exact (call.Symlink ctx text parent name ext) is)))) (ap (λ n. bit false KILL_PRIV + n) (bits ext)), is.places.0), context_told q told ext.context (ap (λ (c : CallData). c.context_name) is.others) (ap (λ (c : CallData). c.context) is.others) is.places.2), is.places.1)
   row (call.Mknod ctx inode name mode rdev umask ext) is =
-      (own_has told _ _ (own_context told _ (own_name told _ (exact (call.Mknod ctx inode name mode rdev umask ext) is))) (ap (λ n. bit false KILL_PRIV + n) (bits ext)), is.places.0, context_told q told ext.context (ap (λ (c : CallData). c.context_name) is.others) (ap (λ (c : CallData). c.context) is.others) is.places.1)
+      ((own_has told _ _ (own_context told _ (own_name told _ (exact (call.Mknod ctx inode name mode rdev umask ext) is))) (ap (λ n. bit false KILL_PRIV + n) (bits ext)), is.places.0), context_told q told ext.context (ap (λ (c : CallData). c.context_name) is.others) (ap (λ (c : CallData). c.context) is.others) is.places.1)
   row (call.Mkdir ctx parent name mode umask ext) is =
-      (own_has told _ _ (own_context told _ (own_name told _ (exact (call.Mkdir ctx parent name mode umask ext) is))) (ap (λ n. bit false KILL_PRIV + n) (bits ext)), is.places.0, context_told q told ext.context (ap (λ (c : CallData). c.context_name) is.others) (ap (λ (c : CallData). c.context) is.others) is.places.1)
+      ((own_has told _ _ (own_context told _ (own_name told _ (exact (call.Mkdir ctx parent name mode umask ext) is))) (ap (λ n. bit false KILL_PRIV + n) (bits ext)), is.places.0), context_told q told ext.context (ap (λ (c : CallData). c.context_name) is.others) (ap (λ (c : CallData). c.context) is.others) is.places.1)
   row (call.Unlink ctx parent name) is =
       (own_name told _ (exact (call.Unlink ctx parent name) is), is.places)
   row (call.Rmdir ctx parent name) is =
       (own_name told _ (exact (call.Rmdir ctx parent name) is), is.places)
   row (call.Rename ctx olddir oldname newdir newname flags) is =
-      (own_other told _ (own_name told _ (exact (call.Rename ctx olddir oldname newdir newname flags) is)), is.places.0, is.places.1)
+      ((own_other told _ (own_name told _ (exact (call.Rename ctx olddir oldname newdir newname flags) is)), is.places.0), is.places.1)
   row (call.Link ctx inode newparent newname) is =
       (own_name told _ (exact (call.Link ctx inode newparent newname) is), is.places)
   row (call.Open ctx inode kill_priv flags) is =
@@ -130,7 +130,7 @@ module _ (q : List ℕ) (options room : ℕ) (echo : Echo) (told : CallData) whe
   row (call.Fsync ctx inode datasync handle) is =
       exact (call.Fsync ctx inode datasync handle) is
   row (call.Setxattr ctx inode name value flags extra) is =
-      (own_data told _ (own_name told _ (exact (call.Setxattr ctx inode name value flags extra) is)), is.places.0, is.places.1)
+      ((own_data told _ (own_name told _ (exact (call.Setxattr ctx inode name value flags extra) is)), is.places.0), is.places.1)
   row (call.Getxattr ctx inode name size) is =
       (own_name told _ (exact (call.Getxattr ctx inode name size) is), is.places)
   row (call.Listxattr ctx inode size) is =
@@ -158,7 +158,7 @@ module _ (q : List ℕ) (options room : ℕ) (echo : Echo) (told : CallData) whe
   row (call.Access ctx inode mask) is =
       exact (call.Access ctx inode mask) is
   row (call.Create ctx parent name mode kill_priv flags umask ext) is =
-      (own_has told _ _ (own_context told _ (own_name told _ (exact (call.Create ctx parent name mode kill_priv flags umask ext) is))) (ap (λ n. bit kill_priv KILL_PRIV + n) (bits ext)), is.places.0, context_told q told ext.context (ap (λ (c : CallData). c.context_name) is.others) (ap (λ (c : CallData). c.context) is.others) is.places.1)
+      ((own_has told _ _ (own_context told _ (own_name told _ (exact (call.Create ctx parent name mode kill_priv flags umask ext) is))) (ap (λ n. bit kill_priv KILL_PRIV + n) (bits ext)), is.places.0), context_told q told ext.context (ap (λ (c : CallData). c.context_name) is.others) (ap (λ (c : CallData). c.context) is.others) is.places.1)
   row call.Bmap is =
       exact call.Bmap is
   row call.Destroy is =
@@ -207,12 +207,12 @@ module _ (q : List ℕ) (echo : Echo) (told : CallData) where
   tells_call (call.Getattr ctx inode handle) h = from_row (call.Getattr ctx inode handle) echo told _ h (refl, refl) (refl, refl, refl) tt
   tells_call (call.Setattr ctx inode attr handle valid) h = from_row (call.Setattr ctx inode attr handle valid) echo told _ h (refl, refl) (refl, refl, refl) tt
   tells_call (call.Readlink ctx inode) h = from_row (call.Readlink ctx inode) echo told _ h (refl, refl) (refl, refl, refl) tt
-  tells_call (call.Symlink ctx text parent name ext) h = from_row (call.Symlink ctx text parent name ext) echo told _ h.0 (refl, refl) (refl, refl, refl) tt
-  tells_call (call.Mknod ctx inode name mode rdev umask ext) h = from_row (call.Mknod ctx inode name mode rdev umask ext) echo told _ h.0 (refl, refl) (refl, refl, refl) tt
-  tells_call (call.Mkdir ctx parent name mode umask ext) h = from_row (call.Mkdir ctx parent name mode umask ext) echo told _ h.0 (refl, refl) (refl, refl, refl) tt
+  tells_call (call.Symlink ctx text parent name ext) h = from_row (call.Symlink ctx text parent name ext) echo told _ h.0.0.0 (refl, refl) (refl, refl, refl) tt
+  tells_call (call.Mknod ctx inode name mode rdev umask ext) h = from_row (call.Mknod ctx inode name mode rdev umask ext) echo told _ h.0.0 (refl, refl) (refl, refl, refl) tt
+  tells_call (call.Mkdir ctx parent name mode umask ext) h = from_row (call.Mkdir ctx parent name mode umask ext) echo told _ h.0.0 (refl, refl) (refl, refl, refl) tt
   tells_call (call.Unlink ctx parent name) h = from_row (call.Unlink ctx parent name) echo told _ h.0 (refl, refl) (refl, refl, refl) tt
   tells_call (call.Rmdir ctx parent name) h = from_row (call.Rmdir ctx parent name) echo told _ h.0 (refl, refl) (refl, refl, refl) tt
-  tells_call (call.Rename ctx olddir oldname newdir newname flags) h = from_row (call.Rename ctx olddir oldname newdir newname flags) echo told _ h.0 (refl, refl) (refl, refl, refl) tt
+  tells_call (call.Rename ctx olddir oldname newdir newname flags) h = from_row (call.Rename ctx olddir oldname newdir newname flags) echo told _ h.0.0 (refl, refl) (refl, refl, refl) tt
   tells_call (call.Link ctx inode newparent newname) h = from_row (call.Link ctx inode newparent newname) echo told _ h.0 (refl, refl) (refl, refl, refl) tt
   tells_call (call.Open ctx inode kill_priv flags) h = from_row (call.Open ctx inode kill_priv flags) echo told _ h (refl, refl) (refl, refl, refl) tt
   tells_call (call.Read ctx inode handle space size offset owner flags) h = from_row (call.Read ctx inode handle space size offset owner flags) echo told _ h (refl, refl) (refl, refl, refl) tt
@@ -220,7 +220,7 @@ module _ (q : List ℕ) (echo : Echo) (told : CallData) where
   tells_call (call.Statfs ctx inode) h = from_row (call.Statfs ctx inode) echo told _ h (refl, refl) (refl, refl, refl) tt
   tells_call (call.Release ctx inode flags handle flush flock_release owner) h = from_row (call.Release ctx inode flags handle flush flock_release owner) echo told _ h (refl, refl) (refl, refl, refl) tt
   tells_call (call.Fsync ctx inode datasync handle) h = from_row (call.Fsync ctx inode datasync handle) echo told _ h (refl, refl) (refl, refl, refl) tt
-  tells_call (call.Setxattr ctx inode name value flags extra) h = from_row (call.Setxattr ctx inode name value flags extra) echo told _ h.0 (refl, refl) (refl, refl, refl) tt
+  tells_call (call.Setxattr ctx inode name value flags extra) h = from_row (call.Setxattr ctx inode name value flags extra) echo told _ h.0.0 (refl, refl) (refl, refl, refl) tt
   tells_call (call.Getxattr ctx inode name size) h = from_row (call.Getxattr ctx inode name size) echo told _ h.0 (refl, refl) (refl, refl, refl) tt
   tells_call (call.Listxattr ctx inode size) h = from_row (call.Listxattr ctx inode size) echo told _ h (refl, refl) (refl, refl, refl) tt
   tells_call (call.Removexattr ctx inode name) h = from_row (call.Removexattr ctx inode name) echo told _ h.0 (refl, refl) (refl, refl, refl) tt
@@ -234,7 +234,7 @@ module _ (q : List ℕ) (echo : Echo) (told : CallData) where
   tells_call call.Setlk h = from_row call.Setlk echo told _ h (refl, refl) (refl, refl, refl) tt
   tells_call call.Setlkw h = from_row call.Setlkw echo told _ h (refl, refl) (refl, refl, refl) tt
   tells_call (call.Access ctx inode mask) h = from_row (call.Access ctx inode mask) echo told _ h (refl, refl) (refl, refl, refl) tt
-  tells_call (call.Create ctx parent name mode kill_priv flags umask ext) h = from_row (call.Create ctx parent name mode kill_priv flags umask ext) echo told _ h.0 (refl, refl) (refl, refl, refl) tt
+  tells_call (call.Create ctx parent name mode kill_priv flags umask ext) h = from_row (call.Create ctx parent name mode kill_priv flags umask ext) echo told _ h.0.0 (refl, refl) (refl, refl, refl) tt
   tells_call call.Bmap h = from_row call.Bmap echo told _ h (refl, refl) (refl, refl, refl) tt
   tells_call call.Destroy h = from_row call.Destroy echo told _ h (refl, refl) (refl, refl, refl) tt
   tells_call call.Ioctl h = from_row call.Ioctl echo told _ h (refl, refl) (refl, refl, refl) tt
@@ -383,19 +383,19 @@ module _ (q : List ℕ) (echo : Echo) (told : CallData) where
     others = h ∙ sym (ap (with_its_ranges (call.Readlink ctx inode)) h);
   }
   is_told (call.Symlink ctx text parent name ext) h = record {
-    numbers = fit_name told _ (fit_other told _ (fit_context_name told _ (fit_context told _ (fit_has told _ _ (ap without_places h.0) (sym (ap (λ n. bit false KILL_PRIV + n) (bits ext)))) (context_ranges q told ext.context h.3).1) (context_ranges q told ext.context h.3).0) (name_range q told.other_name text h.2)) (name_range q told.name name h.1);
-    places = (h.1, h.2, context_placed q told ext.context h.3);
-    others = others_of told told.other_name ext.context refl (ap (λ (c : CallData). c.data) h.0) (context_others q told ext.context h.3);
+    numbers = fit_name told _ (fit_other told _ (fit_context_name told _ (fit_context told _ (fit_has told _ _ (ap without_places h.0.0.0) (sym (ap (λ n. bit false KILL_PRIV + n) (bits ext)))) (context_ranges q told ext.context h.0.1).1) (context_ranges q told ext.context h.0.1).0) (name_range q told.other_name text h.1)) (name_range q told.name name h.0.0.1);
+    places = (h.0.0.1, h.1, context_placed q told ext.context h.0.1);
+    others = others_of told told.other_name ext.context refl (ap (λ (c : CallData). c.data) h.0.0.0) (context_others q told ext.context h.0.1);
   }
   is_told (call.Mknod ctx inode name mode rdev umask ext) h = record {
-    numbers = fit_name told _ (fit_context_name told _ (fit_context told _ (fit_has told _ _ (ap without_places h.0) (sym (ap (λ n. bit false KILL_PRIV + n) (bits ext)))) (context_ranges q told ext.context h.2).1) (context_ranges q told ext.context h.2).0) (name_range q told.name name h.1);
-    places = (h.1, context_placed q told ext.context h.2);
-    others = others_of told no_range ext.context (ap (λ (c : CallData). c.other_name) h.0) (ap (λ (c : CallData). c.data) h.0) (context_others q told ext.context h.2);
+    numbers = fit_name told _ (fit_context_name told _ (fit_context told _ (fit_has told _ _ (ap without_places h.0.0) (sym (ap (λ n. bit false KILL_PRIV + n) (bits ext)))) (context_ranges q told ext.context h.1).1) (context_ranges q told ext.context h.1).0) (name_range q told.name name h.0.1);
+    places = (h.0.1, context_placed q told ext.context h.1);
+    others = others_of told no_range ext.context (ap (λ (c : CallData). c.other_name) h.0.0) (ap (λ (c : CallData). c.data) h.0.0) (context_others q told ext.context h.1);
   }
   is_told (call.Mkdir ctx parent name mode umask ext) h = record {
-    numbers = fit_name told _ (fit_context_name told _ (fit_context told _ (fit_has told _ _ (ap without_places h.0) (sym (ap (λ n. bit false KILL_PRIV + n) (bits ext)))) (context_ranges q told ext.context h.2).1) (context_ranges q told ext.context h.2).0) (name_range q told.name name h.1);
-    places = (h.1, context_placed q told ext.context h.2);
-    others = others_of told no_range ext.context (ap (λ (c : CallData). c.other_name) h.0) (ap (λ (c : CallData). c.data) h.0) (context_others q told ext.context h.2);
+    numbers = fit_name told _ (fit_context_name told _ (fit_context told _ (fit_has told _ _ (ap without_places h.0.0) (sym (ap (λ n. bit false KILL_PRIV + n) (bits ext)))) (context_ranges q told ext.context h.1).1) (context_ranges q told ext.context h.1).0) (name_range q told.name name h.0.1);
+    places = (h.0.1, context_placed q told ext.context h.1);
+    others = others_of told no_range ext.context (ap (λ (c : CallData). c.other_name) h.0.0) (ap (λ (c : CallData). c.data) h.0.0) (context_others q told ext.context h.1);
   }
   is_told (call.Unlink ctx parent name) h = record {
     numbers = fit_name told _ (ap without_places h.0) (name_range q told.name name h.1);
@@ -408,9 +408,9 @@ module _ (q : List ℕ) (echo : Echo) (told : CallData) where
     others = h.0 ∙ sym (ap (with_its_ranges (call.Rmdir ctx parent name)) h.0);
   }
   is_told (call.Rename ctx olddir oldname newdir newname flags) h = record {
-    numbers = fit_name told _ (fit_other told _ (ap without_places h.0) (name_range q told.other_name newname h.2)) (name_range q told.name oldname h.1);
-    places = (h.1, h.2);
-    others = h.0 ∙ sym (ap (with_its_ranges (call.Rename ctx olddir oldname newdir newname flags)) h.0);
+    numbers = fit_name told _ (fit_other told _ (ap without_places h.0.0) (name_range q told.other_name newname h.1)) (name_range q told.name oldname h.0.1);
+    places = (h.0.1, h.1);
+    others = h.0.0 ∙ sym (ap (with_its_ranges (call.Rename ctx olddir oldname newdir newname flags)) h.0.0);
   }
   is_told (call.Link ctx inode newparent newname) h = record {
     numbers = fit_name told _ (ap without_places h.0) (name_range q told.name newname h.1);
@@ -448,9 +448,9 @@ module _ (q : List ℕ) (echo : Echo) (told : CallData) where
     others = h ∙ sym (ap (with_its_ranges (call.Fsync ctx inode datasync handle)) h);
   }
   is_told (call.Setxattr ctx inode name value flags extra) h = record {
-    numbers = fit_name told _ (fit_data told _ (ap without_places h.0) (value_range q told.data value h.2)) (name_range q told.name name h.1);
-    places = (h.1, h.2);
-    others = h.0 ∙ sym (ap (with_its_ranges (call.Setxattr ctx inode name value flags extra)) h.0);
+    numbers = fit_name told _ (fit_data told _ (ap without_places h.0.0) (value_range q told.data value h.1)) (name_range q told.name name h.0.1);
+    places = (h.0.1, h.1);
+    others = h.0.0 ∙ sym (ap (with_its_ranges (call.Setxattr ctx inode name value flags extra)) h.0.0);
   }
   is_told (call.Getxattr ctx inode name size) h = record {
     numbers = fit_name told _ (ap without_places h.0) (name_range q told.name name h.1);
@@ -518,9 +518,9 @@ module _ (q : List ℕ) (echo : Echo) (told : CallData) where
     others = h ∙ sym (ap (with_its_ranges (call.Access ctx inode mask)) h);
   }
   is_told (call.Create ctx parent name mode kill_priv flags umask ext) h = record {
-    numbers = fit_name told _ (fit_context_name told _ (fit_context told _ (fit_has told _ _ (ap without_places h.0) (sym (ap (λ n. bit kill_priv KILL_PRIV + n) (bits ext)))) (context_ranges q told ext.context h.2).1) (context_ranges q told ext.context h.2).0) (name_range q told.name name h.1);
-    places = (h.1, context_placed q told ext.context h.2);
-    others = others_of told no_range ext.context (ap (λ (c : CallData). c.other_name) h.0) (ap (λ (c : CallData). c.data) h.0) (context_others q told ext.context h.2);
+    numbers = fit_name told _ (fit_context_name told _ (fit_context told _ (fit_has told _ _ (ap without_places h.0.0) (sym (ap (λ n. bit kill_priv KILL_PRIV + n) (bits ext)))) (context_ranges q told ext.context h.1).1) (context_ranges q told ext.context h.1).0) (name_range q told.name name h.0.1);
+    places = (h.0.1, context_placed q told ext.context h.1);
+    others = others_of told no_range ext.context (ap (λ (c : CallData). c.other_name) h.0.0) (ap (λ (c : CallData). c.data) h.0.0) (context_others q told ext.context h.1);
   }
   is_told call.Bmap h = record {
     numbers = ap without_places h;

@@ -24,12 +24,8 @@ use Rattle.door_ask.specs.Asked.{IsNameIn, Stand, Spell}
 
 -- what the data of any call have of its request
 abbrev pub of_request : Echo → (d : CallData) → CallData
-of_request echo d = record nothing {
-  unique = echo.unique;
-  readahead = echo.max_readahead;
-  options = d.options;
-  room = d.room;
-}
+of_request echo d =
+    record nothing { unique = echo.unique; readahead = echo.max_readahead; options = d.options; room = d.room }
 
 -- The name and the value of a security context, where there is one, are in the request where the data say so; and else
 -- both are { 0, 0 }.
@@ -49,19 +45,23 @@ module _ (q : List ℕ) (d c : CallData) where
   by number kind ctx node =
       record (numbered number kind) { uid = ctx.uid; gid = ctx.gid; pid = ctx.pid; node = node }
 
-  -- the same of one that makes a node
-  abbrev pub making : CallData → (kill_priv : Bool) → ExtensionValues → CallData
-  making first kill_priv ext = record first {
-    name = d.name;
-    context_name = d.context_name;
-    context = d.context;
-    group = unwrap_or ext.group 0;
-    has = bit kill_priv KILL_PRIV + (bit (is_some ext.context) CONTEXT + bit (is_some ext.group) GROUP);
-  }
+  -- these data are `first` but for a name, which is this one where they say that it is
+  abbrev pub Names : CallData → (name : List ℕ) → Type 0
+  Names first name = (d ≡ record first { name = d.name }) × IsNameIn q d.name name
+
+  -- the same of a call that makes a node, and of its extensions
+  abbrev pub Makes : CallData → (kill_priv : Bool) → ExtensionValues → (name : List ℕ) → Type 0
+  Makes first kill_priv ext name =
+      Names (record first {
+        context_name = d.context_name;
+        context = d.context;
+        group = unwrap_or ext.group 0;
+        has = bit kill_priv KILL_PRIV + (bit (is_some ext.context) CONTEXT + bit (is_some ext.group) GROUP);
+      }) name
+      × TellsContext q d ext.context
 
   abbrev pub TellsByTable : Call → Type 0
-  TellsByTable (call.Lookup ctx parent name) =
-      (d ≡ record (by LOOKUP ENTRY ctx parent) { name = d.name }) × IsNameIn q d.name name
+  TellsByTable (call.Lookup ctx parent name) = Names (by LOOKUP ENTRY ctx parent) name
   TellsByTable (call.Forget ctx inode count) = d ≡ record (by FORGET QUIET ctx inode) { length = count }
   TellsByTable (call.Getattr ctx inode handle) =
       d ≡ record (by GETATTR ATTR ctx inode) { handle = unwrap_or handle 0; has = bit (is_some handle) HANDLE }
@@ -70,25 +70,19 @@ module _ (q : List ℕ) (d c : CallData) where
       { handle = unwrap_or handle 0; has = bit (is_some handle) HANDLE }
   TellsByTable (call.Readlink ctx inode) = d ≡ by READLINK TEXT ctx inode
   TellsByTable (call.Symlink ctx text parent name ext) =
-      (d ≡ record (making (by SYMLINK ENTRY ctx parent) false ext) { other_name = d.other_name })
-      × IsNameIn q d.name name × IsNameIn q d.other_name text × TellsContext q d ext.context
+      Makes (record (by SYMLINK ENTRY ctx parent) { other_name = d.other_name }) false ext name
+      × IsNameIn q d.other_name text
   TellsByTable (call.Mknod ctx inode name mode rdev umask ext) =
-      (d ≡ record (making (by MKNOD ENTRY ctx inode) false ext) { mode = mode; rdev = rdev; umask = umask })
-      × IsNameIn q d.name name × TellsContext q d ext.context
+      Makes (record (by MKNOD ENTRY ctx inode) { mode = mode; rdev = rdev; umask = umask }) false ext name
   TellsByTable (call.Mkdir ctx parent name mode umask ext) =
-      (d ≡ record (making (by MKDIR ENTRY ctx parent) false ext) { mode = mode; umask = umask })
-      × IsNameIn q d.name name × TellsContext q d ext.context
-  TellsByTable (call.Unlink ctx parent name) =
-      (d ≡ record (by UNLINK DONE ctx parent) { name = d.name }) × IsNameIn q d.name name
-  TellsByTable (call.Rmdir ctx parent name) =
-      (d ≡ record (by RMDIR DONE ctx parent) { name = d.name }) × IsNameIn q d.name name
+      Makes (record (by MKDIR ENTRY ctx parent) { mode = mode; umask = umask }) false ext name
+  TellsByTable (call.Unlink ctx parent name) = Names (by UNLINK DONE ctx parent) name
+  TellsByTable (call.Rmdir ctx parent name) = Names (by RMDIR DONE ctx parent) name
   TellsByTable (call.Rename ctx olddir oldname newdir newname flags) =
-      (d ≡ record (record (by RENAME DONE ctx olddir) { other_node = newdir; flags = flags })
-      { name = d.name; other_name = d.other_name })
-      × IsNameIn q d.name oldname × IsNameIn q d.other_name newname
+      Names (record (by RENAME DONE ctx olddir) { other_node = newdir; flags = flags; other_name = d.other_name }) oldname
+      × IsNameIn q d.other_name newname
   TellsByTable (call.Link ctx inode newparent newname) =
-      (d ≡ record (by LINK ENTRY ctx inode) { other_node = newparent; name = d.name })
-      × IsNameIn q d.name newname
+      Names (record (by LINK ENTRY ctx inode) { other_node = newparent }) newname
   TellsByTable (call.Open ctx inode kill_priv flags) =
       d ≡ record (by OPEN OPENED ctx inode) { has = bit kill_priv KILL_PRIV; flags = flags }
   TellsByTable (call.Read ctx inode handle space size offset owner flags) =
@@ -106,15 +100,12 @@ module _ (q : List ℕ) (d c : CallData) where
   TellsByTable (call.Fsync ctx inode datasync handle) =
       d ≡ record (by FSYNC DONE ctx inode) { has = bit datasync DATASYNC; handle = handle }
   TellsByTable (call.Setxattr ctx inode name value flags extra) =
-      (d ≡ record (record (by SETXATTR DONE ctx inode) { flags = flags; more = extra })
-      { name = d.name; «data» = d.data })
-      × IsNameIn q d.name name × Stand q d.data value
+      Names (record (by SETXATTR DONE ctx inode) { flags = flags; more = extra; «data» = d.data }) name
+      × Stand q d.data value
   TellsByTable (call.Getxattr ctx inode name size) =
-      (d ≡ record (by GETXATTR TEXT_OR_COUNT ctx inode) { name = d.name; size = size })
-      × IsNameIn q d.name name
+      Names (record (by GETXATTR TEXT_OR_COUNT ctx inode) { size = size }) name
   TellsByTable (call.Listxattr ctx inode size) = d ≡ record (by LISTXATTR TEXT_OR_COUNT ctx inode) { size = size }
-  TellsByTable (call.Removexattr ctx inode name) =
-      (d ≡ record (by REMOVEXATTR DONE ctx inode) { name = d.name }) × IsNameIn q d.name name
+  TellsByTable (call.Removexattr ctx inode name) = Names (by REMOVEXATTR DONE ctx inode) name
   TellsByTable (call.Flush ctx inode handle lock_owner) =
       d ≡ record (by FLUSH DONE ctx inode) { handle = handle; lock_owner = lock_owner }
   TellsByTable (call.Init capable) = d ≡ record (numbered INIT WANT) { length = capable }
@@ -130,8 +121,7 @@ module _ (q : List ℕ) (d c : CallData) where
   TellsByTable call.Setlkw = d ≡ numbered SETLKW FAULT_OR_SILENCE
   TellsByTable (call.Access ctx inode mask) = d ≡ record (by ACCESS DONE ctx inode) { more = mask }
   TellsByTable (call.Create ctx parent name mode kill_priv flags umask ext) =
-      (d ≡ record (making (by CREATE CREATED ctx parent) kill_priv ext) { mode = mode; flags = flags; umask = umask })
-      × IsNameIn q d.name name × TellsContext q d ext.context
+      Makes (record (by CREATE CREATED ctx parent) { mode = mode; flags = flags; umask = umask }) kill_priv ext name
   TellsByTable call.Bmap = d ≡ numbered BMAP FAULT_OR_SILENCE
   TellsByTable call.Destroy = d ≡ numbered DESTROY QUIET
   TellsByTable call.Ioctl = d ≡ numbered IOCTL FAULT_OR_SILENCE

@@ -26,5 +26,5 @@ returns-clause-lookup c = λ request told echo ctx parent name is.
 pub returns-clause-mkdir : goal.returns-clause-mkdir
 returns-clause-mkdir c = λ request told echo ctx parent name mode umask ext without is.
     let row = (c.the_table_says_what_is_told.ensures.says request echo (Mkdir ctx parent name mode umask ext) told).0 is in
-    let none = subst (λ (o : Option (List ℕ × List ℕ)). TellsContext request told o) without row.2 in
-    (ap (λ (d : CallData). d.other_name) row.0, ap (λ (d : CallData). d.data) row.0, none.0, none.1)
+    let none = subst (λ (o : Option (List ℕ × List ℕ)). TellsContext request told o) without row.1 in
+    (ap (λ (d : CallData). d.other_name) row.0.0, ap (λ (d : CallData). d.data) row.0.0, none.0, none.1)
