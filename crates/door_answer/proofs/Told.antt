@@ -9,7 +9,7 @@ use Rattle.fuse_grammar.specs.Reply.{Bytes, fault_reply}
 use Rattle.fuse_grammar.specs.declared.limits.Limits.{Limits}
 use Rattle.door_calls.specs.declared.call.CallData.{CallData}
 use Rattle.door_calls.specs.declared.data.AnswerData.{AnswerData}
-use Rattle.door_answer.specs.Said.{FitsData, IsSaid}
+use Rattle.door_answer.specs.Said.{CanBeRead, IsSaid}
 use Rattle.door_answer.specs.Kinds.{kind_told}
 use Rattle.door_answer.specs.Answering.{can_answer, AnswersCall, Comes, KeepsData, IsAnswered}
 use Rattle.door_answer.specs.declared.answered.Answered.{Answered}
@@ -33,7 +33,7 @@ answered limits call kind a text old came new answer told room can said comes ke
 -- a READ
 pub read_answered : (limits : Limits) (call : CallData) (a : AnswerData) (text : List ℕ) (old new : Written) (came : Answered) (said : Result ℕ (Option ℕ))
     → 16 ≤ length old.left
-    → IfOk said (λ count. (count ≡ a.count) × FitsData call.size call.room a.count)
+    → IfOk said (λ count. (count ≡ a.count) × CanBeRead call.size call.room a.count)
     → ((text room : List ℕ) → length room ≡ call.room → IsSaid a text room (Data call.size) (read_answer said (take a.count (drop 16 room))))
     → came ≡ record { outcome = came.outcome; options = call.options; given = 0; taken = 0 }
     → MatchResult said

@@ -14,23 +14,20 @@ use Rattle.door_answer.specs.Said.{IsFailed}
 abbrev pub item_told : ItemData → (name : List ℕ) → Item
 item_told i name = record { ino = i.ino; offset = i.offset; type_ = i.type_; name = name }
 
--- what the lookup of an item got, as it was offered: an entry, or the fault of its number
-abbrev pub IsFound : ItemData → Got → Type 0
-IsFound i (Ok (Some entry)) = (i.error ≡ pos 0) × (entry_out_of entry ≡ entry_out_for i.entry)
-IsFound i (Ok None) = ⊥
-IsFound i (Err fault) = (i.error ≢ pos 0) × IsFaultOf i.error fault
-
--- the same where it was looked up: for READDIRPLUS, but `.` and `..`
-abbrev pub IsFoundIf : (plus dot : Bool) → ItemData → Got → Type 0
-IsFoundIf true false i got = IsFound i got
-IsFoundIf plus dot i got = ⊤
+-- what the lookup of an item got, as it was offered: an entry, or the fault of its number. That is of the items of a
+-- READDIRPLUS, but `.` and `..`: no others are looked up
+abbrev pub IsFound : (plus dot : Bool) → ItemData → Got → Type 0
+IsFound true false i (Ok (Some entry)) = (i.error ≡ pos 0) × (entry_out_of entry ≡ entry_out_for i.entry)
+IsFound true false i (Ok None) = ⊥
+IsFound true false i (Err fault) = (i.error ≢ pos 0) × IsFaultOf i.error fault
+IsFound plus dot i got = ⊤
 
 -- a line is that of this item
 pub record IsLine (plus : Bool) (i : ItemData) (l : Line) : Type 0 where
   pub name : List ℕ
   pub named : name_of i.name.now ≡ Some name
   pub item : l.item ≡ item_told i name
-  pub found : IsFoundIf plus (is_dot name) i l.got
+  pub found : IsFound plus (is_dot name) i l.got
 
 -- The items that were offered, of which these lines were taken: the next one, if there is one, stopped
 -- the reading. Items end at the first whose name is none.

@@ -10,8 +10,8 @@ use Rattle.door_calls.specs.declared.data.AnswerData.{AnswerData}
 use Rattle.fuse_grammar.specs.Records.{size_of}
 
 -- that many bytes of data can be in the reply to a READ of this size, in a room of this length, which has the
--- reply's header too (the `Fits..` of Answers are of widths, and this of a room)
-pub record FitsData (size room_len count : ℕ) : Type 0 where
+-- reply's header too
+pub record CanBeRead (size room_len count : ℕ) : Type 0 where
   pub asked_for : count ≤ size
   pub room_for : size_of out_header + count ≤ room_len
   pub short : count < 2 ^ 32 - 16
@@ -31,7 +31,7 @@ abbrev pub IsValue : AnswerData → (text room : List ℕ) → Kind → Answer �
 IsValue a text room Told Done = ⊤
 IsValue a text room Untold Done = ⊤
 IsValue a text room (Data size) (Put bytes) =
-    FitsData size (length room) a.count × (bytes ≡ take a.count (drop (size_of out_header) room))
+    CanBeRead size (length room) a.count × (bytes ≡ take a.count (drop (size_of out_header) room))
 IsValue a text room Agreements (Options want) = want ≡ bit_and a.count known_fs_options
 IsValue a text room Entries (Found entry) = entry_out_of entry ≡ entry_out_for a.entry
 IsValue a text room TimedAttributes (Attributes attributes timeout) =

@@ -5,7 +5,7 @@ ghost use Rattle.fuse_flags.specs.Numbers.{eio};
 ghost use Rattle.fuse_flags.specs.Flags.{fs_options_bits, open_options_bits, known_fs_options, known_open_options};
 ghost use Rattle.fs_trait.specs.Answers.{Told, Untold, Entries, TimedAttributes, Openings, Creations, Capacities, Offsets, Writes, Agreements, Texts, TextsOrCounts, Data, Faults, Failed, KeepsTextShort, read_answer, init_answer, done_answer, entry_answer, attr_answer, opened_answer, created_answer, statistics_answer, offset_answer, written_answer};
 ghost use Rattle.door_calls.specs.Values.{handle_of};
-ghost use Rattle.door_answer.specs.Said.{FitsData, IsFailed, IsSaid, IsTooLong, IsTooMuch, IsUncounted, text_said, value_said};
+ghost use Rattle.door_answer.specs.Said.{CanBeRead, IsFailed, IsSaid, IsTooLong, IsTooMuch, IsUncounted, text_said, value_said};
 
 use bitflags::Flags;
 use door_calls::{AnswerData, CallData, fault_of};
@@ -188,7 +188,7 @@ pub(crate) fn value(answer: &AnswerData, text: &[u8]) -> Result<Option<u32>, Fau
 fn data_count(call: &CallData, answer: &AnswerData) -> Result<u32, Fault>
     ensures { MatchResult result
         (λ count. (count ≡ answer.now.count)
-        × FitsData call.now.size call.now.room answer.now.count)
+        × CanBeRead call.now.size call.now.room answer.now.count)
         (λ fault. (fault ≡ Some eio) × IsTooMuch call.now.size call.now.room answer.now.count) }
 {
     if answer.count > u64::from(call.size.min(MAX_REPLY_DATA)) {
@@ -203,7 +203,7 @@ fn data_count(call: &CallData, answer: &AnswerData) -> Result<u32, Fault>
 /// How many bytes of data there are, or the fault.
 pub(crate) fn data(call: &CallData, answer: &AnswerData) -> Result<u32, Fault>
     ensures count { IfOk result (λ count. (count ≡ answer.now.count)
-        × FitsData call.now.size call.now.room answer.now.count) }
+        × CanBeRead call.now.size call.now.room answer.now.count) }
     ensures said { (text room : List ℕ) → length room ≡ call.now.room →
         IsSaid answer.now text room (Data call.now.size)
         (read_answer result (take answer.now.count (drop 16 room))) }
