@@ -1,6 +1,6 @@
 -- A call as data: which numbers each call has. Names and values are shown by their lengths alone; where they
--- are in the request is told by the request's form. Of the door's promise only `bit` is to be read:
--- `tests/c/data.py` compiles `nothing` and `setattr_of` against `nizwarf.h`.
+-- are in the request is told by the request's form. `tests/c/data.py` compiles `nothing` and `setattr_of` against
+-- `nizwarf.h`.
 use Rattle.std.specs.Prelude.{ℕ, pos, ◌+◌, List, Bool, true, false, length, Option, Some, None, unwrap_or}
 use Rattle.fuse_flags.specs.Numbers.{eio}
 use Rattle.fuse_wire.specs.declared.attributes.SetattrIn.{SetattrIn}
@@ -14,10 +14,6 @@ use Rattle.door_calls.specs.declared.call.CallData.{CallData}
 use Rattle.door_calls.specs.declared.call.number.TheConstants as number
 use Rattle.door_calls.specs.declared.call.kind.TheConstants as kind
 use Rattle.door_calls.specs.declared.call.has.TheConstants as has
-
--- bytes of this length, wherever they are
-abbrev pub unplaced : List ℕ → Range
-unplaced bytes = record { at = 0; len = length bytes }
 
 abbrev pub no_range : Range
 no_range = record { at = 0; len = 0 }
@@ -77,14 +73,6 @@ nothing = record {
   readahead = 0;
 }
 
--- a record of this call and this kind of answer
-abbrev pub asks : (number kind : ℕ) → CallData → CallData
-asks number kind c = record c { call = number; answer = kind }
-
--- made by this caller
-abbrev pub made_by : Context → CallData → CallData
-made_by ctx c = record c { uid = ctx.uid; gid = ctx.gid; pid = ctx.pid }
-
 -- the record of a SETATTR
 abbrev pub setattr_of : SetattrIn → SetattrData
 setattr_of r = record {
@@ -110,6 +98,20 @@ setattr_of r = record {
 abbrev pub bit : Bool → (bit : ℕ) → ℕ
 bit true b = b
 bit false b = 0
+
+-- ---- no more is of the promise: the rest is for contracts of parts
+
+-- bytes of this length, wherever they are
+abbrev pub unplaced : List ℕ → Range
+unplaced bytes = record { at = 0; len = length bytes }
+
+-- a record of this call and this kind of answer
+abbrev pub asks : (number kind : ℕ) → CallData → CallData
+asks number kind c = record c { call = number; answer = kind }
+
+-- made by this caller
+abbrev pub made_by : Context → CallData → CallData
+made_by ctx c = record c { uid = ctx.uid; gid = ctx.gid; pid = ctx.pid }
 
 -- a bit, where there is a number
 abbrev pub bit_of : Option ℕ → (bit : ℕ) → ℕ

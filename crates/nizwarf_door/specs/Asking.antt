@@ -1,5 +1,4 @@
--- What C is told of a request that was asked for its call. Of the promise only `IsNotAsked` is to be read: the rest
--- is for the clause `asked`, which says the same over writers.
+-- What C is told of a request that was asked for its call.
 use Rattle.std.specs.Prelude.{◌≡◌, ◌≤◌, ◌^◌, ◌⊎◌, ℕ, ℤ, List, [], length, Result}
 use Rattle.fuse_segments.specs.Lengths.{lengths_from}
 use Rattle.fuse_segments.specs.Segments.{flat_bytes, lengths_of}
@@ -15,6 +14,17 @@ use Rattle.door_ask.specs.declared.asked.Asked.TheVariants as asked
 use Rattle.c_rooms.specs.Codes.{no_memory, too_long, is_asked, outcome_code, length_of}
 use Rattle.nizwarf_door.specs.Shown.{AreFirst}
 use Rattle.nizwarf_door.specs.declared.data.ToldData.{ToldData}
+
+-- The request was not asked, for want of memory, perhaps for an answer to its call, or since the lengths of its
+-- pieces sum past the largest count. No call is told, and nothing is there to be copied out.
+pub record IsNotAsked (request : List ℕ) (code : ℤ) (call_after : CallData) (told told_after : ToldData)
+    (shown : List ℕ) : Type 0 where
+  pub why : (code ≡ no_memory) ⊎ ((code ≡ too_long) × (2 ^ 64 ≤ length request))
+  pub no_call : call_after ≡ nothing
+  pub same_told : told_after ≡ told
+  pub none_shown : shown ≡ []
+
+-- ---- no more is of the promise: the rest is for the clause `asked`, which says the same over writers
 
 -- what is told of a finished request: how long its reply is, and which request it interrupts
 abbrev pub finished : Result ℕ Error → (interrupts : ℕ) → ToldData → ToldData
@@ -45,15 +55,6 @@ pub record AsksOver (limits : Limits) (options : ℕ) (request : List ℕ) (room
   pub after : Written
   pub asked : IsAsked limits options request before result after call_after
   pub passed_on : IsAskTold result before after code told told_after shown
-
--- The request was not asked, for want of memory, perhaps for an answer to its call, or since the lengths of its
--- pieces sum past the largest count. No call is told, and nothing is there to be copied out.
-pub record IsNotAsked (request : List ℕ) (code : ℤ) (call_after : CallData) (told told_after : ToldData)
-    (shown : List ℕ) : Type 0 where
-  pub why : (code ≡ no_memory) ⊎ ((code ≡ too_long) × (2 ^ 64 ≤ length request))
-  pub no_call : call_after ≡ nothing
-  pub same_told : told_after ≡ told
-  pub none_shown : shown ≡ []
 
 -- a request with that many bytes of room was asked, or not
 abbrev pub AsksOrNot : (limits : Limits) → (options : ℕ) → (request : List ℕ) → (room : ℕ)
