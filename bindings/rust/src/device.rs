@@ -161,11 +161,13 @@ pub(crate) fn is_unawaited(error: &io::Error) -> bool {
 fn send_fault(device: &File, request: &[u8]) -> io::Result<()> {
     const FORGET: [u8; 4] = number::FORGET.to_le_bytes();
     const BATCH_FORGET: [u8; 4] = number::BATCH_FORGET.to_le_bytes();
+    // Its number is that of a notice, and may be another request's, too.
+    const NOTIFY_REPLY: [u8; 4] = number::NOTIFY_REPLY.to_le_bytes();
     let (opcode, unique) = match (request.get(4..8), request.get(8..16)) {
         (Some(opcode), Some(unique)) => (opcode, unique),
         _ => return Ok(()),
     };
-    if opcode == FORGET || opcode == BATCH_FORGET || unique == [0; 8] {
+    if [FORGET, BATCH_FORGET, NOTIFY_REPLY].iter().any(|it| opcode == it) || unique == [0; 8] {
         return Ok(());
     }
     answer_fault(device, u64::from_le_bytes(unique.try_into().unwrap_or_default()))

@@ -529,7 +529,9 @@ fn hostile_requests() {
                 }
             }
         }
-        let (none, perhaps) = (matches!(opcode, 2 | 42), opcode == 36 || request.len() < 16);
+        // (a NOTIFY_REPLY is not offered, and only that is answered)
+        let (none, perhaps) =
+            (matches!(opcode, 2 | 42), matches!(opcode, 36 | 41) || request.len() < 16);
         assert!(perhaps || own.is_some() != none, "round {round}: {request:?}");
         let own = own.unwrap_or_default();
         let is_fault = !own.is_empty() && word(&own, 4) != 0;

@@ -4,7 +4,7 @@
 mod common;
 
 use common::{fault, reply, Request};
-use nizwarf::{Attr, Context, Errno, FileSystem, FsOptions, NoEntries, Server, Slot};
+use nizwarf::{Attr, Context, Errno, FileSystem, FsOptions, NoEntries, Offers, Server, Slot};
 use std::fs::File;
 use std::io::{self, IoSlice, IoSliceMut};
 use std::os::unix::io::OwnedFd;
@@ -32,6 +32,10 @@ impl FileSystem for Plain {
     type Inode = u64;
     type Handle = u64;
     type DirIter = NoEntries;
+
+    fn offers(&self) -> Offers {
+        Offers::NOTIFY_REPLY
+    }
 
     fn init(&self, capable: FsOptions) -> io::Result<FsOptions> {
         self.capable.store(capable.bits(), Ordering::Relaxed);
@@ -98,6 +102,7 @@ fn a_refused_request_is_answered_and_the_last_thread_ends_the_session() {
         // These have no reply.
         Request::new(2, 5).done(),
         Request::new(42, 0).u32(9).u32(0).done(),
+        Request::new(41, 5).done(),
         vec![1; 9],
     ];
     let (replies, before) = thread::scope(|scope| {
