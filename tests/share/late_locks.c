@@ -6,36 +6,21 @@
 #include <stdarg.h>
 #include <time.h>
 
-static int ask(const char *name, int fd, int what, va_list more)
+int fcntl(int fd, int what, ...)
 {
-	int (*own)(int, int, ...) = (int (*)(int, int, ...))dlsym(RTLD_NEXT, name);
+	int (*own)(int, int, ...) = (int (*)(int, int, ...))dlsym(RTLD_NEXT, "fcntl");
 	struct timespec left = { 5, 0 };
-	void *given = va_arg(more, void *);
+	va_list more;
+	void *given;
 
+	va_start(more, what);
+	given = va_arg(more, void *);
+	va_end(more);
 	if (what == F_OFD_GETLK && ((const struct flock *)given)->l_type == F_WRLCK)
 		while (nanosleep(&left, &left) && errno == EINTR)
 			;
 	return own(fd, what, given);
 }
 
-int fcntl(int fd, int what, ...)
-{
-	va_list more;
-	int came;
-
-	va_start(more, what);
-	came = ask("fcntl", fd, what, more);
-	va_end(more);
-	return came;
-}
-
-int fcntl64(int fd, int what, ...)
-{
-	va_list more;
-	int came;
-
-	va_start(more, what);
-	came = ask("fcntl64", fd, what, more);
-	va_end(more);
-	return came;
-}
+/* (where an offset has 64 bits anyway the two are one) */
+int fcntl64(int fd, int what, ...) __attribute__((alias("fcntl")));
