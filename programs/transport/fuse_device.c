@@ -150,14 +150,14 @@ static enum outcome failed(const struct worker *w, const char *what)
 }
 
 /* A refused request has no reply of the server's, and the kernel waits for one: it gets an error. Of
- * these three it awaits none. */
+ * these four it awaits none. (The number of the last is a notice's, and may be another request's too.) */
 size_t fuse_device_refuse(const transport *by, const struct fuse_in_header *asked, int32_t code, void *room)
 {
 	struct fuse_out_header reply = { .len = sizeof(reply), .unique = asked->unique };
 
 	fprintf(stderr, "%s: outcome %d of opcode %u\n", by->program, (int)code, (unsigned)asked->opcode);
 	if (asked->opcode == FUSE_FORGET || asked->opcode == FUSE_BATCH_FORGET ||
-	    asked->opcode == FUSE_INTERRUPT)
+	    asked->opcode == FUSE_INTERRUPT || asked->opcode == FUSE_NOTIFY_REPLY)
 		return 0;
 	reply.error = code == NIZWARF_OUT_OF_MEMORY ? -ENOMEM : -EIO;
 	memcpy(room, &reply, sizeof(reply));
