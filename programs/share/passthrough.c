@@ -87,6 +87,28 @@ static void let_pass(void)
 	nanosleep(&pause, NULL);
 }
 
+/* Gives back what a call came to whose client has gone: that was let go of all that it had, and who comes next knows
+ * nothing of it. */
+static void give_back_all(const struct call *call)
+{
+	struct passthrough *all = call->all;
+	const nizwarf_call *asked = call->asked;
+	const nizwarf_answer *answer = call->answer;
+
+	if (all->locks && (asked->call == NIZWARF_SETLK || asked->call == NIZWARF_SETLKW))
+		locks_lose(all->locks, asked);
+	if (answer->error)
+		return;
+	if (answer->entry.node)
+		node_forget(&all->nodes, answer->entry.node, 1);
+	if (answer->has_handle)
+		file_release(&all->nodes, answer->handle);
+	if (asked->call == NIZWARF_READDIR)
+		for (size_t i = 0; i < answer->items_len; i++)
+			if (answer->items[i].entry.node)
+				node_forget(&all->nodes, answer->items[i].entry.node, 1);
+}
+
 /* Makes the call, and gives back what the client doesn't get. */
 static int32_t answer_call(struct call *call, const nizwarf_session *session, const nizwarf_room *room,
 			   size_t rooms, ssize_t pieces, nizwarf_told *told)
@@ -104,8 +126,12 @@ static int32_t answer_call(struct call *call, const nizwarf_session *session, co
 		return NIZWARF_ASKED;
 	/* (the slot that it was asked with has memory for the reply) */
 	code = nizwarf_reply(&call->worker->slot, session, asked, answer, room, rooms, told);
-	/* (its client may have gone meanwhile, and the next one have agreed on others) */
-	if ((asked->call == NIZWARF_INIT || asked->call == NIZWARF_DESTROY) && is_there(call))
+	/* (the next one may have agreed on other options) */
+	if (!is_there(call)) {
+		give_back_all(call);
+		return code;
+	}
+	if (asked->call == NIZWARF_INIT || asked->call == NIZWARF_DESTROY)
 		atomic_store(&all->agreed, told->options);
 	if (told->give_back)
 		node_forget(&all->nodes, told->give_back, 1);
@@ -274,6 +300,8 @@ void passthrough_parted(void *user)
 	struct passthrough *all = user;
 	struct left *left = calloc(1, sizeof(*left));
 
+	/* (first: what a late request of it has from then on that gives back itself) */
+	atomic_fetch_add(&all->clients, 1);
 	if (left) {
 		left->all = all;
 		left->locks = all->locks ? locks_take_all(all->locks) : NULL;
@@ -283,7 +311,6 @@ void passthrough_parted(void *user)
 			locks_forget_all(all->locks);
 		nodes_forget_all(&all->nodes);
 	}
-	atomic_fetch_add(&all->clients, 1);
 	atomic_store(&all->agreed, 0);
 	atomic_store(&all->lacks_option, false);
 	if (left)

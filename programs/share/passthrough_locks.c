@@ -572,6 +572,11 @@ void locks_close(struct locks *all, const nizwarf_call *asked)
 		drop(all, asked->node, asked->lock_owner, true);
 }
 
+void locks_lose(struct locks *all, const nizwarf_call *asked)
+{
+	drop(all, asked->node, asked->lock_owner, asked->has & NIZWARF_HAS_FLOCK);
+}
+
 /* It kicks once: the transport calls again while something is kept, since a kick may be missed. */
 void locks_recall(struct locks *all)
 {

@@ -2,7 +2,7 @@
 an event that is full, keeps nobody: neither the next front end, nor a signal. And what is unmounted is what was
 mounted. Usage: ends.py SHARE WORK [WORDS]; and for tests/mount/check.sh ends.py --tree MOUNT VHOST WORK. It
 wants root, in a namespace of mounts of its own. With LATE_CLOSE in the environment, the built late_close.c, a machine
-begins anew, which takes long, and goes meanwhile: what the next one has stays."""
+begins anew, which takes long, and goes meanwhile: what the next one has stays, and nothing else."""
 
 import atexit, contextlib, ctypes, fcntl, mmap, os, select, signal, socket, struct, subprocess, sys, time
 
@@ -262,6 +262,29 @@ def closes_late():
     server.ends("a signal while a file is closed")
 
 
+def comes_late():
+    """What a request comes to whose machine has gone is given back."""
+    for name, size in (("slow", 1), ("opened", 4243)):
+        with open(f"{folder}/{name}", "w") as late:
+            late.write("x" * size)
+    # (in a sandbox it may open by another call)
+    server = Server("--sandbox=none", "--thread-pool-size=2", "--socket-path=" + path, folder,
+                    LD_PRELOAD=os.environ["LATE_CLOSE"])
+    one = Front()
+    one.init()
+    one.post(14, bytes(8), struct.unpack_from("<Q", one.ask(1, b"opened\0")[1])[0])
+    one.post(1, b"slow\0")
+    time.sleep(0.3)
+    one.hang_up()
+    other = next_is_served("requests that come late")
+    time.sleep(4)
+    descriptors = f"/proc/{server.child()}/fd/"
+    kept = {os.path.basename(os.readlink(descriptors + it)) for it in os.listdir(descriptors)} & {"slow", "opened"}
+    hold(not kept, f"what came to a machine that had gone is kept: {kept}")
+    other.hang_up()
+    server.ends("a signal, once requests came late")
+
+
 def mount_waits(how, *sandbox):
     """Who uses the mount waits, and a signal ends it."""
     hung = Hung(folder + "/hung") if how == "a file system" else None
@@ -333,6 +356,7 @@ for ends_by_signal in (False, True):
 if "LATE_CLOSE" in os.environ:
     begins_anew()
     closes_late()
+    comes_late()
 alone = "--sandbox=none" in words
 for sandbox in ([[]] if alone else [["--sandbox=namespace"], ["--sandbox=none"]]):
     mount_waits("a lease", *sandbox)

@@ -1,19 +1,62 @@
-/* Loaded before a share, for ends.py: to close an open file of 4242 bytes takes three seconds, as over a network. */
+/* Loaded before a share, for ends.py: to close an open file of 4242 bytes takes three seconds, as over a network, and so
+ * does to open one of 4243, and to look at what is named `slow`. */
 #define _GNU_SOURCE
 #include <dlfcn.h>
 #include <errno.h>
 #include <fcntl.h>
+#include <stdarg.h>
+#include <string.h>
 #include <sys/stat.h>
 #include <time.h>
+
+static void take_long(void)
+{
+	struct timespec left = { 3, 0 };
+
+	while (nanosleep(&left, &left) && errno == EINTR)
+		;
+}
+
+static int has_size(int fd, off_t size)
+{
+	struct stat is;
+
+	return !fstat(fd, &is) && is.st_size == size && !(fcntl(fd, F_GETFL) & O_PATH);
+}
 
 int close(int fd)
 {
 	int (*own)(int) = (int (*)(int))dlsym(RTLD_NEXT, "close");
-	struct timespec left = { 3, 0 };
-	struct stat is;
 
-	if (!fstat(fd, &is) && is.st_size == 4242 && !(fcntl(fd, F_GETFL) & O_PATH))
-		while (nanosleep(&left, &left) && errno == EINTR)
-			;
+	if (has_size(fd, 4242))
+		take_long();
 	return own(fd);
+}
+
+int openat(int directory, const char *name, int flags, ...)
+{
+	int (*own)(int, const char *, int, ...) =
+		(int (*)(int, const char *, int, ...))dlsym(RTLD_NEXT, "openat");
+	unsigned mode = 0;
+	va_list more;
+	int fd;
+
+	va_start(more, flags);
+	if (flags & O_CREAT || (flags & O_TMPFILE) == O_TMPFILE)
+		mode = va_arg(more, unsigned);
+	va_end(more);
+	fd = own(directory, name, flags, mode);
+	if (fd >= 0 && has_size(fd, 4243))
+		take_long();
+	return fd;
+}
+
+int statx(int directory, const char *name, int flags, unsigned mask, struct statx *seen)
+{
+	int (*own)(int, const char *, int, unsigned, struct statx *) =
+		(int (*)(int, const char *, int, unsigned, struct statx *))dlsym(RTLD_NEXT, "statx");
+
+	if (!strcmp(name, "slow"))
+		take_long();
+	return own(directory, name, flags, mask, seen);
 }
