@@ -13,6 +13,7 @@
 #include <fcntl.h>
 #include <grp.h>
 #include <limits.h>
+#include <poll.h>
 #include <signal.h>
 #include <stddef.h>
 #include <stdio.h>
@@ -21,6 +22,7 @@
 #include <sys/mount.h>
 #include <sys/prctl.h>
 #include <sys/resource.h>
+#include <sys/signalfd.h>
 #include <sys/socket.h>
 #include <sys/stat.h>
 #include <sys/un.h>
@@ -172,11 +174,27 @@ static void go_quiet(void)
 		close(manager);
 }
 
+/* Tells the service manager, as soon as that takes it, or unless a signal comes first. */
+static void tell_manager(void)
+{
+	static const char ready[] = "READY=1\n";
+	const sigset_t ending = transport_hold_signals(SIG_BLOCK);
+	struct pollfd wait[] = { { signalfd(-1, &ending, SFD_CLOEXEC), POLLIN, 0 }, { manager, POLLOUT, 0 } };
+	ssize_t told;
+
+	/* (its socket holds some messages, and who is to take them may wait itself) */
+	do
+		told = send(manager, ready, sizeof(ready) - 1, MSG_NOSIGNAL | MSG_DONTWAIT);
+	while (told < 0 && errno == EAGAIN && poll(wait, 2, -1) > 0 && !wait[0].revents);
+	if (told < 0)
+		failed("NOTIFY_SOCKET");
+	if (wait[0].fd >= 0)
+		close(wait[0].fd);
+}
+
 /* Tells whoever waits that it serves: by what stands by, if there is such, and else by the server. */
 static void tell_ready(void *user)
 {
-	static const char ready[] = "READY=1\n";
-
 	(void)user;
 	if (words.says_more)
 		fprintf(stderr, "nizwarf-share: %s is served %s %s\n", words.folder,
@@ -184,8 +202,8 @@ static void tell_ready(void *user)
 			words.mount_point ? words.mount_point :
 			words.socket_path ? words.socket_path :
 					    "the socket of --fd");
-	if (manager >= 0 && send(manager, ready, sizeof(ready) - 1, MSG_NOSIGNAL) < 0)
-		failed("NOTIFY_SOCKET");
+	if (manager >= 0)
+		tell_manager();
 	if (starter >= 0 && write(starter, "", 1) != 1)
 		failed("the process that was started");
 	go_quiet();

@@ -4,6 +4,7 @@ import socket
 import struct
 import subprocess
 import sys
+import time
 
 share, work = sys.argv[1:]
 told = socket.socket(socket.AF_UNIX, socket.SOCK_DGRAM)
@@ -21,6 +22,27 @@ for words in (["--socket-path=" + work + "/socket"], ["--fd=%d" % listening.file
     assert said == b"READY=1\n" and struct.unpack_from("i", beside[0][2])[0] == server.pid
     server.terminate()
     assert server.wait(20) == 0
+# A manager that takes no message has neither a signal wait nor, with a sandbox, what is asked.
+full = socket.socket(socket.AF_UNIX, socket.SOCK_DGRAM)
+full.connect(work + "/told")
+full.setblocking(False)
+for sandbox in "namespace", "none":
+    try:
+        while True:
+            full.send(b"")
+    except BlockingIOError:
+        pass
+    for is_read in False, True:
+        server = subprocess.Popen([share, "--log-level=error", "--sandbox=" + sandbox, "--socket-path=" + work + "/socket",
+                                   work + "/folder"], env=dict(os.environ, NOTIFY_SOCKET=work + "/told"))
+        until = time.monotonic() + 20
+        while not os.path.exists(work + "/socket") and time.monotonic() < until:
+            time.sleep(0.01)
+        time.sleep(0.5)
+        while is_read and told.recv(100) != b"READY=1\n":
+            pass
+        server.terminate()
+        assert server.wait(20) == 0
 assert not os.path.exists(work + "/socket")
 os.unlink(work + "/told")
 os.unlink(work + "/listening")
