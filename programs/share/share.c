@@ -14,11 +14,14 @@
 #include <grp.h>
 #include <limits.h>
 #include <poll.h>
+#include <pthread.h>
 #include <signal.h>
+#include <stdatomic.h>
 #include <stddef.h>
 #include <stdio.h>
 #include <stdlib.h>
 #include <string.h>
+#include <sys/eventfd.h>
 #include <sys/mount.h>
 #include <sys/prctl.h>
 #include <sys/resource.h>
@@ -393,12 +396,20 @@ static int limit(struct passthrough *all)
 				      (opens_handles ? MAY_OPEN_HANDLES : 0) | (by.ring ? MAY_USE_RINGS : 0));
 }
 
+/* Without a sandbox: it has mounted, and nobody else unmounts. */
+static atomic_bool is_mounted;
+
 /* Mounts, from within the sandbox if there is one. */
 static int begin_mount(void)
 {
 	if (!words.mount_point)
 		return 0;
-	return words.sandbox == SANDBOX_NONE ? mount_folder(NULL) : sandbox_mount();
+	if (words.sandbox != SANDBOX_NONE)
+		return sandbox_mount();
+	if (mount_folder(NULL))
+		return -1;
+	atomic_store(&is_mounted, true);
+	return 0;
 }
 
 /* Tells that it serves. (A service manager hears the process alone that it started.) */
@@ -412,16 +423,71 @@ static void tell_outside(void)
 	}
 }
 
+/* In milliseconds: how long it may take to serve, once a signal came. */
+enum { MOST_START = 1800 };
+
+/* Without a sandbox nothing stands by: a thread waits for a signal up to when it serves, as the file system of the
+ * folder may not answer. It takes none, so that the transport has it. `serves` is told once it does. */
+static struct guard {
+	pthread_t thread;
+	int signals, serves;
+} guard;
+
+/* Status 0: a signal is no failure. */
+static void *keep_guard(void *given)
+{
+	const struct guard *g = given;
+	struct pollfd wait[] = { { g->serves, POLLIN, 0 }, { g->signals, POLLIN, 0 } };
+
+	while (poll(wait, 2, -1) < 0 && errno == EINTR)
+		;
+	while (!wait[0].revents && poll(wait, 1, MOST_START) < 0 && errno == EINTR)
+		;
+	if (wait[0].revents)
+		return NULL;
+	/* (before that, what is mounted there is another's) */
+	if (atomic_load(&is_mounted))
+		fuse_device_detach(&by, words.mount_point);
+	remove_socket(NULL);
+	_exit(0);
+}
+
+static int begin_guard(void)
+{
+	const sigset_t ending = transport_hold_signals(SIG_BLOCK);
+
+	guard.signals = signalfd(-1, &ending, SFD_CLOEXEC);
+	guard.serves = eventfd(0, EFD_CLOEXEC);
+	if (guard.signals < 0 || guard.serves < 0)
+		return failed("signalfd and eventfd");
+	errno = pthread_create(&guard.thread, NULL, keep_guard, &guard);
+	return errno ? failed("a thread") : 0;
+}
+
+static void end_guard(void)
+{
+	const uint64_t one = 1;
+
+	if (write(guard.serves, &one, sizeof(one)) < 0)
+		failed("eventfd");
+	pthread_join(guard.thread, NULL);
+	close(guard.signals);
+	close(guard.serves);
+}
+
 /* Serves in the sandbox, from its entering on: the status with which the process ends. Rings are made
  * before the filter forbids it, and it is told that it serves once nothing can fail any more but the
  * serving. */
 static int serve(int listener)
 {
 	/* What stands by unmounts, where something does. */
-	const char *unmounts = words.sandbox == SANDBOX_NONE ? words.mount_point : NULL;
+	const bool is_alone = words.sandbox == SANDBOX_NONE;
+	const char *unmounts = is_alone ? words.mount_point : NULL;
 	struct passthrough *all;
 	int root, proc, status = 1;
 
+	if (is_alone && begin_guard())
+		return 1;
 	if (sandbox_enter((enum sandbox)words.sandbox, words.folder, &root, &proc, &words.files.no_devices))
 		return 1;
 	/* (a mode is the client's, which has taken its own umask off, or says it) */
@@ -436,6 +502,8 @@ static int serve(int listener)
 		make_rings();
 		if (!limit(all)) {
 			tell_outside();
+			if (is_alone)
+				end_guard();
 			status = words.mount_point ? fuse_device_serve(&by, device, unmounts) :
 						     vhost_user_serve(&by, listener);
 		} else if (unmounts) {

@@ -248,15 +248,19 @@ try_no_answer() {
     local sandbox words child
     cc -shared -fPIC -Wall -Wextra -Werror -o "$work/no_answer.so" "$here/tests/share/no_answer.c"
     mkdir -p "$work/folder" "$work/mount"
-    for sandbox in namespace chroot; do
+    for sandbox in namespace chroot none; do
         for words in "$work/mount" "$work/mount MOUNTED=" --socket-path="$work/unanswered"; do
+            # (what is mounted there before stays)
+            [ "$words" != "$work/mount" ] || mount -t tmpfs none "$work/mount"
             # shellcheck disable=SC2086
             env ${words#"${words%% *}"} LD_PRELOAD="$work/no_answer.so" "$share" --log-level=error --sandbox="$sandbox" \
                 "$@" "$work/folder" "${words%% *}" 2> "$work/said" &
             server=$!
             child=
+            # (without a sandbox it is a thread that stands by)
             for _ in $(seq 100); do
                 child=$(cat "/proc/$server/task/$server/children" 2> /dev/null) && [ -n "$child" ] && break
+                [ "$(find "/proc/$server/task" -mindepth 1 -maxdepth 1 2> /dev/null | wc -l)" -le 1 ] || break
                 sleep 0.05
             done
             # (who asks for what is mounted would wait for it)
@@ -267,10 +271,11 @@ try_no_answer() {
                 sleep 0.05
             done
             kill -TERM "$server"
-            await_end $((child))
+            await_end "$((child ? child : server))"
             wait "$server" || wrong "a signal while the folder does not answer: $?, in the sandbox $sandbox, with $words"
             server=
             [ ! -e "$work/unanswered" ] || wrong "a socket is left of a folder that does not answer, with $sandbox"
+            [ "$words" != "$work/mount" ] || umount "$work/mount" || wrong "another's mount is gone, with $sandbox"
             ! umount -l "$work/mount" 2> /dev/null || wrong "a mount is left of a folder that does not answer, with $sandbox"
             rm -f "$work/unanswered"*
         done
