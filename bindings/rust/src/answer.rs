@@ -9,7 +9,7 @@ use crate::ffi::{Item, Pending, RawAnswer, RawCall, RawEntry, Slot};
 use crate::file_system::{Entry, GetxattrReply, ListxattrReply};
 use crate::flags::{FsOptions, OpenOptions};
 use crate::further::{IoctlReply, Limits, Lock, Statx};
-use crate::numbers::has;
+use crate::numbers::{has, kind};
 use std::fmt;
 use std::io;
 use std::marker::PhantomData;
@@ -272,11 +272,12 @@ fn tell<'s>(
     }
     let options = matches!(call.call, number::INIT | number::DESTROY)
         .then(|| FsOptions::from_bits_truncate(told.options));
-    let unique = call.unique;
-    slot.keep(pending);
     let outcome = Refusal::of(code);
+    // (what has no reply has none for want of memory either)
+    let refused = outcome.err().filter(|_| call.answer != kind::QUIET).map(|_| call.unique);
+    slot.keep(pending);
     let mut reply = Reply::new(slot, told.len, told.put);
-    reply.refused = outcome.err().map(|_| unique);
+    reply.refused = refused;
     Told { outcome, options, taken, held, entry: None, lost: None, reply }
 }
 

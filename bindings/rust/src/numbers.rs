@@ -15,8 +15,9 @@ pub(crate) mod has {
     pub const FLOCK: u32 = 1 << 10;
 }
 
-/// Kinds of answers that are only errors.
+/// Kinds of answers: none, and those that are only errors.
 pub(crate) mod kind {
+    pub const QUIET: u32 = 0;
     pub const FAULT_OR_SILENCE: u32 = 2;
     pub const FAULT: u32 = 15;
 }

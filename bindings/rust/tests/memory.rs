@@ -5,11 +5,18 @@
 mod common;
 
 use common::{session, Request};
-use nizwarf::{Asked, Call, Entry, FsOptions, Item, Refusal, Slot};
+use nizwarf::{
+    Asked, Call, Client, Entry, FileSystem, FsOptions, Item, NoEntries, Refusal, Server, Slot,
+};
 use std::alloc::{GlobalAlloc, Layout, System};
 use std::cell::Cell;
 use std::ffi::{c_void, CString};
-use std::io::IoSlice;
+use std::fs::File;
+use std::io::{ErrorKind, IoSlice};
+use std::os::unix::io::OwnedFd;
+use std::os::unix::net::UnixDatagram;
+use std::sync::Mutex;
+use std::thread;
 
 thread_local! {
     /// Counts down to the allocation of this thread that fails. 0: none fails.
@@ -185,4 +192,52 @@ fn a_directory_gives_all_back() {
         refusals += 1;
     }
     assert!(refusals > 0);
+}
+
+/// A file system that keeps its client.
+#[derive(Default)]
+struct Keeping(Mutex<Option<Client>>);
+
+impl FileSystem for Keeping {
+    type Inode = u64;
+    type Handle = u64;
+    type DirIter = NoEntries;
+
+    fn begin(&self, client: &Client) {
+        *self.0.lock().unwrap() = Some(client.clone());
+    }
+}
+
+#[test]
+fn what_has_no_reply_gets_none_later() {
+    let (theirs, device) = UnixDatagram::pair().unwrap();
+    let device = File::from(OwnedFd::from(device));
+    theirs.set_nonblocking(true).unwrap();
+    let server = Server::new(Keeping::default());
+    let forget = Request::new(2, 5).u64(1).done();
+    let (was_refused, received) = thread::scope(|scope| {
+        scope.spawn(|| server.serve(&device));
+        let client = loop {
+            match server.file_system().0.lock().unwrap().take() {
+                Some(client) => break client,
+                None => thread::yield_now(),
+            }
+        };
+        let mut slot = Slot::new();
+        let to = match slot.ask(&session(FsOptions::empty()), &[IoSlice::new(&forget)], 4096) {
+            Asked::Call(pending) => match pending.call {
+                Call::Forget { to, .. } => to,
+                other => panic!("{other:?}"),
+            },
+            Asked::Finished(done) => panic!("{done:?}"),
+        };
+        let mut slot = Slot::new();
+        let (told, was_refused) = refuse(1, || to.done(&mut slot));
+        client.send(told.give_back(|_| ())).unwrap();
+        let received = theirs.recv(&mut [0; 64]);
+        theirs.send(&[]).unwrap(); // it ends by this
+        (was_refused, received)
+    });
+    assert!(was_refused);
+    assert_eq!(received.unwrap_err().kind(), ErrorKind::WouldBlock);
 }
