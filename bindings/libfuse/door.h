@@ -26,6 +26,8 @@ struct door_session {
 	/* How many interrupts are kept in libfuse's list: each is of a request that no file system asked about. It
 	 * changes under the session's lock, and is read without that too. */
 	unsigned int kept;
+	/* How many calls came while some were kept: under the lock. */
+	unsigned int calls;
 };
 
 /* Who knows of a request: its own thread; others, since it is in libfuse's list, or ends by more than one, so that

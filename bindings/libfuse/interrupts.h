@@ -4,7 +4,7 @@
  * asks later, or that it has overtaken. */
 
 enum {
-	/* So many are kept, before the oldest is sent back at the next call. */
+	/* So many are kept, before the oldest is sent back at the next call; and it is after so many calls at most. */
 	MOST_KEPT = 64,
 	/* And that many at most, if no call comes. */
 	MOST_EVER = 8192,
@@ -61,15 +61,17 @@ static int end_kept(struct fuse_session *se, uint64_t unique)
 	return 0;
 }
 
-/* Where many are kept, the oldest is most likely of a request that ended before it came: Linux sends it again, if that
- * is not so. */
-static void end_oldest(struct fuse_session *se)
+/* The oldest, where many are kept, or for so many calls, is most likely of a request that ended before it came: Linux
+ * sends it again, if that is not so. (One that stayed would have each request that ends look for its own.) */
+static __attribute__((noinline)) void end_oldest(struct fuse_session *se)
 {
 	struct fuse_req *oldest = NULL;
+	unsigned int kept;
 
 	pthread_mutex_lock(&se->lock);
 	/* (looked at again, now under the lock: another thread may have taken some) */
-	if (count_kept(se) > MOST_KEPT)
+	kept = count_kept(se);
+	if (kept > MOST_KEPT || (kept && ++door_of(se)->calls % MOST_KEPT == 0))
 		oldest = take_kept(se, se->interrupts.next);
 	pthread_mutex_unlock(&se->lock);
 	if (oldest)

@@ -881,7 +881,7 @@ static inline void make_call(struct fuse_session *se, fuse_req_t req, const stru
 	/* (set by the calls that have one) */
 	req->ctx.umask = 0;
 	/* (here, since a call is sure to come where interrupts do) */
-	if (unlikely(count_kept(se) > MOST_KEPT))
+	if (unlikely(count_kept(se)))
 		end_oldest(se);
 	/* (a row may lack what an older libfuse has no function for) */
 	if (likely(c->call < known && door_calls[c->call]))

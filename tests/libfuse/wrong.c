@@ -749,7 +749,7 @@ static void end(const char *what, int good_so)
 /* An interrupt comes to its request, whichever of the two is first, and whenever the file system asks. */
 static void try_interrupts(void)
 {
-	int i;
+	int i, calls;
 
 	begin(0, 0);
 	end("no interrupt", !fuse_req_interrupted(waiting));
@@ -780,6 +780,14 @@ static void try_interrupts(void)
 	/* (the oldest is sent back as a call comes: more than 64 are kept) */
 	i = replies == 1 && header_of_reply().error == -EAGAIN;
 	end("the oldest of 100 that have no request", i);
+	/* (so is each after some calls, that of number 8 too, and none is left for each request to look at) */
+	for (i = calls = 0; calls < 5000; calls++) {
+		replies = 0;
+		begin(0, 0);
+		i += replies;
+		fuse_reply_err(waiting, EINTR);
+	}
+	judge("the others, and each once", i == 100);
 }
 
 /* Names of each length, with a 0 at each place: Linux takes those that have none, and what fills the last eight up is
