@@ -424,6 +424,69 @@ fn a_reply_comes_later_and_from_another_thread() {
     assert_eq!(receive(&served.client), b"");
 }
 
+/// A file system whose listings have an entry, and a name that is none. That of node 1 is answered as its entry is
+/// given back.
+#[derive(Debug, Default)]
+struct Losing {
+    kept: Mutex<Option<ReplyDirectoryPlus>>,
+    given_back: Arc<AtomicUsize>,
+}
+
+impl Filesystem for Losing {
+    fn readdirplus(
+        &self,
+        _: &Caller,
+        ino: INodeNo,
+        _: FileHandle,
+        _: u64,
+        mut reply: ReplyDirectoryPlus,
+    ) {
+        for name in ["a", "\0"] {
+            assert!(!reply.add(INodeNo(NODE), 1, name, &SECOND, &attr(NODE), Generation(0)));
+        }
+        if ino == INodeNo(1) {
+            *self.kept.lock().unwrap() = Some(reply);
+        } else {
+            reply.ok();
+        }
+    }
+
+    fn forget(&self, _: &Caller, _: INodeNo, _: u64) {
+        self.given_back.fetch_add(1, Ordering::Relaxed);
+        let kept = self.kept.lock().unwrap().take();
+        if let Some(reply) = kept {
+            reply.ok();
+        }
+    }
+}
+
+#[test]
+fn what_is_given_back_may_answer_another_call() {
+    let (client, device) = UnixDatagram::pair().unwrap();
+    client.set_read_timeout(Some(20 * SECOND)).unwrap();
+    let (files, list) = (Losing::default(), |node| {
+        let request = Request::new(44, node).u64(8).u64(0).u32(4000).u32(0);
+        request.u64(0).u32(0).u32(0).done()
+    });
+    let given_back = Arc::clone(&files.given_back);
+    client.send(&init()).unwrap();
+    let session = Session::from_fd(files, OwnedFd::from(device), SessionACL::All, config(1));
+    let session = session.unwrap().spawn().unwrap();
+    assert_eq!(receive(&client).len(), 80);
+    client.send(&list(1)).unwrap();
+    client.send(&list(2)).unwrap();
+    assert_eq!(receive(&client), fault(5));
+    // The entry of the second is given back, by which the first is answered; then its own is.
+    for _ in 0..2 {
+        client.send(&getattr(2)).unwrap();
+    }
+    let replies = [receive(&client), receive(&client), receive(&client)];
+    assert_eq!(replies, [fault(5), fault(38), fault(38)]);
+    assert_eq!(given_back.load(Ordering::Relaxed), 2);
+    client.send(&[]).unwrap();
+    session.join().unwrap();
+}
+
 #[test]
 fn a_session_begins_and_ends_once() {
     let count =

@@ -131,7 +131,9 @@ impl<F: Filesystem> Adapter<F> {
 
     /// Drops what replies had and the kernel did not get.
     fn drop_losses(&self, context: Context) {
-        for loss in mem::take(&mut *guard(&self.losses)) {
+        // (in a statement of its own: a method that is called may answer another call, and lose more)
+        let losses = mem::take(&mut *guard(&self.losses));
+        for loss in losses {
             self.quietly(context, |files, req| match loss {
                 Loss::Lookup(node) => files.forget(req, INodeNo(node), 1),
                 Loss::Handle(node, handle) => {
