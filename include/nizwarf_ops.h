@@ -648,7 +648,7 @@ static inline int nizwarf_do_open(const nizwarf_ops *ops, const nizwarf_req *req
 }
 
 /* READ, and what answers a text: it is put where it has its place in the reply. A function is told of no
- * more bytes than there are, and if it tells of more than that it is an error: nothing behind them is sent.
+ * more bytes than there are, and if it tells of more than that it is an error: nothing after them is sent.
  * Where an attribute's size is 0 no bytes are put, and how many there are is the answer. */
 static inline int nizwarf_do_data(const nizwarf_ops *ops, const nizwarf_req *req, uint8_t *room, size_t space,
 				  nizwarf_answer *answer)

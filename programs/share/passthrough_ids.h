@@ -6,7 +6,7 @@
 #include <stddef.h>
 #include <stdint.h>
 
-/* So many ids from one on: they are those from another one on, or all that one, or forbidden. */
+/* `count` ids from `from` on: they are those from `to` on, or all are `to`, or they are forbidden. */
 struct id_rule {
 	uint32_t from, count, to;
 	enum { IDS_SHIFTED, IDS_SQUASHED, IDS_FORBIDDEN } how;

@@ -154,8 +154,8 @@ struct grip {
 };
 
 /* -1: there is no memory. `root` is the node ROOT_NODE from then on, and is closed with it; it is one of the
- * `most` nodes that there may be. With `no_devices` none can be opened in its mount. So many descriptors are
- * for `others`. */
+ * `most` nodes that there may be. With `no_devices` none can be opened in its mount. `others` descriptors
+ * are left for other things. */
 int nodes_begin(struct nodes *all, int root, int proc, enum file_handles handles, bool no_devices,
 		unsigned most, unsigned others);
 void nodes_end(struct nodes *all);

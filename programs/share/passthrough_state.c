@@ -3,7 +3,7 @@
  * with their flags; no locks. Where a directory is read on the client says itself.
  *
  * A state is a header, records, and an end, with numbers as this machine has them. Each record is a
- * kind, a size, and so many bytes:
+ * kind, a size, and that many bytes:
  *   MOUNT  a directory of a file system by whose handles nodes come, counted from 0: its path
  *   NODE   a file: struct node_record, its handle if one is told, and its path, which is empty where none is
  *          known, or the node is the root
@@ -444,7 +444,7 @@ struct loading {
 	_Alignas(uint64_t) char body[LONGEST_RECORD + 1];
 };
 
-/* Gets so many bytes, and adds them to the sum. Fewer are the end of the state, and a fault. */
+/* Gets `len` bytes, and adds them to the sum. Fewer are the end of the state, and a fault. */
 static int get(struct loading *l, void *bytes, size_t len)
 {
 	const ssize_t got = transport_get_state(l->from, bytes, len);

@@ -492,15 +492,15 @@ static void let_pass(long milliseconds)
 }
 
 /* Some events were lost: those that are there need not be looked at, since all is told to be old.
- * Whoever makes more than can be read meanwhile doesn't hold it up: it reads so many times, and what
- * comes later is taken as usual. */
+ * Whoever makes more than can be read meanwhile doesn't hold it up: it reads at most MOST_DRAINED times, and
+ * what comes later is taken as usual. */
 static void begin_anew(struct watch *all)
 {
 	for (int i = 0; i < MOST_DRAINED && read(all->group, all->events, sizeof(all->events)) > 0; i++)
 		;
 	all->is_lost = false;
 	tell_all(all);
-	/* (whoever changes so much may go on) */
+	/* (whoever makes that many changes may go on) */
 	let_pass(REST);
 }
 

@@ -552,7 +552,7 @@ int main(int count, char **given)
 		fprintf(stderr, "nizwarf-share: --tag=%s is let pass: the line of the machine says its tag\n",
 			words.tag);
 	by.workers = words.files.workers;
-	/* (over a mount data may go by a pipe, and one that holds so much takes no privilege) */
+	/* (over a mount data may go by a pipe, and one of this size takes no privilege) */
 	words.files.payload = is_mount() ? FUSE_DEVICE_PIPED : TRANSPORT_PAYLOAD;
 	by.quiet = !words.says_more;
 	if (words.watches)

@@ -43,7 +43,7 @@ transport_state *state_new(int descriptor, int signals, int client)
 	return state;
 }
 
-/* Waits for the descriptor, at most so many milliseconds, and for ever with -1: 0, or -1 with errno, which
+/* Waits for the descriptor, at most `most` milliseconds, and for ever with -1: 0, or -1 with errno, which
  * is ECANCELED where a signal came or the front end has gone. 0 does not say that the descriptor is ready,
  * but that it may be tried: an error of it comes from read(2) or write(2). */
 static int await(const transport_state *state, short event, int most)

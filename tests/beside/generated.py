@@ -207,7 +207,7 @@ class Maker:
         return Request(opcode, node, [*parts, extensions], self.cut(room), cuts, (uid, uid), len(extensions))
 
     def cut(self, room):
-        """A room of so many bytes in pieces, as `16+8`."""
+        """A room of `room` bytes in pieces, as `16+8`."""
         pieces = []
         for _ in range(self.some(0, 0, 1, 1, 2, 5)):
             pieces.append(self.some(16, self.rng.randint(1, room)) if room else 0)

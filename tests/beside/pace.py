@@ -210,7 +210,7 @@ def keep(lines, path, load, counts):
 
 
 def count_instructions(given, number, kind, count):
-    """All instructions of a daemon that serves so many requests under valgrind."""
+    """All instructions of a daemon that serves `count` requests under valgrind."""
     daemon = Daemon(given, number, 0, ("valgrind", "--tool=callgrind", "--callgrind-out-file=/dev/null"))
     daemon.ask(kind, 1, count)
     said = daemon.end()

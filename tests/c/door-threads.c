@@ -14,7 +14,7 @@
 #include <stdlib.h>
 #include "nizwarf.h"
 
-/* EACH requests for each thread; BEHIND: so many later a request is answered, by the thread before; ROOM in bytes. */
+/* EACH requests for each thread; BEHIND: how many requests later one is answered, by the thread before; ROOM in bytes. */
 enum { THREADS = 8, EACH = 1000, ALL = THREADS * EACH, BEHIND = 50, ROOM = 1024 };
 
 /* A request and all that becomes of it. The thread that asks writes all but `answer`; then it sets `is_asked`, and

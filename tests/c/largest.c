@@ -111,7 +111,7 @@ static void set_name(unsigned number)
 
 /* ---- The door: a request asks, and is answered. */
 
-/* Asks, with so much room. The slot keeps memory for an answer in that room. */
+/* Asks, with `space` bytes of room. The slot keeps memory for an answer in that room. */
 static nizwarf_call ask(size_t space)
 {
 	const nizwarf_room room = { reply.bytes, space };

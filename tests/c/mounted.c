@@ -1,5 +1,5 @@
 /* Mounts a file system of nizwarf_ops.h, and asks of it what it answers wrongly: who asks gets an error, and the
- * mount goes on. So it does where replies are spoilt behind the table. What is opened with O_TRUNC is cut
+ * mount goes on. So it does where replies are spoilt after the table. What is opened with O_TRUNC is cut
  * without `open`; the caller is told; an INTERRUPT ends a call; `destroy` comes once. All that with
  * default_permissions and without.
  *

@@ -97,7 +97,7 @@ def table(rng, size, first, indirect):
 
 
 def make(seed, count):
-    """All cases: those of upstream, and so many by the seed."""
+    """All cases: those of upstream, and `count` by the seed."""
     rng = random.Random(seed)
     yield from of_upstream()
     for _ in range(count):

@@ -118,7 +118,7 @@ class Waiter:
 
 
 def started(server, count):
-    """So many that wait, one after another."""
+    """`count` that wait, one after another."""
     waiters = []
     for i in range(count):
         waiters.append(Waiter())

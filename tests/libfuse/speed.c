@@ -110,7 +110,7 @@ static const struct fuse_lowlevel_ops ops = {
 	.readdirplus = on_readdirplus,
 };
 
-/* Puts a request with a record, and so many bytes of data after it, which are what is there: its length. */
+/* Puts a request with a record, and `more` bytes of data after it, which are what is there: its length. */
 static size_t put(uint32_t opcode, const void *record, size_t size, size_t more)
 {
 	const struct fuse_in_header in = {

@@ -137,7 +137,7 @@ static const struct {
 	{ 0.5, 0, 500000000 },
 	{ 86400.25, 86400, 250000000 },
 	{ 0.9999999999, 0, 999999999 },
-	/* the least bit of so many seconds is still a part of one */
+	/* the least bit of a number this large is still a part of a second */
 	{ 1e14 + 0.5, 100000000000000, 500000000 },
 	{ 1e15, 1000000000000000, 0 },
 	{ 1e18, 1000000000000000000, 0 },

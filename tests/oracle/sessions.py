@@ -359,7 +359,7 @@ class Session:
         self.put(self.cutting(room, wild), segments)
 
     def room(self, reply):
-        """A room for a reply of so many bytes: mostly that, else more or less."""
+        """A room for a reply of `reply` bytes: mostly of that size, else larger or smaller."""
         r = self.rng
         more = [reply + r.randrange(1, 40)] * 2
         less = [reply - 1, 16, 15, 0, r.randrange(0, reply + 2)]

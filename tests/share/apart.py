@@ -313,7 +313,7 @@ def names_files():
          f"descriptors of what names files: {os.listdir(f'/proc/{naming}/fd')}")
     os.kill(naming, signal.SIGTERM)
     put(MOUNT + "/one", b"1")
-    hold(got(MOUNT + "/one") == b"1", "a file behind a signal")
+    hold(got(MOUNT + "/one") == b"1", "a file after a signal")
     with open(MOUNT + "/one", "rb") as held:
         os.kill(naming, signal.SIGKILL)
         put(MOUNT + "/two", b"2")
@@ -332,7 +332,7 @@ def ends():
         naming = server.pids()[1]
         with open(MOUNT + "/late", "wb", buffering=0) as file, open(MOUNT + "/last", "ab", buffering=0) as last:
             os.kill(server.pids()[0] if way == signal.SIGKILL else server.process.pid, way)
-            hold(wait_for(lambda: not os.path.ismount(MOUNT)), f"a mount is left behind {way}")
+            hold(wait_for(lambda: not os.path.ismount(MOUNT)), f"a mount is left after {way}")
             if way == signal.SIGTERM:
                 file.write(b"late")
                 last.write(b"last")
@@ -342,7 +342,7 @@ def ends():
         else:
             hold(server.process.wait(SOON) == 1, "a server that was killed")
             server.reader.join()
-        hold(wait_for(lambda: not os.path.exists(f"/proc/{naming}/fd/0")), f"what names files is left behind {way}")
+        hold(wait_for(lambda: not os.path.exists(f"/proc/{naming}/fd/0")), f"what names files is left after {way}")
 
 
 def time_pieces(act, file, buffer):

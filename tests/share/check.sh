@@ -490,7 +490,7 @@ try_late() {
     await_mount
     timeout 600 python3 -B "$here/tests/share/late.py" "$work/folder" "$work/mount" || wrong "a file that came late"
     umount "$work/mount"
-    wait "$server" || wrong "the server ended with $? behind a file that came late"
+    wait "$server" || wrong "the server ended with $? after a file that came late"
     server=
     echo "A file that came late is opened by who may."
 }

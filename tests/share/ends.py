@@ -90,7 +90,7 @@ class Front:
         return struct.unpack_from("<H", self.memory, 0x8002)[0]
 
     def ask(self, opcode, body=b"", node=1):
-        """The error of the reply, and what is behind its header; None where none comes."""
+        """The error of the reply, and what is after its header; None where none comes."""
         before, room = self.done(), self.post(opcode, body, node)
         if not wait_for(lambda: self.done() != before):
             return None, b""

@@ -333,7 +333,7 @@ def makers_without():
 
 
 def hold_maker(one, folder, opcode, body, left, words):
-    """Asks a request that makes a name, where the server has so many descriptors left."""
+    """Asks a request that makes a name, where the server can open `left` more descriptors."""
     one.ask(requests.FIRST[1])
     node = number(one.ask(line("16+128", request(1, b"some0\0")))[1])
     held, error = [], 0
@@ -483,7 +483,7 @@ class Asking:
         return self.program.stdout.readline()[:1].isdigit()
 
     def ask(self, text):
-        """The reply: its error, and what is behind its header."""
+        """The reply: its error, and what is after its header."""
         self.send(text)
         answer = self.program.stdout.readline().split()
         reply = bytes.fromhex(answer[1]) if len(answer) > 1 else b""

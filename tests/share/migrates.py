@@ -355,7 +355,7 @@ def damaged(server, state):
         wrong[at] ^= 1 << at % 8
         loads(server, bytes(wrong), f"a state with another byte {at}").end()
         count += 2
-    loads(server, state + b"\0", "a state with a byte behind its end").end()
+    loads(server, state + b"\0", "a state with a byte after its end").end()
     return count + 1
 
 

@@ -210,7 +210,7 @@ def bounded(folder, socket, *words):
 
 
 def memory(folder, mount, files, *words):
-    """What a node takes, by what a server has more after so many."""
+    """What a node takes, by what a server has more after `files` of them."""
     os.mkdir(folder + "/many")
     for i in range(files):
         if i % 1000 == 0:

@@ -216,7 +216,7 @@ class Moving:
         return self.add(name)
 
     def add(self, name):
-        """Writes behind what the file has."""
+        """Writes after what the file has."""
         node, handle, data = self.files[name]
         more = self.chance.randbytes(self.chance.randrange(1, 3000))
         body = requests.transfer(Op.WRITE, len(more), more, len(data), handle=handle)[40:]

@@ -46,7 +46,7 @@ KNOWN = {
     # (the host holds modes and lists together, by the name that it knows)
     "word --posix-acl --xattrmap=:map::user.virtiofs.:": "refused",
     # (O_DIRECT takes no bytes that lie anywhere, and a client's cache has such)
-    "O_DIRECT: behind WRITE of nine bytes from a cache": "",
+    "O_DIRECT: after a WRITE of nine bytes from a cache": "",
     # (a new file goes by the host's cache as others do)
     "flags of a new O_DIRECT without a word": "",
 }
@@ -94,7 +94,7 @@ class Daemon:
                 os.unlink(path)
 
     def ask(self, opcode, body=b"", node=1, room=144, uid=0, gid=0, extensions=b"", cuts=(40,)):
-        """The error, and what is behind the header."""
+        """The error, and what is after the header."""
         header = struct.pack("<IIQQIIIHH", 40 + len(body) + len(extensions), opcode, 1, node, uid, gid, 1,
                              len(extensions) // 8, 0)
         self.front.stdin.write(line(f"16+{room}", header + body + extensions, cuts) + "\n")
@@ -285,7 +285,7 @@ def direct():
         error, said = one.ask(READ, struct.pack("<QQIIQII", handle, 0, 8192, 0, 0, 0, 0), node, 8192)
         came["O_DIRECT: READ of two"] = f"{name_of(error)} {said == b'w' * 4096 + bytes(4096)}"
         write(one, node, handle, 9, 1)
-        came["O_DIRECT: behind WRITE of nine bytes from a cache"] = one.flags_of("file")
+        came["O_DIRECT: after a WRITE of nine bytes from a cache"] = one.flags_of("file")
 
 
 # Words, who asks (a user and a group), and the owners of host's files that are looked at.

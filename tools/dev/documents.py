@@ -277,7 +277,7 @@ check_order(lambda text: faults.append(f"docs/PROMISE.md: {text}"), "\n".join(re
 *reached, counted, decoded = subprocess.run(["tools/measure/statement.sh", "--files"], capture_output=True, text=True,
                                             check=True).stdout.splitlines()
 COUNTS = re.compile(r"(\d+) definitions,? (?:of )?([\d,]+) lines")
-# What is told as so much more than the session, or than these other definitions too, and begins with these.
+# What is told by how much more it is than the session, or than these other definitions too, and begins with these.
 DOOR = ["nizwarf_door/Turns.IsAskedOrNot", "nizwarf_door/Turns.IsAnsweredOrNot", "nizwarf_door/Kept.HoldsAnswer",
         "nizwarf_door/Kept.HoldsFor"]
 BESIDE = [("the clause `memory`", [], ["fuse_server/Sparing.IsSparing"]),

@@ -16,15 +16,15 @@ const DATA: usize = 4096;
 fn request_of(class: &str) -> Option<(Vec<u8>, usize)> {
     let mut read = [0; 40];
     read[16..20].copy_from_slice(&(DATA as u32).to_le_bytes());
-    let (opcode, behind, reply): (u8, &[u8], usize) = match class {
+    let (opcode, body, reply): (u8, &[u8], usize) = match class {
         "getattr" => (3, &[0; 16], 104),
         "lookup" => (1, b"abcdefgh\0", 128),
         "read-4k" => (15, &read, DATA),
         _ => return None,
     };
     let mut request = vec![0; 40];
-    (request[0], request[4], request[8], request[16]) = (40 + behind.len() as u8, opcode, 9, 2);
-    request.extend_from_slice(behind);
+    (request[0], request[4], request[8], request[16]) = (40 + body.len() as u8, opcode, 9, 2);
+    request.extend_from_slice(body);
     Some((request, HEADER + reply))
 }
 

@@ -2,7 +2,7 @@
 
 Usage: path.py [--listing] CODE FEWER MORE REQUESTS
 CODE is what objdump says of the program, FEWER and MORE are counts by instruction of two runs, the second of which
-serves so many requests more. It prints a row for each function below `serve_all` of crates/test_speed, and of all."""
+serves REQUESTS more. It prints a row for each function below `serve_all` of crates/test_speed, and of all."""
 import collections
 import re
 import sys

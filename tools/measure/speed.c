@@ -15,8 +15,8 @@
 #include <string.h>
 #include <time.h>
 
-/* The library's: serves a batch so many times, each request and each room cut in one way, and digests the replies;
- * and does so many small reads or writes over pieces of a length. */
+/* The library's: serves a batch `rounds` times, each request and each room cut in one way, and digests the replies;
+ * and does `count` small reads or writes over pieces of a length. */
 uint64_t nizwarf_batch(const uint8_t *requests, size_t requests_len, uint8_t *replies, size_t replies_len,
 		       uint32_t rounds, uint32_t cutting);
 uint64_t nizwarf_probe(uint32_t kind, uint32_t count, uint32_t piece, uint32_t rounds);

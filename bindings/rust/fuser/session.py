@@ -51,7 +51,7 @@ def statistics(path):
 
 
 def read(path, size=1 << 20, offset=0):
-    """So many bytes of a file, by a descriptor of its own."""
+    """`size` bytes of a file, by a descriptor of its own."""
     descriptor = os.open(path, os.O_RDONLY)
     try:
         return os.pread(descriptor, size, offset)

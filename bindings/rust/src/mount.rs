@@ -51,7 +51,7 @@ pub enum MountOption {
     DirSync,
     /// It is unmounted when this process ends, however that is: by `fusermount3`, which also root needs then.
     AutoUnmount,
-    /// So many threads serve the mount, at least one.
+    /// How many threads serve the mount: at least one.
     Threads(usize),
 }
 
