@@ -62,64 +62,49 @@ unpack_packages() {
     rm -r "$folder/debs"
 }
 
-# Downloads virtiofsd of a suite, with its libraries, into a folder: fetch_virtiofsd SUITE FOLDER
-fetch_virtiofsd() {
-    local part=$2.part
+# Downloads a package of a suite, with all that it depends on, into a folder: fetch_package PACKAGE SUITE FOLDER
+fetch_package() {
+    local part=$3.part needed
     rm -rf "$part"
     mkdir -p "$part"
-    use_suite "$1" "$part/apt" || return
-    unpack_packages "$part/unpacked" virtiofsd libc6 libcap-ng0 libgcc-s1 libseccomp2 || return
-    mv "$part/unpacked" "$2" || return
+    use_suite "$2" "$part/apt" || return
+    mapfile -t needed < <(apt-get "${apt[@]}" install -y -s --no-install-recommends "$1" |
+        sed -nE 's/^Inst ([^ ]+) .*/\1/p')
+    [ ${#needed[@]} -gt 0 ] || return
+    unpack_packages "$part/unpacked" "${needed[@]}" || return
+    mv "$part/unpacked" "$3" || return
     rm -rf "$part"
+}
+
+# The same, if the folder isn't there: need_package NAME PACKAGE SUITE FOLDER. Ends with status 2 if it can't be had.
+need_package() {
+    local said
+    [ ! -e "$4" ] || return 0
+    echo "Downloading $1 of Debian's $3 .." >&2
+    said=$(mktemp)
+    quietly "$said" fetch_package "$2" "$3" "$4" || {
+        rm "$said"
+        echo "Debian's package $2 of $3 can't be had by apt-get here." >&2
+        exit 2
+    }
+    rm "$said"
 }
 
 # Sets `virtiofsd` to that of a suite, by its own loader and libraries, whatever the machine has, which are downloaded
 # into a folder if it isn't there, and `version` to what it says: find_virtiofsd SUITE FOLDER. Ends with status 2 if it
 # can't be had.
 find_virtiofsd() {
-    local libraries=$2/usr/lib/x86_64-linux-gnu said
-    if [ ! -e "$2" ]; then
-        echo "Downloading virtiofsd of Debian's $1 .." >&2
-        said=$(mktemp)
-        quietly "$said" fetch_virtiofsd "$1" "$2" || {
-            rm "$said"
-            echo "Debian's package virtiofsd of $1 can't be had by apt-get here." >&2
-            exit 2
-        }
-        rm "$said"
-    fi
+    local libraries=$2/usr/lib/x86_64-linux-gnu
+    need_package virtiofsd virtiofsd "$1" "$2"
     virtiofsd=("$libraries/ld-linux-x86-64.so.2" --library-path "$libraries" "$2/usr/libexec/virtiofsd")
     # shellcheck disable=SC2034
     version=$("${virtiofsd[@]}" --version)
 }
 
-# Downloads QEMU of a suite, with its libraries, into a folder: fetch_qemu SUITE FOLDER
-fetch_qemu() {
-    local part=$2.part needed
-    rm -rf "$part"
-    mkdir -p "$part"
-    use_suite "$1" "$part/apt" || return
-    mapfile -t needed < <(apt-get "${apt[@]}" install -y -s --no-install-recommends qemu-system-x86 |
-        sed -nE 's/^Inst ([^ ]+) .*/\1/p')
-    [ ${#needed[@]} -gt 0 ] || return
-    unpack_packages "$part/unpacked" "${needed[@]}" || return
-    mv "$part/unpacked" "$2" || return
-    rm -rf "$part"
-}
-
 # Sets `qemu` to that of a suite, as find_virtiofsd does: find_qemu SUITE FOLDER.
 find_qemu() {
-    local libraries=$2/usr/lib/x86_64-linux-gnu said
-    if [ ! -e "$2" ]; then
-        echo "Downloading QEMU of Debian's $1 .." >&2
-        said=$(mktemp)
-        quietly "$said" fetch_qemu "$1" "$2" || {
-            rm "$said"
-            echo "Debian's package qemu-system-x86 of $1 can't be had by apt-get here." >&2
-            exit 2
-        }
-        rm "$said"
-    fi
+    local libraries=$2/usr/lib/x86_64-linux-gnu
+    need_package QEMU qemu-system-x86 "$1" "$2"
     export QEMU_MODULE_DIR=$libraries/qemu
     # shellcheck disable=SC2034
     qemu=("$libraries/ld-linux-x86-64.so.2" --library-path "$libraries" "$2/usr/bin/qemu-system-x86_64"
