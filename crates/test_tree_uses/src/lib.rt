@@ -1,5 +1,5 @@
 //! Small callers of a tree in memory, as examples: each makes a few calls and says what comes of
-//! them, in numbers, by the relation and the laws of a tree alone.
+//! them, in numbers, by the relation of a tree alone.
 //!
 //! They are in a crate of their own, since nothing calls them: what they hold is the definitions
 //! that they rest on.
@@ -11,7 +11,6 @@ mod births;
 mod contents;
 mod first;
 mod full;
-mod laws;
 mod lookups;
 mod nameless;
 mod names;

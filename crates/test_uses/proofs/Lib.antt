@@ -5,3 +5,4 @@ pub mod ScriptTransfers
 pub mod SmallCallers
 pub mod ServeCallers
 pub mod HistoryCallers
+pub mod TreeCallers

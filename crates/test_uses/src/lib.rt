@@ -17,6 +17,7 @@ mod segments;
 mod server;
 mod small_laws;
 mod transfers;
+mod tree_laws;
 mod views;
 mod wire;
 mod wire_more;

@@ -22,7 +22,7 @@ use Rattle.fs_nodes.specs.declared.node.Node.{Node}
 use Rattle.fs_tree.specs.State.{State, node_at}
 use Rattle.laws_tree.specs.Laws.{CountsLookups, lookups_of, names_of}
 use Rattle.laws_tree.specs.Runs.{ends_client, held_by_last, last_turns, KeepsTree, LeavesNone, GivesAllBack}
-use Rattle.test_tree_uses.specs.declared.laws.TheConstants.{DESTROY}
+use Rattle.test_uses.specs.declared.tree_laws.TheConstants.{DESTROY}
 
 ask-destroy : (limits : Limits) (options room : ℕ)
     → ask limits options room DESTROY ≡ Asks (echo_of (value_of in_header DESTROY)) Destroy

@@ -1,6 +1,6 @@
 use Rattle.std.proofs.Common.{◌∙◌, ◌++◌, ℕ, List, [], ap}
-use Rattle.test_tree_uses.proofs.LawCallers.{session_freed}
-use Rattle.test_tree_uses.proofs.laws.ended.Goals as goal
+use Rattle.test_uses.proofs.TreeCallers.{session_freed}
+use Rattle.test_uses.proofs.tree_laws.ended.Goals as goal
 
 pub returns-clause-lookups : goal.returns-clause-lookups
 returns-clause-lookups c =

@@ -1,7 +1,7 @@
 use Rattle.fs_trait.specs.Calls.{Lookup, entry_answer}
 use Rattle.fs_trait.specs.Values.{name_text}
-use Rattle.test_tree_uses.proofs.LawCallers.{one_more}
-use Rattle.test_tree_uses.proofs.laws.any_lookup.Goals as goal
+use Rattle.test_uses.proofs.TreeCallers.{one_more}
+use Rattle.test_uses.proofs.tree_laws.any_lookup.Goals as goal
 
 pub returns-clause-counted : goal.returns-clause-counted
 returns-clause-counted c =
