@@ -51,14 +51,15 @@ words_of_tree() {
     fi
 }
 
-# A library as nizwarf_tree: what has `tree` in its path there, and the edits of its file system, are of the tree in memory alone.
+# A library as nizwarf_tree: what has `tree` in its path there is of the tree in memory alone, as is an edit of its file system.
 new_library() {
     mkdir "crates/$name" "tools/lib/unproved/$name"
     cp -R crates/nizwarf_tree/{src,specs,proofs,must-fail} "crates/$name/"
     cp tools/lib/unproved/nizwarf_tree/* "tools/lib/unproved/$name/"
     rm -r "crates/$name"/{src,specs,proofs}/[Tt]ree*
     sed -i '/^\(pub \)\?mod [Tt]ree/d' "crates/$name"/{src/lib.rt,specs/Lib.antt,proofs/Lib.antt}
-    grep -l '^file: src/files.rt$' "crates/$name"/must-fail/*.edit | xargs rm
+    # (today there is none)
+    grep -l '^file: src/files.rt$' "crates/$name"/must-fail/*.edit | xargs -r rm || true
     name_copy nizwarf_tree "$name"
     sed -i "/^$name\b/s/ laws_tree\b//" crates.txt
 }

@@ -1,7 +1,8 @@
 #!/usr/bin/env bash
-# Tries wrong bodies that the gate leaves out, since another of the same public function, or of what it calls, is in
-# the crate's must-fail, and wrong definitions: the prover must refuse each. They are the files CRATE/NAME.edit beside
-# this script, in the form of must-fail's.
+# Tries wrong bodies that the gate leaves out, and wrong definitions: the prover must refuse each. Another body of the
+# same public function, or of what it calls, is in the crate's must-fail; of fs_tree, nizwarf_tree and text_run, where
+# one takes most of a minute, one of the crate is. They are the files CRATE/NAME.edit beside this script, in the form of
+# must-fail's.
 #
 # Usage: tests/edits/run.sh [CRATE..]
 #        tests/edits/run.sh --texts
