@@ -198,7 +198,7 @@ def in_flight(name, queues, pool):
 
 
 def machines(name, count):
-    """The same of so many daemons at once, each with its own front end."""
+    """The same of `count` daemons at once, each with its own front end."""
     daemons = [Daemon(name, words_of(name)) for _ in range(count)]
     cells = "{:,.0f} ({:.1f})".format(*rate([(daemon, 4) for daemon in daemons]))
     for daemon in daemons:
@@ -264,9 +264,9 @@ def main():
     print("\nNanoseconds a file of a BATCH_FORGET of all, and of a DESTROY of a million, milliseconds of an INIT and four requests,\n"
           "both by the clock; and the bytes that are left after the FORGET and the DESTROY, for each file of the most.")
     table(["Daemon", "FORGET, ns", "left, bytes", "DESTROY, ns", "INIT, ms"], [[name, *grown[name][1]] for name in names])
-    print("\n## A folder that is listed\n\nNanoseconds a name of a folder of so many, by LOOKUP, OPENDIR, READDIR with 256 KiB of room up to the end, and\nRELEASEDIR.")
+    print("\n## A folder that is listed\n\nNanoseconds a name of a folder of that many, by LOOKUP, OPENDIR, READDIR with 256 KiB of room up to the end, and\nRELEASEDIR.")
     table(["Daemon", *(f"{size:,}" for size in FOLDERS if size <= most)], [[name, *list_folders(name)] for name in (SHARE, VIRTIOFSD, LIBFUSE)])
-    print("\n## Queues and machines\n\nThousands of GETATTR a second by the clock, by so many in flight over all queues, and in brackets the microseconds of\n"
+    print("\n## Queues and machines\n\nThousands of GETATTR a second by the clock, by how many are in flight over all queues, and in brackets the microseconds of\n"
           "processor time of each; one thread asks, which shares the processors with the daemon. virtiofsd has one queue for requests.")
     pool = len(os.sched_getaffinity(0))
     rows = []
