@@ -1,12 +1,12 @@
 -- A reply whose data were put before its header: the place of the header is filled in last.
-use Rattle.std.proofs.Common.{◌≡◌, ◌+◌, ℕ, List, ◌++◌, length, take, Option, Result, Ok, Err, IfErr, refl, ap, sym, ◌∙◌, arith, append_assoc, length-append, length-take, length-drop}
+use Rattle.std.proofs.Common.{◌≡◌, ◌+◌, ℕ, List, ◌++◌, length, take, Option, Result, Ok, Err, refl, ap, sym, ◌∙◌, arith, append_assoc, length-append, length-take, length-drop}
 use Rattle.std.proofs.lemmas.List.{take_at}
 use Rattle.fuse_wire.specs.Fields.{bytes_of}
 use Rattle.fuse_wire.specs.Records.{out_header}
 use Rattle.fuse_wire.specs.declared.headers.OutHeader.{OutHeader}
 use Rattle.fuse_segments.specs.SegmentLaws.{with_bytes_at-append}
 use Rattle.fuse_segments.specs.Written.{Written, whole, held_filled}
-use Rattle.fs_trait.specs.Answers.{IsFault, IsAnswer, Counts, Data, read_answer}
+use Rattle.fs_trait.specs.Answers.{Counts, Data, read_answer}
 use Rattle.fuse_grammar.specs.Reply.{OpenAfter, body_reply, fault_reply}
 use Rattle.fuse_grammar.specs.Words.{reply_to}
 use Rattle.fuse_messages.specs.Rooms.{data_header, Replies, PutsAfterHeader}
@@ -52,8 +52,3 @@ data_replied old mid new bytes (Err fault) unique size h counts e =
     let head : OutHeader = data_header (Err fault) unique in
     replied_by old mid new bytes (bytes_of out_header head) (fault_reply fault unique) (bytes ++ (h.beyond ++ mid.left)) 16 (length-header head) h e refl
     (sym (length-fault_reply fault unique))
-
--- data and a fault are the answers of READ
-pub data_kind : (answer : Result ℕ (Option ℕ)) (bytes : List ℕ) (size : ℕ) → Counts answer bytes size → IfErr answer IsFault → IsAnswer (Data size) (read_answer answer bytes)
-data_kind (Ok count) bytes size counts f = (omega (arith, counts.0, counts.1), counts.2)
-data_kind (Err fault) bytes size counts f = f

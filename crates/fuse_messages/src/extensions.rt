@@ -6,7 +6,6 @@
 
 ghost use Rattle.std.specs.Prelude.{◌≡◌, ◌≢◌, ◌<◌, IsFalse, drop, option_map, MatchResult, Ok, Err, Some};
 ghost use Rattle.fuse_flags.specs.Flags.{fs_options_bits, security_ctx, has_flag};
-ghost use Rattle.fuse_flags.specs.Numbers.{ext_type_of};
 ghost use Rattle.fs_trait.specs.Values.{context_values, extension_values_of, name_text};
 ghost use Rattle.fuse_messages.specs.Parts.{GivesValue, GivesBlock, IsContext, HoldsContext, MayHoldContext, found_values};
 ghost use Rattle.fuse_grammar.specs.Extensions.{name_and_value, context_in, security_context_in, group_in, receive_kind, received_at_end, cut_of};

@@ -4,7 +4,7 @@
 //! holds as much of the reply's beginning as there is room for. Data are put before their header is
 //! known: its place is held in front of them, and filled in last.
 
-ghost use Rattle.std.specs.Prelude.{◌≡◌, ◌≢◌, ◌≤◌, ◌<◌, ◌↔◌, ◌+◌, ◌-◌, ◌^◌, ◌%◌, ◌++◌, ◌-ℤ◌, pos, take, length, ℕ, List, [], nat_le, if◌then◌else◌, Ok, Err, IfSome, option_map, IfOk, IfErr, IsOk, OnOk, OnErr, MatchResult};
+ghost use Rattle.std.specs.Prelude.{◌≡◌, ◌≢◌, ◌≤◌, ◌<◌, ◌+◌, ◌-◌, ◌^◌, ◌%◌, ◌++◌, ◌-ℤ◌, pos, take, length, ℕ, List, nat_le, if◌then◌else◌, Ok, Err, IfSome, option_map, IfOk, OnOk, OnErr, MatchResult};
 ghost use Rattle.fuse_wire.specs.Fields.{Fit, bytes_of};
 ghost use Rattle.fuse_wire.specs.Records.{out_header};
 ghost use Rattle.fuse_wire_more.specs.Records.{getxattr_out};

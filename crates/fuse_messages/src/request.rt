@@ -1,13 +1,13 @@
 //! The parts of a request: records, tails, pairs of a node and a count.
 
-ghost use Rattle.std.specs.Prelude.{◌≡◌, ◌==◌, ◌≤◌, ◌+◌, ◌-◌, ◌*◌, length, drop, take, map, option_map, bit_and, position, ◌⊎◌, OnOk, IfOk, IfErr, IsErr, IsFalse, MatchResult, Ok, Err, Some};
+ghost use Rattle.std.specs.Prelude.{◌≡◌, ◌==◌, ◌≤◌, ◌+◌, ◌-◌, ◌*◌, length, drop, take, map, option_map, bit_and, position, OnOk, IfOk, IfErr, IsErr, IsFalse, MatchResult, Ok, Err, Some};
 ghost use Rattle.fuse_flags.specs.Flags.{fs_options_bits, setattr_valid_bits, known_setattr_valid, setxattr_flags_bits, known_setxattr_flags, setxattr_ext, has_flag};
 ghost use Rattle.fs_trait.specs.Values.{name_text, name_of};
 ghost use Rattle.fuse_wire.specs.Records.{forget_one};
 ghost use Rattle.fuse_segments.specs.declared.record.TheConstants.{LARGEST_RECORD};
 ghost use Rattle.fuse_segments.specs.Lengths.{lengths_from, lie_together};
 ghost use Rattle.fuse_grammar.specs.Ask.{if_set, setxattr_layout};
-ghost use Rattle.fuse_messages.specs.Parts.{GivesValue, MayHoldContext, TailIsCut, pieces_after, GivesTail, GivesPart, GivesPartAs, GivesExtended, extended_values, link_values, GivesPairs};
+ghost use Rattle.fuse_messages.specs.Parts.{GivesValue, MayHoldContext, TailIsCut, pieces_after, GivesTail, GivesExtended, extended_values, link_values, GivesPairs};
 ghost use Rattle.fuse_grammar.specs.Forms.{tail_of, pairs_in, pairs_of, two_names_in, value_in, extended_in, link_in_tail, layout_record, layout_size};
 ghost use Rattle.fuse_grammar.specs.Words.{name_in};
 ghost use Rattle.fuse_grammar.specs.FormParts.{second_or_refusal, sized_or_refusal, link_or_refusal};
@@ -490,7 +490,7 @@ fn copy_pairs<I: Number>(
     Ok(pairs)
 }
 
-/// So many pairs of a node and a count (`struct fuse_forget_one`). Each is read once, into one
+/// `count` pairs of a node and a count (`struct fuse_forget_one`). Each is read once, into one
 /// vector: right from the segment, where all lie in one.
 ///
 /// `DecodeMessage` where bytes are missing, then `OutOfMemory` where there is no memory for them.
