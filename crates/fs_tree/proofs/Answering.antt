@@ -3,7 +3,7 @@ use Rattle.std.proofs.Common.{◌≡◌, ◌+◌, ◌==◌, ◌&&◌, ◌||◌, 
 use Rattle.std.specs.Option.{option_or}
 use Rattle.std.proofs.lemmas.Bool.{not-false}
 use Rattle.std.proofs.lemmas.Option.{same_Some}
-use Rattle.fuse_flags.specs.Numbers.{enoent, einval, eexist, eperm, enosys, eoverflow, enospc, enotdir, enametoolong, efbig, emlink}
+use Rattle.fuse_flags.specs.Numbers.{enoent, einval, eexist, eperm, eoverflow, enospc, enotdir, enametoolong, efbig, emlink}
 use Rattle.fs_trait.specs.Values.{Item}
 use Rattle.fs_trait.specs.Calls.{Failed, Found, Created, Wrote, Handed, Plain}
 use Rattle.fs_trait.specs.declared.entry.Entry.{Entry}
@@ -14,17 +14,12 @@ use Rattle.fs_contents.specs.Contents.{lacking}
 use Rattle.fs_nodes.specs.declared.children.Child.{Child}
 use Rattle.fs_nodes.specs.declared.node.Node.{Node}
 use Rattle.fs_tree.specs.Naming.{directory_refusal, is_directory_at, is_improper, is_nameless, is_crowded, name_refusal}
-use Rattle.fs_tree.specs.Outcome.{Outcome, Refused, Tried, Ends, first_of, unless, refusal_of, on}
+use Rattle.fs_tree.specs.Outcome.{Outcome, Tried, Ends, first_of, unless, refusal_of, on}
 use Rattle.fs_tree.specs.State.{State, node_at, child_at, with_node, with_resized, lead, change}
 use Rattle.fs_tree.specs.Tree.{contents_refusal, link_refusal, linked, longest, most_size}
 use Rattle.fs_tree.proofs.Nodes.{changed, kinds_apart}
 
--- it ends as the first of two, or the second
-pub as_first : (old new : State) (handed : Handed (List Item)) (t : Bool) (a b : Outcome) → t ≡ true
-    → Ends old a handed new → Ends old (if t then a else b) handed new
-as_first old new handed true a b is ends = ends
-as_first old new handed false a b is ends = cc is
-
+-- it ends as the second of two
 pub as_second : (old new : State) (handed : Handed (List Item)) (t : Bool) (a b : Outcome) → t ≡ false
     → Ends old b handed new → Ends old (if t then a else b) handed new
 as_second old new handed true a b is ends = cc is

@@ -1,7 +1,7 @@
 -- That each node that is not idle is among those that may be held.
-use Rattle.std.proofs.Common.{◌≡◌, ◌≢◌, ◌≤◌, ◌<◌, ◌+◌, ◌==◌, ◌&&◌, ◌||◌, not, ℕ, Bool, true, false, cond, List, Option, Some, None, is_none, is_some, refl, sym, ap, ◌∙◌, subst, nat_cmp, arith, ⊎_elim}
-use Rattle.std.specs.Map.{lookup, set_value, remove_entry}
-use Rattle.std.specs.BTreeMap.{is_at, insert_entry}
+use Rattle.std.proofs.Common.{◌≡◌, ◌≢◌, ◌≤◌, ◌+◌, ◌==◌, ◌&&◌, ◌||◌, not, ℕ, Bool, true, false, cond, List, Option, Some, None, is_none, is_some, refl, sym, ap, ◌∙◌, subst, nat_cmp, ⊎_elim}
+use Rattle.std.specs.Map.{lookup, set_value}
+use Rattle.std.specs.BTreeMap.{is_at}
 use Rattle.std.proofs.lemmas.Bool.{cases_Bool, cases_eq, cond-true, cond-false, eqb-true, eq-eqb}
 use Rattle.fs_nodes.specs.Held.{may_hold}
 use Rattle.fs_nodes.specs.declared.node.Node.{Node}
@@ -138,24 +138,6 @@ module _ (next n : ℕ) (old new : Option (List ℕ)) (es : List (ℕ × Node)) 
         passed (may_hold old n) (is_some old) idle (n == n) (is_idle now ≡ true) (sym (passes n) ∙ none)
         (λ before. stays (sym (ap rests is) ∙ sound.noted n before))
         (λ it same. here it))
-
-  -- it is gone
-  pub sound_gone : (left : List (ℕ × Node))
-      → ((m : ℕ) → found left m ≡ cond (is_at (nat_cmp n) m) None (found es m))
-      → ((m : ℕ) → may_hold new m ≡ (may_hold old m && not (is_some old && true && m == n)))
-      → IsSound next new left
-  sound_gone left updates passes = record {
-    free = λ m up. updates m ∙ either (is_at (nat_cmp n) m) (found es m) (sound.free m up);
-    noted = noted_at left None updates
-        (λ m apart none.
-        passed (may_hold old m) (is_some old) true (m == n) (may_hold old m ≡ false) (sym (passes m) ∙ none)
-        (λ before. before) (λ it same. absurd (apart (eqb-true m n same))))
-        (λ none. refl);
-  }
-    where
-      either : (t : Bool) (o : Option Node) → o ≡ None → cond t None o ≡ None
-      either true o none = refl
-      either false o none = none
 
 -- a node stays idle where it was
 pub sound_same : (next n : ℕ) (held : Option (List ℕ)) (es left : List (ℕ × Node)) (was now : Node)

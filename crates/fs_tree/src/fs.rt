@@ -1,6 +1,6 @@
 //! The file system: its nodes by number.
 
-ghost use Rattle.std.specs.Prelude.{◌≡◌, ◌≤◌, ◌<◌, ◌^◌, ◌+◌, ◌-◌, ◌==◌, ◌||◌, ◌∷◌, [], ℕ, List, true, false, not, nat_eq, option_map, bit_and, option_and_then, IsTrue, IsSome, IfSome, Some, None, is_some, IfErr, OnOk, MatchOption, MatchResult, if◌then◌else◌};
+ghost use Rattle.std.specs.Prelude.{◌≡◌, ◌≤◌, ◌<◌, ◌^◌, ◌+◌, ◌-◌, ◌==◌, ◌||◌, ℕ, true, false, not, nat_eq, option_map, bit_and, option_and_then, IsTrue, IsSome, IfSome, Some, None, is_some, IfErr, OnOk, MatchResult, if◌then◌else◌};
 ghost use Rattle.std.specs.Option.{option_map_or};
 ghost use Rattle.std.specs.Ordering.{nat_cmp};
 ghost use Rattle.std.specs.BTreeMap.{is_at};
@@ -12,7 +12,7 @@ ghost use Rattle.fs_trait.specs.Values.{name_text};
 ghost use Rattle.fs_trait.specs.Calls.{Plain, Found, entry_answer};
 ghost use Rattle.fs_nodes.specs.Held.{may_hold};
 ghost use Rattle.fs_nodes.specs.Node.{weight};
-ghost use Rattle.fs_tree.specs.Naming.{has_no_number, is_crowded, new_in, new_nameless};
+ghost use Rattle.fs_tree.specs.Naming.{has_no_number, is_crowded, new_in};
 ghost use Rattle.fs_tree.specs.Outcome.{Ends};
 ghost use Rattle.fs_nodes.specs.declared.node.Node.{Node};
 ghost use Rattle.fs_tree.specs.Holding.{first_held, rests};

@@ -1,13 +1,12 @@
 //! RENAME: a name leads elsewhere, in one directory or from one to another.
 
-ghost use Rattle.std.specs.Prelude.{◌≡◌, ◌<◌, ◌≤◌, nat_le, ◌-◌, ◌^◌, ◌&&◌, ◌||◌, ◌==◌, true, false, not, length, IsTrue, IsSome, Some, None, is_none, is_some, option_map, IfErr, IfOk, OnOk, if◌then◌else◌};
+ghost use Rattle.std.specs.Prelude.{◌≡◌, ◌<◌, nat_le, ◌-◌, ◌^◌, ◌&&◌, ◌||◌, ◌==◌, true, false, length, IsTrue, IsSome, Some, None, is_none, is_some, option_map, IfErr, IfOk, OnOk, if◌then◌else◌};
 ghost use Rattle.std.specs.Option.{option_copied, option_map_or};
 ghost use Rattle.fuse_flags.specs.Numbers.{enomem};
 ghost use Rattle.fs_trait.specs.Values.{name_text};
-ghost use Rattle.fs_nodes.specs.Node.{weight};
 ghost use Rattle.fs_tree.specs.Naming.{is_crowded};
 ghost use Rattle.fs_tree.specs.Rename.{is_below, is_own_child, moved_into, parent_of, rename_refusal, renamed, same_node, whiteout};
-ghost use Rattle.fs_tree.specs.State.{child_at, lead, node_at, node_of, room_of, unnamed, with_new};
+ghost use Rattle.fs_tree.specs.State.{child_at, node_at, node_of, unnamed};
 
 use crate::fs::TreeFs;
 use fs_nodes::{

@@ -1,4 +1,4 @@
-use Rattle.std.proofs.Common.{◌≡◌, false, true, [], Option, Some, None, Err, sym, ap, ◌∙◌, rules, if◌then◌else◌}
+use Rattle.std.proofs.Common.{◌≡◌, false, [], Some, None, Err, sym, ap, ◌∙◌, rules, if◌then◌else◌}
 use Rattle.fuse_flags.specs.Flags.{open_options_bits}
 use Rattle.fuse_flags.specs.Numbers.{enosys}
 use Rattle.fs_trait.specs.Values.{name_text}
