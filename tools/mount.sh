@@ -58,10 +58,7 @@ if [ "$(id -u)" != 0 ]; then
     echo "Only root may mount: run it as root." >&2
     exit 2
 fi
-if [ ! -e /dev/fuse ]; then
-    echo "Missing: /dev/fuse. \`modprobe fuse\` makes it where the kernel has the module." >&2
-    exit 2
-fi
+need_fuse
 if [ ! -d "$1" ]; then
     echo "$1 is no folder." >&2
     exit 2

@@ -17,10 +17,7 @@ set -euo pipefail
 . "$(dirname "$0")/../../tools/lib/mounts.sh"
 take_none "$@"
 need_root "Only root may mount"
-if [ ! -e /dev/fuse ]; then
-    echo "Missing: /dev/fuse. \`modprobe fuse\` makes it where the kernel has the module." >&2
-    exit 2
-fi
+need_fuse
 need mountpoint "Install util-linux."
 need python3 "Install it: apt-get install python3."
 # What is mounted here is in no other namespace, where it would stay in use, and the server with it.

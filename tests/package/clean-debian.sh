@@ -37,10 +37,7 @@ for word in "$@"; do
     esac
 done
 need_root "Only root may mount, and make a Debian"
-if [ ! -e /dev/fuse ]; then
-    echo "Missing: /dev/fuse. \`modprobe fuse\` makes it where the kernel has the module." >&2
-    exit 2
-fi
+need_fuse
 need apt-get "The Debian is made of packages."
 own_mounts "$@"
 

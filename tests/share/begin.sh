@@ -7,10 +7,7 @@
 # and what it mounts: begin_share "$@"
 begin_share() {
     need_root "Only root may mount, and make files of other users"
-    if [ ! -e /dev/fuse ]; then
-        echo "Missing: /dev/fuse. \`modprobe fuse\` makes it where the kernel has the module." >&2
-        exit 2
-    fi
+    need_fuse
     need python3 "Install it: apt-get install python3."
     # (what is mounted from here on is in no other namespace, where it would stay in use)
     own_mounts "$@"

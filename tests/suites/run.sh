@@ -116,10 +116,7 @@ for folder in "${folders[@]}"; do
     [ -d "$folder" ] || usage "$folder is no folder."
 done
 need_root "Suites make files of other users"
-if [ -n "$what" ] && [ ! -e /dev/fuse ]; then
-    echo "Missing: /dev/fuse. \`modprobe fuse\` makes it where the kernel has the module." >&2
-    exit 2
-fi
+[ -z "$what" ] || need_fuse
 need setpriv "Install util-linux."
 need cc "Install a C compiler: apt-get install gcc libc6-dev."
 need xz "Install it: apt-get install xz-utils."

@@ -34,6 +34,14 @@ need_root() {
     fi
 }
 
+# Stops where no file system can be mounted.
+need_fuse() {
+    if [ ! -e /dev/fuse ]; then
+        echo "Missing: /dev/fuse. \`modprobe fuse\` makes it where the kernel has the module." >&2
+        exit 2
+    fi
+}
+
 # Stops on another processor than those that the libraries are built for.
 need_x86_64() {
     if [ "$(uname -m)" != x86_64 ]; then
