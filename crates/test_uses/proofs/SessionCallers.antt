@@ -8,8 +8,7 @@ use Rattle.fuse_wire.specs.Records.{in_header}
 use Rattle.fuse_segments.specs.Unread.{Unread}
 use Rattle.fuse_segments.specs.Written.{Written, whole, Leaves}
 use Rattle.fs_trait.specs.Values.{Item, context_of}
-use Rattle.fs_trait.specs.Answers.{Answer, Done, Failed, Options, Attributes, Put, Statistics, Text, Count, Offset, Handed, Plain, Agreements, Entries, Quiet, IsAnswer}
-use Rattle.fs_trait.specs.Answers as answers
+use Rattle.fs_trait.specs.Answers.{Answer, Failed, Options, Handed, Plain, Agreements, Entries, Quiet}
 use Rattle.fs_trait.specs.Calls.{Call, Init, Lookup, Forget, default_answer}
 use Rattle.fs_trait.specs.declared.entry.Context.{Context}
 use Rattle.fs_trait.specs.Runs.{Event, Called, OpenedDirectory, Taken, IsRun}

@@ -2,7 +2,7 @@
 
 mod versions;
 
-ghost use Rattle.std.specs.Prelude.{◌≡◌, ◌<◌, ◌≤◌, ◌++◌, length, drop, Option, Ok, Err, Some, None, MatchResult, codes};
+ghost use Rattle.std.specs.Prelude.{◌≡◌, ◌<◌, ◌≤◌, ◌++◌, length, drop, Ok, Err, Some, None, MatchResult, codes};
 ghost use Rattle.fuse_segments.specs.Segments.{with_bytes_at};
 ghost use Rattle.fuse_segments.specs.Written.{whole};
 ghost use Rattle.fs_trait.specs.Values.{extension_values_of};

@@ -1,6 +1,6 @@
 //! Laws of names, runs, readings and segments at work.
 
-ghost use Rattle.std.specs.Prelude.{◌≡◌, ◌≤◌, ◌+◌, ◌++◌, ℕ, Bool, [], ◌∷◌, true, false, length, sum, List, Option, Some, None, Result};
+ghost use Rattle.std.specs.Prelude.{◌≡◌, ◌+◌, ◌++◌, ℕ, Bool, [], ◌∷◌, true, false, length, sum, List, Option, Some, None, Result};
 ghost use Rattle.fs_trait.specs.Answers.{IsAnswer, Entries};
 ghost use Rattle.fs_trait.specs.Calls.{Call, Answer, Iterator, Lookup, Plain, default_answer};
 ghost use Rattle.fs_trait.specs.Runs.{Called, Event, IsRun, OpenedDirectory, Taken};

@@ -1,10 +1,9 @@
 //! Two small files, and views that are lent to them. What each function ensures follows from public
 //! contracts alone.
 
-ghost use Rattle.std.specs.Prelude.{◌≡◌, ◌+◌, ◌-◌, ◌<◌, ◌≤◌, ◌++◌, ℕ, List, [], length, take, drop, IfOk, IfErr, MatchResult, OnOk, OnErr, Ok, Some, replicate, slice_index_or};
-ghost use Rattle.std.specs.List.{concat};
+ghost use Rattle.std.specs.Prelude.{◌≡◌, ◌+◌, ◌-◌, ◌<◌, ◌++◌, [], length, take, drop, IfOk, IfErr, MatchResult, OnOk, OnErr, Ok, Some, replicate, slice_index_or};
 ghost use Rattle.fuse_views.specs.Segments.{contents, flat_bytes, lengths_of, with_bytes_at};
-ghost use Rattle.fuse_views.specs.Views.{IsSpan, pieces_of, room_of};
+ghost use Rattle.fuse_views.specs.Views.{IsSpan, room_of};
 
 use fuse_flags::{Errno, Fault};
 use fuse_views::{PositionedFile, Slices, SlicesMut, Span, WritevFlags};

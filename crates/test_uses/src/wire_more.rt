@@ -1,6 +1,6 @@
 //! Records that a server passes on, as bytes.
 
-ghost use Rattle.std.specs.Prelude.{◌≡◌, [], ◌∷◌, ◌++◌, pos, negsuc, replicate};
+ghost use Rattle.std.specs.Prelude.{◌≡◌, ◌++◌, pos, negsuc, replicate};
 
 use fuse_wire::ByteValued;
 use fuse_wire_more::{IoctlOut, NotifyInvalInodeOut};

@@ -1,6 +1,6 @@
 //! Small callers: what comes of an INIT by its version.
 
-ghost use Rattle.std.specs.Prelude.{◌≡◌, ◌≤◌, length, Option, None, Some, Ok};
+ghost use Rattle.std.specs.Prelude.{◌≡◌, ◌≤◌, length, None, Some, Ok};
 
 use fuse_grammar::Result;
 use fuse_messages::reply_unserved;

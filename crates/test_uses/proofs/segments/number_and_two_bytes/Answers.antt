@@ -1,4 +1,4 @@
-use Rattle.std.proofs.Common.{◌≡◌, ◌∙◌, ◌+◌, ◌≤◌, ℕ, List, [], ◌∷◌, ◌++◌, ap, arith, drop, length, length-append, refl, take, take_all}
+use Rattle.std.proofs.Common.{◌≡◌, ◌∙◌, ◌+◌, ◌≤◌, ℕ, List, [], ◌∷◌, ◌++◌, ap, arith, drop, length, length-append, take, take_all}
 use Rattle.fuse_segments.specs.Written.{Written, wrote}
 use Rattle.fuse_wire.specs.Fields.{bytes_of, lone_number}
 use Rattle.fuse_wire.specs.FieldLaws.{length-bytes_of}

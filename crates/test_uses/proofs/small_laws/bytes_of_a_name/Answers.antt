@@ -1,4 +1,4 @@
-use Rattle.std.proofs.Common.{◌≡◌, ◌∙◌, ℕ, List, [], ◌∷◌, Option, Some, sym}
+use Rattle.std.proofs.Common.{◌≡◌, ◌∙◌, ℕ, List, [], ◌∷◌, Some, sym}
 use Rattle.test_uses.proofs.small_laws.bytes_of_a_name.Goals as goal
 
 same_text : (a b : List ℕ) → Some a ≡ Some b → a ≡ b
