@@ -1,6 +1,6 @@
 //! What a program has of the file that it is run from: a change of the file takes it.
 
-ghost use Rattle.std.specs.Prelude.{◌≡◌, ◌++◌, [], ◌∷◌, false, true, codes, Ok, Some, MatchResult};
+ghost use Rattle.std.specs.Prelude.{◌≡◌, ◌++◌, [], ◌∷◌, false, true, codes, Ok, MatchResult};
 ghost use Rattle.std.specs.Duration.{as_nanos};
 ghost use Rattle.test_tree_uses.specs.Trees.{capability, directory_tree, program, program_tree, tree_of, user_a, wide};
 
