@@ -2,9 +2,6 @@
 use Rattle.std.proofs.Common.{◌≡◌, ◌≢◌, ◌≤◌, ◌⊎◌, ◌+◌, ◌-◌, ◌++◌, ◌∙◌, ◌==◌, ℕ, ℤ, Bool, true, false, List, [], length, replicate, Option, None, Some, Result, Ok, Err, IfOk, IsSome, refl, ap, sym, subst, inl, inr, arith, length-append, append_assoc}
 use Rattle.std.proofs.lemmas.List.{length-replicate, take-append-le}
 use Rattle.std.specs.Prelude.{⊤}
-use Rattle.fuse_segments.specs.Lengths.{lengths_from}
-use Rattle.fuse_segments.specs.Segments.{flat_bytes, lengths_of}
-use Rattle.fuse_segments.specs.Unread.{Unread}
 use Rattle.fuse_segments.specs.Written.{Written, whole}
 use Rattle.fs_trait.specs.Calls.{Call, Lookup, Kind, Data, kind_of}
 use Rattle.fuse_grammar.specs.Ask.{ask}
@@ -19,12 +16,11 @@ use Rattle.door_calls.specs.declared.call.CallData.{CallData}
 use Rattle.door_calls.specs.declared.call.kind.TheConstants as kind
 use Rattle.fuse_messages.specs.Rooms.{with_after}
 use Rattle.fuse_messages.proofs.Rooms.{whole_after}
-use Rattle.door_ask.specs.Memory.{MayWant}
 use Rattle.door_ask.specs.Asked.{IsAsked, LiesWithin, Tells, interrupted_by}
 use Rattle.door_ask.specs.declared.asked.Asked.{Asked}
 use Rattle.door_ask.specs.declared.asked.Asked.TheVariants as asked
 use Rattle.c_rooms.specs.Codes.{is_asked, length_of, no_memory, outcome_code}
-use Rattle.nizwarf_door.specs.Asking.{AsksOrNot, unread_in}
+use Rattle.nizwarf_door.specs.Asking.{AsksOrNot}
 use Rattle.nizwarf_door.specs.Kept.{HasFor, Holds, HoldsAnswer, HoldsFor, TellsOrNot, put_of, put_of_kind}
 use Rattle.nizwarf_door.specs.Rooms.{HasRoomFor}
 use Rattle.nizwarf_door.specs.declared.data.ToldData.{ToldData}
@@ -114,14 +110,6 @@ finished_keeps q o n room (WithMemory rest) before after outcome i call (inl t) 
     finished_keeps q o n room rest before after outcome i call t
 finished_keeps q o n room (WithMemory rest) before after outcome i call (inr t) =
     replied_keeps (Refusal OutOfMemory) before after outcome t.1.0
-
--- whether memory may be wanted goes by the bytes and by the pieces that they lie in
-pub want_same : (limits : Limits) (options room : ℕ) (u : Unread) (segments : List (List ℕ)) → u.left ≡ flat_bytes segments
-    → u.pieces ≡ lengths_from 0 (lengths_of segments) → MayWant limits options room u
-    → MayWant limits options room (unread_in segments)
-want_same limits options room u segments left pieces want =
-    subst (λ (p : List ℕ). MayWant limits options room (record { left = flat_bytes segments; taken = 0; pieces = p })) pieces
-    (subst (λ (q : List ℕ). MayWant limits options room (record { left = q; taken = 0; pieces = u.pieces })) left want)
 
 -- an outcome that isn't for want of memory has another number
 pub other_number : (outcome : Result ℕ Error) → outcome ≢ Err OutOfMemory → outcome_code outcome ≡ no_memory → ⊥

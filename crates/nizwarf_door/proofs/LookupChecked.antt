@@ -1,5 +1,5 @@
 -- A LOOKUP of a name in one piece is whole, and takes no memory.
-use Rattle.std.proofs.Common.{◌≡◌, ◌∙◌, ℕ, ℤ, List, [], ◌∷◌, length, refl, ap, subst, inl, inr}
+use Rattle.std.proofs.Common.{◌≡◌, ◌∙◌, ℕ, ℤ, List, [], ◌∷◌, length, ap, subst, inl, inr}
 use Rattle.fuse_flags.specs.Numbers.{opcode_of}
 use Rattle.fuse_wire.specs.Fields.{little, number}
 use Rattle.fuse_segments.specs.Lengths.{lengths_from}
@@ -9,7 +9,7 @@ use Rattle.fuse_grammar.specs.Forms.{Ask, Asks, WithMemory}
 use Rattle.fuse_grammar.specs.Samples.{lookup_of_a}
 use Rattle.door_calls.specs.declared.call.CallData.{CallData}
 use Rattle.door_ask.specs.Asked.{interrupted_by}
-use Rattle.door_ask.specs.Checked.{IsChecked, Judges}
+use Rattle.door_ask.specs.Checked.{Judges}
 use Rattle.door_ask.specs.Memory.{MayWant}
 use Rattle.door_ask.specs.declared.checked.Checked.{Checked}
 use Rattle.door_ask.specs.declared.checked.Checked.TheVariants as checked

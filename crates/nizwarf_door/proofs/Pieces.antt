@@ -30,10 +30,3 @@ pub one_following : (xs : List (Bor (List ℕ))) (d : Bor (List ℕ)) (m : ℕ) 
 one_following [] d m e long is = absurd (let a = e in cc)
 one_following (a ∷ []) d m e long is = after_40 (length a.now) m (nat_lt 40 (length a.now)) long is refl
 one_following (a ∷ b ∷ xs) d m e long is = absurd (let f = e in cc)
-
-pub second_after : (xs : List (Bor (List ℕ))) (d : Bor (List ℕ)) → length xs ≡ 2 → length (get_or xs 0 d).now ≡ 40
-    → lengths_from 40 (lengths_from 0 (lengths_of (segments_of xs))) ≡ lengths_from 0 (length (get_or xs 1 d).now ∷ [])
-second_after [] d e first = absurd (let a = e in cc)
-second_after (a ∷ []) d e first = absurd (let b = e in cc)
-second_after (a ∷ b ∷ []) d e first = rw first refl
-second_after (a ∷ b ∷ c ∷ xs) d e first = absurd (let f = e in cc)

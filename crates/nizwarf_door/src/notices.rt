@@ -1,7 +1,6 @@
 //! Notices, for C: each puts one over the first bytes of `out`, and answers how many they are; 0 where it has no
 //! room there, or no length that its header can tell, and then nothing was put.
 
-ghost use Rattle.std.specs.Prelude.{◌≡◌};
 ghost use Rattle.fuse_notices.specs.Notices.{IsPut, delete, inc_epoch, inval_entry, inval_inode, poll, prune, resend, retrieve, store};
 
 use fuse_notices::{

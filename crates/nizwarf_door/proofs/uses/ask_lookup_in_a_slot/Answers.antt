@@ -1,4 +1,4 @@
-use Rattle.std.proofs.Common.{◌≡◌, ◌≢◌, ◌≤◌, List, ℕ, length, ap, arith, inl, inr, rules}
+use Rattle.std.proofs.Common.{◌≡◌, ◌≢◌, ◌≤◌, List, ℕ, length, ap, arith, rules}
 use Rattle.fuse_flags.specs.Numbers.{opcode_of}
 use Rattle.fuse_wire.specs.Fields.{number}
 use Rattle.fuse_grammar.specs.Samples.{lookup_of_a}
