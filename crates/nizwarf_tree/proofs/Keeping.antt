@@ -1,5 +1,5 @@
 -- Which memory a server keeps.
-use Rattle.std.proofs.Common.{◌≡◌, ◌≢◌, ◌≤◌, ◌<◌, ◌^◌, ◌+◌, ◌++◌, ◌∙◌, ℕ, ℤ, List, length, Option, None, Some, Result, Ok, Err, IfSome, IsSome, MatchOption, refl, ap, sym, subst, arith, length-append}
+use Rattle.std.proofs.Common.{◌≡◌, ◌≢◌, ◌≤◌, ◌<◌, ◌^◌, ◌+◌, ◌∙◌, ℕ, ℤ, List, length, Option, None, Some, Result, Ok, Err, IfSome, IsSome, MatchOption, refl, ap, sym, subst, arith, length-append}
 use Rattle.fuse_segments.specs.Lengths.{lengths_from}
 use Rattle.fuse_segments.specs.Segments.{flat_bytes, lengths_of}
 use Rattle.fuse_segments.specs.Unread.{Unread}

@@ -1,5 +1,5 @@
 -- A row that was answered is a turn of the further table, with the file system's answer.
-use Rattle.std.proofs.Common.{◌≡◌, ◌≤◌, ◌<◌, ◌+◌, ◌-◌, ◌^◌, ◌++◌, ◌∙◌, ◌&&◌, ◌==◌, ℕ, ℤ, pos, Bool, true, false, not, List, [], length, drop, IfSome, Option, Some, None, Result, Ok, Err, if◌then◌else◌, append-nil, ap, refl, sym, subst, inl, inr, arith}
+use Rattle.std.proofs.Common.{◌≡◌, ◌<◌, ◌+◌, ◌-◌, ◌++◌, ◌∙◌, ◌&&◌, ◌==◌, ℕ, ℤ, pos, Bool, true, false, not, List, [], length, drop, IfSome, Option, Some, None, Result, Err, if◌then◌else◌, append-nil, ap, refl, sym, subst, inl, inr, arith}
 use Rattle.std.specs.Ordering.{int_eq}
 use Rattle.std.proofs.lemmas.Bool.Decides.{Decides-int_eq}
 use Rattle.fuse_flags.specs.Numbers.{eio}
@@ -13,7 +13,6 @@ use Rattle.fuse_grammar.specs.declared.limits.Limits.{Limits}
 use Rattle.door_calls.specs.declared.call.CallData.{CallData}
 use Rattle.door_calls.specs.declared.call.kind.TheConstants as kind
 use Rattle.door_calls.specs.declared.data.AnswerData.{AnswerData}
-use Rattle.door_calls.specs.declared.data.ItemData.{ItemData}
 use Rattle.door_answer.specs.Answering.{Answers, echo_told}
 use Rattle.door_answer.specs.Kinds.{kind_told}
 use Rattle.door_answer.specs.Said.{IsSaid}

@@ -1,5 +1,5 @@
 -- A message that was handed to the server was served.
-use Rattle.std.proofs.Common.{◌≡◌, ◌≤◌, ◌^◌, ◌⊎◌, ℕ, ℤ, List, ◌++◌, ◌+◌, ◌-◌, length, drop, Result, refl, inl, inr, sym, ap, ◌∙◌, subst, arith, length-append}
+use Rattle.std.proofs.Common.{◌≡◌, ◌≤◌, ◌^◌, ◌⊎◌, ℕ, ℤ, List, ◌++◌, ◌+◌, ◌-◌, length, drop, Result, inl, inr, sym, ap, ◌∙◌, subst, arith, length-append}
 use Rattle.std.proofs.lemmas.List.{drop_at}
 use Rattle.fuse_segments.specs.Written.{Written, whole}
 use Rattle.fuse_grammar.specs.declared.error.Error.{Error}

@@ -1,14 +1,11 @@
 -- A directory that is read of a tree.
-use Rattle.std.proofs.Common.{◌≡◌, ◌≢◌, ◌⊎◌, ◌^◌, ◌≤◌, ◌∙◌, ℕ, ℤ, List, length, Option, Some, None, IfSome, MatchOption, ap, subst, sym, inl, inr}
+use Rattle.std.proofs.Common.{◌≡◌, ◌≢◌, ◌⊎◌, ◌^◌, ◌≤◌, ◌∙◌, ℕ, ℤ, List, length, Option, Some, None, IfSome, MatchOption, ap, subst, inl, inr}
 use Rattle.fuse_grammar.specs.Ask.{ask}
-use Rattle.fuse_grammar.specs.Forms.{Ask, Lists}
-use Rattle.fuse_grammar.specs.Listing.{Listing}
-use Rattle.fuse_grammar.specs.Reply.{Echo}
-use Rattle.door_further.specs.Further.{What, Ordinary}
+use Rattle.fuse_grammar.specs.Forms.{Lists}
+use Rattle.door_further.specs.Further.{What}
 use Rattle.c_rooms.specs.Codes.{no_memory, too_long}
 use Rattle.fuse_server.specs.Step.{ServerState}
 use Rattle.nizwarf_tree.specs.Files.{State}
-use Rattle.nizwarf_tree.specs.Offered.{what_asked}
 use Rattle.nizwarf_tree.specs.Served.{ServedAs, ServedInC, SteppedInC}
 use Rattle.nizwarf_tree.specs.TreeUses.{TakesFewItems}
 

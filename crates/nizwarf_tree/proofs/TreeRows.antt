@@ -1,5 +1,5 @@
 -- Rows that a tree answered.
-use Rattle.std.proofs.Common.{◌≡◌, ◌≤◌, ◌+◌, ◌∙◌, ℕ, ℤ, Bool, true, false, List, length, Option, Some, None, IfSome, MatchOption, nat_lt, if◌then◌else◌, ap, sym, subst, arith}
+use Rattle.std.proofs.Common.{◌≡◌, ◌≤◌, ◌+◌, ◌∙◌, ℕ, ℤ, Bool, false, List, Option, Some, None, IfSome, MatchOption, nat_lt, if◌then◌else◌, ap, sym, subst, arith}
 use Rattle.std.proofs.lemmas.Bool.{le-ltb}
 use Rattle.std.specs.Prelude.{max, min}
 use Rattle.fuse_flags.specs.declared.constants.TheConstants.{GREATEST_MAX_BUFFER, LEAST_MAX_BUFFER}
@@ -18,7 +18,6 @@ use Rattle.nizwarf_tree.specs.History.{Answered, AnsweredAs}
 use Rattle.nizwarf_tree.specs.Offered.{row_limits, what_asked}
 use Rattle.nizwarf_tree.specs.Served.{RowInC}
 use Rattle.nizwarf_tree.specs.TreeUses.{IsRow, getflags, getflags_asked}
-use Rattle.nizwarf_tree.specs.declared.files.TheConstants.{OFFERS}
 use Rattle.nizwarf_tree.proofs.Calling.{answered_as}
 
 -- a `len` of 100 is none too large, by whatever limits, nor one that is less

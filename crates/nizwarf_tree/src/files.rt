@@ -1,7 +1,7 @@
 //! The file system after the server. A library over another one has another file in the place of
 //! this, and other values in `specs/Files.antt`.
 
-ghost use Rattle.std.specs.Prelude.{◌≡◌, ◌≤◌, true, length, replicate, take, IfErr, IfOk, IfSome};
+ghost use Rattle.std.specs.Prelude.{◌≡◌, ◌≤◌, true, replicate, take, IfErr, IfOk, IfSome};
 ghost use Rattle.fs_trait.specs.Calls.{Failed, Text};
 ghost use Rattle.door_further.specs.Fitting.{fits};
 ghost use Rattle.nizwarf_tree.specs.Files.{new_state, at_time, row_answer};

@@ -139,7 +139,7 @@ pub extern "C" fn nizwarf_message_at(
         result len.new (drop t.start t.room.items) t.shown t.server)) }
 
     // A server that keeps memory for the room lacks none for a request in up to four segments, unless its tail is cut, it
-    // may have a context, it has pairs, or it is a row. It keeps it, and has it after each message of so much room.
+    // may have a context, it has pairs, or it is a row. It keeps it, and has it after each message of that room.
     ensures memory { IfSome handle.old.value (λ s. length request.now ≤ 4 →
         WantsNone s.server room (segments_of request.now) → KeepsFor room s → result ≢ no_memory) }
     ensures keeps { (n : ℕ) → IfSome handle.old.value (λ s. KeepsFor n s →

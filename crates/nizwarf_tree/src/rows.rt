@@ -1,7 +1,6 @@
 //! How requests of rows are answered.
 
 ghost use Rattle.std.specs.Prelude.{◌≡◌, ◌≢◌, ◌⊎◌, ℕ, List, drop};
-ghost use Rattle.fs_trait.specs.Calls.{Answer};
 ghost use Rattle.door_calls.specs.declared.call.kind.TheConstants as kind;
 ghost use Rattle.door_further.specs.Further.{Short};
 ghost use Rattle.nizwarf_tree.specs.Files.{row_answer};

@@ -1,4 +1,4 @@
-use Rattle.std.proofs.Common.{ap, ◌∙◌}
+use Rattle.std.proofs.Common.{ap}
 use Rattle.fuse_segments.specs.Segments.{flat_bytes, segments_of}
 use Rattle.door_calls.specs.declared.call.CallData.{CallData}
 use Rattle.nizwarf_tree.specs.Offered.{what_asked}

@@ -1,5 +1,5 @@
-use Rattle.std.proofs.Common.{◌≡◌, ◌<◌, ◌-◌, ◌++◌, ◌∙◌, ℕ, List, [], length, take, drop, get_or, refl, ap, arith, length-drop, rules}
-use Rattle.std.proofs.lemmas.List.{get_or-map, length-map, take_all}
+use Rattle.std.proofs.Common.{◌<◌, ◌-◌, ◌++◌, ◌∙◌, ℕ, List, [], length, refl, ap}
+use Rattle.std.proofs.lemmas.List.{get_or-map, length-map}
 use Rattle.std.specs.Borrow.{Bor}
 use Rattle.fuse_segments.specs.Segments.{flat_bytes, segments_of}
 use Rattle.nizwarf_tree.proofs.Offering.{first_more, full, less, pushed}

@@ -1,4 +1,4 @@
-use Rattle.std.proofs.Common.{◌≡◌, ◌∙◌, ℕ, length, rules, subst, sym}
+use Rattle.std.proofs.Common.{◌≡◌, ◌∙◌, ℕ, rules, subst, sym}
 use Rattle.c_rooms.specs.Codes.{no_memory, outcome_code}
 use Rattle.fuse_server.specs.Memory.{WantsNoMemory}
 use Rattle.fuse_server.specs.Step.{ServerState}

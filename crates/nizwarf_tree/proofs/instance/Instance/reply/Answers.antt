@@ -1,4 +1,4 @@
-use Rattle.std.proofs.Common.{◌≡◌, ◌∙◌, ap, inl, length, rules, sym}
+use Rattle.std.proofs.Common.{◌∙◌, ap, inl, length, rules, sym}
 use Rattle.fuse_server.specs.Step.{ServerState}
 use Rattle.nizwarf_tree.specs.Files.{State}
 use Rattle.nizwarf_tree.specs.Offered.{row_limits}
