@@ -1,6 +1,6 @@
 -- What was put into a room after the place of a reply's header: the data of a READ, and the records
 -- of a directory.
-use Rattle.std.proofs.Common.{◌≡◌, ◌≤◌, ◌<◌, ◌-◌, ◌^◌, ℕ, Bool, false, List, [], ◌++◌, length, Option, None, Result, Ok, Err, inl, inr, refl, subst, arith, append-nil, length-drop}
+use Rattle.std.proofs.Common.{◌≡◌, ◌≤◌, ◌<◌, ◌-◌, ◌^◌, ℕ, false, List, [], ◌++◌, length, Option, None, Result, inl, inr, subst, arith, append-nil}
 use Rattle.std.proofs.lemmas.Bool.Decides.{nat_tests}
 use Rattle.fuse_segments.specs.Written.{Written, Moves, held_over}
 use Rattle.fuse_wire_more.specs.declared.files.ReadIn.{ReadIn}

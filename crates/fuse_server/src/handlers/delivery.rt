@@ -2,7 +2,7 @@
 //! counts back. An entry whose reply doesn't fit never comes to the client, and is given back here.
 //! Those of a directory are in the crate `fuse_listings`.
 
-ghost use Rattle.std.specs.Prelude.{◌≡◌, length, None, is_err, if◌then◌else◌};
+ghost use Rattle.std.specs.Prelude.{length, None, is_err, if◌then◌else◌};
 ghost use Rattle.fs_trait.specs.Answers.{Entries, Creations, IsAnswer, entry_answer, created_answer};
 ghost use Rattle.fs_trait.specs.Calls.{Call, Plain};
 ghost use Rattle.fs_trait.specs.Values.{context_of};
