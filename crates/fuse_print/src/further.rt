@@ -77,7 +77,7 @@ pub fn print_notify_reply<'a, W: Write>(w: &mut W, bytes: &'a [u8]) -> Result<&'
     print_sized(w, record.size, following)
 }
 
-/// So many bytes of data, if there are to be any, and all of them are there.
+/// `size` bytes of data, if there are to be any, and all of them are there.
 fn print_sized<'a, W: Write>(w: &mut W, size: u32, bytes: &'a [u8]) -> Result<&'a [u8], Stop> {
     if size == 0 {
         return Ok(bytes);

@@ -1,4 +1,4 @@
-use Rattle.std.proofs.Common.{◌≡◌, ◌<◌, ◌≤◌, ◌∙◌, length, take, drop, arith, rules}
+use Rattle.std.proofs.Common.{◌≡◌, ◌≤◌, ◌∙◌, length, drop, arith, rules}
 use Rattle.fuse_print.specs.Lines.{shown, short_line}
 use Rattle.fuse_print.proofs.LineLemmas.{copied_after, copied_printable, ended, no_more, same_further}
 use Rattle.fuse_print.proofs.message.Message.write_line.Goals as goal
