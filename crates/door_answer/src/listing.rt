@@ -21,7 +21,7 @@ pub(crate) struct Listed {
 }
 
 impl Listed {
-    /// So many bytes of records, of that many items.
+    /// `written` bytes of records, of `taken` items.
     fn of(written: usize, taken: usize) -> Listed
         ensures { result ≡ record { answer = Ok written; taken = taken } }
     {

@@ -318,7 +318,7 @@ fn write_over(page: &mut Vec<u8>, from: usize, bytes: &[u8])
     let _ = page.extend_from_slice(bytes);
 }
 
-// So many zeros.
+// `count` zeros.
 fn zeros(count: usize) -> &'static [u8]
     requires { count ≤ 4096 }
     ensures { result.now ≡ replicate count 0 }

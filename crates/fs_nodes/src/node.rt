@@ -356,7 +356,7 @@ impl Node {
     }
 }
 
-// So many seconds.
+// `count` seconds.
 fn seconds(count: u64) -> Duration
     ensures { result ≡ record { secs = count; nanos = 0 } }
 {

@@ -124,7 +124,7 @@ pub fn statistics(seed: u32) -> Statvfs64 {
     }
 }
 
-/// So many bytes that count up from the seed, by 256. ENOMEM where there is no memory for them.
+/// `count` bytes that count up from the seed, by 256. ENOMEM where there is no memory for them.
 pub fn bytes(alloc: Global, seed: u32, count: u32) -> Result<Vec<u8>, Fault>
     ensures { IfOk result (λ bytes. vec_len bytes ≤ count) }
 {

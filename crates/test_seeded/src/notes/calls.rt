@@ -417,7 +417,7 @@ impl Notes {
         self.end();
     }
 
-    /// Begins the line of a call that moves so many bytes from a place on.
+    /// Begins the line of a call that moves `size` bytes from a place on.
     pub fn begin_transfer(
         &mut self,
         call: &str,
