@@ -9,7 +9,7 @@ use std::mem;
 /// The bytes that one call moves: those of an `OutHeader`.
 const CALL: usize = 16;
 
-// So many bytes in pieces of `piece` each.
+// `len` bytes in pieces of `piece` each.
 fn pieces(alloc: Global, len: usize, piece: usize) -> Option<Vec<Vec<u8>>> {
     let bytes = vec![in alloc; 7u8; len].ok()?;
     let each = piece.max(1);

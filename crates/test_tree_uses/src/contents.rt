@@ -13,7 +13,6 @@ use fuse_wire::{Attr, SetattrIn};
 use std::time::Duration;
 
 /// A file that was made has no bytes; what is written into it is what is read of it then.
-#[tactic(auto, unfolding(fuse_views::specs::Segments::with_bytes_at))]
 fn written_and_read<R: ZeroCopyReader, W: ZeroCopyWriter>(
     tree: &mut TreeFs,
     r: &mut R,
@@ -27,7 +26,22 @@ fn written_and_read<R: ZeroCopyReader, W: ZeroCopyWriter>(
 {
     let name = CStr::before_nul(b"f\0", 1);
     tree.create(root(), 1, name, 0o644, false, 0, 0, Extensions::none())?;
-    let written = tree.write(root(), 2, 0, r, 3, 0, None, false, false, 0)?;
+    written_then_read(tree, r, w)
+}
+
+/// The same of a file that is there, and has no page.
+fn written_then_read<R: ZeroCopyReader, W: ZeroCopyWriter>(
+    tree: &mut TreeFs,
+    r: &mut R,
+    w: &mut W,
+) -> Result<(u32, usize), Fault>
+    requires tree { tree.old ≡ tree_of wide empty_file }
+    requires bytes { R.left r.old ≡ codes "HEY" }
+    requires room { W.room w.old ≡ 100 }
+    ensures answers { MatchResult result (λ counts. counts ≡ (3, 3)) (λ fault. fault ≡ Some 12) }
+    ensures put { OnOk result (W.puts w.old (codes "HEY") w.new) }
+{
+    let written = first_page(tree, r)?;
     let read = tree.read(root(), 2, 0, w, 4096, 0, None, 0)?;
     Ok((written, read))
 }
