@@ -1,20 +1,23 @@
 //! A device that reads chains by hand: these are its pieces, and what it refuses.
 
-ghost use Rattle.std.specs.Prelude.{◌≡◌, ◌≤◌, ◌<◌, ◌+◌, ℕ, List, [], ◌∷◌, pos, true, false, length, drop, Some, None};
+ghost use Rattle.std.specs.Prelude.{◌≡◌, ◌≢◌, ◌≤◌, ◌<◌, ◌+◌, ◌-◌, ◌*◌, ◌%◌, ℕ, List, [], ◌∷◌, pos, true, false, length, drop, is_some, Some, None};
 ghost use Rattle.fuse_wire.specs.Fields.{AreBytes, number};
 ghost use Rattle.vhost_chains.specs.Chains.{GoesThrough, entry};
 ghost use Rattle.vhost_chains.specs.Descriptors.{descriptor_from, is_table, is_writable, of_words};
+ghost use Rattle.vhost_chains.specs.Regions.{place_of};
+ghost use Rattle.vhost_chains.specs.Rings.{index_of};
 ghost use Rattle.vhost_chains.specs.Walks.{begun, step_at};
 ghost use Rattle.vhost_chains.specs.declared.descriptor.Descriptor.{Descriptor};
 ghost use Rattle.vhost_chains.specs.declared.regions.Place.{Place};
 ghost use Rattle.vhost_chains.specs.declared.regions.Region.{Region};
 ghost use Rattle.vhost_chains.specs.declared.walk.Piece.{Piece};
 ghost use Rattle.vhost_chains.specs.declared.walk.Walk.{Walk};
-ghost use Rattle.vhost_chains.specs.declared.walk.Step.TheVariants.{Last, More, Table};
+ghost use Rattle.vhost_chains.specs.declared.walk.Refusal.TheVariants.{Outside, PastEnd};
+ghost use Rattle.vhost_chains.specs.declared.walk.Step.TheVariants.{Last, More, Table, Refused};
 
 use crate::laws::{steps_are_within, walks_are_chains, words_are_bytes};
 use crate::regions::Region;
-use crate::rings::{slot, waiting};
+use crate::rings::{needs_event, slot, waiting};
 use crate::walk::{Piece, Walk, begin, take_step};
 
 // A page at 4096, and one at 65536.
@@ -67,12 +70,67 @@ fn over_the_wrap() -> (Option<u16>, Option<u16>, u32)
     (waiting(2, 65534, 8), waiting(7, 65534, 8), slot(65535, 8))
 }
 
+/// By counts that never wrap, of which the indices are the last 16 bits: as many chains wait as were made and not
+/// taken, and the next one's slot is that of its count.
+fn by_counts(index: u16, next: u16, size: u32) -> (Option<u16>, u32)
+    requires size { size ≢ 0 }
+    requires small { size ≤ 32768 }
+    requires power { 65536 % size ≡ 0 }
+    ensures waiting { (made taken : ℕ) → index ≡ index_of made → next ≡ index_of taken →
+        taken ≤ made → made ≤ taken + size → result.0 ≡ Some (made - taken) }
+    ensures slot { (taken : ℕ) → next ≡ index_of taken → result.1 ≡ taken % size }
+{
+    (waiting(index, next, size), slot(next, size))
+}
+
+/// The other side is told where the entry of which it wants to be told is one of those that were added, and not
+/// where none was.
+fn told_by_counts(event: u16, new: u16, old: u16) -> bool
+    ensures told { (before count after : ℕ) → old ≡ index_of before → event ≡ index_of count →
+        new ≡ index_of after → before ≤ count → count < after → after < before + 65536 →
+        result ≡ true }
+    ensures not_told { (count : ℕ) → old ≡ index_of count → new ≡ index_of count → result ≢ true }
+{
+    needs_event(event, new, old)
+}
+
 /// Whatever a guest writes: a last piece in the second of two regions is all of it there, at the descriptor's address.
 fn a_piece_lies_in_its_region()
     ensures { (first second : Region) (w : Walk) (d : Descriptor) (piece : Piece) →
         step_at w d (first ∷ second ∷ []) ≡ Last piece → piece.place.region ≡ 1 →
         (second.address + piece.place.offset ≡ d.addr)
         × (piece.place.offset + d.len ≤ second.size) × (piece.len ≡ d.len) }
+{
+    steps_are_within();
+}
+
+/// A last piece where there are two regions is in one of them.
+fn a_piece_has_one_of_two_regions()
+    ensures { (first second : Region) (w : Walk) (d : Descriptor) (piece : Piece) →
+        step_at w d (first ∷ second ∷ []) ≡ Last piece → piece.place.region ≤ 1 }
+{
+    steps_are_within();
+}
+
+/// A piece that others follow, and an indirect table, are all in the only region, at the descriptor's address.
+fn all_lies_in_the_only_region()
+    ensures piece { (only : Region) (w next : Walk) (d : Descriptor) (piece : Piece) →
+        step_at w d (only ∷ []) ≡ More piece next → (piece.place.region ≡ 0)
+        × (only.address + piece.place.offset ≡ d.addr) × (piece.place.offset + d.len ≤ only.size) }
+    ensures table { (only : Region) (w next : Walk) (d : Descriptor) (place : Place) →
+        step_at w d (only ∷ []) ≡ Table place next → (place.region ≡ 0)
+        × (only.address + place.offset ≡ d.addr)
+        × (place.offset + next.entries * 16 ≤ only.size) }
+{
+    steps_are_within();
+}
+
+/// A descriptor that is refused as past the end begins in a region, and one that is outside begins in none.
+fn where_what_is_refused_begins()
+    ensures past_end { (regions : List Region) (w : Walk) (d : Descriptor) →
+        step_at w d regions ≡ Refused PastEnd → is_some (place_of regions d.addr 1) ≡ true }
+    ensures outside { (regions : List Region) (w : Walk) (d : Descriptor) →
+        step_at w d regions ≡ Refused Outside → is_some (place_of regions d.addr 1) ≡ false }
 {
     steps_are_within();
 }

@@ -1,14 +1,17 @@
 //! Small callers.
 
-ghost use Rattle.std.specs.Prelude.{◌≡◌, ◌≤◌, ◌<◌, ◌+◌, ◌^◌, IfOk, IfSome};
-ghost use Rattle.std.specs.List.{AllPairs, HoldsAt};
+ghost use Rattle.std.specs.Prelude.{◌≡◌, ◌≢◌, ◌≤◌, ◌<◌, ◌+◌, ◌^◌, [], ◌∷◌, Some, None, Ok, length, slice_index_or, IfOk, IfSome, MatchOption};
+ghost use Rattle.std.specs.List.{All, AllPairs, HoldsAt};
+ghost use Rattle.vhost_messages.specs.Places.{Has};
 ghost use Rattle.vhost_messages.specs.Samples.{head_of, num_128};
-ghost use Rattle.vhost_messages.specs.Tables.{Apart, shared};
+ghost use Rattle.vhost_messages.specs.Tables.{Apart, alone, shared};
 
 use crate::message::{Message, Offer, Refusal, Table};
+use crate::payload::payload;
 use crate::place::{Place, View, place_of};
 use crate::read::{payload_size, read_message};
 use crate::records::{Log, Region};
+use crate::request::{Request, request_by};
 
 /// The size of a queue's message is that of its header.
 #[tactic(auto, unfolding(fuse_wire::specs::Fields::number, crate::specs::Messages::size_in, crate::specs::Messages::asked_by, crate::specs::Requests::request_of, crate::specs::Requests::has_size))]
@@ -17,6 +20,23 @@ fn size_of_num(head: &[u8]) -> Result<u32, Refusal>
     ensures { result ≡ Ok 8 }
 {
     payload_size(head)
+}
+
+/// Of requests by number, 5 shares memory, 1 asks for features, and 19 is not served.
+#[tactic(auto, unfolding(crate::specs::Requests::request_of))]
+fn requests_by_number() -> [Option<Request>; 3]
+    ensures { result ≡ Some Request.SetMemTable ∷ Some Request.GetFeatures ∷ None ∷ [] }
+{
+    [request_by(5), request_by(1), request_by(19)]
+}
+
+/// What says nothing asks for features.
+#[tactic(auto, unfolding(crate::specs::Messages::payload_of, crate::specs::Requests::has_size))]
+fn features_wanted(body: &[u8], offer: &Offer) -> Result<Message, Refusal>
+    requires { length body.now ≡ 0 }
+    ensures { result ≡ Ok (alone Request.GetFeatures) }
+{
+    payload(Request::GetFeatures, body, offer)
 }
 
 /// A queue 1 of 128 descriptors.
@@ -41,6 +61,36 @@ fn share(head: &[u8], body: &[u8], descriptors: usize, offer: &Offer) -> Option<
     }
 }
 
+/// Each region of memory that is taken ends before 2^64 in the guest and in the front end, and before 2^63 in its
+/// file, and came with a descriptor.
+fn share_what_can_be(
+    head: &[u8],
+    body: &[u8],
+    descriptors: usize,
+    offer: &Offer,
+) -> Option<Table>
+    ensures guest { IfSome result (λ t. All (λ r. r.guest + r.size < 2 ^ 64) (shared t)) }
+    ensures user { IfSome result (λ t. All (λ r. r.user + r.size < 2 ^ 64) (shared t)) }
+    ensures file { IfSome result (λ t. All (λ r. r.offset + r.size < 2 ^ 63) (shared t)) }
+    ensures described { IfSome result (λ t. t.count ≤ descriptors) }
+{
+    match read_message(head, body, descriptors, offer) {
+        Ok(said) => Some(said.memory),
+        Err(_) => None,
+    }
+}
+
+/// No two regions of memory that is taken begin at one address.
+fn share_two(head: &[u8], body: &[u8], descriptors: usize, offer: &Offer) -> Option<Table>
+    ensures { IfSome result (λ t. (none : Region) → 1 < length (shared t) →
+        (slice_index_or (shared t) 0 none).guest ≢ (slice_index_or (shared t) 1 none).guest) }
+{
+    match read_message(head, body, descriptors, offer) {
+        Ok(said) => Some(said.memory),
+        Err(_) => None,
+    }
+}
+
 /// A log that is taken can be mapped.
 fn mark(head: &[u8], body: &[u8], descriptors: usize, offer: &Offer) -> Option<Log>
     ensures { IfSome result (λ l. l.offset + l.size < 2 ^ 63) }
@@ -56,4 +106,19 @@ fn find(regions: &[Region], address: u64) -> Option<Place>
     ensures { IfSome result (λ p. HoldsAt (λ r. p.offset + 16 ≤ r.size) regions.now p.region) }
 {
     place_of(View::User, regions, address, 16)
+}
+
+/// Of two regions it is the second only where the first has not all of the bytes, and none only where neither has.
+fn find_in_two(regions: &[Region], address: u64) -> Option<Place>
+    requires { length regions.now ≡ 2 }
+    ensures { MatchOption result
+        (HoldsAt (λ r. Has View.User address 16 r → ⊥) regions.now 0
+        × HoldsAt (λ r. Has View.User address 16 r → ⊥) regions.now 1)
+        (λ p. (p.region ≤ 1)
+        × (p.region ≡ 1 → HoldsAt (λ r. Has View.User address 16 r → ⊥) regions.now 0)) }
+{
+    match place_of(View::User, regions, address, 16) {
+        Some(place) => Some(place),
+        None => None,
+    }
 }
