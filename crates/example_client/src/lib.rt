@@ -5,7 +5,7 @@
 //! does not follow a `put` into `&mut bytes[..40]`.
 #![tactic(auto)]
 
-ghost use Rattle.std.specs.Prelude.{◌≡◌, ◌≢◌, ◌+◌, ◌<◌, ◌≤◌, ◌^◌, pos, length, drop, IfOk, IfSome, IsNone, IsOk};
+ghost use Rattle.std.specs.Prelude.{◌≡◌, ◌≢◌, ◌+◌, ◌<◌, ◌≤◌, ◌^◌, pos, length, drop, IfOk, IfSome, IsNone, IsOk, IsSomeAnd};
 ghost use Rattle.fuse_wire.specs.Fields.{numbers_at, value_of};
 ghost use Rattle.fuse_wire.specs.Records.{out_header};
 ghost use Rattle.example_client.specs.Requests.{lookup_request, read_request};
@@ -81,7 +81,7 @@ pub fn data(reply: &[u8]) -> Option<Result<&[u8], i32>>
     ensures bytes { 16 ≤ length reply.now → (value_of out_header reply.now).error ≡ pos 0
         → IfSome result (λ said. IfOk said (λ bytes. bytes.now ≡ drop 16 reply.now)) }
     ensures answered { 16 ≤ length reply.now → (value_of out_header reply.now).error ≡ pos 0
-        → IfSome result IsOk }
+        → IsSomeAnd result IsOk }
 {
     if reply.len() < OutHeader::SIZE {
         return None;

@@ -1,8 +1,10 @@
 //! Small callers: what the clauses of the client say of two requests and of a reply.
 
-ghost use Rattle.std.specs.Prelude.{◌≡◌, [], ◌∷◌, ◌++◌, replicate, length, negsuc, IfOk};
+ghost use Rattle.std.specs.Prelude.{◌≡◌, ◌≢◌, ◌+◌, ◌≤◌, [], ◌∷◌, ◌++◌, drop, replicate, length, negsuc, pos, IfOk, IsNone};
+ghost use Rattle.fuse_wire.specs.Fields.{number, value_of};
+ghost use Rattle.fuse_wire.specs.Records.{out_header};
 
-use crate::{lookup, read, said};
+use crate::{data, lookup, read, said};
 use fuse_wire::EntryOut;
 use std::alloc::{AllocError, Global};
 
@@ -32,4 +34,51 @@ fn no_entry() -> Option<Result<EntryOut, i32>>
     ensures { result ≡ Some (Err (negsuc 1)) }
 {
     said(&[16, 0, 0, 0, 0xfe, 0xff, 0xff, 0xff, 3, 0, 0, 0, 0, 0, 0, 0])
+}
+
+/// Fifteen bytes are no reply: neither to a LOOKUP nor to a READ.
+fn no_whole_header(reply: &[u8]) -> (Option<Result<EntryOut, i32>>, Option<Result<&[u8], i32>>)
+    requires { length reply.now ≡ 15 }
+    ensures said { IsNone result.0 }
+    ensures data { IsNone result.1 }
+{
+    (said(reply), data(reply))
+}
+
+/// Three of the four bytes of a number are none.
+fn no_whole_number(reply: &[u8]) -> Option<Result<u32, i32>>
+    requires three { length reply.now ≡ 19 }
+    requires fine { (value_of out_header reply.now).error ≡ pos 0 }
+    ensures { IsNone result }
+{
+    said(reply)
+}
+
+/// The number that a reply says is in the four bytes after its header.
+fn whole_number(reply: &[u8]) -> Option<Result<u32, i32>>
+    requires four { length reply.now ≡ 20 }
+    requires fine { (value_of out_header reply.now).error ≡ pos 0 }
+    ensures { result ≡ Some (Ok (number 4 (drop 16 reply.now))) }
+{
+    said(reply)
+}
+
+/// A READ of a node that is gone is answered ESTALE, 116, negated.
+fn no_data(reply: &[u8]) -> Option<Result<&[u8], i32>>
+    requires { length reply.now ≡ 16 }
+    ensures { (value_of out_header reply.now).error ≡ negsuc 115 → result ≡ Some (Err (negsuc 115)) }
+{
+    data(reply)
+}
+
+/// How many bytes a READ was answered: those after the header.
+fn len_of_data(reply: &[u8]) -> usize
+    requires header { 16 ≤ length reply.now }
+    requires fine { (value_of out_header reply.now).error ≡ pos 0 }
+    ensures { result + 16 ≡ length reply.now }
+{
+    match data(reply) {
+        Some(Ok(bytes)) => bytes.len(),
+        _ => 0,
+    }
 }
