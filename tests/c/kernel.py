@@ -1,9 +1,10 @@
 #!/usr/bin/env python3
-"""Holds the records, opcodes, notices, flags, constants and error numbers of crates against the kernel's headers.
+"""Holds the records, opcodes, notices, flags, constants and error numbers of crates against the kernel's headers, and the
+numbers of modes, of items of directories and of renames against the system's.
 
 Usage: tests/c/kernel.py [--headers FOLDER] [--print]
-The headers, <linux/fuse.h> and <errno.h>, are those of FOLDER, as another kernel's package has them in usr/include, or
-else the machine's.
+The headers, <linux/fuse.h>, <linux/fs.h> and <errno.h>, are those of FOLDER, as another kernel's package has them in
+usr/include, or else the machine's.
 It makes a C program of static assertions, and compiles it: of each record the place and the size of each field of its
 table in specs, and its size, by the struct that its comment names; of each number its value, by the name that its
 comment names, or by its own. The comment of a record says its size too. What this header has not yet is told, which
@@ -38,7 +39,7 @@ def compiled(words, text):
 
 
 FLAGS, NUMBERS = read("crates/fuse_flags/src/*.rt"), read("crates/fuse_flags/specs/Numbers.antt")
-INCLUDED = "#include <errno.h>\n#include <linux/fuse.h>\n"
+INCLUDED = "#define _GNU_SOURCE\n" + "".join(f"#include <{it}.h>\n" for it in ("errno", "dirent", "sys/stat", "linux/fs", "linux/fuse"))
 HEADER = compiled(["-E", "-dD"], INCLUDED)
 if HEADER.returncode:
     print("Missing: <linux/fuse.h>: apt-get install linux-libc-dev.", file=sys.stderr)
@@ -165,6 +166,9 @@ for name, bit in re.findall(r"^abbrev pub (\w+) : ℕ\n\1 = 2 \^ (\d+)$", read("
 # (the minor version is the header's own)
 for name, value in re.findall(r"^pub const (?!\w*MINOR_VERSION)(\w+): u\d+ = ([\d_ <]+);", FLAGS, re.M):
     hold_number([f"FUSE_{name}", name], value, False)
+# What modes, items of directories and renames have is stated by laws, whatever it is made of.
+for name, value in re.findall(r"^ *ensures \w+ \{ ((?:S_IF|DT_|RENAME_)\w+) ≡ (\w+) \}", read("crates/fuse_flags/src/laws.rt"), re.M):
+    hold_number([name], str(int(value, 0)), name != "RENAME_FLAGS")
 
 if words[len(FOLDER):]:
     print(*lines, sep="\n")
