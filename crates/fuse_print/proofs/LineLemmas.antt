@@ -13,7 +13,7 @@ use Rattle.fuse_print.specs.declared.message.Message.TheVariants.{Request, Reply
 use Rattle.fuse_print.specs.declared.part.Part.{Part}
 
 -- a test whether all characters are printable
-abbrev are_printable : (line : List ℕ) → Bool
+abbrev pub are_printable : (line : List ℕ) → Bool
 are_printable [] = true
 are_printable (c ∷ line) = nat_lt 31 c && nat_lt c 127 && are_printable line
 
@@ -23,7 +23,7 @@ first_printable c rest test = grind arith
 rest_printable : (c : ℕ) (rest : Bool) → (nat_lt 31 c && nat_lt c 127 && rest) ≡ true → rest ≡ true
 rest_printable c rest test = grind arith
 
-printable_by_test : (line : List ℕ) → are_printable line ≡ true → All IsPrintable line
+pub printable_by_test : (line : List ℕ) → are_printable line ≡ true → All IsPrintable line
 printable_by_test [] test = All-nil IsPrintable
 printable_by_test (c ∷ line) test =
     All-cons IsPrintable c line (first_printable c (are_printable line) test)
