@@ -5,6 +5,7 @@
 //! them: what they hold is the clauses and definitions that they rest on.
 #![tactic(auto)]
 
+mod clauses;
 mod files;
 mod flags;
 mod history;
