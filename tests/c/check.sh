@@ -110,7 +110,9 @@ run_all() {
     "$folder/program" "$folder/recorded"
     compile tests/c/largest.c "$@" "${counted[@]}"
     "$folder/program"
-    for name in notices init offered; do
+    compile tests/c/offered.c "$@" "${counted[@]}"
+    "$folder/program"
+    for name in notices init; do
         compile tests/c/$name.c "$@"
         "$folder/program"
     done

@@ -401,6 +401,8 @@ static void long_answers(void)
 	static const nizwarf_answer long_time = {
 		.entry = { .node = 3, .entry_nanoseconds = UINT32_MAX, .attr_nanoseconds = 1000000000 }
 	};
+	static const struct fuse_getattr_in getattr;
+	static const uint32_t size[] = { 4096, 0 }; /* and padding */
 	nizwarf_answer answer = { .text = text, .text_len = sizeof(text) - 16 };
 	nizwarf_call call;
 	nizwarf_told told;
@@ -415,12 +417,39 @@ static void long_answers(void)
 	CHECK(reply(&call, &answer, 9, &told) == NIZWARF_ENCODE_MESSAGE && !told.len && !told.put);
 	/* (so long a text is not looked at) */
 	CHECK(reply(&call, &long_text, 9, &told) == NIZWARF_OK && is_error(&told, ERANGE));
+	begin_with(NIZWARF_LISTXATTR, 2, size, sizeof(size));
+	call = ask_call(ROOM, 0);
+	CHECK(reply(&call, &long_text, 9, &told) == NIZWARF_OK && is_error(&told, ERANGE));
 	begin(NIZWARF_LOOKUP, 1);
 	add_name("a");
 	call = ask_call(144, 0);
 	CHECK(reply(&call, &long_time, 9, &told) == NIZWARF_OK && told.len == 144);
 	/* (a second has 10^9 nanoseconds, and Linux takes none above) */
 	CHECK(u32(ours + 48) == 999999999 && u32(ours + 52) == 999999999);
+	begin_with(NIZWARF_GETATTR, 2, &getattr, sizeof(getattr));
+	call = ask_call(120, 0);
+	CHECK(reply(&call, &long_time, 9, &told) == NIZWARF_OK && told.len == 120);
+	CHECK(!u64(ours + 16) && u32(ours + 24) == 999999999);
+}
+
+/* Flags of what was opened: of an OPEN and a CREATE those that version 7.38 has, bits 0 to 6. */
+static void open_flags(void)
+{
+	const struct fuse_open_in open = { .flags = 2 };
+	const struct fuse_create_in create = { .mode = 0100600 };
+	const nizwarf_answer answer = { .has_handle = 1, .handle = 6, .open_flags = UINT32_MAX };
+	nizwarf_call call;
+	nizwarf_told told;
+
+	begin_with(NIZWARF_OPEN, 2, &open, sizeof(open));
+	call = ask_call(32, 0);
+	CHECK(reply(&call, &answer, 9, &told) == NIZWARF_OK && told.len == 32);
+	CHECK(u64(ours + 16) == 6 && u32(ours + 24) == 0x7f);
+	begin_with(NIZWARF_CREATE, 1, &create, sizeof(create));
+	add_name("a");
+	call = ask_call(160, 0);
+	CHECK(reply(&call, &answer, 9, &told) == NIZWARF_OK && told.len == 160);
+	CHECK(u64(ours + 144) == 6 && u32(ours + 152) == 0x7f);
 }
 
 /* Items that are none, among others: a name that does not end at its only 0, and an error that is no number
@@ -458,7 +487,7 @@ static void wrong_items(void)
 	}
 	listed[0] = wrong[0];
 	answer.error = ENOTDIR;
-	CHECK(reply(&call, &answer, 9, &told) == NIZWARF_OK && is_error(&told, ENOTDIR));
+	CHECK(reply(&call, &answer, 9, &told) == NIZWARF_OK && is_error(&told, ENOTDIR) && !told.taken);
 	answer.error = 0;
 	listed[0] = listed[1];
 	/* (without PLUS no error is looked at) */
@@ -726,6 +755,7 @@ int main(void)
 	errors();
 	options();
 	long_answers();
+	open_flags();
 	wrong_items();
 	silences();
 	entries();

@@ -2,11 +2,13 @@
  * is told of a request in pieces of any lengths, where its record is cut short, what its answer is, and how it is
  * printed; and by a table of nizwarf_ops.h.
  *
- * tests/c/check.sh links it with the library. Status 0: all is as it should be. */
+ * tests/c/check.sh links it with the library, and --wrap=malloc, --wrap=realloc and --wrap=free. Status 0: all is as it
+ * should be. */
 #define _GNU_SOURCE
 #include <fcntl.h>
 #include <poll.h>
 #include <stdarg.h>
+#include "allocations.h"
 #include "nizwarf_ops.h"
 #include "door.h"
 
@@ -139,6 +141,16 @@ static const struct {
 };
 enum { ROWS = sizeof(rows) / sizeof(*rows) };
 
+/* A check of the first bytes of what is in `request`. Of no row it wants memory, nor of a TMPFILE without a context. */
+static int32_t check_cut(uint32_t offers, size_t len, nizwarf_call *call, uint64_t *interrupts)
+{
+	const long before = asked;
+	const int32_t code = nizwarf_check_offered(&session, offers, request, len, 4096, call, interrupts);
+
+	CHECK(asked == before);
+	return code;
+}
+
 /* Asks what is in `request`, in two pieces. `len` bytes of it, of which the first piece has `cut`. */
 static int32_t ask_cut(uint32_t offers, size_t cut, size_t len, nizwarf_call *call, nizwarf_told *told)
 {
@@ -161,6 +173,7 @@ static void begin_row(size_t i)
  * is without any. A check says the same as an ask. */
 static void told_as_asked(size_t i)
 {
+	static const nizwarf_call none;
 	nizwarf_call call, expected = rows[i].told, before;
 	uint64_t interrupts;
 	nizwarf_told told;
@@ -176,20 +189,23 @@ static void told_as_asked(size_t i)
 	expected.uid = 1000;
 	expected.gid = 1001;
 	expected.pid = 77;
+	memset(ours, FILL, 4096);
 	for (cut = 0; cut <= request_len; cut++) {
 		CHECK(ask_cut(rows[i].offer, cut, request_len, &call, &told) == NIZWARF_ASKED);
 		CHECK(!memcmp(&call, &expected, sizeof(call)));
 		CHECK(!told.len && !told.put && !told.interrupts && told.options == session.options);
 	}
-	CHECK(nizwarf_check_offered(&session, rows[i].offer, request, request_len, 4096, &call,
-				    &interrupts) == NIZWARF_ASKED);
+	CHECK(check_cut(rows[i].offer, request_len, &call, &interrupts) == NIZWARF_ASKED);
 	CHECK(!memcmp(&call, &expected, sizeof(call)) && !interrupts);
 	for (cut = 40; cut < request_len; cut++) { /* a whole header, and less than a whole record or data */
 		CHECK(ask_cut(ALL, cut / 2, cut, &call, &told) == NIZWARF_DECODE_MESSAGE);
-		CHECK(!told.len && !told.put);
-		CHECK(nizwarf_check_offered(&session, ALL, request, cut, 4096, &call, &interrupts) ==
-		      NIZWARF_DECODE_MESSAGE);
+		CHECK(!memcmp(&call, &none, sizeof(call)));
+		CHECK(!told.len && !told.put && !told.interrupts && told.options == session.options);
+		CHECK(check_cut(ALL, cut, &call, &interrupts) == NIZWARF_DECODE_MESSAGE);
+		CHECK(!memcmp(&call, &none, sizeof(call)) && !interrupts);
 	}
+	for (cut = 0; cut < 4096; cut++) /* the room is as it was */
+		CHECK(ours[cut] == FILL);
 	code = ask_cut(0, 41, request_len, &before, &told); /* nothing is offered */
 	CHECK(ask_cut(ALL & ~rows[i].offer, 41, request_len, &call, &told) == code);
 	CHECK(!memcmp(&call, &before, sizeof(call)));
@@ -270,6 +286,7 @@ static void unnamed_files(void)
 	static const char *const tails[] = { "/", "", "a name", "not ended" };
 	nizwarf_call call, other;
 	nizwarf_told told, others;
+	uint64_t interrupts;
 	size_t i;
 
 	for (i = 0; i < 4; i++) {
@@ -283,6 +300,9 @@ static void unnamed_files(void)
 		if (i != 3)
 			other.call = NIZWARF_TMPFILE;
 		CHECK(!memcmp(&call, &other, sizeof(call)) && !memcmp(&told, &others, sizeof(told)));
+		CHECK(check_cut(ALL, request_len, &call, &interrupts) ==
+		      (i == 3 ? NIZWARF_INVALID_C_STRING : NIZWARF_ASKED));
+		CHECK(!memcmp(&call, &other, sizeof(call)) && !interrupts);
 	}
 	begin_with(NIZWARF_TMPFILE, 2, &unnamed, 15); /* a byte less than a record */
 	CHECK(ask_cut(ALL, 50, request_len, &call, &told) == NIZWARF_DECODE_MESSAGE);

@@ -1,6 +1,6 @@
 /* Holds the library for transports in C against its header: a session of INIT, MKDIR, LOOKUP and GETATTR, in
  * which each allocation is refused in turn; replies that are taken out; codes of what can't be done; settings; what
- * stays in the rooms.
+ * stays in the rooms and after the library's own calls.
  *
  * tests/c/check.sh links it with --wrap=malloc, --wrap=realloc and --wrap=free. Status 0: all is as
  * it should be, and no memory is left. */
@@ -237,12 +237,57 @@ static void settings(void)
 	getattr.header.nodeid = 2; /* as session() has it */
 }
 
+/* The library's own functions, between calls of which the inline ones have no other: of no server they do nothing; of a
+ * new one, and of one whose reply was taken, nothing is there to be copied; and a server that is not made in its place
+ * stays. */
+static void handles(void)
+{
+	const nizwarf_segment whole = { &init, sizeof(init) };
+	const nizwarf_settings defaults = NIZWARF_SETTINGS;
+	nizwarf_server server = NIZWARF_NONE, was;
+	nizwarf_taken taken = NIZWARF_NONE, none = NIZWARF_NONE;
+	nizwarf_place place = { reply, 1, 2 };
+	uint64_t options;
+	size_t len = 1;
+	long before;
+
+	memset(reply, 0xaa, 80);
+	CHECK(nizwarf_message_at(&server, &whole, 1, 80, &len) == NIZWARF_NO_SERVER && !len && !server.at);
+	CHECK(nizwarf_copy_at(&server, 0, reply, 80) == 0 && reply[0] == 0xaa);
+	CHECK(nizwarf_take_at(&server, &taken, &place) == NIZWARF_NO_SERVER && !server.at);
+	CHECK(!memcmp(&taken, &none, sizeof(taken)) && place.at == reply && place.start == 1 &&
+	      place.len == 2);
+	CHECK(nizwarf_tell_time_at(&server, 1, 0) == NIZWARF_NO_SERVER && !server.at);
+	CHECK(nizwarf_new_at(&server, 4096, 4096, &defaults) == NIZWARF_OK);
+	CHECK(nizwarf_copy_at(&server, 0, reply, 80) == 0 && reply[0] == 0xaa);
+	CHECK(nizwarf_message_at(&server, &whole, 1, 80, &len) == NIZWARF_OK && len == 80);
+	CHECK(nizwarf_copy_at(&server, 4, reply, 76) == 76 && reply[4] == 1); /* `unique`, at 8 */
+	CHECK(nizwarf_copy_at(&server, 0, reply, 80) == 80 && reply[0] == 80);
+	options = nizwarf_options_at(&server);
+	was = server;
+	CHECK(options && nizwarf_new_at(&server, 4095, 4096, &defaults) == NIZWARF_WRONG_SIZE);
+	CHECK(!memcmp(&server, &was, sizeof(was)) && nizwarf_options_at(&server) == options);
+	CHECK(nizwarf_take_at(&server, &taken, &place) == NIZWARF_OK && place.len == 80);
+	CHECK(!memcmp(place.at + place.start, reply, 80));
+	CHECK(nizwarf_options_at(&server) == options && nizwarf_max_buffer_at(&server) == 4096);
+	reply[0] = 0xaa;
+	CHECK(nizwarf_copy_at(&server, 0, reply, 80) == 0 && reply[0] == 0xaa);
+	/* (what `taken` had is the server's then) */
+	before = asked;
+	CHECK(nizwarf_take_at(&server, &taken, &place) == NIZWARF_OK && place.len == 0 && asked == before);
+	CHECK(nizwarf_message_at(&server, &whole, 1, 80, &len) == NIZWARF_OK && len == 80 && asked == before);
+	CHECK(nizwarf_end_at(&server) == NIZWARF_OK && !server.at &&
+	      nizwarf_end_taken_at(&taken) == NIZWARF_OK);
+	CHECK(!taken.at && live == 0);
+}
+
 int main(void)
 {
 	long all;
 
 	codes();
 	settings();
+	handles();
 	asked = 0;
 	session();
 	takes();
