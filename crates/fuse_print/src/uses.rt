@@ -27,11 +27,7 @@ fn only_a_is_told_as_a()
 }
 
 /// Three bytes are no request: the line says so, and begins where it did.
-fn three_bytes_are_no_request(
-    part: &mut Part,
-    bytes: &[u8],
-    options: FsOptions,
-) -> Option<usize>
+fn three_bytes_are_no_request(part: &mut Part, bytes: &[u8], options: FsOptions) -> Option<usize>
     requires from { part.old.from ≡ 0 }
     requires empty { part.old.len ≡ 0 }
     requires three { length bytes.now ≡ 3 }

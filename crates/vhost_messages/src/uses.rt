@@ -63,12 +63,7 @@ fn share(head: &[u8], body: &[u8], descriptors: usize, offer: &Offer) -> Option<
 
 /// Each region of memory that is taken ends before 2^64 in the guest and in the front end, and before 2^63 in its
 /// file, and came with a descriptor.
-fn share_what_can_be(
-    head: &[u8],
-    body: &[u8],
-    descriptors: usize,
-    offer: &Offer,
-) -> Option<Table>
+fn share_what_can_be(head: &[u8], body: &[u8], descriptors: usize, offer: &Offer) -> Option<Table>
     ensures guest { IfSome result (λ t. All (λ r. r.guest + r.size < 2 ^ 64) (shared t)) }
     ensures user { IfSome result (λ t. All (λ r. r.user + r.size < 2 ^ 64) (shared t)) }
     ensures file { IfSome result (λ t. All (λ r. r.offset + r.size < 2 ^ 63) (shared t)) }

@@ -19,11 +19,7 @@ use std::alloc::Global;
 
 /// The tail of a request with three bytes after its header, which are there: only memory can be wanting, and not where
 /// they lie in one segment.
-fn tail_of_three_bytes<'a>(
-    alloc: Global,
-    header: &InHeader,
-    r: &mut Reader<'a>,
-) -> Result<Tail<'a>>
+fn tail_of_three_bytes<'a>(alloc: Global, header: &InHeader, r: &mut Reader<'a>) -> Result<Tail<'a>>
     requires len { header.now.len ≡ 43 }
     requires three { length r.old.left ≡ 3 }
     ensures tail { IfOk result (λ tail. tail ≡ take 3 r.old.left) }
@@ -34,11 +30,7 @@ fn tail_of_three_bytes<'a>(
 }
 
 /// A tail of which a byte is missing is refused, and never for want of memory.
-fn tail_of_two_bytes<'a>(
-    alloc: Global,
-    header: &InHeader,
-    r: &mut Reader<'a>,
-) -> Result<Tail<'a>>
+fn tail_of_two_bytes<'a>(alloc: Global, header: &InHeader, r: &mut Reader<'a>) -> Result<Tail<'a>>
     requires len { header.now.len ≡ 43 }
     requires two { length r.old.left ≡ 2 }
     ensures { result ≡ Err Error.DecodeMessage }

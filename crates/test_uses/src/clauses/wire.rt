@@ -48,7 +48,16 @@ fn the_group_has_no_number(st: Stat64) -> [Result<Attr, Fault>; 2]
     ensures { result ≡ Err (Some 22) ∷ Err (Some 22) ∷ [] }
 {
     [
-        Attr::try_from_stat64(st, |_| Ok(GuestUid::default()), |_| Err(Some(Errno::EINVAL))),
-        Attr::try_with_flags(st, 1, |_| Ok(GuestUid::default()), |_| Err(Some(Errno::EINVAL))),
+        Attr::try_from_stat64(
+            st,
+            |_| Ok(GuestUid::default()),
+            |_| Err(Some(Errno::EINVAL)),
+        ),
+        Attr::try_with_flags(
+            st,
+            1,
+            |_| Ok(GuestUid::default()),
+            |_| Err(Some(Errno::EINVAL)),
+        ),
     ]
 }
