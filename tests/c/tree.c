@@ -247,7 +247,6 @@ static void handles(void)
 	nizwarf_server server = NIZWARF_NONE, was;
 	nizwarf_taken taken = NIZWARF_NONE, none = NIZWARF_NONE;
 	nizwarf_place place = { reply, 1, 2 };
-	uint64_t options;
 	size_t len = 1;
 	long before;
 
@@ -260,16 +259,18 @@ static void handles(void)
 	CHECK(nizwarf_tell_time_at(&server, 1, 0) == NIZWARF_NO_SERVER && !server.at);
 	CHECK(nizwarf_new_at(&server, 4096, 4096, &defaults) == NIZWARF_OK);
 	CHECK(nizwarf_copy_at(&server, 0, reply, 80) == 0 && reply[0] == 0xaa);
+	init.body.flags = FUSE_ASYNC_READ;
 	CHECK(nizwarf_message_at(&server, &whole, 1, 80, &len) == NIZWARF_OK && len == 80);
+	init.body.flags = 0; /* as session() has it */
+	CHECK(nizwarf_options_at(&server) == FUSE_ASYNC_READ);
 	CHECK(nizwarf_copy_at(&server, 4, reply, 76) == 76 && reply[4] == 1); /* `unique`, at 8 */
 	CHECK(nizwarf_copy_at(&server, 0, reply, 80) == 80 && reply[0] == 80);
-	options = nizwarf_options_at(&server);
 	was = server;
-	CHECK(options && nizwarf_new_at(&server, 4095, 4096, &defaults) == NIZWARF_WRONG_SIZE);
-	CHECK(!memcmp(&server, &was, sizeof(was)) && nizwarf_options_at(&server) == options);
+	CHECK(nizwarf_new_at(&server, 4095, 4096, &defaults) == NIZWARF_WRONG_SIZE);
+	CHECK(!memcmp(&server, &was, sizeof(was)) && nizwarf_options_at(&server) == FUSE_ASYNC_READ);
 	CHECK(nizwarf_take_at(&server, &taken, &place) == NIZWARF_OK && place.len == 80);
 	CHECK(!memcmp(place.at + place.start, reply, 80));
-	CHECK(nizwarf_options_at(&server) == options && nizwarf_max_buffer_at(&server) == 4096);
+	CHECK(nizwarf_options_at(&server) == FUSE_ASYNC_READ && nizwarf_max_buffer_at(&server) == 4096);
 	reply[0] = 0xaa;
 	CHECK(nizwarf_copy_at(&server, 0, reply, 80) == 0 && reply[0] == 0xaa);
 	/* (what `taken` had is the server's then) */

@@ -6,12 +6,12 @@ ghost use Rattle.fuse_segments.specs.Lengths.{lie_together};
 ghost use Rattle.fuse_wire.specs.Fields.{bytes_of};
 ghost use Rattle.fuse_grammar.specs.declared.error.Error.{Error};
 
-use fs_trait::{Extensions, GetxattrReply};
+use fs_trait::{Extensions, GetxattrReply, SecContext};
 use fuse_flags::{Errno, FsOptions, SetattrValid, SetxattrFlags};
 use fuse_grammar::Result;
 use fuse_messages::{
-    Name, Request, Tail, further_flags, get_extensions, known_valid, name_of_tail, read_pairs,
-    read_tail, reply_error, reply_ok, reply_value,
+    Name, Request, Tail, further_flags, get_extensions, known_valid, name_of_tail,
+    parse_security_context, read_pairs, read_tail, reply_error, reply_ok, reply_value,
 };
 use fuse_segments::{Reader, Writer};
 use fuse_wire::{ByteValued, GetattrIn, InHeader, bytes_have_size};
@@ -70,6 +70,14 @@ fn groups_want_no_memory(alloc: Global, skip: usize, bytes: &[u8]) -> Result<Ext
     ensures { result ≢ Err Error.OutOfMemory }
 {
     get_extensions(alloc, FsOptions::CREATE_SUPP_GROUP, skip, bytes)
+}
+
+/// A body without a byte is no context, and never refused for want of memory.
+fn no_body_is_no_context(alloc: Global, body: &[u8]) -> Result<Option<SecContext>>
+    requires { body.now ≡ [] }
+    ensures { result ≡ Err Error.DecodeMessage }
+{
+    parse_security_context(alloc, 1, body)
 }
 
 /// After a record of sixteen bytes in a segment of its own, the next segment is left.
