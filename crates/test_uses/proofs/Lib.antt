@@ -2,7 +2,9 @@ pub mod Callers
 pub mod SessionCallers
 pub mod DirectoryCallers
 pub mod ScriptTransfers
+pub mod Scripts
 pub mod SmallCallers
+pub mod SmallFiles
 pub mod ServeCallers
 pub mod HistoryCallers
 pub mod TreeCallers

@@ -5,6 +5,7 @@
 //! them: what they hold is the clauses and definitions that they rest on.
 #![tactic(auto)]
 
+mod calls;
 mod clauses;
 mod files;
 mod flags;
@@ -14,9 +15,12 @@ mod listings;
 mod memory;
 mod messages;
 mod mock;
+mod mock_more;
 mod segments;
 mod server;
+mod small_files;
 mod small_laws;
+mod trait_values;
 mod transfers;
 mod tree_laws;
 mod views;

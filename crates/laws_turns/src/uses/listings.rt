@@ -95,6 +95,16 @@ fn nodes_of_two_records()
     nodes_are_found();
 }
 
+/// The bytes of a READDIRPLUS hold as many nodes as it put lines, of whatever directory.
+fn a_node_for_each_line()
+    ensures { (ctx : Context) (parent size space : ℕ) (events : List Event) (body : List ℕ)
+        (result : Outcome ℕ (Option ℕ)) →
+        (h : IsListing true ctx parent size space events body result) →
+        length (nodes_in body) ≡ length h.lines }
+{
+    nodes_are_found();
+}
+
 /// The bytes of a record are a multiple of 8, whatever the name: at least 24, and 152 with an entry.
 fn bytes_of_a_record()
     ensures multiple { (entry : Option Entry) (i : Item) → length (record_bytes entry i) % 8 ≡ 0 }

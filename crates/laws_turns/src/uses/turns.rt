@@ -1,6 +1,6 @@
 //! Small callers of the laws of turns.
 
-ghost use Rattle.std.specs.Prelude.{◌≡◌, ◌≢◌, ◌<◌, ◌≤◌, ◌+◌, ◌*◌, ◌^◌, [], ◌∷◌, ℕ, List, length, take, drop, Option, Ok, Err, Some};
+ghost use Rattle.std.specs.Prelude.{◌≡◌, ◌≢◌, ◌<◌, ◌≤◌, ◌+◌, ◌*◌, ◌^◌, [], ◌∷◌, ℕ, Bool, List, length, take, drop, Option, Ok, Err, Some};
 ghost use Rattle.std.specs.Int.{bit_at};
 ghost use Rattle.std.specs.declared.time.Duration.{Duration};
 ghost use Rattle.fuse_flags.specs.Numbers.{opcode_of};
@@ -9,8 +9,9 @@ ghost use Rattle.fuse_wire.specs.Records.{attr_out, entry_out, kstatfs, kstatfs_
 ghost use Rattle.fuse_wire.specs.Fields.{little, value_of};
 ghost use Rattle.fuse_wire.specs.declared.attributes.Attr.{Attr};
 ghost use Rattle.fuse_wire.specs.declared.stat.Statvfs64.{Statvfs64};
-ghost use Rattle.fs_trait.specs.Calls.{Call, Lookup, Getattr, Readlink, Statfs, Access, Init, Failed, Options, Found, Attributes, Statistics, Text};
-ghost use Rattle.fs_trait.specs.Values.{whole_seconds};
+ghost use Rattle.fuse_wire_more.specs.Records.{getxattr_out, open_out, write_out};
+ghost use Rattle.fs_trait.specs.Calls.{Call, Lookup, Getattr, Readlink, Open, Write, Statfs, Getxattr, Access, Create, Init, Failed, Options, Found, Attributes, Opened, Created, Statistics, Text, Count, Wrote};
+ghost use Rattle.fs_trait.specs.Values.{ExtensionValues, whole_seconds};
 ghost use Rattle.fs_trait.specs.Runs.{Event, Called};
 ghost use Rattle.fs_trait.specs.declared.entry.Context.{Context};
 ghost use Rattle.fs_trait.specs.declared.entry.Entry.{Entry};
@@ -148,6 +149,36 @@ fn numbers_in_replies()
 {
     replies_say_what_was_answered();
     answers_are_of_their_kind();
+}
+
+/// The reply of 32 bytes to an OPEN has the handle, a CREATE's of 160 the node and, after it, the handle, a GETXATTR's of 24
+/// how long a value is, and a WRITE's of 24 how many bytes were written.
+fn handles_and_counts_in_replies()
+    ensures open { (limits : Limits) (options after inode handle how flags : ℕ) (ctx : Context)
+        (kill_priv : Bool) (t : Turn) → IsTurn limits options t after →
+        t.events ≡ Called (Open ctx inode kill_priv flags) (Opened (Some handle) how) ∷ [] →
+        t.outcome ≡ Ok 32 →
+        ((value_of open_out (drop 16 t.room_after)).fh ≡ handle)
+        × ((value_of open_out (drop 16 t.room_after)).open_flags ≡ how) }
+    ensures create { (limits : Limits) (options after parent handle how mode flags umask : ℕ)
+        (ctx : Context) (kill_priv : Bool) (name : List ℕ) (ext : ExtensionValues) (entry : Entry)
+        (t : Turn) → IsTurn limits options t after →
+        t.events ≡ Called (Create ctx parent name mode kill_priv flags umask ext)
+        (Created entry (Some handle) how) ∷ [] → t.outcome ≡ Ok 160 →
+        ((value_of entry_out (drop 16 t.room_after)).nodeid ≡ entry.inode)
+        × ((value_of open_out (drop 128 (drop 16 t.room_after))).fh ≡ handle) }
+    ensures getxattr { (limits : Limits) (options after inode size asked : ℕ) (ctx : Context)
+        (name : List ℕ) (t : Turn) → IsTurn limits options t after →
+        t.events ≡ Called (Getxattr ctx inode name asked) (Count size) ∷ [] → t.outcome ≡ Ok 24 →
+        (value_of getxattr_out (drop 16 t.room_after)).size ≡ size }
+    ensures write { (limits : Limits) (options after inode handle size offset flags count : ℕ)
+        (ctx : Context) (bytes : List ℕ) (owner : Option ℕ) (delayed kill_priv : Bool) (t : Turn) →
+        IsTurn limits options t after →
+        t.events ≡ Called (Write ctx inode handle bytes size offset owner delayed kill_priv flags)
+        (Wrote count) ∷ [] → t.outcome ≡ Ok 24 →
+        (value_of write_out (drop 16 t.room_after)).size ≡ count }
+{
+    replies_say_what_was_answered();
 }
 
 /// Numbers that calls answered are in the widths that replies have for them.
