@@ -195,13 +195,21 @@ def of_equations(file, name, text, start, end):
             yield Conjunct(file, name, *place, text[slice(*place)])
 
 
+def end_of_head(text, head, most):
+    """Where what this declares ends: before the next line that is no deeper and is none of its equations."""
+    depth = len(re.match(r" *", head[0])[0])
+    goes_on = rf"(?!{re.escape(head[2])}(?![\w'-]))" if head[2] else ""
+    after = re.compile(rf"^ {{0,{depth}}}(?! ){goes_on}(?=[^\s)}}\]])", re.M).search(text, text.find("\n", head.start()) + 1, most)
+    return after.start() if after else most
+
+
 def of_specs(file, whole, known):
     """The conjuncts of a file of definitions."""
     text = blanked(whole, "--")
     heads = [*re.finditer(r"^ *((?:abbrev |unfoldable )?pub (?:record |data )?([\w']+)|module _|use )", text, re.M)]
     heads = [it for it in heads if not re.match(r" *pub [\w']+ :", text[it.start() :]) or text[it.start()] != " "]
     for i, head in enumerate(heads):
-        end = heads[i + 1].start() if i + 1 < len(heads) else len(text)
+        end = end_of_head(text, head, heads[i + 1].start() if i + 1 < len(heads) else len(text))
         body = text[head.start() : end]
         if "pub record" in head[1]:
             where = re.search(r"Type 0\s+where", body)
@@ -217,7 +225,7 @@ def of_specs(file, whole, known):
 def of_source(file, whole):
     """The conjuncts of what the public functions of a file ensure."""
     text = blanked(whole, "//")
-    heads = [*re.finditer(r"^ *(?:(pub )(?:const |unsafe |extern \"C\" )*)?fn (\w+)|^ *(pub )?(trait|impl|mod)\b", text, re.M)]
+    heads = [*re.finditer(r"^ *(?:(pub )(?:const |unsafe |extern \"C\" )*|pub\(\w+\) (?:const |unsafe )*)?fn (\w+)|^ *(pub )?(trait|impl|mod)\b", text, re.M)]
     in_trait = False
     for i, head in enumerate(heads):
         end = heads[i + 1].start() if i + 1 < len(heads) else len(text)
