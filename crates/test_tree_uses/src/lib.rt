@@ -15,6 +15,7 @@ mod lookups;
 mod nameless;
 mod names;
 mod opening;
+mod parts;
 mod privileges;
 mod support;
 mod xattrs;
