@@ -4,4 +4,5 @@
 
 mod crossing;
 pub mod laws;
+mod numbers;
 mod uses;

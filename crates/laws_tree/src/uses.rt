@@ -1,6 +1,6 @@
 //! What the laws of a tree say to who makes calls of one.
 
-ghost use Rattle.std.specs.Prelude.{◌≡◌, ◌≤◌, ◌<◌, ℕ, List, [], ◌∷◌, Option, Some, None, true, false, length, IfSome};
+ghost use Rattle.std.specs.Prelude.{◌≡◌, ◌≢◌, ◌≤◌, ◌<◌, ℕ, List, [], ◌∷◌, Option, Some, None, true, false, length, IfSome, IsSome};
 ghost use Rattle.fs_trait.specs.Values.{Item};
 ghost use Rattle.fs_trait.specs.Calls.{Answer, Call, Destroy, Handed, Iterator, Plain};
 ghost use Rattle.fs_trait.specs.Listing.{GivesFirst};
@@ -16,7 +16,8 @@ ghost use Rattle.fs_tree.specs.Listing.{items_after};
 ghost use Rattle.fs_tree.specs.State.{State, node_at};
 ghost use Rattle.fs_tree.specs.Tree.{TreeAllows, first_state};
 ghost use Rattle.fs_tree.specs.declared.fs.Capacity.{Capacity};
-ghost use Rattle.laws_tree.specs.Laws.{IsSound, IsTree, above, lookups_of};
+ghost use Rattle.laws_tree.specs.Laws.{IsSound, IsTree, above, lookups_of, names_of};
+ghost use Rattle.laws_tree.specs.Runs.{ends_client};
 
 use crate::history::new_trees_are_kept;
 use crate::laws::{calls_keep_births, calls_keep_trees, readings_move_a_time, runs_keep_trees};
@@ -78,9 +79,14 @@ fn a_run_that_ends()
     runs_keep_trees();
 }
 
-/// A tree of which one request was handled since it was made is one, and its books are kept.
+/// A tree of which one request was handled since it was made is one, and its books are kept. If the request ended the
+/// client, a node is there only where a name leads to it.
 fn one_request_of_a_new_tree()
-    ensures { (limits : Capacity) (now : Time) (first new : ServerState State) (t : Turn) →
+    ensures ended { (limits : Capacity) (now : Time) (first new : ServerState State) (t : Turn) (n : ℕ) →
+        first.fs ≡ first_state 0 0 0o755 limits false now →
+        IsHistory TreeAllows GivesFirst first (Handled t ∷ []) new → ends_client t ≡ true → n ≢ 0 →
+        IsSome (node_at new.fs n) → 0 < names_of (node_at new.fs n) }
+    ensures kept { (limits : Capacity) (now : Time) (first new : ServerState State) (t : Turn) →
         first.fs ≡ first_state 0 0 0o755 limits false now →
         IsHistory TreeAllows GivesFirst first (Handled t ∷ []) new →
         KeepsBooks (t ∷ []) × IsTree new.fs }

@@ -1,6 +1,6 @@
 //! Small callers of the door of a file system that offers rows.
 
-ghost use Rattle.std.specs.Prelude.{◌≡◌, ◌⊎◌, ℤ, [], length, pos};
+ghost use Rattle.std.specs.Prelude.{◌≡◌, ◌≢◌, ◌≤◌, ◌⊎◌, ℤ, [], length, pos};
 ghost use Rattle.fuse_segments.specs.Segments.{segments_of, flat_bytes};
 ghost use Rattle.fuse_grammar.specs.Forms.{Ask};
 ghost use Rattle.fuse_grammar.specs.Samples.{lookup_of_a};
@@ -10,7 +10,7 @@ ghost use Rattle.c_rooms.specs.Codes.{is_asked, no_memory};
 ghost use Rattle.nizwarf_door.specs.Answering.{AnswersOrNot};
 ghost use Rattle.nizwarf_door.specs.Shown.{shown_in};
 ghost use Rattle.nizwarf_door.specs.Further.{with_eio};
-ghost use Rattle.nizwarf_door.specs.Kept.{HoldsAnswer, HoldsFor};
+ghost use Rattle.nizwarf_door.specs.Kept.{Holds, HoldsAnswer, HoldsFor};
 ghost use Rattle.nizwarf_door.specs.Turns.{IsAnsweredOrNot};
 ghost use Rattle.nizwarf_door.specs.Uses.{usual_limits};
 
@@ -29,7 +29,7 @@ const SESSION: SessionData = SessionData {
 };
 
 /// Asks any request where locks are offered. Of a GETLK of real bytes the call is told, and the slot has memory for its
-/// answer, and for any request with 4096 bytes of room; unless there is no memory. Nothing is there to be copied out. A call
+/// answer, and for any request with 4096 bytes of room; unless there is no memory, which a slot that has it doesn't lack. Nothing is there to be copied out. A call
 /// that is told of a LOOKUP, which is of no row, is that of virtiofsd's table. What a slot has memory for, it has after any
 /// request.
 fn ask_with_locks(
@@ -47,6 +47,9 @@ fn ask_with_locks(
         HoldsAnswer (getlk_asked 0 4096) handle.new.value }
     ensures ready { flat_bytes (segments_of request.now) ≡ getlk → result ≡ is_asked →
         (asks : Ask) → HoldsFor 4096 asks handle.new.value }
+    ensures memory { flat_bytes (segments_of request.now) ≡ getlk → length request.now ≤ 4 →
+        HoldsAnswer (getlk_asked 0 4096) handle.old.value → result ≢ no_memory }
+    ensures keeps { Holds 4096 handle.old.value → Holds 4096 handle.new.value }
     ensures plain { flat_bytes (segments_of request.now) ≡ lookup_of_a → result ≡ is_asked →
         AreOf usual_limits lookup_of_a call.new }
     ensures stays { (asks : Ask) → HoldsFor 4096 asks handle.old.value → HoldsFor 4096 asks handle.new.value }
@@ -99,6 +102,8 @@ fn answer_long_lock(
     ensures promise { (code : ℤ) → result ≡ code →
         IsAnsweredOrNot usual_limits call.now (with_eio a.now) lock.now [] code told.old told.new
         (shown_in handle.new.value) }
+    ensures memory { HoldsAnswer call.now handle.old.value → result ≢ no_memory }
+    ensures keeps { Holds 4096 handle.old.value → Holds 4096 handle.new.value }
     ensures stays { (asks : Ask) → HoldsFor 4096 asks handle.old.value → HoldsFor 4096 asks handle.new.value }
 {
     nizwarf_answer_offered_at(alloc, handle, &SESSION, call, a, lock, &[], told)

@@ -1,13 +1,17 @@
 //! A transport that calls the library in a row, as that of `/dev/fuse` does.
 
-ghost use Rattle.std.specs.Prelude.{◌≡◌, ◌≢◌, ◌≤◌, MatchOption, length};
+ghost use Rattle.std.specs.Prelude.{◌≡◌, ◌≢◌, ◌≤◌, ◌^◌, ℕ, ℤ, List, [], ◌∷◌, MatchOption, length, map};
 ghost use Rattle.fuse_segments.specs.Segments.{segments_of, flat_bytes};
 ghost use Rattle.fuse_server.specs.Step.{ServerState};
-ghost use Rattle.c_rooms.specs.Codes.{no_memory, ok};
+ghost use Rattle.door_calls.specs.declared.call.CallData.{CallData};
+ghost use Rattle.door_further.specs.Further.{Ordinary, Row, Short, Unnamed};
+ghost use Rattle.door_further.specs.Turns.{as_create};
+ghost use Rattle.laws_history.specs.History.{Moment, turns_in};
+ghost use Rattle.c_rooms.specs.Codes.{no_memory, ok, too_long};
 ghost use Rattle.nizwarf_tree.specs.Files.{State};
-ghost use Rattle.nizwarf_tree.specs.History.{HandlesTwo};
+ghost use Rattle.nizwarf_tree.specs.History.{AreAdded, HandlesTwo};
 ghost use Rattle.nizwarf_tree.specs.Kept.{WantsNone};
-ghost use Rattle.nizwarf_tree.specs.Served.{new_server};
+ghost use Rattle.nizwarf_tree.specs.Served.{Refused, new_server};
 
 use crate::files::Files;
 use crate::handle::Handle;
@@ -16,6 +20,28 @@ use crate::{nizwarf_message_at, nizwarf_new_at, nizwarf_tell_time_at};
 use c_rooms::codes::OK;
 use laws_history::laws::history_keeps_books;
 use std::alloc::Global;
+
+/// A request that is answered adds one turn to the history, of its own bytes, or of a TMPFILE those of the CREATE; by a row it
+/// adds none.
+fn what_a_request_adds()
+    ensures ordinary { (request : List ℕ) (added : List (Moment State)) → AreAdded Ordinary request added →
+        map (λ t. t.request) (turns_in added) ≡ request ∷ [] }
+    ensures unnamed { (request : List ℕ) (added : List (Moment State)) → AreAdded Unnamed request added →
+        map (λ t. t.request) (turns_in added) ≡ as_create request ∷ [] }
+    ensures short { (request : List ℕ) (added : List (Moment State)) → AreAdded Short request added →
+        turns_in added ≡ [] }
+    ensures row { (request : List ℕ) (told : CallData) (added : List (Moment State)) →
+        AreAdded (Row told) request added → turns_in added ≡ [] }
+{}
+
+/// A request that is not handed on has no reply, and leaves no bytes; one that is refused for its length is past the
+/// largest count.
+fn what_is_not_handed_on()
+    ensures silent { (old new : ServerState State) (request : List ℕ) (number : ℤ) (len shown : ℕ) →
+        Refused old request number len shown new → (len ≡ 0) × (shown ≡ 0) }
+    ensures long { (old new : ServerState State) (request : List ℕ) (len shown : ℕ) →
+        Refused old request too_long len shown new → 2 ^ 64 ≤ length request }
+{}
 
 /// Makes a server, and has it handle two messages, each after it was told the time. If both are
 /// answered, the server's history is these moments, of a row none, and the books of its turns are kept.

@@ -1,14 +1,16 @@
 //! What a tree is made of, at work: the bytes of a file, nodes, the numbers that are held, and values.
 
-ghost use Rattle.std.specs.Prelude.{◌≡◌, ◌≤◌, ◌<◌, ◌+◌, ◌*◌, pos, ℕ, Bool, true, false, List, length, Option, Some, None, Err, IfErr, IfOk, IsOk, OnOk};
+ghost use Rattle.std.specs.Prelude.{◌≡◌, ◌≤◌, ◌<◌, ◌+◌, ◌*◌, pos, ℕ, Bool, true, false, List, length, vec_capacity, Option, Some, None, Ok, Err, IfErr, IfOk, IsOk, OnOk, Vec};
 ghost use Rattle.std.specs.BTreeMap.{insert_entry, is_at, Updates};
 ghost use Rattle.std.specs.Map.{remove_entry};
 ghost use Rattle.std.specs.Ordering.{nat_cmp};
+ghost use Rattle.std.specs.declared.alloc.Global.{Global as GlobalValue};
 ghost use Rattle.fs_trait.specs.Bytes.{fitting};
 ghost use Rattle.fs_trait.specs.Calls.{Failed, Handed, Plain};
 ghost use Rattle.fs_trait.specs.Values.{Item, name_text};
 ghost use Rattle.fs_contents.specs.Contents.{lacking, pages_over};
-ghost use Rattle.fs_contents.specs.Pages.{reach};
+ghost use Rattle.fs_contents.specs.Pages.{IsPage, Pages, reach};
+ghost use Rattle.fs_contents.specs.Reading.{ReadsSome};
 ghost use Rattle.fs_nodes.specs.Flags.{ioctl_refusal};
 ghost use Rattle.fs_nodes.specs.Held.{may_hold};
 ghost use Rattle.fs_nodes.specs.Statx.{statx_of};
@@ -62,6 +64,13 @@ fn hole_of_two_bytes(contents: &mut Contents, alloc: Global) -> Result<(), Fault
 {
     contents.fallocate(alloc, 3, 0, 2)
 }
+
+/// A read of pages moves a byte at least where there is room; and a page has no more bytes than it has room for.
+fn reads_of_pages()
+    ensures some { (old new : Pages) (offset room : ℕ) (moved : List ℕ) → 0 < room →
+        ReadsSome old offset room (Ok 0) moved new → ⊥ }
+    ensures page { (page : Vec ℕ GlobalValue) → IsPage page → length page.items ≤ vec_capacity page }
+{}
 
 /// A write into a node fails for want of memory alone, where one of its pages is not held.
 fn writes_that_fail()

@@ -1,6 +1,6 @@
 //! What small file systems answer, at work: one that keeps files in memory, and a tree that is only read.
 
-ghost use Rattle.std.specs.Prelude.{◌≡◌, ◌<◌, ◌≤◌, ℕ, Bool, List, [], ◌∷◌, length, codes, Option, Some, None, IfSome};
+ghost use Rattle.std.specs.Prelude.{◌≡◌, ◌<◌, ◌≤◌, ◌+◌, ℕ, Bool, List, [], ◌∷◌, length, codes, Option, Some, None, Ok, Err, IfSome};
 ghost use Rattle.std.specs.Duration.{as_nanos};
 ghost use Rattle.std.specs.declared.time.Duration.{Duration};
 ghost use Rattle.fuse_wire.specs.declared.attributes.Attr.{Attr};
@@ -8,6 +8,7 @@ ghost use Rattle.fs_trait.specs.Calls.{Answer, Attributes, Create, Created, Done
 ghost use Rattle.fs_trait.specs.Values.{ExtensionValues, Item};
 ghost use Rattle.fs_trait.specs.declared.entry.Context.{Context};
 ghost use Rattle.fs_trait.specs.declared.entry.Entry.{Entry};
+ghost use Rattle.fs_small.specs.Index.{AddsWith};
 ghost use Rattle.fs_small.specs.MemFs.{MemFsAllows, Stock};
 ghost use Rattle.fs_small.specs.ReadOnly.{TreeHands, item_at};
 ghost use Rattle.fs_small.specs.Tables.{Named, Tables};
@@ -76,6 +77,16 @@ fn a_file_is_made()
         (Create ctx 1 (codes "b") mode kill_priv flags umask ext)
         (Plain Done)
         new → ⊥ }
+{}
+
+/// A file that is added with its bytes has the next number, and the number after it is next; where there is no memory for
+/// it, ENOMEM, the files stay.
+fn a_file_is_added()
+    ensures added { (name contents : List ℕ) (entry : Entry) (old new : Stock) →
+        AddsWith old name contents (Ok entry) new →
+        (entry.inode ≡ old.next) × (new.next ≡ old.next + 1) }
+    ensures no_memory { (name contents : List ℕ) (fault : Option ℕ) (old new : Stock) →
+        AddsWith old name contents (Err fault) new → (fault ≡ Some 12) × (new ≡ old) }
 {}
 
 /// Bytes that are written over others take their place. What would make a file longer may lack memory, ENOMEM, and then

@@ -8,6 +8,7 @@ alone t = record { init = λ offered want init. refl; destroy = λ answer destro
 
 pub returns : goal.returns
 returns c = λ limits a b s t x y first under then.
-    c.turns_in_flight_are_in_order.ensures limits a.options
+    let in_order = c.turns_in_flight_are_in_order.ensures limits a.options
     (Began a ∷ Completed a s x ∷ Began b ∷ Completed b t y ∷ [])
-    (refl, ([], [], refl, first, alone s, (under, ([], [], refl, then, alone t, tt))))
+    (refl, ([], [], refl, first, alone s, (under, ([], [], refl, then, alone t, tt)))) in
+    (in_order.0, in_order.1)

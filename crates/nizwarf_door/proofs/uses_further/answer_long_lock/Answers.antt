@@ -26,3 +26,6 @@ returns-clause-promise c code is =
 
 pub returns-clause-stays : goal.returns-clause-stays
 returns-clause-stays c asks = c.nizwarf_answer_offered_at.ensures.stays 4096 asks
+
+pub returns-clause-keeps : goal.returns-clause-keeps
+returns-clause-keeps c has = c.nizwarf_answer_offered_at.ensures.keeps 4096 has

@@ -44,3 +44,12 @@ returns-clause-plain c is_lookup code =
 
 pub returns-clause-stays : goal.returns-clause-stays
 returns-clause-stays c asks = c.nizwarf_ask_offered_at.ensures.stays 4096 asks
+
+pub returns-clause-memory : goal.returns-clause-memory
+unfolding number
+returns-clause-memory c is_getlk few has lacks =
+    let enough = rw is_getlk at c.nizwarf_ask_offered_at.ensures.memory in
+    enough has few (λ more. more) (search (rules, lacks))
+
+pub returns-clause-keeps : goal.returns-clause-keeps
+returns-clause-keeps c has = c.nizwarf_ask_offered_at.ensures.keeps 4096 has
