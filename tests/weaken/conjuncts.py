@@ -11,6 +11,8 @@ OPENS, CLOSES = "([{", ")]}"
 SIGNS = re.compile(r"[≡≢≤<⊥¬∈↔]|→")
 # Heads of the logic's own words that make a fact of what follows them.
 WORDS = re.compile(r"(If|On|All|Any|Is|Are|Has|Match|Every|Some|No)[A-Z]\w*$")
+# What is the type of a value, and says nothing.
+TYPES = re.compile(r"(List|Option|Result) |\w+\.State$")
 
 
 class Conjunct(NamedTuple):
@@ -21,6 +23,8 @@ class Conjunct(NamedTuple):
     start: int
     end: int
     text: str
+    # how many arguments its definition's type wants and its equation doesn't name, where it is all of that
+    lacks: int = 0
 
     def name(self):
         """How it is told, on one line."""
@@ -183,16 +187,36 @@ def of_record(file, name, text, start, end, known):
                 yield Conjunct(file, f"{name}.{field[1]}", *place, text[slice(*place)])
 
 
-def of_equations(file, name, text, start, end):
-    """The conjuncts of a definition by equations, each of which begins with its name."""
+def count_of_arguments(text, start, end):
+    """How many arguments a type has that are given by place."""
+    count = 0
+    for at, stop in split_at(text, start, end, "→")[:-1]:
+        if not is_binder(text, at, stop):
+            count += 1
+            continue
+        at, stop = trimmed(text, at, stop)
+        while at < stop:
+            close = end_of(text, at, stop)
+            count += len(re.match(r".\s*([^:]*)", text[at:close])[1].split()) if text[at] == "(" else 0
+            at, _ = trimmed(text, close, stop)
+    return count
+
+
+def of_equations(file, name, text, start, end, wanted=0):
+    """The conjuncts of a definition by equations, each of which begins with its name, where its type wants that many
+    arguments."""
     equations = [*re.finditer(rf"^( *){re.escape(name)}\b", text[start:end], re.M)]
     for i, equation in enumerate(equations):
         last = start + equations[i + 1].start() if i + 1 < len(equations) else end
         parts = split_at(text, start + equation.end(), last, "=")
         if len(parts) < 2:
             continue
+        given = [it for it in arguments(text, *parts[0]) if text[it[0]] != "{"]
+        whole = trimmed(text, parts[1][0], last)
+        if not wanted and TYPES.match(text[slice(*whole)]):
+            continue
         for place in facts_in(text, parts[1][0], last):
-            yield Conjunct(file, name, *place, text[slice(*place)])
+            yield Conjunct(file, name, *place, text[slice(*place)], wanted - len(given) if place == whole else 0)
 
 
 def end_of_head(text, head, most):
@@ -219,7 +243,9 @@ def of_specs(file, whole, known):
         elif head[2] in known:
             type_ = re.search(rf"pub {re.escape(head[2])} :.*?(?=^ *{re.escape(head[2])}\b)", body, re.M | re.S)
             if type_:
-                yield from of_equations(file, head[2], text, head.start() + type_.end(), end)
+                colon = head.start() + type_.start() + type_[0].index(":") + 1
+                wanted = count_of_arguments(text, colon, head.start() + type_.end())
+                yield from of_equations(file, head[2], text, head.start() + type_.end(), end, wanted)
 
 
 def of_source(file, whole):

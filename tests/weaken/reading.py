@@ -16,6 +16,8 @@ from values import ENDS, Lost, Machine, Thunk
 OPENING = ("mathlib.Core.Path.", "Prim.J", "Prim.coerced", "Prim.absurd")
 SUBSTITUTION = {"mathlib.Core.Path.subst": False, "mathlib.Core.Path.subst⁻¹": True}
 MOST_STEPS = 30_000
+# How deep parts of types are compared.
+MOST_DEPTH = 6
 # What crates that are read one after the other have in common.
 SHARED = {}
 
@@ -52,8 +54,8 @@ class Reader:
                 self.note(state)
         return value
 
-    def handed(self, given, wanted):
-        """A value of the first type is handed to what wants the second."""
+    def handed(self, given, wanted, depth=MOST_DEPTH):
+        """A value of the first type is handed to what wants the second, and so are its parts."""
         if given is None or wanted is None or self.value(given) is None or self.value(wanted) is None:
             return
         if not given.trail or not wanted.trail:
@@ -66,6 +68,36 @@ class Reader:
         for state in given.trail:
             if state not in states:
                 self.note(state)
+        if depth and given.trail[-1] != wanted.trail[-1]:
+            self.handed_parts(given, wanted, depth - 1)
+
+    def handed_parts(self, given, wanted, depth):
+        """The same of the fields of two products, of what two functions take and give, and of each case of two choices."""
+        one, other, variable = given.value, wanted.value, self.machine.variable()
+        if one[0] == other[0] == "fields":
+            labels = [word for word, _ in one[2]]
+            for label in labels if labels == [word for word, _ in other[2]] else ():
+                self.handed(self.field(given, variable, label), self.field(wanted, variable, label), depth)
+        elif one[0] == other[0] == "function":
+            self.handed(Thunk(other[1], other[2], other[4]), Thunk(one[1], one[2], one[4]), depth)
+            self.handed(Thunk(one[1], one[3], (variable, None, one[4])), Thunk(other[1], other[3], (variable, None, other[4])), depth)
+        elif one[0] == other[0] == "stuck" and one[1] == other[1] and one[1][0] == "cases" and len(one[2]) == len(other[2]):
+            for a, b in zip(one[2], other[2]):
+                self.handed_case(a, b, depth)
+
+    def handed_case(self, given, wanted, depth):
+        """The same of what two functions make of the same values."""
+        for _ in range(MOST_DEPTH):
+            if isinstance(given, str) or isinstance(wanted, str):
+                return
+            one, other = self.value(given), self.value(wanted)
+            if one is None or other is None or one[0] != "lambda" or other[0] != "lambda":
+                break
+            variable = self.machine.variable()
+            given, wanted = Thunk(one[1], one[2], (variable, None, one[3])), Thunk(other[1], other[2], (variable, None, other[3]))
+        else:
+            return
+        self.handed(given, wanted, depth)
 
     # Types.
 

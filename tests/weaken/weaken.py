@@ -112,9 +112,10 @@ def is_kept(name, kept):
     return os.path.isdir(folder) and max(whens) <= max(os.path.getmtime(f"{path}/{it}") for path, _, all_ in os.walk(folder) for it in all_)
 
 
-def equation(tag):
-    """What always holds, and names its conjunct."""
-    return f"(◌≡◌ {{A = ℕ}} {tag} {tag})"
+def equation(tag, lacks=0):
+    """What always holds, and names its conjunct, of that many arguments."""
+    holds = f"(◌≡◌ {{A = ℕ}} {tag} {tag})"
+    return f"(λ {'_ ' * lacks}. {holds})".replace(" .", ".") if lacks > 0 else holds
 
 
 def its_proof(tag):
@@ -307,7 +308,7 @@ class Round:
         for tag in tags if self.at == self.name else ():
             it = self.found[tag]
             text = texts.setdefault(it.file, Text(read(f"{HERE}/crates/{self.name}/{it.file}")))
-            text.put(it.start, it.end, equation(tag) + "\n" * it.text.count("\n"))
+            text.put(it.start, it.end, equation(tag, it.lacks) + "\n" * it.text.count("\n"))
         for path in texts:
             needs = [it for it in ("ℕ", "◌≡◌") if not re.search(rf"^(?:ghost )?use Rattle\.std\.specs\.Prelude\.\{{[^}}]*(?<![\w◌]){it}(?![\w◌])", texts[path].was, re.M)]
             if needs:
