@@ -28,7 +28,7 @@ class Reader:
     def __init__(self, library, places):
         self.library, self.machine, self.places = library, Machine(library), places
         self.used, self.unknown, self.unread = {}, 0, 0
-        self.machine.type_of_path = self.known_type
+        self.machine.type_of_path, self.machine.marked = self.known_type, places
 
     # What is used.
 

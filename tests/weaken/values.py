@@ -27,6 +27,8 @@ class Machine:
 
     def __init__(self, library):
         self.library, self.steps, self.fresh, self.type_of_path = library, 0, 0, None
+        # (terms that count on the way also before they are given all that they want)
+        self.marked = ()
 
     def variable(self):
         self.fresh += 1
@@ -108,7 +110,7 @@ class Machine:
             self.steps -= 1
             if self.steps < 0:
                 raise Lost
-            if not stack:
+            if not stack or (item.name, node) in self.marked:
                 trail.append((item.name, node))
             it = item.nodes[node]
             tag = it[0]
