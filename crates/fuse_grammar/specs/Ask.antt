@@ -1,5 +1,5 @@
--- What a request asks, by its bytes alone: the table of the protocol, `form_of`, which leads to `ask`, the
--- last definition. `call` is Calls, and the opcodes have their names in `fuse.h`.
+-- What a request asks, by its bytes, the limits, the options and the room's length: the table of the protocol,
+-- `form_of`, which leads to `ask`, the last definition. `call` is Calls, and the opcodes have their names in `fuse.h`.
 use Rattle.std.specs.Prelude.{ℕ, [], ◌∷◌, slice_index, ◌+◌, ◌*◌, ◌||◌, true, false, bit_and, bit_or, Bool, List, drop, nat_lt, if◌then◌else◌, Option, Some, None}
 use Rattle.fuse_flags.specs.Numbers.{enosys, opcode_of}
 use Rattle.fuse_flags.specs.Flags.{known_setattr_valid, known_setxattr_flags, setxattr_ext, has_flag}

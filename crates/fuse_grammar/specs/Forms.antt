@@ -97,7 +97,8 @@ space_after_header room_len =
     if nat_lt room_len (size_of out_header) then Err EncodeMessage
     else Ok (room_len - size_of out_header)
 
--- What INIT of this version asks: an older one is answered EPROTO, and a newer major one is told ours.
+-- What INIT of this version asks: an older one is answered EPROTO, if its record has these 16 bytes, and a newer major
+-- one is told ours.
 -- The second word of flags is in a record of its own, where INIT_EXT in the first says that there is one, and
 -- else 0. The options offered are those bits of both words that are known.
 abbrev pub ask_init : InHeader → InitInCompat → (following : List ℕ) → Ask

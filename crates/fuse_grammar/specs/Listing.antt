@@ -166,7 +166,7 @@ verdict max space (Ok entry) i =
 -- ---- the whole
 
 -- these lines are written after that many bytes of records: no stop applies to any of them, and
--- each has what its item gets, within its widths
+-- each has what its item gets, an entry within its widths
 abbrev pub AreWritten : (plus : Bool) (size space written : ℕ) → List Line → Type 0
 AreWritten plus size space written [] = ⊤
 AreWritten plus size space written (l ∷ ls) =

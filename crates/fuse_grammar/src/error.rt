@@ -17,7 +17,7 @@ pub enum Error {
     /// A writer could not be flushed. It is never answered: flushing never fails.
     #[error("the reply could not be flushed")]
     FlushMessage,
-    /// A name or another part of a tail is missing.
+    /// A name or a text that another part may follow is missing.
     #[error("the request lacks a name or another part")]
     MissingParameter,
     /// A name does not end with a nul, or has one before its end.

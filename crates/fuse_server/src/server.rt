@@ -165,8 +165,8 @@ impl<F: FileSystem> Server<F> {
     ///
     /// `DecodeMessage` where the header, a record, a tail or a list is not whole,
     /// `InvalidHeaderLength` where `len` is less than what is before a tail, or an extension is
-    /// smaller than its header, `MissingParameter` where a name or a text isn't there or, before
-    /// another part, has no end, `InvalidXattrSize` where the value of an extended attribute is not
+    /// smaller than its header, `MissingParameter` where a name or a text that another part may follow
+    /// isn't there or, but before extensions, has no end, `InvalidXattrSize` where the value of an extended attribute is not
     /// as long as its record says, the errors of [`get_extensions`](fuse_messages::get_extensions),
     /// `InvalidCString` where a last name or text has no end or another byte after it,
     /// `OutOfMemory` where there is no memory for a list that is whole, a tail that is whole and

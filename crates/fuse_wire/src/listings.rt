@@ -65,7 +65,7 @@ impl ByteValued for Dirent {
 /// name follows without a 0, then zeros up to a multiple of 8 bytes.
 #[derive(Clone, Copy, Debug, Default)]
 pub struct Direntplus {
-    /// The entry of the item's node; all zeros count no lookup.
+    /// The entry of the item's node. One of node 0 counts no lookup.
     pub entry_out: EntryOut,
     /// The item.
     pub dirent: Dirent,

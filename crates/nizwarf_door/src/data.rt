@@ -47,7 +47,8 @@ impl SessionData {
     }
 }
 
-/// What came of a request (`nizwarf_told`).
+/// What came of a request (`nizwarf_told`). An ask tells `len`, `put` and `interrupts`, an answer all
+/// but `interrupts`: what isn't told stays.
 #[repr(C)]
 #[derive(Clone, Copy)]
 pub struct ToldData {
