@@ -29,41 +29,13 @@ static ERRORS: [(i32, &str); 20] = [
     (95, "EOPNOTSUPP (95)"),
 ];
 
-/// The errors that have a name, in the order of their numbers.
-fn named() -> [Errno; 20] {
-    [
-        Errno::EPERM,
-        Errno::ENOENT,
-        Errno::EIO,
-        Errno::EBADF,
-        Errno::ENOMEM,
-        Errno::EACCES,
-        Errno::EEXIST,
-        Errno::EXDEV,
-        Errno::ENOTDIR,
-        Errno::EISDIR,
-        Errno::EINVAL,
-        Errno::ENOSPC,
-        Errno::EROFS,
-        Errno::ERANGE,
-        Errno::ENOSYS,
-        Errno::ENOTEMPTY,
-        Errno::ENODATA,
-        Errno::EPROTO,
-        Errno::EOVERFLOW,
-        Errno::EOPNOTSUPP,
-    ]
-}
-
-/// Whether this is the error of this number.
-fn is_error(e: Errno, n: i32) -> bool {
-    e.get() == n && Errno::new(n) == Some(e)
-}
-
-/// The first number that is another error's, or whose error is shown otherwise.
+/// The first number that is no error's, or whose error is shown otherwise.
 fn wrong_error(alloc: Global) -> Result<Option<i32>, AllocError> {
-    for (e, (n, text)) in named().iter().zip(&ERRORS) {
-        if !is_error(*e, *n) || !has_text(alloc, e, text)? {
+    for (n, text) in &ERRORS {
+        let Some(e) = Errno::new(*n) else {
+            return Ok(Some(*n));
+        };
+        if !has_text(alloc, &e, text)? {
             return Ok(Some(*n));
         }
     }

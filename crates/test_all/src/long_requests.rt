@@ -72,7 +72,7 @@ fn makes_its_call(
     Ok(answered && uncut == cut && uncut.starts_with(call.as_bytes()))
 }
 
-/// So many bytes, each one more than that before it, from 0 on and again after 255.
+/// `count` bytes, each one more than that before it, from 0 on and again after 255.
 fn rising(alloc: Global, count: u32) -> Result<Vec<u8>, AllocError> {
     let mut bytes = Vec::new(alloc);
     let mut byte = 0u8;

@@ -14,7 +14,7 @@ fn number(at: usize) -> u8 {
     (at % 255) as u8 + 1
 }
 
-/// So many bytes, each with its number.
+/// `n` bytes, each with its number.
 fn numbers(alloc: Global, n: usize) -> Result<Vec<u8>, AllocError> {
     let mut bytes = vec![in alloc; 0u8; n]?;
     for (at, b) in bytes.iter_mut().enumerate() {
