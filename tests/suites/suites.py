@@ -509,7 +509,7 @@ def two_mounts(run):
 
 def git(run):
     """What git does with this repository's history, or with one that is made if there are too few commits."""
-    source = HERE.parent.parent.parent
+    source = HERE.parent.parent
     status, _ = run.call(["git", "-c", "safe.directory=*", "-C", source, "rev-parse", "HEAD~5"], said=False)
     run.env |= {f"GIT_{who}_{what}": "suites" for who in ("AUTHOR", "COMMITTER") for what in ("NAME", "EMAIL")}
     run.env |= {"GIT_CONFIG_COUNT": "2", "GIT_CONFIG_KEY_0": "safe.directory", "GIT_CONFIG_VALUE_0": "*",
