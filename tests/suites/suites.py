@@ -62,7 +62,9 @@ class Run:
         path = ":".join([*programs, os.environ["PATH"], "/usr/sbin", "/sbin"])
         self.env = dict(os.environ, LC_ALL="C", TMPDIR=str(self.folder), HOME=str(self.folder), PATH=path)
         # (for what was unpacked, and is not where it would be installed)
-        self.env["LD_LIBRARY_PATH"] = f"{root}/usr/lib/x86_64-linux-gnu:{root}/lib/x86_64-linux-gnu"
+        libraries = f"{root}/usr/lib/x86_64-linux-gnu"
+        # (librados, which fio links, looks for its own where it would be installed)
+        self.env["LD_LIBRARY_PATH"] = f"{libraries}:{root}/lib/x86_64-linux-gnu:{libraries}/ceph"
 
     def call(self, words, seconds=600, said=True, **more):
         """The status and what it said of a command, or of a line of the shell. Who is late is ended."""
