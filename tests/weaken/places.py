@@ -74,7 +74,8 @@ class Places:
             last = start + heads[i + 1].start() if i + 1 < len(heads) else end
             parts = conjuncts.split_at(text, start + it.end(), last, "=")
             if len(parts) > 1:
-                all_.append((re.findall(r"(?<![\w'.-])(?:[\w-]+\.)?[A-Z][\w'-]*|\[\]|∷|(?<![\w'.-])(?:true|false|zero|suc)(?![\w'-])", text[slice(*parts[0])]), (parts[1][0], last)))
+                patterns = re.sub(r"\{[^{}]*\}", "", text[slice(*parts[0])])
+                all_.append((re.findall(r"(?<![\w'.-])(?:[\w-]+\.)?[A-Z][\w'-]*|\[\]|∷|(?<![\w'.-])(?:true|false|zero|suc)(?![\w'-])", patterns), (parts[1][0], last)))
         if not all_:
             return
         leaves = [*self.leaves(item, item.roots[1], ())]
@@ -82,18 +83,20 @@ class Places:
             self.pair(file, *all_[0][1], item, leaves[0][1])
             return
         for path, node in leaves:
+            # (the one that names most of the constructors on the way, and in their order)
+            fits = []
             for wanted, body in all_:
-                left, fits = list(path), True
+                left, ordered = list(path), iter(path)
+                wanted = [one.split(".")[-1] for one in wanted]
+                in_order = all(one in ordered for one in wanted)
                 for one in wanted:
-                    one = one.split(".")[-1]
-                    if one in left:
-                        left.remove(one)
-                    else:
-                        fits = False
+                    if one not in left:
                         break
-                if fits:
-                    self.pair(file, *body, item, node)
-                    break
+                    left.remove(one)
+                else:
+                    fits.append((len(wanted), in_order, body))
+            if fits:
+                self.pair(file, *max(fits, key=lambda it: it[:2])[2], item, node)
 
     def leaves(self, item, node, path, depth=60):
         """The bodies of a definition by equations, with the constructors on the way to each."""

@@ -15,6 +15,7 @@ from values import ENDS, Lost, Machine, Thunk
 # What opens the types of its arguments, and is kept in no form that is read here.
 OPENING = ("mathlib.Core.Path.", "Prim.J", "Prim.coerced", "Prim.absurd")
 SUBSTITUTION = {"mathlib.Core.Path.subst": False, "mathlib.Core.Path.subst⁻¹": True}
+EITHER = "mathlib.Core.Logic.◌⊎◌"
 MOST_STEPS = 30_000
 # How deep parts of types are compared.
 MOST_DEPTH = 6
@@ -51,28 +52,74 @@ class Reader:
         value = self.value(thunk)
         if value is not None:
             for state in thunk.trail:
-                self.note(state)
+                if not isinstance(state, Thunk):
+                    self.note(state)
+            for it in self.before(thunk):
+                self.taken(it)
         return value
+
+    def carried(self, type_, before):
+        """A type that a value was carried to, with the one that it had before."""
+        def make():
+            value = self.machine.value(type_)
+            return value, [*type_.trail, before]
+        return Thunk(make=make) if before is not None else type_
+
+    def before(self, thunk):
+        """The types that a value of this type had before it was carried to it."""
+        value = self.value(thunk)
+        return self.before_of_shape(thunk, shape_of(value)) if value is not None else []
+
+    def before_of_shape(self, thunk, shape):
+        found = []
+        for it in thunk.trail:
+            if isinstance(it, Thunk):
+                all_ = self.of_shape(it, shape)
+                found += all_ if all_ == [it] else [*all_, *self.before_of_shape(it, shape)]
+        return found
+
+    def of_shape(self, type_, shape, depth=MOST_DEPTH):
+        """A type, or of a choice that is made later what it comes to in the one case of this shape."""
+        value = self.value(type_)
+        if value is None or shape_of(value) == shape:
+            return [type_] if value is not None else []
+        data = self.machine.data(value[1][1]) if value[0] == "stuck" and value[1][0] == "cases" else None
+        count = data[0] + len(data[1]) + 2 if data else 0
+        if not count or not depth or len(value[2]) < count or any(isinstance(it, str) for it in value[2][:count]):
+            return []
+        found = []
+        for (_, args), method in zip(data[1], value[2][data[0] + 1 :]):
+            given = [self.machine.variable() for _ in [*args, *[it for it in args if it is None]]]
+            found += self.of_shape(self.machine.applied(method, [*given, *value[2][count:]]), shape, depth - 1)
+        for it in found if len(found) == 1 else ():
+            for state in type_.trail:
+                if state not in it.trail:
+                    it.trail.append(state)
+        return found if len(found) == 1 else []
 
     def handed(self, given, wanted, depth=MOST_DEPTH):
         """A value of the first type is handed to what wants the second, and so are its parts."""
         if given is None or wanted is None or self.value(given) is None or self.value(wanted) is None:
             return
-        if not given.trail or not wanted.trail:
+        has, wants = [[it for it in one.trail if not isinstance(it, Thunk)] for one in (given, wanted)]
+        if not has or not wants:
             return
-        first = wanted.trail[0]
+        first = wants[0]
         # (any type will do)
-        if self.library.item(first[0]).nodes[first[1]][0] == VAR:
+        if self.library.item(first[0]).nodes[first[1]][0] == VAR and not (len(wants) == 1 and wanted.value[0] == "stuck" and wanted.value[1][0] == "variable"):
             return
-        states = set(wanted.trail)
-        for state in given.trail:
-            if state not in states:
+        for state in has:
+            if state not in wants:
                 self.note(state)
-        if depth and given.trail[-1] != wanted.trail[-1]:
+        # (a choice of the same definition may be between other types)
+        if depth and (has[-1] != wants[-1] or (given.value[0] == "stuck" and given.value[1][0] == "cases")):
             self.handed_parts(given, wanted, depth - 1)
+        for it in self.before(given) if depth else ():
+            self.handed(it, wanted, depth - 1)
 
     def handed_parts(self, given, wanted, depth):
-        """The same of the fields of two products, of what two functions take and give, and of each case of two choices."""
+        """The same of the fields of two products, of what two functions take and give, of each case of two choices, and of
+        both sides of two sums."""
         one, other, variable = given.value, wanted.value, self.machine.variable()
         if one[0] == other[0] == "fields":
             labels = [word for word, _ in one[2]]
@@ -84,6 +131,9 @@ class Reader:
         elif one[0] == other[0] == "stuck" and one[1] == other[1] and one[1][0] == "cases" and len(one[2]) == len(other[2]):
             for a, b in zip(one[2], other[2]):
                 self.handed_case(a, b, depth)
+        elif one[0] == other[0] == "stuck" and one[1] == other[1] == ("type", EITHER) and len(one[2]) == len(other[2]):
+            for a, b in zip(one[2], other[2]):
+                self.handed(a, b, depth)
 
     def handed_case(self, given, wanted, depth):
         """The same of what two functions make of the same values."""
@@ -112,6 +162,12 @@ class Reader:
 
     def field(self, thunk, whole, label):
         """The type of a field of a value of this type."""
+        found = self.own_field(thunk, whole, label)
+        for it in self.before(thunk) if found else ():
+            found = self.carried(found, self.field(it, whole, label))
+        return found
+
+    def own_field(self, thunk, whole, label):
         value = self.value(thunk)
         if value is None:
             return None
@@ -171,15 +227,19 @@ class Reader:
                 got = self.infer(item, one, env)
                 type_ = got if label == nodes[steps[0][0]][2] else type_
             return self.through(item, type_, steps[1:])
+        if tag == ALONG:
+            return self.through(item, self.type_along(item, it, env), steps)
         self.walk(item, base, env)
-        return self.through(item, self.type_along(item, it, env) if tag == ALONG else None, steps)
+        return self.through(item, None, steps)
 
     def type_along(self, item, it, env):
         """The type of what is carried along a path of types to its end, or None."""
         line, end = item.nodes[it[3]], item.nodes[it[2]][0]
+        self.of_path(item, it[3], env)
+        before = self.of_path(item, it[4], env)
         if line[0] != 27 or end not in (17, 18):
             return None
-        return Thunk(item, line[2], (Thunk(value=ENDS[end - 17]), None, env))
+        return self.carried(Thunk(item, line[2], (Thunk(value=ENDS[end - 17]), None, env)), before)
 
     def known_type(self, item, node, env):
         """A type, with nothing noted."""
@@ -195,16 +255,34 @@ class Reader:
             one = item.nodes[step]
             if one[0] == PROJECTION:
                 self.taken(type_) if type_ else None
-                type_ = self.field(type_, Thunk(item, one[1], env), one[2]) if type_ else None
+                type_ = self.field(self.opened(type_), Thunk(item, one[1], env), one[2]) if type_ else None
                 continue
             value = self.taken(type_) if type_ else None
             if value is not None and value[0] == "function":
                 self.check(item, one[2], env, Thunk(value[1], value[2], value[4]))
-                type_ = Thunk(value[1], value[3], (Thunk(item, one[2], env), None, value[4]))
+                type_ = self.given(type_, Thunk(item, one[2], env))
             else:
                 self.infer(item, one[2], env)
                 type_ = None
         return type_
+
+    def opened(self, type_):
+        """A type by a definition that is opened only where a proof says so, once it is."""
+        value = self.value(type_)
+        item = self.library.item(f"{value[1][1]}.where.unfolding") if value is not None and value[0] == "stuck" and value[1][0] == "name" else None
+        if item is None or item.kind != 0:
+            return type_
+        found = self.machine.applied(Thunk(item, item.roots[1], None), list(value[2]))
+        return found if self.taken(found) is not None else type_
+
+    def given(self, function, argument):
+        """The type of what a function of this type gives of an argument."""
+        value = self.value(function)
+        found = Thunk(value[1], value[3], (argument, None, value[4]))
+        for it in self.before(function):
+            one = self.value(it)
+            found = self.carried(found, self.given(it, argument) if one is not None and one[0] == "function" else None)
+        return found
 
     def infer_named(self, item, word, steps, env):
         """A definition that is given these."""
@@ -223,8 +301,17 @@ class Reader:
         """`subst P p u`, of x ≡ y: from `P x` to `P y`, or back."""
         family, x, y = (Thunk(item, given[i], env) for i in (1, 2, 3))
         self.of_path(item, given[4], env)
-        self.check(item, given[5], env, self.machine.applied(family, [y if is_back else x]))
-        return self.machine.applied(family, [x if is_back else y])
+        before = self.checked(item, given[5], env, self.machine.applied(family, [y if is_back else x]))
+        return self.carried(self.machine.applied(family, [x if is_back else y]), before)
+
+    def checked(self, item, node, env, wanted):
+        """Goes through a term that is to be of a type. Gives the type that it has of its own, if it is inferred."""
+        if item.nodes[node][0] not in (VAR, APP, PROJECTION, DEF, ALONG):
+            self.check(item, node, env, wanted)
+            return None
+        found = self.infer(item, node, env, (), wanted)
+        self.handed(found, wanted)
+        return found
 
     def bound(self, item, it, env):
         type_ = Thunk(item, it[2], env)
@@ -259,10 +346,19 @@ class Reader:
         else:
             scrutinee = self.infer(item, *given[-1])
         of = self.taken(scrutinee) if scrutinee else None
-        parameters = list(of[2]) if of and of[0] == "stuck" and of[1] == ("type", name) else thunks[: data[0]]
+        parameters = self.parameters_of(scrutinee, name) if of and of[0] == "stuck" and of[1] == ("type", name) else thunks[: data[0]]
         for (word, args), (method, at) in zip(data[1], given[data[0] + 1 :]):
             self.check_method(item, method, at, (name, word, args, parameters[: data[0]], scrutinee, motive))
         return (None, []) if is_function else (self.machine.applied(motive, [thunks[-1]]), steps[count:])
+
+    def parameters_of(self, type_, name):
+        """What a type of this name is given."""
+        found = list(self.value(type_)[2])
+        for it in self.before(type_):
+            one = self.value(it)
+            if one is not None and one[:2] == ("stuck", ("type", name)) and len(one[2]) == len(found):
+                found = [self.carried(a, b) if isinstance(a, Thunk) and isinstance(b, Thunk) else a for a, b in zip(found, self.parameters_of(it, name))]
+        return found
 
     def check_method(self, item, method, env, case):
         """What is said of one constructor."""
@@ -369,9 +465,6 @@ class Reader:
                 self.infer(item, one, env)
         elif tag == 34:
             self.of_path(item, it[2], env)
-        elif tag == 39:
-            self.of_path(item, it[3], env)
-            self.of_path(item, it[4], env)
         elif tag in (20, 21, 22, 25, 30, 35, 36):
             for one in it[1:]:
                 self.of_path(item, one, env)
@@ -381,6 +474,7 @@ class Reader:
         type_ = self.infer(item, node, env)
         if type_ is not None:
             self.taken(type_)
+        return type_
 
     def read(self, item, where):
         """Reads an item's term."""
@@ -395,6 +489,13 @@ class Reader:
             return
         for it in self.found:
             self.used.setdefault(it, where)
+
+
+def shape_of(value):
+    """What a type's value is of, without what that is given."""
+    if value[0] == "fields":
+        return "fields", *(label for label, _ in value[2])
+    return (*value[:2], len(value[2])) if value[0] == "stuck" else value[0]
 
 
 def of_crate(crate, below, crates, kept, kit):

@@ -13,6 +13,8 @@ PARTS = {
 }
 VAR, DEF, LET, TYPED, SORT, PI, LAM, APP, RECORD_TYPE, RECORD, PROJECTION = 0, 1, 2, 3, 4, 5, 6, 7, 8, 9, 10
 DATA, CONSTRUCTOR, CASES, RECORD_NAMED, AT, ALONG, LITERAL = 11, 12, 13, 15, 34, 39, 48
+# The type of paths whose ends are faces.
+FACE, PATH, EXTENSION, FACES = 20, 31, 32, 38
 TYPES = (SORT, PI, RECORD_TYPE, DATA, RECORD_NAMED)
 SUFFIX = re.compile(r"\.where\.(unfolding|abbrev)$")
 

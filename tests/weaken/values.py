@@ -1,5 +1,5 @@
 """What terms come to, as far as their first sign, with each whole term on the way to it."""
-from terms import APP, AT, CASES, CONSTRUCTOR, DATA, DEF, LAM, LET, LITERAL, PI, PROJECTION, RECORD, RECORD_NAMED, RECORD_TYPE, SORT, TYPED, VAR
+from terms import APP, AT, CASES, CONSTRUCTOR, DATA, DEF, EXTENSION, FACE, FACES, LAM, LET, LITERAL, PATH, PI, PROJECTION, RECORD, RECORD_NAMED, RECORD_TYPE, SORT, TYPED, VAR
 
 ZERO, SUC = "Prim.Native.Nat.zero", "Prim.Native.Nat.suc"
 # The constructors of types that no module declares, with which of their arguments recur.
@@ -45,8 +45,8 @@ class Machine:
     def applied(self, thunk, more):
         """A thunk of a value with these arguments and projections."""
         def make():
-            value, trail, stack = self.value(thunk), [], list(reversed(more))
-            return self.go_on(value, stack, trail if more else list(thunk.trail))
+            value, stack = self.value(thunk), list(reversed(more))
+            return self.go_on(value, stack, [it for it in thunk.trail if not more or it in self.marked])
         return Thunk(make=make)
 
     def go_on(self, value, stack, trail):
@@ -149,7 +149,7 @@ class Machine:
                     return self.go_on(("stuck", ("name", name), ()), stack, trail)
                 item, node, env = target, target.roots[1], None
             else:
-                return self.go_on(self.plain(item, it, env), stack, trail)
+                return self.go_on(self.plain(item, node, env), stack, trail)
 
     def end_of(self, item, it, env):
         """What a path has at one of its ends, or None."""
@@ -158,11 +158,26 @@ class Machine:
             return None
         type_ = self.type_of_path(item, it[2], env)
         value = self.value(type_) if type_ else None
-        if value is None or value[0] != "stuck" or value[1] != ("name", PATHS) or len(value[2]) != 3:
+        if value is None or value[0] != "stuck":
             return None
-        return value[2][1 + ENDS.index(at)]
+        if value[1][0] == "path" and not value[2]:
+            return self.end_of_faces(*value[1][1:], at)
+        return value[2][1 + ENDS.index(at)] if value[1] == ("name", PATHS) and len(value[2]) == 3 else None
 
-    def plain(self, item, it, env):
+    def end_of_faces(self, item, node, env, at):
+        """What a type of paths that is written by its faces has at one of its ends, or None."""
+        within = item.nodes[item.nodes[node][2]]
+        faces = item.nodes[within[2]] if within[0] == EXTENSION else None
+        if faces is None or faces[0] != FACES:
+            return None
+        for face, one in zip(faces[1][::2], faces[1][1::2]):
+            sign = item.nodes[face]
+            if sign[0] == FACE and item.nodes[sign[1]] == [VAR, 0] and item.nodes[sign[2]][0] == at[1][1]:
+                return Thunk(item, one, (Thunk(value=at), None, env))
+        return None
+
+    def plain(self, item, node, env):
+        it = item.nodes[node]
         tag = it[0]
         if tag == LAM:
             return ("lambda", item, it[2], env)
@@ -182,4 +197,6 @@ class Machine:
             return ("stuck", ("cases", item.module.named(it[1])), ())
         if tag == SORT:
             return ("sort",)
+        if tag == PATH:
+            return ("stuck", ("path", item, node, env), ())
         return ("stuck", ("other", tag), ())
