@@ -220,11 +220,6 @@ abbrev pub FitsOption : Option Entry → Type 0
 FitsOption None = Unit {0}
 FitsOption (Some entry) = FitsEntry entry
 
--- an entry, or the fault of its lookup
-abbrev pub IsLookedUp : Got → Type 0
-IsLookedUp (Ok None) = ⊥
-IsLookedUp _ = Unit {0}
-
 -- the entry that `.` and `..` get
 abbrev pub IsDotEntry : Item → Got → Type 0
 IsDotEntry i (Ok (Some entry)) = entry_out_of entry ≡ dot_out i
