@@ -85,7 +85,7 @@ fn read_data(limits: Limits, call: &CallData, said: &AnswerData, w: &mut Writer)
     ensures { (echo : Echo) (ctx : Context) (node handle space size offset flags : ℕ) (owner : Option ℕ) →
         TellsEcho call.now echo →
         TellsCall call.now (Read ctx node handle space size offset owner flags) →
-        MatchOption result ⊥ (λ came. (header : List ℕ)
+        MatchOption result ⊥ (λ came. (header : List ℕ) × (length header ≡ 16)
         × (whole w.new ≡ w.old.passed ++ (header ++ drop 16 w.old.left))) }
 {
     answer(limits, call, said, &[], &[], w)
