@@ -201,6 +201,9 @@ class Places:
                 self.pair(file, start + len(rest[0]), end, item, it[4])
             return
         self.put(file, start, end, item, node)
+        while it[0] == LET:
+            # (what a pattern names)
+            node, it = it[4], item.nodes[it[4]]
         pieces = conjuncts.split_at(text, start, end, "→")
         if len(pieces) > 1:
             for piece in pieces[:-1]:

@@ -468,6 +468,10 @@ class Reader:
         elif tag in (20, 21, 22, 25, 30, 35, 36):
             for one in it[1:]:
                 self.of_path(item, one, env)
+        elif tag == 42:
+            # (paths, one after the other)
+            for one in it[1]:
+                self.of_path(item, one, env)
 
     def of_path(self, item, node, env):
         """An argument of one of the logic's own terms, which opens its type."""

@@ -9,7 +9,7 @@ import re
 PARTS = {
     0: "v", 1: "g", 2: "snnn", 3: "nn", 4: "v", 5: "snn", 6: "sn", 7: "nn", 8: "f", 9: "f", 10: "ns", 11: "g", 12: "g", 13: "g", 15: "g",
     16: "", 17: "", 18: "", 19: "", 20: "nn", 21: "nn", 22: "nn", 23: "", 24: "", 25: "n", 26: "", 27: "sn", 28: "sn", 30: "nn", 31: "sn",
-    32: "nn", 33: "sn", 34: "vnn", 35: "nnn", 36: "n", 38: "r", 39: "nnnn", 48: "l", 49: "v",
+    32: "nn", 33: "sn", 34: "vnn", 35: "nnn", 36: "n", 38: "r", 39: "nnnn", 42: "r", 48: "l", 49: "v",
 }
 VAR, DEF, LET, TYPED, SORT, PI, LAM, APP, RECORD_TYPE, RECORD, PROJECTION = 0, 1, 2, 3, 4, 5, 6, 7, 8, 9, 10
 DATA, CONSTRUCTOR, CASES, RECORD_NAMED, AT, ALONG, LITERAL = 11, 12, 13, 15, 34, 39, 48

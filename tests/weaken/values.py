@@ -49,6 +49,10 @@ class Machine:
             return self.go_on(value, stack, [it for it in thunk.trail if not more or it in self.marked])
         return Thunk(make=make)
 
+    def way(self, thunk, stack):
+        """The terms on the way to a value that is to be given these: what counts alone, where it lacks some."""
+        return [it for it in thunk.trail if it in self.marked] if stack else thunk.trail
+
     def go_on(self, value, stack, trail):
         """A value with what it is given."""
         while stack:
@@ -62,8 +66,7 @@ class Machine:
                 if field is None:
                     raise Lost
                 value = self.value(field)
-                if not stack:
-                    trail.extend(field.trail)
+                trail.extend(self.way(field, stack))
                 continue
             if kind == "stuck":
                 stack.pop()
@@ -74,8 +77,7 @@ class Machine:
                         method, given = chosen
                         stack.extend(reversed(given))
                         value = self.value(method)
-                        if not stack:
-                            trail.extend(method.trail)
+                        trail.extend(self.way(method, stack))
                 continue
             raise Lost
         return value, trail
@@ -125,8 +127,7 @@ class Machine:
                     env = env[2]
                 thunk = env[0]
                 value = self.value(thunk)
-                if not stack:
-                    trail.extend(thunk.trail)
+                trail.extend(self.way(thunk, stack))
                 return self.go_on(value, stack, trail)
             elif tag == LAM and stack and isinstance(stack[-1], Thunk):
                 env, node = (stack.pop(), None, env), it[2]
@@ -139,8 +140,7 @@ class Machine:
                 if end is None:
                     return self.go_on(("stuck", ("other", tag), ()), stack, trail)
                 value = self.value(end)
-                if not stack:
-                    trail.extend(end.trail)
+                trail.extend(self.way(end, stack))
                 return self.go_on(value, stack, trail)
             elif tag == DEF:
                 name = item.module.named(it[1])
