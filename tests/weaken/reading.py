@@ -34,8 +34,9 @@ class Reader:
     # What is used.
 
     def note(self, state):
-        if state in self.places:
-            self.found.update(self.places[state])
+        for it in (state, *self.same.get(state, ())):
+            if it in self.places:
+                self.found.update(self.places[it])
 
     def value(self, thunk):
         if thunk is None:
@@ -113,29 +114,41 @@ class Reader:
                 self.note(state)
         # (a choice of the same definition may be between other types)
         if depth and (has[-1] != wants[-1] or (given.value[0] == "stuck" and given.value[1][0] == "cases")):
-            self.handed_parts(given, wanted, depth - 1)
+            self.parts(self.handed, given, wanted, depth - 1)
         for it in self.before(given) if depth else ():
             self.handed(it, wanted, depth - 1)
 
-    def handed_parts(self, given, wanted, depth):
+    def matched(self, given, written, depth=MOST_DEPTH):
+        """The second type is the first, as the item that is read writes it out: what uses its terms uses those of the first."""
+        if given is None or written is None or self.value(given) is None or self.value(written) is None:
+            return
+        has, says = [[it for it in one.trail if not isinstance(it, Thunk)] for one in (given, written)]
+        states = [it for one in has for it in (one, *self.same.get(one, ())) if it in self.places]
+        for state in says:
+            if states and state[0] == self.name and state not in states:
+                self.same.setdefault(state, set()).update(states)
+        if depth and has and says and has[-1] != says[-1]:
+            self.parts(self.matched, given, written, depth - 1)
+
+    def parts(self, each, given, wanted, depth):
         """The same of the fields of two products, of what two functions take and give, of each case of two choices, and of
         both sides of two sums."""
         one, other, variable = given.value, wanted.value, self.machine.variable()
         if one[0] == other[0] == "fields":
             labels = [word for word, _ in one[2]]
             for label in labels if labels == [word for word, _ in other[2]] else ():
-                self.handed(self.field(given, variable, label), self.field(wanted, variable, label), depth)
+                each(self.field(given, variable, label), self.field(wanted, variable, label), depth)
         elif one[0] == other[0] == "function":
-            self.handed(Thunk(other[1], other[2], other[4]), Thunk(one[1], one[2], one[4]), depth)
-            self.handed(Thunk(one[1], one[3], (variable, None, one[4])), Thunk(other[1], other[3], (variable, None, other[4])), depth)
+            each(Thunk(other[1], other[2], other[4]), Thunk(one[1], one[2], one[4]), depth)
+            each(Thunk(one[1], one[3], (variable, None, one[4])), Thunk(other[1], other[3], (variable, None, other[4])), depth)
         elif one[0] == other[0] == "stuck" and one[1] == other[1] and one[1][0] == "cases" and len(one[2]) == len(other[2]):
             for a, b in zip(one[2], other[2]):
-                self.handed_case(a, b, depth)
+                self.case(each, a, b, depth)
         elif one[0] == other[0] == "stuck" and one[1] == other[1] == ("type", EITHER) and len(one[2]) == len(other[2]):
             for a, b in zip(one[2], other[2]):
-                self.handed(a, b, depth)
+                each(a, b, depth)
 
-    def handed_case(self, given, wanted, depth):
+    def case(self, each, given, wanted, depth):
         """The same of what two functions make of the same values."""
         for _ in range(MOST_DEPTH):
             if isinstance(given, str) or isinstance(wanted, str):
@@ -147,7 +160,7 @@ class Reader:
             given, wanted = Thunk(one[1], one[2], (variable, None, one[3])), Thunk(other[1], other[2], (variable, None, other[3]))
         else:
             return
-        self.handed(given, wanted, depth)
+        each(given, wanted, depth)
 
     # Types.
 
@@ -234,12 +247,17 @@ class Reader:
 
     def type_along(self, item, it, env):
         """The type of what is carried along a path of types to its end, or None."""
-        line, end = item.nodes[it[3]], item.nodes[it[2]][0]
         self.of_path(item, it[3], env)
         before = self.of_path(item, it[4], env)
+        after = self.end_along(item, it, it[2], env)
+        return None if after is None else self.carried(after, before)
+
+    def end_along(self, item, it, end, env):
+        """What a path of types has at one of its ends, or None."""
+        line, end = item.nodes[it[3]], item.nodes[end][0]
         if line[0] != 27 or end not in (17, 18):
             return None
-        return self.carried(Thunk(item, line[2], (Thunk(value=ENDS[end - 17]), None, env)), before)
+        return Thunk(item, line[2], (Thunk(value=ENDS[end - 17]), None, env))
 
     def known_type(self, item, node, env):
         """A type, with nothing noted."""
@@ -465,6 +483,11 @@ class Reader:
                 self.infer(item, one, env)
         elif tag == 34:
             self.of_path(item, it[2], env)
+        elif tag == 39:
+            self.of_path(item, it[3], env)
+            type_ = self.of_path(item, it[4], env)
+            if type_ is not None:
+                self.matched(type_, self.end_along(item, it, it[1], env))
         elif tag in (20, 21, 22, 25, 30, 35, 36):
             for one in it[1:]:
                 self.of_path(item, one, env)
@@ -482,7 +505,7 @@ class Reader:
 
     def read(self, item, where):
         """Reads an item's term."""
-        self.seen, self.kept, self.found = set(), [], set()
+        self.seen, self.kept, self.found, self.same, self.name = set(), [], set(), {}, item.name
         if item.kind != 0:
             return
         try:
