@@ -9,6 +9,7 @@ pub mod laws;
 pub mod offers;
 mod row;
 mod uses;
+mod uses_turns;
 
 pub use answer::{EIO, answer_offered, is_unfit};
 pub use row::{Further, what};
