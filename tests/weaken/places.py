@@ -42,7 +42,7 @@ class Places:
         for i, head in enumerate(heads):
             if not head[2]:
                 continue
-            end = heads[i + 1].start() if i + 1 < len(heads) else len(text)
+            end = conjuncts.end_of_head(text, head, heads[i + 1].start() if i + 1 < len(heads) else len(text))
             name = f"{module}.{head[2]}"
             if "record " in head[1]:
                 item = self.library.item(name)

@@ -23,6 +23,12 @@ MOST_DEPTH = 6
 SHARED = {}
 
 
+def is_other(given, wanted):
+    """Whether parts of two types may differ: not where they are the same term, but for a choice, whose cases may be handed to it."""
+    has, wants = [[it for it in one.trail if not isinstance(it, Thunk)][-1] for one in (given, wanted)]
+    return has != wants or (given.value[0] == "stuck" and given.value is not wanted.value)
+
+
 class Reader:
     """Reads the terms of proofs, and notes what they use."""
 
@@ -112,8 +118,7 @@ class Reader:
         for state in has:
             if state not in wants:
                 self.note(state)
-        # (a choice of the same definition may be between other types)
-        if depth and (has[-1] != wants[-1] or (given.value[0] == "stuck" and given.value[1][0] == "cases")):
+        if depth and is_other(given, wanted):
             self.parts(self.handed, given, wanted, depth - 1)
         for it in self.before(given) if depth else ():
             self.handed(it, wanted, depth - 1)
@@ -127,7 +132,7 @@ class Reader:
         for state in says:
             if states and state[0] == self.name and state not in states:
                 self.same.setdefault(state, set()).update(states)
-        if depth and has and says and has[-1] != says[-1]:
+        if depth and has and says and is_other(given, written):
             self.parts(self.matched, given, written, depth - 1)
 
     def parts(self, each, given, wanted, depth):
