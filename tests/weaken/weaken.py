@@ -23,12 +23,14 @@ How each ends (a use within the field or the part of the same name or number doe
 
 tests/weaken/noticed.tsv keeps that, with where it shows, so that a run goes on where another ended. A conjunct is judged
 again once its text has changed, or the file that noticed it. --only takes those whose file or text has the word, --list
-shows them and checks nothing, --tell prints what is known so far. While the file of --pause is there, nothing starts.
+shows them and checks nothing, --tell checks nothing, and prints what is known so far, each that is not judged, and each
+reason for what is not there. While the file of --pause is there, nothing starts.
 --kept names another checkout of the same text, which is proved, whose terms are read: else those of this one are, as far
 as it is proved; --jobs reads that many crates at once, and out/weaken keeps what they use. --anew forgets what these crates have.
 tests/weaken/known.txt has what nothing may notice, and why. Before anything is checked the crate itself is proved, with all
 below (`rt check`).
-Status 0: each is noticed or known, or a part was looked at; 1: one is neither; 2: it could not start.
+Status 0: each is noticed or known, or a part was looked at; 1: nothing notices one, which is not known, or --tell found
+one that is not judged, one that ended otherwise than noticed or known, or a reason for none; 2: it could not start.
 """
 import argparse
 import collections
@@ -651,11 +653,28 @@ def told(name, found, sums, results):
         if kind == "nothing" and line not in known:
             unknown += 1
             print(f"nothing notices  {line}")
-        elif kind in ("line", "limit") and line not in known:
+        elif kind not in (*NOTICED, "nothing") and line not in known:
             print(f"{kind:15}  {line}\n{'':17}{where}")
     print(f"{name}: {sum(counts.values())} of {len(found)} conjuncts are judged: proofs name {counts['named']}, use {counts['used']} and cite {counts['cited']}, goals need {counts['goal']}, "
           f"nothing {counts['nothing']}, of which {counts['nothing'] - unknown} are known; lines alone {counts['line']}, no fact {counts['none']}, no verdict {counts['limit']}")
     return unknown
+
+
+def lacking(name, words, found, sums, results):
+    """Prints which conjuncts with these words are not judged, and reasons for none. Gives how many of both there are, and how
+    many ended otherwise than noticed or known."""
+    known, count = reasons(), 0
+    names = {tag: f"{name}: {it.name()}" for tag, it in found.items()}
+    for tag in [it for it in found if all(word in found[it].name() for word in words)]:
+        kind, _ = results.of(name, sums[tag]) or (None, "")
+        if kind is None:
+            print(f"not judged       {names[tag]}")
+        count += kind not in NOTICED and (kind is None or names[tag] not in known)
+    for line in known:
+        if line.startswith(f"{name}: ") and line not in names.values() and all(word in line for word in words):
+            print(f"not there        {line}")
+            count += 1
+    return count
 
 
 def leaves(tags, found):
@@ -666,7 +685,8 @@ def leaves(tags, found):
 
 
 def weaken(prover, name, words, ends, facts, results):
-    """Weakens the conjuncts of a crate that are not judged yet, up to a time. Gives how many are unnoticed and not known."""
+    """Weakens the conjuncts of a crate that are not judged yet, up to a time. Gives how many are unnoticed and not known; with
+    no prover, how many lack anything."""
     found, sums = named(name, facts)
     results.keep(name, set(sums.values()))
     left = [it for it in found if not results.of(name, sums[it]) and all(w in found[it].name() for w in words)]
@@ -718,7 +738,8 @@ def weaken(prover, name, words, ends, facts, results):
     if prover and time.monotonic() < ends:
         for it in own:
             tell(it, "nothing", "")
-    return told(name, found, sums, results)
+    unknown = told(name, found, sums, results)
+    return unknown if prover else lacking(name, words, found, sums, results)
 
 
 def above(name, prover, unnoticed):
