@@ -1,5 +1,5 @@
 -- What the books see of turns by both tables are turns of virtiofsd's table.
-use Rattle.std.proofs.Common.{◌≡◌, ℕ, List, [], ◌∷◌, ◌++◌}
+use Rattle.std.proofs.Common.{ℕ, List, [], ◌∷◌, ◌++◌}
 use Rattle.fuse_grammar.specs.Books.{KeepsBooks}
 use Rattle.fuse_grammar.specs.Turn.{Turn}
 use Rattle.fuse_grammar.specs.declared.limits.Limits.{Limits}

@@ -1,16 +1,15 @@
 -- A request whose opcode is CREATE's asks for a CREATE.
-use Rattle.std.proofs.Common.{◌≡◌, ◌≢◌, ◌≤◌, ◌<◌, ◌^◌, ◌∙◌, ℕ, Bool, true, false, List, length, drop, nat_lt, if◌then◌else◌, Option, Some, None, Result, Ok, Err, refl, ap, sym, subst, inl, inr, arith}
+use Rattle.std.proofs.Common.{◌≡◌, ◌∙◌, ℕ, List, length, drop, nat_lt, Option, Some, Result, Ok, Err, refl, ap, sym, subst, inl, inr, arith}
 use Rattle.std.specs.Prelude.{⊤}
 use Rattle.fuse_flags.specs.Numbers.{opcode_of}
 use Rattle.fuse_flags.specs.declared.opcode.Opcode.{Opcode}
 use Rattle.fuse_flags.specs.declared.opcode.Opcode.TheVariants as opcode
 use Rattle.fuse_wire.specs.Records.{in_header}
-use Rattle.fuse_wire.specs.Fields.{value_of}
 use Rattle.fuse_wire.specs.declared.headers.InHeader.{InHeader}
 use Rattle.fuse_segments.specs.Written.{Written}
 use Rattle.fuse_grammar.specs.Ask.{ask, ask_number, form_of}
-use Rattle.fuse_grammar.specs.Words.{ask_header, refused}
-use Rattle.fuse_grammar.specs.Forms.{Ask, Ends, Asks, Lists, WithMemory, refused_or, within}
+use Rattle.fuse_grammar.specs.Words.{ask_header}
+use Rattle.fuse_grammar.specs.Forms.{Ask, Ends, Asks, Lists, WithMemory, refused_or}
 use Rattle.fuse_grammar.specs.Limits.{max_len}
 use Rattle.fuse_grammar.specs.Records.{record_of, size_of}
 use Rattle.fuse_grammar.specs.declared.error.Error.{Error}

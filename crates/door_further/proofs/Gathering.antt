@@ -1,5 +1,5 @@
 -- One segment more of the first bytes of a request.
-use Rattle.std.proofs.Common.{◌≡◌, ◌≢◌, ◌≤◌, ◌<◌, ◌+◌, ◌-◌, ◌++◌, ◌∙◌, ℕ, true, List, [], ◌∷◌, length, take, drop, get_or, nat_le, refl, ap, sym, arith, append_assoc, append-nil, length-append, length-drop}
+use Rattle.std.proofs.Common.{◌≡◌, ◌≢◌, ◌≤◌, ◌<◌, ◌+◌, ◌-◌, ◌++◌, ◌∙◌, ℕ, true, List, [], ◌∷◌, length, take, drop, get_or, nat_le, ap, sym, arith, append_assoc, append-nil, length-append, length-drop}
 use Rattle.std.proofs.lemmas.Bool.Decides.{nat_tests}
 use Rattle.std.proofs.lemmas.List.{drop-drop, drop_at, nil_from_length, take-append-le, take_all, take_at, take_more}
 use Rattle.std.proofs.lemmas.List.Folds.{concat-append}

@@ -1,5 +1,5 @@
 -- From what ask and answer tell, by both tables, to the turn that both are.
-use Rattle.std.proofs.Common.{◌≡◌, ◌+◌, ◌++◌, ◌∙◌, ℕ, List, [], length, Option, Some, None, Result, Ok, refl, ap, sym, subst, length-append}
+use Rattle.std.proofs.Common.{◌≡◌, ◌+◌, ◌++◌, ◌∙◌, ℕ, List, [], length, Option, Some, None, refl, ap, sym, subst, length-append}
 use Rattle.fuse_segments.specs.Written.{Written, Leaves}
 use Rattle.fs_trait.specs.Calls.{Answer, Kind, Told, Texts, Offsets, Writes, Quiet, IsAnswer}
 use Rattle.fs_trait.specs.Runs.{Event}

@@ -1,5 +1,5 @@
 -- What holds of the call of each row.
-use Rattle.std.proofs.Common.{◌≡◌, ◌+◌, ℕ, Bool, true, false, List, length, nat_le, nat_lt, if◌then◌else◌, Result, Ok, Err, refl}
+use Rattle.std.proofs.Common.{◌+◌, ℕ, Bool, true, false, List, nat_le, nat_lt, if◌then◌else◌, Result, Ok, Err}
 use Rattle.fuse_wire.specs.declared.headers.InHeader.{InHeader}
 use Rattle.fuse_wire_more.specs.declared.locks.LkIn.{LkIn}
 use Rattle.fuse_wire_more.specs.declared.devices.BmapIn.{BmapIn}
@@ -13,7 +13,7 @@ use Rattle.fuse_wire_more.specs.Locks.{lk_in}
 use Rattle.fuse_wire_more.specs.Devices.{bmap_in, ioctl_in, poll_in, statx_in}
 use Rattle.fuse_wire_more.specs.Notifications.{notify_retrieve_in}
 use Rattle.fuse_grammar.specs.Limits.{max_len}
-use Rattle.fuse_grammar.specs.Records.{record_of, size_of}
+use Rattle.fuse_grammar.specs.Records.{record_of}
 use Rattle.fuse_grammar.specs.declared.error.Error.{Error}
 use Rattle.fuse_grammar.specs.declared.limits.Limits.{Limits}
 use Rattle.door_calls.specs.declared.call.CallData.{CallData}

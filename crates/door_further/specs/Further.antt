@@ -4,7 +4,6 @@ use Rattle.std.specs.Prelude.{◌≡◌, ◌==◌, ◌&&◌, ◌+◌, if◌then�
 use Rattle.std.specs.Int.{w32, cast_signed}
 use Rattle.fuse_flags.specs.Flags.{has_flag}
 use Rattle.fuse_flags.specs.declared.constants.TheConstants.{GETATTR_FH, LK_FLOCK}
-use Rattle.fuse_wire.specs.Fields.{Table}
 use Rattle.fuse_wire.specs.Records.{in_header}
 use Rattle.fuse_wire.specs.declared.headers.InHeader.{InHeader}
 use Rattle.fuse_wire_more.specs.Records.{copyfilerange_in}

@@ -1,14 +1,12 @@
 -- Calls keep the time at which each node was made.
-use Rattle.std.proofs.Common.{◌≡◌, ◌≢◌, ◌-◌, ◌==◌, ◌&&◌, min, ℕ, ◌⊎◌, inl, inr, Bool, true, false, List, [], ◌∷◌, Option, Some, None, IfSome, is_some, refl, sym, ap, subst, ◌∙◌, if◌then◌else◌, nat_le}
+use Rattle.std.proofs.Common.{◌≡◌, ◌-◌, ◌==◌, ◌&&◌, min, ℕ, inl, inr, Bool, true, false, List, [], ◌∷◌, Option, Some, None, IfSome, is_some, refl, sym, ap, subst, ◌∙◌, if◌then◌else◌, nat_le}
 use Rattle.std.proofs.lemmas.Option.{none-some, same_Some}
-use Rattle.fs_trait.specs.Values.{Item}
-use Rattle.fs_trait.specs.Calls.{Call, Handed, Plain, Done}
 use Rattle.fs_trait.specs.declared.entry.Context.{Context}
 use Rattle.fs_tree.specs.Children.{Children, leading}
 use Rattle.fs_tree.specs.Node.{accessed, new_node}
 use Rattle.fs_tree.specs.Rename.{moved_into, whiteout, renamed}
 use Rattle.fs_tree.specs.State.{State, node_at, child_at, with_node, with_new, with_resized, without_node, change, lead, settled}
-use Rattle.fs_tree.specs.Tree.{TreeAllows, all_forgotten, linked, outcome, taken_out}
+use Rattle.fs_tree.specs.Tree.{all_forgotten, linked, outcome, taken_out}
 use Rattle.fs_nodes.specs.declared.children.Child.{Child}
 use Rattle.fs_nodes.specs.declared.node.Node.{Node}
 use Rattle.laws_tree.specs.Laws.{CallsKeepBirths, IsBorn, IsSound}

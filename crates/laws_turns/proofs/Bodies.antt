@@ -8,7 +8,7 @@ use Rattle.fuse_wire.specs.declared.headers.OutHeader.{OutHeader}
 use Rattle.fuse_wire.specs.FieldLaws.{length-little, length-bytes_of}
 use Rattle.fuse_wire_more.specs.Records.{open_out, write_out, getxattr_out}
 use Rattle.fuse_wire.specs.declared.init.InitOut.{InitOut}
-use Rattle.fs_trait.specs.Answers.{Kind, Quiet, Told, Untold, Data, Agreements, Entries, TimedAttributes, Openings, Creations, Capacities, Texts, TextsOrCounts, Offsets, Writes, Iterators, Faults, IsAnswer, Answer, Done, Failed, Options, Found, Put, Attributes, Opened, Created, Statistics, Text, Count, Offset, Wrote}
+use Rattle.fs_trait.specs.Answers.{Kind, Quiet, Untold, Data, Agreements, Entries, TimedAttributes, Openings, Creations, Capacities, Texts, TextsOrCounts, Offsets, Writes, IsAnswer, Answer, Done, Failed, Options, Found, Put, Attributes, Opened, Created, Statistics, Text, Count, Offset, Wrote}
 use Rattle.fs_trait.specs.Values.{entry_out_of}
 use Rattle.fs_trait.specs.declared.entry.Entry.{Entry}
 use Rattle.fuse_grammar.specs.Reply.{Reply, NoReply, Bytes, OpenAfter, Echo, body_of, answer_reply, reply_of, fault_reply, body_reply, init_out_of, open_out_of}

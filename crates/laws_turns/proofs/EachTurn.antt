@@ -1,7 +1,7 @@
 -- What follows of every turn, by the cases of what its request asks.
-use Rattle.std.proofs.Common.{◌≡◌, ◌≢◌, ◌≤◌, ◌<◌, ◌+◌, ◌-◌, ◌^◌, ℕ, ℤ, Bool, true, false, bit_or, List, [], ◌∷◌, ◌++◌, length, take, drop, nat_le, nat_lt, if◌then◌else◌, Option, Some, None, Result, Ok, Err, IsOk, pos, ◌-ℤ◌, refl, ap, sym, ◌∙◌, inl, inr, arith, subst}
+use Rattle.std.proofs.Common.{◌≡◌, ◌≢◌, ◌≤◌, ◌<◌, ◌+◌, ℕ, Bool, true, false, bit_or, List, [], ◌∷◌, ◌++◌, length, take, drop, nat_le, nat_lt, if◌then◌else◌, Option, Some, None, Result, Ok, Err, IsOk, refl, ap, sym, ◌∙◌, inl, inr, arith, subst}
 use Rattle.std.specs.Int.{bit_at}
-use Rattle.std.proofs.lemmas.List.{take_all, take_at, take-append-le, take-take}
+use Rattle.std.proofs.lemmas.List.{take-append-le, take-take}
 use Rattle.std.proofs.lemmas.Nat.Bits.{bit_at_and, bit_at_or}
 use Rattle.std.proofs.lemmas.Bool.Decides.{nat_tests}
 use Rattle.fuse_flags.specs.Numbers.{enomem, enosys, opcode_of}
@@ -10,7 +10,6 @@ use Rattle.fuse_flags.specs.declared.opcode.Opcode.{Opcode}
 use Rattle.fuse_wire.specs.Fields.{bytes_of, value_of}
 use Rattle.fuse_wire.specs.Records.{in_header, out_header, init_out}
 use Rattle.fuse_wire.specs.declared.headers.InHeader.{InHeader}
-use Rattle.fuse_wire.specs.declared.headers.OutHeader.{OutHeader}
 use Rattle.fs_trait.specs.Calls.{Call, Kind, Init, Destroy, Readdir, Answer, Failed, Options, Data, Iterators, kind_of, read_answer, IsAnswer, IsFault}
 use Rattle.fs_trait.specs.Runs.{Event, Called}
 use Rattle.fs_trait.specs.declared.entry.Context.{Context}
@@ -32,7 +31,6 @@ use Rattle.fuse_grammar.specs.declared.error.Error.TheVariants.{DecodeMessage, E
 use Rattle.laws_turns.proofs.Asking.{EachCase, ask_cases, layout_cases, tail_cases, pairs_cases, room_cases, within_cases, versions_cases}
 use Rattle.fuse_grammar.proofs.Refusing.{MayRefuse}
 use Rattle.laws_turns.proofs.Bodies.{IsReply, IsReply-fault, IsReply-body, init_out_is_short, replies_hold}
-use Rattle.fuse_grammar.proofs.Rooms.{length-header, length-fault_reply, length-body_reply}
 
 -- ---- refusals
 

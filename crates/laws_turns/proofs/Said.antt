@@ -16,7 +16,7 @@ use Rattle.fuse_wire_more.specs.declared.xattrs.GetxattrOut.{GetxattrOut}
 use Rattle.fs_trait.specs.Answers.{Kind, Agreements, Data, Entries, TimedAttributes, Openings, Creations, Capacities, Texts, TextsOrCounts, Offsets, Writes, IsAnswer, Answer, Failed, Options, Found, Put, Attributes, Opened, Created, Statistics, Text, Count, Offset, Wrote, Done, read_answer}
 use Rattle.fs_trait.specs.Calls.{Call, Init, kind_of}
 use Rattle.fs_trait.specs.Values.{entry_out_of}
-use Rattle.fs_trait.specs.Runs.{Event, Called}
+use Rattle.fs_trait.specs.Runs.{Called}
 use Rattle.fs_trait.specs.declared.entry.Entry.{Entry}
 use Rattle.fuse_grammar.specs.Ask.{ask}
 use Rattle.fuse_grammar.specs.Forms.{Ask, Ends, Asks, Lists, WithMemory}
@@ -29,7 +29,6 @@ use Rattle.fuse_grammar.specs.Words.{attr_out_of, getxattr_out_of, write_out_of,
 use Rattle.fuse_grammar.specs.Room.{IsReplied}
 use Rattle.fuse_grammar.specs.Turn.{Turn, Follows}
 use Rattle.fuse_grammar.specs.declared.limits.Limits.{Limits}
-use Rattle.fuse_grammar.specs.declared.error.Error.{Error}
 use Rattle.fuse_grammar.specs.declared.error.Error.TheVariants.{EncodeMessage}
 use Rattle.fuse_grammar.proofs.Rooms.{length-header}
 use Rattle.laws_turns.proofs.EachTurn.{after_call, of_its_kind}

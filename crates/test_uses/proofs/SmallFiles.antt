@@ -9,7 +9,7 @@ use Rattle.fs_trait.specs.Values.{Item}
 use Rattle.fs_trait.specs.declared.entry.Entry.{Entry}
 use Rattle.fs_small.specs.MemFile.{most_bytes}
 use Rattle.fs_small.specs.MemFs as files
-use Rattle.fs_small.specs.MemFs.{Stored, Stock, TakesOut, AddsFile, Makes, AnswersRead, WritesInto, contents_at, with_contents, with_file, new_file, file_attr}
+use Rattle.fs_small.specs.MemFs.{Stored, Stock, TakesOut, Makes, AnswersRead, WritesInto, contents_at, with_contents, with_file, new_file, file_attr}
 use Rattle.fs_small.specs.ReadOnly as tree
 use Rattle.fs_small.specs.ReadOnly.{AnswersLookup, OpensItems, lookup_refusal, items_after}
 use Rattle.fs_small.specs.Tables.{Named, Tables}

@@ -1,5 +1,5 @@
 -- How runs over a few lines may end, of which the second is the first bad one.
-use Rattle.std.proofs.Common.{◌≡◌, false, true, ℕ, zero, suc, List, [], ◌∷◌, take, None, Result, Ok, Err, MatchResult, refl, ◌+◌, arith}
+use Rattle.std.proofs.Common.{◌≡◌, false, true, ℕ, zero, suc, List, [], ◌∷◌, take, None, Result, Ok, Err, MatchResult, refl, arith}
 use Rattle.std.specs.Prelude.{All, IsSomeAnd, slice_get}
 use Rattle.hex.specs.Hex.{decode_pairs}
 use Rattle.text_run.specs.Lines.{IsRequest, EndsAs, line_of}

@@ -1,8 +1,5 @@
-use Rattle.std.proofs.Common.{◌≡◌, ◌==◌, false, length, nat_lt, ap, arith, Some}
-use Rattle.std.proofs.lemmas.Bool.Decides.{nat_tests}
+use Rattle.std.proofs.Common.{◌≡◌, ◌==◌, false, length, nat_lt, ap}
 use Rattle.fuse_flags.specs.Flags.{fs_options_bits}
-use Rattle.fuse_flags.specs.Numbers.{opcode_of}
-use Rattle.fuse_flags.specs.declared.opcode.Opcode.TheVariants.{Init}
 use Rattle.fuse_grammar.specs.Limits.{max_len}
 use Rattle.door_ask.proofs.Checking.{ends_short, above_it, judges_after, no_interrupt, not_above}
 use Rattle.door_ask.proofs.checked.check_after.Goals as goal

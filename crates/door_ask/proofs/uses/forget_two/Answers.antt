@@ -1,4 +1,4 @@
-use Rattle.std.proofs.Common.{◌≡◌, ap, inl, inr}
+use Rattle.std.proofs.Common.{ap, inl, inr}
 use Rattle.fuse_flags.specs.Flags.{fs_options_bits}
 use Rattle.fuse_flags.specs.Numbers.{opcode_of}
 use Rattle.fuse_wire.specs.Fields.{number}

@@ -1,4 +1,4 @@
-use Rattle.std.proofs.Common.{◌≡◌, ◌++◌, List, ℕ, drop, replicate, subst}
+use Rattle.std.proofs.Common.{drop, replicate, subst}
 use Rattle.fuse_segments.specs.Segments.{segments_of, flat_bytes}
 use Rattle.door_further.specs.Further.{What, Tells}
 use Rattle.door_further.proofs.Beginning.{front}

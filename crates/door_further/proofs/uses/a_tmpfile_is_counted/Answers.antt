@@ -1,4 +1,4 @@
-use Rattle.std.proofs.Common.{[], ◌∷◌, ◌++◌, subst, ap}
+use Rattle.std.proofs.Common.{[], ◌∷◌, ◌++◌, subst}
 use Rattle.fuse_grammar.specs.Books.{KeepsBooks}
 use Rattle.door_further.specs.Further.{What}
 use Rattle.door_further.specs.Turns.{seen_of}

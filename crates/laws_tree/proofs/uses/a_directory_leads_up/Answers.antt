@@ -1,4 +1,4 @@
-use Rattle.std.proofs.Common.{◌≡◌, ◌<◌, ℕ, true, Option, Some, IfSome, subst}
+use Rattle.std.proofs.Common.{◌≡◌, ◌<◌, ℕ, true, Option, IfSome, subst}
 use Rattle.fs_nodes.specs.Children.{is_directory}
 use Rattle.fs_nodes.specs.declared.node.Node.{Node}
 use Rattle.laws_tree.specs.Laws.{above}

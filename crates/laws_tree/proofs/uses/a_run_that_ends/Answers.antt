@@ -1,4 +1,4 @@
-use Rattle.std.proofs.Common.{◌≤◌, ◌+◌, ℕ, zero, suc, [], ◌∷◌, None, take, arith}
+use Rattle.std.proofs.Common.{◌≤◌, ℕ, zero, suc, [], ◌∷◌, None, take, arith}
 use Rattle.fs_trait.specs.Calls.{Destroy}
 use Rattle.fs_trait.specs.Runs.{Called}
 use Rattle.fuse_grammar.specs.Books.{answered, sent}

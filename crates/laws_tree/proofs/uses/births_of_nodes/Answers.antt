@@ -1,6 +1,5 @@
 use Rattle.std.proofs.Common.{◌≡◌, ◌∙◌, ℕ, Option, None, Some, IfSome, inl, inr, ap, sym, subst}
 use Rattle.fs_nodes.specs.declared.node.Node.{Node}
-use Rattle.fs_nodes.specs.declared.node.Time.{Time}
 use Rattle.fs_tree.specs.State.{State, node_at}
 use Rattle.laws_tree.specs.Laws.{IsBorn}
 use Rattle.laws_tree.proofs.uses.births_of_nodes.Goals as goal

@@ -1,4 +1,4 @@
-use Rattle.std.proofs.Common.{◌<◌, ◌-◌, ◌∙◌, ℕ, List, [], length, ap, arith, length-drop}
+use Rattle.std.proofs.Common.{◌<◌, ◌∙◌, ℕ, List, [], length, ap, arith, length-drop}
 use Rattle.std.proofs.lemmas.List.{get_or-map, length-map, take_all}
 use Rattle.std.specs.Borrow.{Bor}
 use Rattle.fuse_segments.specs.Segments.{flat_bytes, segments_of}

@@ -1,4 +1,4 @@
-use Rattle.std.proofs.Common.{◌<◌, ◌-◌, ◌++◌, ◌∙◌, ℕ, List, [], length, refl, ap}
+use Rattle.std.proofs.Common.{◌<◌, ◌++◌, ◌∙◌, ℕ, List, [], length, refl, ap}
 use Rattle.std.proofs.lemmas.List.{get_or-map, length-map}
 use Rattle.std.specs.Borrow.{Bor}
 use Rattle.fuse_segments.specs.Segments.{flat_bytes, segments_of}
