@@ -1,5 +1,5 @@
 -- What names of directories ask, and what is made under them.
-use Rattle.std.specs.Prelude.{ℕ, ◌==◌, ◌&&◌, ◌||◌, ◌-◌, ◌^◌, nat_le, nat_lt, not, Bool, true, false, List, [], ◌∷◌, length, codes, bit_and, bit_or, Option, Some, None, is_some, is_none, unwrap_or, option_and_then, if◌then◌else◌}
+use Rattle.std.specs.Prelude.{ℕ, ◌==◌, ◌&&◌, ◌||◌, ◌-◌, ◌^◌, nat_le, nat_lt, not, Bool, true, false, List, [], ◌∷◌, codes, bit_and, bit_or, Option, Some, None, is_some, unwrap_or, option_and_then, if◌then◌else◌}
 use Rattle.std.specs.Option.{option_map_or, option_or}
 use Rattle.std.specs.Str.{bytes_eq}
 use Rattle.fuse_flags.specs.Numbers.{enoent, eexist, einval, enospc}

@@ -1,5 +1,5 @@
 -- How each call ends.
-use Rattle.std.specs.Prelude.{ℕ, ◌==◌, ◌+◌, ◌-◌, ◌*◌, ◌/◌, ◌^◌, ◌||◌, ◌&&◌, nat_eq, nat_le, nat_lt, not, min, Bool, true, false, List, [], ◌∷◌, length, map, fold, take, codes, bit_and, Option, Some, None, is_some, is_none, if◌then◌else◌}
+use Rattle.std.specs.Prelude.{ℕ, ◌==◌, ◌+◌, ◌-◌, ◌*◌, ◌/◌, ◌^◌, ◌||◌, ◌&&◌, nat_eq, nat_le, nat_lt, not, min, Bool, true, false, List, [], ◌∷◌, length, map, fold, take, bit_and, Option, Some, None, is_some, is_none, if◌then◌else◌}
 use Rattle.std.specs.List.{list_any}
 use Rattle.std.specs.Option.{option_map_or, option_or, unwrap_or}
 use Rattle.fuse_flags.specs.Numbers.{eperm, enoent, eexist, enotdir, eisdir, einval, enospc, erange, enotempty, enodata, enosys, eoverflow, eopnotsupp, efbig, emlink, enodev, enxio}

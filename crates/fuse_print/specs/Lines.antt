@@ -1,5 +1,5 @@
 -- A line in memory.
-use Rattle.std.specs.Prelude.{◌≡◌, ◌+◌, ◌-◌, ◌≤◌, ◌++◌, ◌∷◌, ℕ, List, [], All, length, take, drop, min, nat_lt, if◌then◌else◌, Option, Some, None, codes}
+use Rattle.std.specs.Prelude.{◌≡◌, ◌+◌, ◌-◌, ◌≤◌, ◌++◌, ◌∷◌, ℕ, List, All, length, take, drop, min, nat_lt, if◌then◌else◌, Option, Some, None, codes}
 use Rattle.fuse_print.specs.Text.{IsPrintable}
 use Rattle.fuse_print.specs.declared.part.Part.{Part}
 use Rattle.fuse_print.specs.declared.message.Message.{Message}

@@ -2,7 +2,6 @@
 -- inverse of its fields (`decoding_is_the_inverse` of fuse_wire).
 use Rattle.std.specs.Prelude.{ℕ, List, drop, slice_index}
 use Rattle.std.specs.Int.{w32, cast_signed}
-use Rattle.fuse_flags.specs.declared.opcode.Opcode.{Opcode}
 use Rattle.fuse_wire.specs.declared.attributes.Attr.{Attr}
 use Rattle.fuse_wire.specs.declared.attributes.AttrOut.{AttrOut}
 use Rattle.fuse_wire.specs.declared.attributes.GetattrIn.{GetattrIn}

@@ -2,7 +2,7 @@
 -- How bytes become a record again is in Decoders; it is the one inverse of this. Of the promise only
 -- `low_word` and `kstatfs_of`, after the tables, are to be read: `tests/c/kernel.py` compiles the
 -- tables against the kernel's header.
-use Rattle.std.specs.Int.{w32, cast_signed, cast_unsigned, w64}
+use Rattle.std.specs.Int.{w32, cast_unsigned, w64}
 use Rattle.std.specs.Prelude.{[], ◌∷◌, slice_index, ◌++◌, ℕ, ℤ, ◌%◌, ◌^◌}
 use Rattle.fuse_wire.specs.Fields.{Table, table}
 use Rattle.fuse_wire.specs.Decoders.{made_in_header, made_out_header, made_init_in_compat, made_init_in_ext, made_init_out, made_attr, made_getattr_in, made_attr_out, made_setattr_in, made_entry_out, made_forget_in, made_forget_one, made_batch_forget_in, made_dirent, made_direntplus, made_kstatfs, made_ext_header, made_secctx, made_supp_groups}
