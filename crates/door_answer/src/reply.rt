@@ -1,10 +1,10 @@
 //! The reply to each kind of answer.
 
-ghost use Rattle.std.specs.Prelude.{◌≡◌, ◌≤◌, ◌<◌, ◌-◌, ◌^◌, ◌+◌, ◌++◌, ℕ, [], length, if◌then◌else◌, is_err, IfOk, MatchResult, Ok};
+ghost use Rattle.std.specs.Prelude.{◌≡◌, ◌≤◌, ◌<◌, ◌-◌, ◌^◌, ◌+◌, length, if◌then◌else◌, is_err, IfOk, MatchResult, Ok};
 ghost use Rattle.fuse_wire.specs.Fields.{bytes_of};
 ghost use Rattle.fuse_wire.specs.Records.{out_header};
 ghost use Rattle.fuse_segments.specs.Written.{wrote};
-ghost use Rattle.fs_trait.specs.Answers.{IsAnswer, IsFault, KeepsTextShort, Quiet, Told, Untold, Agreements, Entries, TimedAttributes, Openings, Creations, Capacities, Texts, TextsOrCounts, Offsets, Writes, Faults, Done, Failed, Text, Count, init_answer, done_answer, entry_answer, attr_answer, opened_answer, created_answer, statistics_answer, offset_answer, written_answer};
+ghost use Rattle.fs_trait.specs.Answers.{IsFault, KeepsTextShort, Quiet, Told, Untold, Agreements, Entries, TimedAttributes, Openings, Creations, Capacities, Texts, TextsOrCounts, Offsets, Writes, Faults, Done, Failed, Text, Count, init_answer, done_answer, entry_answer, attr_answer, opened_answer, created_answer, statistics_answer, offset_answer, written_answer};
 ghost use Rattle.fuse_grammar.specs.Limits.{AreLimits};
 ghost use Rattle.fuse_grammar.specs.Reply.{Bytes, fault_reply};
 ghost use Rattle.fuse_grammar.specs.Words.{reply_to};

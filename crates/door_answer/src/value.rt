@@ -1,6 +1,6 @@
 //! The answer of a call, as its kind has it, from an answer as data.
 
-ghost use Rattle.std.specs.Prelude.{◌≡◌, ◌≢◌, ◌<◌, ◌-◌, ◌^◌, ◌+◌, ℕ, List, pos, length, take, drop, bit_and, IfOk, MatchResult};
+ghost use Rattle.std.specs.Prelude.{◌≡◌, ◌<◌, ◌-◌, ◌^◌, ◌+◌, ℕ, List, pos, length, take, drop, bit_and, IfOk, MatchResult};
 ghost use Rattle.fuse_flags.specs.Numbers.{eio};
 ghost use Rattle.fuse_flags.specs.Flags.{fs_options_bits, open_options_bits, known_fs_options, known_open_options};
 ghost use Rattle.fs_trait.specs.Answers.{Told, Untold, Entries, TimedAttributes, Openings, Creations, Capacities, Offsets, Writes, Agreements, Texts, TextsOrCounts, Data, Faults, Failed, KeepsTextShort, read_answer, init_answer, done_answer, entry_answer, attr_answer, opened_answer, created_answer, statistics_answer, offset_answer, written_answer};

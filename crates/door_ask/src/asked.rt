@@ -1,16 +1,15 @@
 //! What a request asks.
 
-ghost use Rattle.std.specs.Prelude.{◌≡◌, ◌≢◌, ◌<◌, ◌≤◌, ◌^◌, ◌+◌, ℕ, List, Ok, Some, drop, false, length, true};
+ghost use Rattle.std.specs.Prelude.{◌≡◌, ◌≢◌, ◌<◌, ◌≤◌, ◌^◌, ◌+◌, ℕ, List, Ok, Some, false, length, true};
 ghost use Rattle.fuse_flags.specs.Flags.{fs_options_bits};
 ghost use Rattle.fuse_flags.specs.Numbers.{opcode_of};
 ghost use Rattle.fuse_flags.specs.declared.opcode.Opcode.{Opcode};
-ghost use Rattle.fuse_wire.specs.Records.{in_header};
 ghost use Rattle.fuse_wire_more.specs.Locks.{interrupt_in};
 ghost use Rattle.fuse_messages.specs.Rooms.{with_after};
 ghost use Rattle.fuse_grammar.specs.Ask.{ask};
-ghost use Rattle.fuse_grammar.specs.Words.{ask_header, ask_opcode};
+ghost use Rattle.fuse_grammar.specs.Words.{ask_opcode};
 ghost use Rattle.fuse_grammar.specs.Limits.{AreLimits, max_len};
-ghost use Rattle.fuse_grammar.specs.Records.{record_of, size_of};
+ghost use Rattle.fuse_grammar.specs.Records.{record_of};
 ghost use Rattle.fuse_server.specs.MemoryByPieces.{MayWantAfter};
 ghost use Rattle.door_calls.specs.Shapes.{nothing};
 ghost use Rattle.door_ask.specs.declared.asked.Asked.TheVariants.{Finished, Call as IsCall};
@@ -20,7 +19,7 @@ ghost use Rattle.door_ask.specs.Noting.{IsNoted, NotedAndTold};
 ghost use Rattle.door_ask.specs.Terms.{TellsOfHeader, TellsOfOpcode};
 ghost use Rattle.door_ask.specs.Parts.{told_with};
 ghost use Rattle.door_ask.specs.Room.{KeepsRoom};
-ghost use Rattle.door_ask.specs.Asked.{IsAsked, IsEnough, LiesWithin, Tells, interrupted_after, interrupted_by, unique_or_none};
+ghost use Rattle.door_ask.specs.Asked.{IsAsked, IsEnough, LiesWithin, Tells, interrupted_by, unique_or_none};
 
 use crate::clear::{clear_numbers, clear_places};
 use crate::contexts::{may_have_context, place_context, read_tail_of, refusal_of_tail};

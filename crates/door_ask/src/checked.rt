@@ -1,6 +1,6 @@
 //! What a request is, and what it asks, without a reply.
 
-ghost use Rattle.std.specs.Prelude.{◌≡◌, ◌<◌, ◌≤◌, ◌^◌, ℕ, List, Some, false, length, true};
+ghost use Rattle.std.specs.Prelude.{◌≡◌, ◌<◌, ◌≤◌, ◌^◌, ℕ, List, Some, false, true};
 ghost use Rattle.fuse_flags.specs.Flags.{fs_options_bits};
 ghost use Rattle.fuse_flags.specs.Numbers.{opcode_of};
 ghost use Rattle.fuse_flags.specs.declared.opcode.Opcode.{Opcode};

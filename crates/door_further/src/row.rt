@@ -1,6 +1,6 @@
 //! What a request asks by the further table.
 
-ghost use Rattle.std.specs.Prelude.{◌≡◌, ◌≤◌, ◌+◌, length, drop};
+ghost use Rattle.std.specs.Prelude.{◌≡◌, ◌+◌, length, drop};
 ghost use Rattle.fuse_flags.specs.Flags.{fs_options_bits};
 ghost use Rattle.fuse_wire.specs.Records.{in_header};
 ghost use Rattle.fuse_wire_more.specs.Records.{copyfilerange_in};

@@ -1,6 +1,6 @@
 //! Small callers: what the clauses of the client say of two requests and of a reply.
 
-ghost use Rattle.std.specs.Prelude.{◌≡◌, ◌≢◌, ◌+◌, ◌≤◌, [], ◌∷◌, ◌++◌, drop, replicate, length, negsuc, pos, IfOk, IsNone};
+ghost use Rattle.std.specs.Prelude.{◌≡◌, ◌+◌, ◌≤◌, [], ◌∷◌, ◌++◌, drop, replicate, length, negsuc, pos, IfOk, IsNone};
 ghost use Rattle.fuse_wire.specs.Fields.{number, value_of};
 ghost use Rattle.fuse_wire.specs.Records.{out_header};
 

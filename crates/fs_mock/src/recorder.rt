@@ -1,6 +1,6 @@
 //! A file system that notes the calls of another.
 
-ghost use Rattle.std.specs.Prelude.{◌≡◌, [], false, length, IfOk, IfErr};
+ghost use Rattle.std.specs.Prelude.{◌≡◌, [], false, IfOk, IfErr};
 ghost use Rattle.fuse_flags.specs.Numbers.{number_of};
 ghost use Rattle.fs_trait.specs.Calls.{out_of_memory};
 ghost use Rattle.fs_trait.specs.CallValue.{call_of, answer_of, kind_as};

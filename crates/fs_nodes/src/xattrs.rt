@@ -1,6 +1,6 @@
 //! The extended attributes of a node.
 
-ghost use Rattle.std.specs.Prelude.{◌≡◌, ◌≤◌, ◌<◌, ◌++◌, ◌∷◌, [], List, ℕ, length, Some, None, MatchOption, MatchResult, OnOk, IfErr, IfSome, if◌then◌else◌};
+ghost use Rattle.std.specs.Prelude.{◌≡◌, ◌≤◌, ◌<◌, ◌++◌, ◌∷◌, [], List, length, Some, None, MatchOption, MatchResult, OnOk, IfErr, IfSome, if◌then◌else◌};
 ghost use Rattle.fuse_flags.specs.Numbers.{enomem};
 ghost use Rattle.fs_trait.specs.Values.{name_text};
 ghost use Rattle.fs_nodes.specs.Xattrs.{AreInOrder, attribute_bytes, xattr_bytes, xattr_named, with_xattr, without_xattr, listed, name_list};

@@ -1,7 +1,6 @@
 //! The calls of a tree's file system.
 
-ghost use Rattle.std.specs.Prelude.{◌≡◌, ◌==◌, Some, if◌then◌else◌};
-ghost use Rattle.fuse_flags.specs.Numbers.{enoent};
+ghost use Rattle.std.specs.Prelude.{◌≡◌, ◌==◌, Some};
 ghost use Rattle.fs_trait.specs.Values.{name_text};
 ghost use Rattle.fs_trait.specs.Calls.{Plain, kind_of};
 ghost use Rattle.fs_trait.specs.CallValue.{call_of, answer_of, IsEntry, IsAttributes, IsOfKind};

@@ -1,6 +1,6 @@
 //! Items of a directory, one after another.
 
-ghost use Rattle.std.specs.Prelude.{ℕ, Option};
+ghost use Rattle.std.specs.Prelude.{Option};
 ghost use Rattle.std.specs.Borrow.{sem};
 ghost use Rattle.fs_trait.specs.Values.{Item, item_of, Rests};
 

@@ -1,6 +1,5 @@
 //! The state of a file system, carried over to another host.
 
-ghost use Rattle.std.specs.Prelude.{◌≡◌};
 ghost use Rattle.fs_trait.specs.Migrations.{MigrationCall, PrepareSerialization, Serialize, DeserializeAndApply, MigrationAnswer, Prepared, Migrated, Traffic, IsWritten, IsTaken};
 
 use fuse_flags::Fault;

@@ -2,7 +2,7 @@
 //! `test_uses`; these are here since an edit of this crate must be refused at the first, and the
 //! others are beside what they call.
 
-ghost use Rattle.std.specs.Prelude.{◌≡◌, ◌≤◌, ◌+◌, [], ◌∷◌, ◌++◌, codes, IfOk, OnOk};
+ghost use Rattle.std.specs.Prelude.{◌≡◌, ◌≤◌, ◌+◌, ◌∷◌, ◌++◌, codes, IfOk, OnOk};
 
 use crate::{
     Context, DirEntry, DirectoryIterator, EntryList, FileSystem, Number, ZeroCopyReader,

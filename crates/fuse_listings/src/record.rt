@@ -1,7 +1,7 @@
 //! Records of a directory's entries: a `Dirent`, the name, and zeros to a multiple of 8, with an
 //! `EntryOut` in front of them for READDIRPLUS.
 
-ghost use Rattle.std.specs.Prelude.{◌≡◌, ◌+◌, ◌-◌, ◌<◌, ◌≤◌, ◌^◌, length, true, false, Some, None, Ok};
+ghost use Rattle.std.specs.Prelude.{◌≡◌, ◌+◌, ◌-◌, ◌<◌, ◌^◌, length, true, false, Some, None, Ok};
 ghost use Rattle.std.specs.Int.{next_multiple_of};
 ghost use Rattle.fs_trait.specs.Answers.{FitsEntry};
 ghost use Rattle.fs_trait.specs.Values.{item};

@@ -3,7 +3,7 @@
 ghost use Rattle.std.specs.Prelude.{◌≡◌, ◌++◌, length, take, true, false, max, min};
 ghost use Rattle.fuse_wire.specs.Fields.{bytes_of};
 ghost use Rattle.fuse_wire.specs.Records.{init_out};
-ghost use Rattle.fuse_notices.specs.Init.{AddsNothing, Agrees, further_agreed, further_offered as offered_in, in_place, lowered, reply_with_more, said_in, with_more as said_with};
+ghost use Rattle.fuse_notices.specs.Init.{AddsNothing, Agrees, further_agreed, further_offered as offered_in, in_place, reply_with_more, said_in, with_more as said_with};
 
 use bitflags::Flags;
 use fuse_flags::{FsOptions, LEAST_MAX_BUFFER, Opcode};

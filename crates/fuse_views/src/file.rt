@@ -1,6 +1,6 @@
 //! Files that move bytes at a position.
 
-ghost use Rattle.std.specs.Prelude.{◌≡◌, ◌≤◌, ℕ, List, length, IfOk, Option, Result};
+ghost use Rattle.std.specs.Prelude.{◌≤◌, ℕ, List, length, IfOk, Option, Result};
 ghost use Rattle.std.specs.List.{concat};
 ghost use Rattle.fuse_views.specs.Views.{IsSameRoom, moved};
 

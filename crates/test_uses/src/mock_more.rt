@@ -1,7 +1,7 @@
 //! More of recorders and scripts at work: what a script says before anything is set, and what one may hand back.
 
 ghost use Rattle.std.specs.Prelude.{◌≡◌, ℕ, Bool, List, [], ◌∷◌, Option, Some, None, Err, IfErr, IfOk};
-ghost use Rattle.fs_trait.specs.Calls.{Call, Count, Failed, Getxattr, Handed, Plain, Readdir, Write, default_answer, getxattr_answer, not_served, out_of_memory};
+ghost use Rattle.fs_trait.specs.Calls.{Call, Count, Failed, Getxattr, Handed, Plain, Readdir, Write, default_answer, getxattr_answer, not_served};
 ghost use Rattle.fs_trait.specs.Values.{Item};
 ghost use Rattle.fs_trait.specs.declared.entry.Context.{Context};
 ghost use Rattle.fs_mock.specs.Directories.{GivesNext, Reading, items_said};

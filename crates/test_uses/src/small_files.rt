@@ -4,7 +4,7 @@ ghost use Rattle.std.specs.Prelude.{◌≡◌, ◌<◌, ◌≤◌, ◌+◌, ℕ,
 ghost use Rattle.std.specs.Duration.{as_nanos};
 ghost use Rattle.std.specs.declared.time.Duration.{Duration};
 ghost use Rattle.fuse_wire.specs.declared.attributes.Attr.{Attr};
-ghost use Rattle.fs_trait.specs.Calls.{Answer, Attributes, Create, Created, Done, Failed, Found, Getattr, Handed, Iterator, Lookup, Mkdir, Plain, Read, Readdir, Unlink, Write, Wrote};
+ghost use Rattle.fs_trait.specs.Calls.{Answer, Attributes, Create, Created, Done, Failed, Found, Getattr, Iterator, Lookup, Mkdir, Plain, Read, Readdir, Unlink, Write, Wrote};
 ghost use Rattle.fs_trait.specs.Values.{ExtensionValues, Item};
 ghost use Rattle.fs_trait.specs.declared.entry.Context.{Context};
 ghost use Rattle.fs_trait.specs.declared.entry.Entry.{Entry};

@@ -1,8 +1,8 @@
 //! Answers as values, and what bytes, positions and saved states are told by, at work.
 
-ghost use Rattle.std.specs.Prelude.{◌≡◌, ◌<◌, ◌≤◌, ◌+◌, ◌^◌, ◌⊎◌, ◌++◌, ℕ, List, [], ◌∷◌, length, Option, Some, None, Result, Ok, Err, Vec};
+ghost use Rattle.std.specs.Prelude.{◌≡◌, ◌<◌, ◌+◌, ◌^◌, ◌⊎◌, ◌++◌, ℕ, List, [], ◌∷◌, length, Option, Some, Result, Ok, Vec};
 ghost use Rattle.std.specs.declared.alloc.Global.{Global};
-ghost use Rattle.fs_trait.specs.Answers.{Done, Failed, Kind, IsAnswer, Quiet, Told, Untold, Entries, Writes};
+ghost use Rattle.fs_trait.specs.Answers.{Done, Kind, Quiet, Told, Untold, Writes};
 ghost use Rattle.fs_trait.specs.Bytes.{Reads};
 ghost use Rattle.fs_trait.specs.BytesMut.{ReadsFile, bytes_held};
 ghost use Rattle.fs_trait.specs.CallValue.{IsOfKind};

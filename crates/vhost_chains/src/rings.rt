@@ -1,6 +1,6 @@
 //! The indices of a queue's two rings, which have 16 bits and wrap.
 
-ghost use Rattle.std.specs.Prelude.{◌≡◌, ◌≢◌, ◌≤◌, ◌<◌, ◌+◌, ◌-◌, ◌%◌, ◌↔◌, ℕ, Some, true};
+ghost use Rattle.std.specs.Prelude.{◌≡◌, ◌≢◌, ◌≤◌, ◌<◌, ◌-◌, ◌%◌, ◌↔◌, ℕ, Some, true};
 ghost use Rattle.vhost_chains.specs.Rings.{index_of, needs_event_at, waiting_of};
 
 /// How many chains wait: `index` is the guest's, and `next` that of the one to be taken next. `None` where they

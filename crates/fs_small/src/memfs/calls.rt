@@ -1,6 +1,5 @@
 //! The calls of the file system in memory. What it has no arm for is not served.
 
-ghost use Rattle.std.specs.Prelude.{◌≡◌};
 ghost use Rattle.fs_trait.specs.Values.{name_text};
 ghost use Rattle.fs_trait.specs.Calls.{Plain, kind_of};
 ghost use Rattle.fs_trait.specs.CallValue.{call_of, answer_of, IsEntry, IsAttributes, IsDone, IsCreation, IsOfKind};

@@ -13,7 +13,6 @@ ghost use Rattle.fuse_grammar.specs.Limits.{default_limits, max_len};
 ghost use Rattle.fuse_grammar.specs.Memory.{header_of};
 ghost use Rattle.fuse_grammar.specs.Reply.{echo_of};
 ghost use Rattle.fuse_grammar.specs.Turn.{Turn};
-ghost use Rattle.fuse_grammar.specs.declared.limits.Limits.{Limits};
 ghost use Rattle.laws_turns.specs.Turns.{AnswersWhole, after_header, body_in, count_of_pairs};
 ghost use Rattle.laws_turns.specs.Limits.{one_page};
 

@@ -1,6 +1,6 @@
 //! Parts of requests, for which memory is wanted or not, and replies by their outcomes.
 
-ghost use Rattle.std.specs.Prelude.{◌≡◌, ◌≢◌, ◌≤◌, ◌⊎◌, [], ◌∷◌, Ok, Err, true, length, take, IfErr, IfOk, IsOk, MatchResult, OnSome};
+ghost use Rattle.std.specs.Prelude.{◌≡◌, ◌≢◌, ◌≤◌, [], ◌∷◌, Ok, Err, true, length, take, IfErr, IfOk, IsOk, MatchResult, OnSome};
 ghost use Rattle.fuse_flags.specs.Flags.{setattr_valid_bits, setxattr_flags_bits};
 ghost use Rattle.fuse_segments.specs.Lengths.{lie_together};
 ghost use Rattle.fuse_wire.specs.Fields.{bytes_of};

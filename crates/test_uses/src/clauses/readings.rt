@@ -2,7 +2,7 @@
 
 ghost use Rattle.std.specs.Prelude.{◌≡◌, ℕ, Bool, List, [], ◌∷◌, false, true, length, Option, Some, Ok, Err, None as Nothing, Result as Outcome};
 ghost use Rattle.fuse_segments.specs.Written.{Written};
-ghost use Rattle.fs_trait.specs.Calls.{Failed, Forget, Found, Lookup, Plain, Readdir, Statfs};
+ghost use Rattle.fs_trait.specs.Calls.{Failed, Found, Lookup, Plain, Readdir, Statfs};
 ghost use Rattle.fs_trait.specs.Runs.{Called, Event, IsRun, Taken};
 ghost use Rattle.fs_trait.specs.Values.{Item};
 ghost use Rattle.fs_trait.specs.declared.entry.Context.{Context};

@@ -1,6 +1,6 @@
 //! Readers and writers: what they answer as a value, what no byte moves, and what a record is that was moved.
 
-ghost use Rattle.std.specs.Prelude.{◌≡◌, ◌+◌, ◌<◌, ◌≤◌, ◌++◌, ℕ, List, [], ◌∷◌, true, false, Some, Ok, length, drop, min, slice_index, take, IfSome, MatchOption};
+ghost use Rattle.std.specs.Prelude.{◌≡◌, ◌+◌, ◌<◌, ◌++◌, ℕ, List, [], ◌∷◌, true, false, Some, Ok, length, drop, min, slice_index, take, IfSome, MatchOption};
 ghost use Rattle.fuse_segments.specs.Answers.{Answers, AreAnswers, Available, Taken, Read, Count, Moved};
 ghost use Rattle.fuse_segments.specs.Lengths.{lengths_before, lie_together};
 ghost use Rattle.fuse_segments.specs.Unread.{Unread};
