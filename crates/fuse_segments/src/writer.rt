@@ -1,7 +1,6 @@
 //! Writes the bytes of a reply into segments.
 
 ghost use Rattle.std.specs.Prelude.{◌≡◌, ◌+◌, ◌^◌, ◌<◌, ◌≤◌, ◌↔◌, ◌++◌, ℕ, List, [], true, false, length, replicate, take, min, IfOk, IfErr, IsOk, OnOk, OnErr};
-ghost use Rattle.std.specs.Fn.{FnOnceReturnsAtMut};
 ghost use Rattle.std.specs.IoError.{error_kind};
 ghost use Rattle.std.specs.Io.{WritesAtMost};
 ghost use Rattle.std.specs.Io.KnownBytes.{Appends, Keeps, WriteAppends};
@@ -355,41 +354,6 @@ impl Writer {
     {
         let fits = self.write_obj(first).is_ok();
         self.write_obj(second).is_ok() && fits
-    }
-
-    // Whether the first segment has the next `len` bytes.
-    #[inline(always)]
-    fn has_in_first(&self, len: usize) -> bool {
-        match self.segments.list().first() {
-            Some(first) => self.at < first.len() && len <= first.len() - self.at,
-            None => false,
-        }
-    }
-
-    // Calls `put`, apart from where its code is inlined.
-    #[cold]
-    #[inline(never)]
-    fn put_apart<R, F: FnOnce(&mut Writer) -> R>(&mut self, put: F) -> R
-        requires { F.IsAlwaysCallable put }
-        ensures { FnOnceReturnsAtMut F.FnOnce put self.old result self.new }
-    {
-        put(self)
-    }
-
-    /// Calls `put` with this writer, to put about `len` bytes. Where it is `in_one`, most rooms are one
-    /// segment: `put` is inlined for the case that the first one has that many bytes, and stands apart
-    /// for any other, so that what it puts is put together in memory there alone. No promise stands
-    /// on either: all do the same.
-    #[inline(always)]
-    pub fn put_by<R, F: FnOnce(&mut Writer) -> R>(&mut self, in_one: bool, len: usize, put: F) -> R
-        requires { F.IsAlwaysCallable put }
-        ensures { FnOnceReturnsAtMut F.FnOnce put self.old result self.new }
-    {
-        if !in_one || (len <= self.available_bytes() && self.has_in_first(len)) {
-            put(self)
-        } else {
-            self.put_apart(put)
-        }
     }
 
     /// Lends a file the next bytes of the room, `count` of them or all that are left, to be read
