@@ -1,7 +1,7 @@
 -- Names and values are in the tail that they are read from.
 use Rattle.std.proofs.Common.{◌≡◌, ◌∙◌, ◌+◌, ◌-◌, ◌==◌, ◌<◌, ℕ, zero, suc, Bool, true, false, if◌then◌else◌, nat_lt, List, [], ◌∷◌, length, take, drop, position, Option, None, Some, Result, Ok, Err, refl, ap, sym, arith, length-take, length-drop}
 use Rattle.std.proofs.lemmas.Grind.{common_steps}
-use Rattle.std.proofs.lemmas.List.{get_or-take, take_min, take_all}
+use Rattle.std.proofs.lemmas.List.{get_or-take, take_all}
 use Rattle.std.proofs.lemmas.List.Quantifiers.{position-Some}
 use Rattle.std.proofs.lemmas.List.Sums.{position_or_len_is}
 use Rattle.std.specs.List.{position_or_len}
@@ -18,10 +18,6 @@ use Rattle.fuse_grammar.specs.declared.error.Error.{Error}
 
 abbrev pub is_nul : ℕ → Bool
 is_nul = λ b. b == 0
-
--- a beginning is the beginning of its own length
-pub own : (n : ℕ) (xs ys : List ℕ) → xs ≡ take n ys → xs ≡ take (length xs) ys
-own n xs ys e = e ∙ sym (take_min n ys) ∙ ap (λ k. take k ys) (sym (ap length e ∙ length-take n ys))
 
 prefix : (a n : ℕ) (ys : List ℕ) → take a (take n ys) ≡ take (length (take a (take n ys))) ys
 prefix zero n ys = refl

@@ -86,10 +86,6 @@ no_name end bytes (Some text) e long h =
     let place : 0 + k ≡ k = omega arith in
     n.1 k low (rw (n.0, place, get_or_append_left text (0 ∷ []) 0 k low) at z)))
 
-pub empty_is_no_name : (bytes : List ℕ) → length bytes ≡ 0 → name_of bytes ≡ None
-empty_is_no_name [] e = refl
-empty_is_no_name (b ∷ bytes) e = cc
-
 -- bytes that are a name
 pub is_name : (end : ℕ) (bytes text : List ℕ) → position (λ b. b == 0) bytes ≡ Some end → end + 1 ≡ length bytes → text ≡ take end bytes
     → name_of bytes ≡ Some text

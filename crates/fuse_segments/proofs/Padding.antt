@@ -1,14 +1,8 @@
 -- Bytes with zeros after them.
-use Rattle.std.proofs.Common.{◌≡◌, ℕ, ◌+◌, ◌-◌, ◌≤◌, List, [], ◌++◌, length, take, drop, replicate, ap, ◌∙◌, refl, sym, arith, append-nil, append_assoc, length-append, length-drop, length-take, take-append-drop}
-use Rattle.std.proofs.lemmas.List.{drop-drop, drop-replicate, drop_all, length-replicate, take_all, take-append-le, take-take, take_at}
+use Rattle.std.proofs.Common.{◌≡◌, ℕ, ◌+◌, ◌-◌, ◌≤◌, List, [], ◌++◌, length, take, drop, replicate, ap, ◌∙◌, refl, sym, arith, append-nil, append_assoc, length-drop, length-take, take-append-drop}
+use Rattle.std.proofs.lemmas.List.{drop-drop, drop-replicate, drop_all, take_all, take-append-le, take-take, take_at}
 use Rattle.fuse_segments.specs.Segments.{with_bytes_at}
 use Rattle.fuse_segments.proofs.Puts.{drop-append_past, take-append_past}
-
--- a record, bytes and the zeros after them are as long as is told
-pub length-padded : (x bytes : List ℕ) (n zeros : ℕ) → length x ≡ n →
-    length (x ++ (bytes ++ replicate zeros 0)) ≡ n + length bytes + zeros
-length-padded x bytes n zeros e =
-    omega (arith, length-append x (bytes ++ replicate zeros 0), length-append bytes (replicate zeros 0), length-replicate {A = ℕ} zeros 0)
 
 -- where the last eight bytes are zeros, the last n of them are
 pub zeros_at_end : (n : ℕ) (out cleared : List ℕ) → n ≤ 8 → 8 ≤ length out →

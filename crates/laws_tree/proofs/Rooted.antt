@@ -294,9 +294,6 @@ moves-moved_into s n d = by (node_at s n) refl
           other = λ m apart. ap parent_of (node_at-with_node_other s n m moved apart);
         }
 
-there_placed : (s : State) (n : ℕ) → IsPlaced s n → IsSome (node_at s n)
-there_placed s n there = ap is_some there.is
-
 module _ (s : State) (sound : IsSound s) (linked : IsLinked s) (new : State) (c d : ℕ)
     (placed : IsPlaced s d)
     (turns : (m : ℕ) → IsPlaced s m → m ≢ 1 → m ≢ c

@@ -117,7 +117,3 @@ module _ (s : State) (node : Node) (sound : IsSound s) where
 pub gone_number : (s : State) (k : ℕ) (node : Node) → IsSound s
     → node_at (without_node s k node) k ≡ None
 gone_number s k node sound = gone-remove_entry 1 s.next k s.nodes sound.ordered
-
--- the root is not new
-pub next_above : (s : State) → IsSound s → 1 ≤ s.next
-next_above s sound = ascend_within 1 s.next s.nodes sound.ordered
