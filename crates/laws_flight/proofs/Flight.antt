@@ -5,22 +5,22 @@ use Rattle.fuse_grammar.specs.declared.limits.Limits.{Limits}
 use Rattle.fuse_grammar.specs.Books.{KeepsBooks}
 use Rattle.laws_turns.proofs.EachTurn.{kept}
 use Rattle.laws_turns.proofs.InOrder.{AreEachTurns, keeps_books}
-use Rattle.laws_flight.specs.Flight.{Waiting, Moment, Began, Completed, turns_answered, AreInFlight, IsAlone, AreAskedInTime}
+use Rattle.laws_flight.specs.Flight.{Waiting, Move, Begins, Completes, turns_answered, AreInFlight, IsAlone, AreAskedInTime}
 
-are_each_turns : (limits : Limits) (waiting : List Waiting) (moments : List Moment)
-    → AreInFlight limits waiting moments → AreEachTurns limits (turns_answered moments)
+are_each_turns : (limits : Limits) (waiting : List Waiting) (moves : List Move)
+    → AreInFlight limits waiting moves → AreEachTurns limits (turns_answered moves)
 are_each_turns limits waiting [] are = tt
-are_each_turns limits waiting (Began w ∷ moments) are =
-    are_each_turns limits (w ∷ waiting) moments are
-are_each_turns limits waiting (Completed w t after ∷ moments) are = (
+are_each_turns limits waiting (Begins w ∷ moves) are =
+    are_each_turns limits (w ∷ waiting) moves are
+are_each_turns limits waiting (Completes w t after ∷ moves) are = (
   (w.options, after, are.3.turn),
-  are_each_turns limits (are.0 ++ are.1) moments are.4,
+  are_each_turns limits (are.0 ++ are.1) moves are.4,
 )
 
-pub keep_books : (limits : Limits) (waiting : List Waiting) (moments : List Moment)
-    → AreInFlight limits waiting moments → KeepsBooks (turns_answered moments)
-keep_books limits waiting moments are =
-    keeps_books limits (turns_answered moments) (are_each_turns limits waiting moments are)
+pub keep_books : (limits : Limits) (waiting : List Waiting) (moves : List Move)
+    → AreInFlight limits waiting moves → KeepsBooks (turns_answered moves)
+keep_books limits waiting moves are =
+    keeps_books limits (turns_answered moves) (are_each_turns limits waiting moves are)
 
 -- ---- in order
 
@@ -48,22 +48,22 @@ stays_or_alone limits options after t (x ∷ xs) turn alone all =
     (λ answer destroy. absurd (let none = alone.destroy answer destroy in cc))))
     all
 
-in_order_from : (limits : Limits) (options : ℕ) (waiting : List Waiting) (moments : List Moment)
-    → AllUnder options waiting → AreAskedInTime limits options waiting moments
-    → (after : ℕ) × AreTurns limits options (turns_answered moments) after
+in_order_from : (limits : Limits) (options : ℕ) (waiting : List Waiting) (moves : List Move)
+    → AllUnder options waiting → AreAskedInTime limits options waiting moves
+    → (after : ℕ) × AreTurns limits options (turns_answered moves) after
 in_order_from limits options waiting [] all are = (options, refl)
-in_order_from limits options waiting (Began w ∷ moments) all are =
-    in_order_from limits options (w ∷ waiting) moments (are.0, all) are.1
-in_order_from limits options waiting (Completed w t after ∷ moments) all are =
+in_order_from limits options waiting (Begins w ∷ moves) all are =
+    in_order_from limits options (w ∷ waiting) moves (are.0, all) are.1
+in_order_from limits options waiting (Completes w t after ∷ moves) all are =
     let parts = under_parts options are.0 w are.1
     (subst (λ (ws : List Waiting). AllUnder options ws) are.2 all) in
     let turn : IsTurn limits options t after =
     subst (λ (o : ℕ). IsTurn limits o t after) parts.0 are.3.turn in
-    let rest = in_order_from limits after (are.0 ++ are.1) moments
+    let rest = in_order_from limits after (are.0 ++ are.1) moves
     (stays_or_alone limits options after t (are.0 ++ are.1) turn are.4 parts.1) are.5 in
     (rest.0, (after, turn, rest.1))
 
-pub in_order : (limits : Limits) (options : ℕ) (moments : List Moment)
-    → AreAskedInTime limits options [] moments
-    → (after : ℕ) × AreTurns limits options (turns_answered moments) after
-in_order limits options moments are = in_order_from limits options [] moments tt are
+pub in_order : (limits : Limits) (options : ℕ) (moves : List Move)
+    → AreAskedInTime limits options [] moves
+    → (after : ℕ) × AreTurns limits options (turns_answered moves) after
+in_order limits options moves are = in_order_from limits options [] moves tt are

@@ -13,17 +13,17 @@ pub record Waiting : Type 0 where
   pub options : ℕ
   pub room_len : ℕ
 
--- A moment of a transport: it asked a request, which began so, or it answered one, by this turn, with these options
+-- A move of a transport: it asked a request, which began so, or it answered one, by this turn, with these options
 -- from then on. What the calls of a turn are is seen when it is answered: its events.
-pub data Moment : Type 0 where
-  Began : (w : Waiting) → Moment
-  Completed : (w : Waiting) (t : Turn) (after : ℕ) → Moment
+pub data Move : Type 0 where
+  Begins : (w : Waiting) → Move
+  Completes : (w : Waiting) (t : Turn) (after : ℕ) → Move
 
--- the turns among moments, in the order of the answers
-abbrev pub turns_answered : List Moment → List Turn
+-- the turns among moves, in the order of the answers
+abbrev pub turns_answered : List Move → List Turn
 turns_answered [] = []
-turns_answered (Began w ∷ moments) = turns_answered moments
-turns_answered (Completed w t after ∷ moments) = t ∷ turns_answered moments
+turns_answered (Begins w ∷ moves) = turns_answered moves
+turns_answered (Completes w t after ∷ moves) = t ∷ turns_answered moves
 
 -- a turn of a request that waits, under the options that it was asked with
 pub record IsTurnOf (limits : Limits) (w : Waiting) (t : Turn) (after : ℕ) : Type 0 where
@@ -32,13 +32,13 @@ pub record IsTurnOf (limits : Limits) (w : Waiting) (t : Turn) (after : ℕ) : T
   pub turn : IsTurn limits w.options t after
 
 -- Each answer is that of a request that waits, which then waits no more.
-abbrev pub AreInFlight : Limits → (waiting : List Waiting) → List Moment → Type 0
+abbrev pub AreInFlight : Limits → (waiting : List Waiting) → List Move → Type 0
 AreInFlight limits waiting [] = Unit {0}
-AreInFlight limits waiting (Began w ∷ moments) = AreInFlight limits (w ∷ waiting) moments
-AreInFlight limits waiting (Completed w t after ∷ moments) =
+AreInFlight limits waiting (Begins w ∷ moves) = AreInFlight limits (w ∷ waiting) moves
+AreInFlight limits waiting (Completes w t after ∷ moves) =
     (before following : List Waiting) × (waiting ≡ before ++ w ∷ following)
     × IsTurnOf limits w t after
-    × AreInFlight limits (before ++ following) moments
+    × AreInFlight limits (before ++ following) moves
 
 -- an INIT that was answered, or a DESTROY, had none beside it that waits
 pub record IsAlone (t : Turn) (others : List Waiting) : Type 0 where
@@ -47,12 +47,12 @@ pub record IsAlone (t : Turn) (others : List Waiting) : Type 0 where
 
 -- The same of a transport that asks each request under the options of then: those that the last answer
 -- left. INIT and DESTROY are alone in flight.
-abbrev pub AreAskedInTime : Limits → (options : ℕ) → (waiting : List Waiting) → List Moment → Type 0
+abbrev pub AreAskedInTime : Limits → (options : ℕ) → (waiting : List Waiting) → List Move → Type 0
 AreAskedInTime limits options waiting [] = Unit {0}
-AreAskedInTime limits options waiting (Began w ∷ moments) =
-    (w.options ≡ options) × AreAskedInTime limits options (w ∷ waiting) moments
-AreAskedInTime limits options waiting (Completed w t after ∷ moments) =
+AreAskedInTime limits options waiting (Begins w ∷ moves) =
+    (w.options ≡ options) × AreAskedInTime limits options (w ∷ waiting) moves
+AreAskedInTime limits options waiting (Completes w t after ∷ moves) =
     (before following : List Waiting) × (waiting ≡ before ++ w ∷ following)
     × IsTurnOf limits w t after
     × IsAlone t (before ++ following)
-    × AreAskedInTime limits after (before ++ following) moments
+    × AreAskedInTime limits after (before ++ following) moves

@@ -7,7 +7,7 @@ ghost use Rattle.std.specs.Prelude.{ℕ, List, []};
 ghost use Rattle.fuse_grammar.specs.Books.{KeepsBooks};
 ghost use Rattle.fuse_grammar.specs.Turn.{AreTurns};
 ghost use Rattle.fuse_grammar.specs.declared.limits.Limits.{Limits};
-ghost use Rattle.laws_flight.specs.Flight.{Waiting, Moment, turns_answered, AreInFlight, AreAskedInTime};
+ghost use Rattle.laws_flight.specs.Flight.{Waiting, Move, turns_answered, AreInFlight, AreAskedInTime};
 ghost use Rattle.laws_flight.specs.Made.{NoCountIsBelow};
 ghost use Rattle.laws_flight.specs.OneTurn.{AreOneTurn, AreFinishedTurns};
 ghost use Rattle.laws_flight.specs.Running.{AloneRun, FlightsRun};
@@ -48,8 +48,8 @@ pub fn a_finished_request_is_one_turn()
 /// before a call of an earlier turn: a FORGET that a client sends before it was told of the node may reach
 /// the file system before the lookup, which then has to keep its count at 0.
 pub fn turns_in_flight_keep_books()
-    ensures { (limits : Limits) (waiting : List Waiting) (moments : List Moment) →
-        AreInFlight limits waiting moments → KeepsBooks (turns_answered moments) }
+    ensures { (limits : Limits) (waiting : List Waiting) (moves : List Move) →
+        AreInFlight limits waiting moves → KeepsBooks (turns_answered moves) }
 {}
 
 /// However requests are interleaved, and wherever between its ask and its answer a call is made: after each point at
@@ -70,7 +70,7 @@ pub fn calls_in_flight_are_a_run<F: FileSystem>()
 /// If each request is asked under the options of then, and INIT and DESTROY are alone in flight, the turns
 /// in the order of their answers are turns in order, as those of a session that one caller hands over.
 pub fn turns_in_flight_are_in_order()
-    ensures { (limits : Limits) (options : ℕ) (moments : List Moment) →
-        AreAskedInTime limits options [] moments →
-        (after : ℕ) × AreTurns limits options (turns_answered moments) after }
+    ensures { (limits : Limits) (options : ℕ) (moves : List Move) →
+        AreAskedInTime limits options [] moves →
+        (after : ℕ) × AreTurns limits options (turns_answered moves) after }
 {}

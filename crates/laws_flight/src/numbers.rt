@@ -7,7 +7,7 @@ ghost use Rattle.fs_trait.specs.Calls.{Bmap, Destroy, Getlk, Init, Ioctl, Notify
 ghost use Rattle.fuse_grammar.specs.Reply.{Echo};
 ghost use Rattle.fuse_grammar.specs.Turn.{Turn};
 ghost use Rattle.fuse_grammar.specs.declared.limits.Limits.{Limits};
-ghost use Rattle.laws_flight.specs.Flight.{AreInFlight, Completed, IsTurnOf, Waiting};
+ghost use Rattle.laws_flight.specs.Flight.{AreInFlight, Completes, IsTurnOf, Waiting};
 
 use crate::laws::the_table_says_what_is_told;
 use laws_turns::turns::rooms_stay;
@@ -60,5 +60,5 @@ fn a_room_is_as_long_as_asked()
 /// No answer comes of a request that doesn't wait.
 fn nothing_is_answered_unasked()
     ensures { (limits : Limits) (w : Waiting) (t : Turn) (after : ℕ) →
-        AreInFlight limits [] (Completed w t after ∷ []) → ⊥ }
+        AreInFlight limits [] (Completes w t after ∷ []) → ⊥ }
 {}

@@ -5,7 +5,7 @@ use Rattle.fuse_grammar.specs.declared.limits.Limits.{Limits}
 use Rattle.door_calls.specs.declared.data.AnswerData.{AnswerData}
 use Rattle.door_calls.specs.declared.data.ItemData.{ItemData}
 use Rattle.door_answer.specs.declared.answered.Answered.{Answered}
-use Rattle.laws_flight.specs.Flight.{Began, Completed, Waiting, IsTurnOf}
+use Rattle.laws_flight.specs.Flight.{Begins, Completes, Waiting, IsTurnOf}
 use Rattle.laws_flight.specs.OneTurn.{IsAnsweredTurn}
 use Rattle.laws_flight.proofs.crossing.crossing_answers_keep_books.Goals as goal
 
@@ -43,7 +43,7 @@ returns c limits options others request other a b text words items entries old b
       refl,
       two.leaves,
       c.turns_in_flight_keep_books.ensures limits []
-          (Began v ∷ Began w ∷ Completed w t went.options ∷ Completed v s came.options ∷ []) (
+          (Begins v ∷ Begins w ∷ Completes w t went.options ∷ Completes v s came.options ∷ []) (
             [],
             v ∷ [],
             refl,
