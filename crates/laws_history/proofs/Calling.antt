@@ -17,7 +17,7 @@ use Rattle.fuse_server.specs.Step.{ServerState, IsStep}
 use Rattle.fuse_server.specs.declared.transport.error.ServeError.{ServeError}
 use Rattle.fuse_server.specs.declared.transport.error.ServeError.TheVariants.{OutOfMemory, Segments, Server, FileSystem}
 use Rattle.laws_history.specs.Calls.{AreServed, ServedNone, IsSeen, KeepsHistory, HandlesEach, GivesBack, forget_of_5}
-use Rattle.laws_history.specs.History.{Moment, Handled, Changed, turn_of, turn_of_end, IsHistory, GoesOn, GoesOnChanged, GoesOnEnded, HasOneRun, HistoriesKeepBooks}
+use Rattle.laws_history.specs.History.{Moment, Handled, Changed, turn_of, turn_of_end, IsHistory, GoesOnHandled, GoesOnChanged, GoesOnEnded, HasOneRun, HistoriesKeepBooks}
 use Rattle.laws_history.specs.Serving.{GoesOnServed}
 use Rattle.laws_history.proofs.Going.{turns_of_handled}
 use Rattle.laws_history.proofs.GivingBack.{gives_back, accepted-replied, is_some, delivered-lookup, accepted-forget}
@@ -33,7 +33,7 @@ module _ {S I : Type 0} (allows : S → Call → Handed I → S → Type 0)
       record { asked = refl; room = refl; came = refl; leaves = step.leaves }
 
   -- the beginning of a history: one step
-  pub first_step : GoesOn allows gives → (s0 s1 : ServerState S) (q : List ℕ) (w : Written)
+  pub first_step : GoesOnHandled allows gives → (s0 s1 : ServerState S) (q : List ℕ) (w : Written)
       (o : Result ℕ Error) (n : Written) → (x : IsStep allows gives s0 q w o n s1)
       → IsHistory allows gives s0 (Handled (turn_of allows gives s0 q w o n s1 x) ∷ []) s1
   first_step goes s0 s1 q w o n x = goes s0 s0 s1 [] q w o n refl x
@@ -42,7 +42,7 @@ module _ {S I : Type 0} (allows : S → Call → Handed I → S → Type 0)
       (new : ServerState S) → IsHistory allows gives old ms new → KeepsHistory allows gives old ms new
   kept keep old ms new h = record { history = h; books = keep old new ms h }
 
-  pub three : GoesOn allows gives → HistoriesKeepBooks allows gives → (s0 s1 s2 s3 : ServerState S)
+  pub three : GoesOnHandled allows gives → HistoriesKeepBooks allows gives → (s0 s1 s2 s3 : ServerState S)
       (q1 q2 q3 : List ℕ) (w1 w2 w3 : Written) (o1 o2 o3 : Result ℕ Error) (n1 n2 n3 : Written)
       → IsStep allows gives s0 q1 w1 o1 n1 s1 → IsStep allows gives s1 q2 w2 o2 n2 s2
       → IsStep allows gives s2 q3 w3 o3 n3 s3
@@ -67,7 +67,7 @@ module _ {S I : Type 0} (allows : S → Call → Handed I → S → Type 0)
       )
 
   -- a step, another file system, and a step
-  pub exchanged : GoesOn allows gives → GoesOnChanged allows gives → HistoriesKeepBooks allows gives
+  pub exchanged : GoesOnHandled allows gives → GoesOnChanged allows gives → HistoriesKeepBooks allows gives
       → (s0 s1 s2 s3 : ServerState S) (fs : S) (q1 q2 : List ℕ) (w1 w2 : Written)
       (o1 o2 : Result ℕ Error) (n1 n2 : Written)
       → IsStep allows gives s0 q1 w1 o1 n1 s1 → s2 ≡ record s1 { fs = fs }
@@ -94,7 +94,7 @@ module _ {S I : Type 0} (allows : S → Call → Handed I → S → Type 0)
       )
 
   -- a step, state that is taken over, and a step
-  pub taken_over : GoesOn allows gives → GoesOnChanged allows gives → HistoriesKeepBooks allows gives
+  pub taken_over : GoesOnHandled allows gives → GoesOnChanged allows gives → HistoriesKeepBooks allows gives
       → (s0 s1 s2 s3 : ServerState S) (q1 q2 : List ℕ) (w1 w2 : Written) (o1 o2 : Result ℕ Error)
       (n1 n2 : Written)
       → IsStep allows gives s0 q1 w1 o1 n1 s1 → s2.options ≡ s1.options → s2.limits ≡ s1.limits
@@ -160,7 +160,7 @@ module _ {S I : Type 0} (allows : S → Call → Handed I → S → Type 0)
   served_one goes keep s0 s1 q size (Err error) x = served_none goes keep s0 s1 q size error x
 
   -- a step, and an end
-  pub then_ended : GoesOn allows gives → GoesOnEnded allows gives → HistoriesKeepBooks allows gives
+  pub then_ended : GoesOnHandled allows gives → GoesOnEnded allows gives → HistoriesKeepBooks allows gives
       → (s0 s1 s2 : ServerState S) (q : List ℕ) (w : Written) (o : Result ℕ Error) (n : Written)
       → IsStep allows gives s0 q w o n s1
       → allows s1.fs Destroy (Plain Done) s2.fs → s2.options ≡ 0 → s2.limits ≡ s1.limits
@@ -172,7 +172,7 @@ module _ {S I : Type 0} (allows : S → Call → Handed I → S → Type 0)
       ends s0 s1 s2 (Handled t ∷ []) (first_step goes s0 s1 q w o n x) called none same in
       (t, seen s0 q w o n s1 x, kept keep s0 (Handled t ∷ Handled turn_of_end ∷ []) s2 all)
 
-  pub two : GoesOn allows gives → HistoriesKeepBooks allows gives → HasOneRun allows gives
+  pub two : GoesOnHandled allows gives → HistoriesKeepBooks allows gives → HasOneRun allows gives
       → (s0 s1 s2 : ServerState S) (q1 q2 : List ℕ) (w1 w2 : Written) (o1 o2 : Result ℕ Error)
       (n1 n2 : Written)
       → IsStep allows gives s0 q1 w1 o1 n1 s1 → IsStep allows gives s1 q2 w2 o2 n2 s2
@@ -205,7 +205,7 @@ module _ {S I : Type 0} (allows : S → Call → Handed I → S → Type 0)
   handles_none keep old =
       record { turns = []; asked = refl; history = refl; books = keep old old [] refl }
 
-  pub handles_more : GoesOn allows gives → HistoriesKeepBooks allows gives
+  pub handles_more : GoesOnHandled allows gives → HistoriesKeepBooks allows gives
       → (old mid new : ServerState S) (readers : List Unread) (reader : Unread) (w : Written)
       (o : Result ℕ Error) (n : Written)
       → HandlesEach allows gives old (map (λ (r : Unread). r.left) readers) mid

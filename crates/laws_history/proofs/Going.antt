@@ -9,7 +9,7 @@ use Rattle.fuse_grammar.specs.Books.{KeepsBooks}
 use Rattle.fuse_grammar.specs.declared.limits.Limits.{Limits}
 use Rattle.fuse_grammar.specs.declared.error.Error.{Error}
 use Rattle.fuse_server.specs.Step.{ServerState, IsStep, turn_over}
-use Rattle.laws_history.specs.History.{Handled, Changed, turns_in, turn_of_end, IsHandled, IsHistory, GoesOn, GoesOnChanged, GoesOnEnded, HasOneRun, HasTurns, HeldCountsStay, HistoriesJoin, HistoriesKeepBooks, HistoriesSplit}
+use Rattle.laws_history.specs.History.{Handled, Changed, turns_in, turn_of_end, IsHandled, IsHistory, GoesOnHandled, GoesOnChanged, GoesOnEnded, HasOneRun, HasTurns, HeldCountsStay, HistoriesJoin, HistoriesKeepBooks, HistoriesSplit}
 use Rattle.laws_history.proofs.Counts.{never_below_held}
 use Rattle.laws_history.proofs.Ending.{is_end}
 
@@ -39,7 +39,7 @@ module _ {S I : Type 0} (allows : S → Call → Handed I → S → Type 0)
   join first middle last (Changed a b ∷ ms) after h k =
       (h.0, join (record first { fs = b }) middle last ms after h.1 k)
 
-  pub goes_on : GoesOn allows gives
+  pub goes_on : GoesOnHandled allows gives
   goes_on first old new ms request writer outcome after h step =
       join first old new ms
       (Handled (turn_over request writer step.events outcome step.room_after) ∷ []) h

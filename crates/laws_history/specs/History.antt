@@ -82,8 +82,8 @@ module _ {S I : Type 0}
       turn_over request writer step.events outcome step.room_after
 
   -- a history goes on by each step, with its turn
-  abbrev pub GoesOn : Type 0
-  GoesOn =
+  abbrev pub GoesOnHandled : Type 0
+  GoesOnHandled =
       (first old new : ServerState S) (moments : List (Moment S)) (request : List ℕ)
       (writer : Written) (outcome : Result ℕ Error) (writer_after : Written)
       → IsHistory first moments old

@@ -1,6 +1,6 @@
 //! What holds of every history of a server over any file system.
 
-ghost use Rattle.laws_history.specs.History.{GoesOn, GoesOnChanged, GoesOnEnded, HasOneRun, HasTurns, HeldCountsStay, HistoriesJoin, HistoriesKeepBooks, HistoriesSplit};
+ghost use Rattle.laws_history.specs.History.{GoesOnHandled, GoesOnChanged, GoesOnEnded, HasOneRun, HasTurns, HeldCountsStay, HistoriesJoin, HistoriesKeepBooks, HistoriesSplit};
 ghost use Rattle.laws_history.specs.Serving.{GoesOnServed};
 ghost use Rattle.laws_history.specs.Sessions.{SessionsAreHistories};
 
@@ -12,7 +12,7 @@ use laws_turns::books::turns_keep_books;
 /// change through `Server::fs_mut` or by a call that carries state over, which leave the options and
 /// the limits; and by `Server::destroy`, with the turn of a DESTROY.
 pub fn history_goes_on<F: FileSystem>()
-    ensures handled { GoesOn F.allows F.DirIter.gives }
+    ensures handled { GoesOnHandled F.allows F.DirIter.gives }
     ensures served { GoesOnServed F.allows F.DirIter.gives }
     ensures changed { GoesOnChanged F.allows F.DirIter.gives }
     ensures ended { GoesOnEnded F.allows F.DirIter.gives }

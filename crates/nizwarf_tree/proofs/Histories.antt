@@ -2,7 +2,7 @@
 use Rattle.std.proofs.Common.{ℕ, ℤ, List, refl, sym, ◌∙◌, inl, inr}
 use Rattle.std.proofs.lemmas.List.{append_cancel_left}
 use Rattle.fuse_server.specs.Step.{ServerState}
-use Rattle.laws_history.specs.History.{GoesOn, GoesOnChanged, turn_of}
+use Rattle.laws_history.specs.History.{GoesOnHandled, GoesOnChanged, turn_of}
 use Rattle.nizwarf_tree.specs.Files.{State, Allows, Gives}
 use Rattle.door_further.specs.Further.{What, Ordinary, Short, Row, Unnamed}
 use Rattle.door_further.specs.Turns.{as_create}
@@ -10,7 +10,7 @@ use Rattle.nizwarf_tree.specs.History.{Answered, AnsweredAs, Told, Turned}
 use Rattle.nizwarf_tree.specs.Offered.{what_asked}
 use Rattle.nizwarf_tree.specs.Served.{ServedAs, ServedInC, SteppedInC, told_time}
 
-module _ (goes : GoesOn Allows Gives) (old : ServerState State) (total : ℕ) (number : ℤ) (len : ℕ)
+module _ (goes : GoesOnHandled Allows Gives) (old : ServerState State) (total : ℕ) (number : ℤ) (len : ℕ)
     (room : List ℕ) (shown : ℕ) (new : ServerState State) where
   -- a step is a turn
   turned : (request : List ℕ) → SteppedInC old request total number len room shown new

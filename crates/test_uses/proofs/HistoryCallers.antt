@@ -35,7 +35,7 @@ use Rattle.fuse_grammar.proofs.Rooms.{put_outcome-fits, put_room-fits}
 use Rattle.fuse_server.specs.Memory.{WantsNoMemory}
 use Rattle.fuse_server.specs.Step.{ServerState, IsStep, turn_over}
 use Rattle.laws_history.specs.Calls.{IsSeen}
-use Rattle.laws_history.specs.History.{Handled, turn_of, IsHistory, GoesOn, HistoriesKeepBooks}
+use Rattle.laws_history.specs.History.{Handled, turn_of, IsHistory, GoesOnHandled, HistoriesKeepBooks}
 use Rattle.fs_small.specs.MemFs.{Stored, Stock, MemFsAllows, AnswersEntry, IsEntryOf, file_attr}
 use Rattle.fs_small.specs.Makers.{IsSecond}
 use Rattle.test_uses.proofs.Callers.{IsRun-no_events}
@@ -294,7 +294,7 @@ module _ (one two one_after two_after : Written) (s0 s1 s2 : ServerState Stock)
         × IsSeen forget_of_2 two (Ok 0) two_after gave
         × LooksUpAndForgets s0 looked gave s2
 
-  pub both : GoesOn MemFsAllows GivesFirst → HistoriesKeepBooks MemFsAllows GivesFirst
+  pub both : GoesOnHandled MemFsAllows GivesFirst → HistoriesKeepBooks MemFsAllows GivesFirst
       → IsFileStep s0 LOOKUP one o1 one_after s1 → IsFileStep s1 FORGET two o2 two_after s2
       → s0.fs ≡ files → 144 ≤ length one.left → o1 ≢ Err OutOfMemory → Both
   both goes keep x y is room enough =
