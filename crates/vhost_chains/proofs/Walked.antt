@@ -1,7 +1,7 @@
 -- A walk goes through the descriptors of a chain, and of nothing else.
 use Rattle.std.proofs.Common.{◌≡◌, ◌≢◌, ◌≤◌, ◌<◌, ◌-◌, ◌/◌, ◌%◌, ◌∙◌, ℕ, Bool, true, false, List, [], ◌∷◌, refl, ap, sym, subst, arith, Option, Some, None, inl, inr}
 use Rattle.std.specs.Prelude.{not, nat_lt, if◌then◌else◌}
-use Rattle.vhost_chains.specs.Chains.{IsReason, entry, IsTable, AreLinked, AreFew, AreOrdered, HaveBytes, ArePlaced, GoesOnBy, GoesThrough, IsRest, IsChain}
+use Rattle.vhost_chains.specs.Chains.{IsReason, entry, IsTable, AreLinked, AreFew, AreOrdered, HaveBytes, HavePieces, GoesOnBy, GoesThrough, IsRest, IsChain}
 use Rattle.vhost_chains.specs.Descriptors.{goes_on, is_writable, is_table}
 use Rattle.vhost_chains.specs.Regions.{place_of}
 use Rattle.vhost_chains.specs.Walks.{entry_size, piece_at, gone_on, at_place, begun, entered, at_table, step_at}
@@ -50,7 +50,7 @@ last_is_rest rs ind table w d ds ps p can led place is last ended ps_is = record
     lt_not w.rest d.len led.bytes,
     subst (λ xs. HaveBytes (w.rest - d.len) xs) (sym ended) tt,
   );
-  placed = inr (led.piece, p, [], place, ps_is, subst (λ xs. ArePlaced rs xs []) (sym ended) tt);
+  placed = inr (led.piece, p, [], place, ps_is, subst (λ xs. HavePieces rs xs []) (sym ended) tt);
 }
 
 more_is_rest : (rs : List Region) (ind table : List ℕ) (w : Walk) (d : Descriptor) (ds : List Descriptor)
@@ -143,15 +143,15 @@ bytes_piece rest d ds t (inl (e, h)) = absurd (cc)
 bytes_piece rest d ds t (inr (e, m, h)) = (m, h)
 
 placed_table : (rs : List Region) (d : Descriptor) (ds : List Descriptor) (ps : List Piece) → is_table d ≡ true
-    → ArePlaced rs (d ∷ ds) ps
-    → (p : Place) × (place_of rs d.addr d.len ≡ Some p) × ArePlaced rs ds ps
+    → HavePieces rs (d ∷ ds) ps
+    → (p : Place) × (place_of rs d.addr d.len ≡ Some p) × HavePieces rs ds ps
 placed_table rs d ds ps t (inl (e, p, is, rest)) = (p, is, rest)
 placed_table rs d ds ps t (inr (e, p, r, is, ps_is, rest)) = absurd (cc)
 
 placed_piece : (rs : List Region) (d : Descriptor) (ds : List Descriptor) (ps : List Piece) → is_table d ≡ false
-    → ArePlaced rs (d ∷ ds) ps
+    → HavePieces rs (d ∷ ds) ps
     → (p : Place) × (r : List Piece) × (place_of rs d.addr d.len ≡ Some p) × (ps ≡ piece_at d p ∷ r)
-    × ArePlaced rs ds r
+    × HavePieces rs ds r
 placed_piece rs d ds ps t (inl (e, p, is, rest)) = absurd (cc)
 placed_piece rs d ds ps t (inr (e, p, r, is, ps_is, rest)) = (p, r, is, ps_is, rest)
 
@@ -235,7 +235,7 @@ last_backward rs ind table w d ds ps p t last may bytes place ended ps_is =
     (λ g. absurd (cc)) (λ g. (ended, ps_is))))
     (λ led. let other : is_table d ≡ true = led.table in absurd (cc))
 
-none_placed : (rs : List Region) (ds : List Descriptor) (r : List Piece) → ds ≡ [] → ArePlaced rs ds r → r ≡ []
+none_placed : (rs : List Region) (ds : List Descriptor) (r : List Piece) → ds ≡ [] → HavePieces rs ds r → r ≡ []
 none_placed rs [] [] ended placed = refl
 none_placed rs [] (p ∷ r) ended placed = absurd placed
 none_placed rs (d ∷ ds) r ended placed = absurd (cc)

@@ -98,13 +98,13 @@ HaveBytes rest (d ∷ ds) =
     ⊎ ((is_table d ≡ false) × (d.len ≤ rest) × HaveBytes (rest - d.len) ds)
 
 -- these are their pieces, each in one region; so is the indirect table
-abbrev pub ArePlaced : List Region → List Descriptor → List Piece → Type 0
-ArePlaced regions [] [] = ⊤
-ArePlaced regions [] (p ∷ ps) = ⊥
-ArePlaced regions (d ∷ ds) ps =
-    ((is_table d ≡ true) × (place : Place) × (place_of regions d.addr d.len ≡ Some place) × ArePlaced regions ds ps)
+abbrev pub HavePieces : List Region → List Descriptor → List Piece → Type 0
+HavePieces regions [] [] = ⊤
+HavePieces regions [] (p ∷ ps) = ⊥
+HavePieces regions (d ∷ ds) ps =
+    ((is_table d ≡ true) × (place : Place) × (place_of regions d.addr d.len ≡ Some place) × HavePieces regions ds ps)
     ⊎ ((is_table d ≡ false) × (place : Place) × (rest : List Piece) × (place_of regions d.addr d.len ≡ Some place)
-    × (ps ≡ piece_at d place ∷ rest) × ArePlaced regions ds rest)
+    × (ps ≡ piece_at d place ∷ rest) × HavePieces regions ds rest)
 
 -- ---- the walk
 
@@ -133,7 +133,7 @@ pub record IsRest (regions : List Region) (indirect table : List ℕ) (w : Walk)
   pub few : AreFew w.left ds
   pub ordered : AreOrdered w.writable ds
   pub bytes : HaveBytes w.rest ds
-  pub placed : ArePlaced regions ds ps
+  pub placed : HavePieces regions ds ps
 
 -- a chain, from the entry `head` of a queue's table of `size` on, with its pieces
 pub record IsChain (regions : List Region) (indirect table : List ℕ) (size most head : ℕ)
@@ -142,4 +142,4 @@ pub record IsChain (regions : List Region) (indirect table : List ℕ) (size mos
   pub few : AreFew size ds
   pub ordered : AreOrdered false ds
   pub bytes : HaveBytes MOST_BYTES ds
-  pub placed : ArePlaced regions ds ps
+  pub placed : HavePieces regions ds ps

@@ -1,5 +1,5 @@
 use Rattle.std.proofs.Common.{◌≡◌, ◌≤◌, ◌<◌, ◌+◌, ℕ, List, [], ◌∷◌, true, false, length, inl, inr, ap, arith}
-use Rattle.vhost_chains.specs.Chains.{AreLinked, AreFew, AreOrdered, HaveBytes, ArePlaced, entry}
+use Rattle.vhost_chains.specs.Chains.{AreLinked, AreFew, AreOrdered, HaveBytes, HavePieces, entry}
 use Rattle.vhost_chains.specs.Descriptors.{is_table, is_writable}
 use Rattle.vhost_chains.specs.declared.descriptor.Descriptor.{Descriptor}
 use Rattle.vhost_chains.specs.declared.regions.Region.{Region}
@@ -29,7 +29,7 @@ module _ (a b : Descriptor) (first : is_table a ≡ false) (second : is_table b 
   bytes rest (inr (p, one, inl (t, more))) = absurd (cc)
   bytes rest (inr (p, one, inr (q, other, more))) = omega (arith, one, other)
 
-  placed : (regions : List Region) (pieces : List Piece) → ArePlaced regions (a ∷ b ∷ []) pieces
+  placed : (regions : List Region) (pieces : List Piece) → HavePieces regions (a ∷ b ∷ []) pieces
       → length pieces ≡ 2
   placed regions pieces (inl t) = let e = t.0 in absurd (cc)
   placed regions pieces (inr (p, place, rest, at, is, inl t)) = let e = t.0 in absurd (cc)
