@@ -12,7 +12,7 @@ use Rattle.std.proofs.lemmas.Bool.{cases_lt, cases_eq, cases_Bool, or_left}
 use Rattle.std.proofs.lemmas.List.{get_or_append_left, get_or-append_right, drop-drop, take-append-drop, take-append-le}
 use Rattle.std.proofs.lemmas.List.Sums.{sum_by-cons}
 use Rattle.fuse_views.specs.declared.file.WritevFlags.{WritevFlags}
-use Rattle.fs_trait.specs.Transfers.{Ending, Finished, Stuck, Broken, Past, last_bytes, bytes_moved, count_moved, writes_of, view_len, Goes, Ends, Transfers}
+use Rattle.fs_trait.specs.Transfers.{Ending, Finished, Stuck, Broken, Past, last_bytes, bytes_moved, count_moved, writes_of, view_len, Goes, EndsBy, Transfers}
 use Rattle.fs_trait.specs.TransferLaws.{goes_within}
 use Rattle.fs_contents.specs.Pages.{Pages, byte_at, byte_over, holds, with_page, with_pages}
 use Rattle.fs_contents.specs.Filling.{Fills}
@@ -126,7 +126,7 @@ module _ (left : List ℕ) (flags : Option WritevFlags) (count off : ℕ) (low :
   fill_ends : (moved : ℕ) (old : Pages) (ending : Ending) (new : Pages)
       → moved ≤ min count (length left)
       → ((m : ℕ) → m < count → holds (keys_of old) ((off + m) / 4096) ≡ true)
-      → Ends (writes_of fills left flags) count (length left) off moved old ending new
+      → EndsBy (writes_of fills left flags) count (length left) off moved old ending new
       → (moved ≡ min count (length left)) × (new ≡ old)
   fill_ends moved old Finished new small held h = (omega (arith, h.0), h.1)
   fill_ends moved old Stuck new small held h =
@@ -178,7 +178,7 @@ module _ (left : List ℕ) (flags : Option WritevFlags) (count : ℕ) where
   count_cases : (old middle new : Counting) (row : List (List ℕ × Counting)) (ending : Ending)
       → old.total ≡ 0
       → Goes (writes_of counts left flags) count (length left) 0 0 old row middle
-      → Ends (writes_of counts left flags) count (length left) 0 (count_moved row) middle ending new
+      → EndsBy (writes_of counts left flags) count (length left) 0 (count_moved row) middle ending new
       → (bytes_moved row ++ last_bytes ending ≡ []) × (new.total ≡ min count (length left))
   count_cases old middle new [] Finished none g e =
       let none_left = e.0 in

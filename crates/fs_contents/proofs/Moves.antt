@@ -2,7 +2,7 @@
 use Rattle.std.proofs.Common.{◌≡◌, ◌≤◌, ◌<◌, ◌+◌, ◌-◌, ◌^◌, ℕ, List, [], ◌∷◌, ◌++◌, length, get_or, min, Option, Result, Ok, refl, sym, ap, ◌∙◌, ⊎_elim, arith, append-nil, length-append}
 use Rattle.std.proofs.lemmas.Bool.{cases_lt}
 use Rattle.std.proofs.lemmas.List.{get_or_append_left, get_or-append_right}
-use Rattle.fs_trait.specs.Transfers.{Ending, Finished, Stuck, Broken, Past, last_bytes, outcome, bytes_moved, count_moved, reads_of, Goes, Ends, Transfers}
+use Rattle.fs_trait.specs.Transfers.{Ending, Finished, Stuck, Broken, Past, last_bytes, outcome, bytes_moved, count_moved, reads_of, Goes, EndsBy, Transfers}
 use Rattle.fs_trait.specs.TransferLaws.{goes_within}
 use Rattle.fs_contents.specs.Pages.{Pages, byte_at}
 use Rattle.fs_contents.specs.Reading.{ReadsSome}
@@ -36,7 +36,7 @@ module _ (count room off : ℕ) (low : off + count < 2 ^ 64) where
 
   -- and end when all is moved
   read_ends : (moved : ℕ) (old : Pages) (ending : Ending) (new : Pages) → moved ≤ min count room
-      → Ends (reads_of ReadsSome) count room off moved old ending new
+      → EndsBy (reads_of ReadsSome) count room off moved old ending new
       → (outcome moved ending ≡ Ok (min count room)) × (last_bytes ending ≡ [])
       × (moved ≡ min count room) × (new ≡ old)
   read_ends moved old Finished new small h =

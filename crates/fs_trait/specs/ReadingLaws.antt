@@ -3,7 +3,7 @@ use Rattle.std.proofs.Common.{◌≡◌, ◌≤◌, ◌+◌, ℕ, List, [], ◌�
 use Rattle.std.proofs.Math.Seq.{take-add}
 use Rattle.std.proofs.lemmas.List.{take_min, take_all, drop-drop}
 use Rattle.std.proofs.lemmas.List.Sums.{sum_by-cons}
-use Rattle.fs_trait.specs.Transfers.{Ending, Finished, Stuck, Broken, Past, last_bytes, outcome, bytes_moved, count_moved, reads_of, view_len, Goes, Ends, Transfers}
+use Rattle.fs_trait.specs.Transfers.{Ending, Finished, Stuck, Broken, Past, last_bytes, outcome, bytes_moved, count_moved, reads_of, view_len, Goes, EndsBy, Transfers}
 use Rattle.fs_trait.specs.TransferLaws.{goes_within}
 use Rattle.fs_trait.specs.Bytes.{part_of, Reads}
 
@@ -45,7 +45,7 @@ module _ (count room off : ℕ) where
 
   read_ends :
       (moved : ℕ) (old : List ℕ) (ending : Ending) (new : List ℕ) → moved ≤ min count room
-      → Ends (reads_of Reads) count room off moved old ending new
+      → EndsBy (reads_of Reads) count room off moved old ending new
       → ReadEnds moved old ending new
   read_ends moved old Finished new small h =
       let whole : moved ≡ min count room = omega (arith, h.0) in

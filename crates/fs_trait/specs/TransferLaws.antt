@@ -3,7 +3,7 @@
 use Rattle.std.proofs.Common.{◌≡◌, ◌≤◌, ◌<◌, ◌+◌, ◌-◌, ◌^◌, ℕ, List, [], ◌∷◌, length, min, Option, Result, Ok, Err, IfOk, arith, refl, sym, ap, ◌∙◌, length-append}
 use Rattle.std.proofs.lemmas.List.Sums.{sum_by-cons}
 use Rattle.fs_trait.specs.Answers.{Counts}
-use Rattle.fs_trait.specs.Transfers.{Ending, Finished, Stuck, Broken, Past, last_bytes, outcome, bytes_moved, count_moved, CallsFile, Goes, Ends, Transfers}
+use Rattle.fs_trait.specs.Transfers.{Ending, Finished, Stuck, Broken, Past, last_bytes, outcome, bytes_moved, count_moved, CallsFile, Goes, EndsBy, Transfers}
 
 -- an equation of two answers
 abbrev Same : Result ℕ (Option ℕ) → Result ℕ (Option ℕ) → Type 0
@@ -35,7 +35,7 @@ module _ {F : Type 0}
 
   last_within :
       (moved : ℕ) (old : F) (ending : Ending) (new : F)
-      → Ends calls count left off moved old ending new
+      → EndsBy calls count left off moved old ending new
       → length (last_bytes ending) ≤ min count left - moved
   last_within moved old Finished new h = omega arith
   last_within moved old Stuck new h = omega arith
@@ -103,7 +103,7 @@ module _ {F : Type 0}
 
   end_of_nothing :
       (old : F) (ending : Ending) (new : F) → min count left ≡ 0
-      → Ends calls count left off 0 old ending new → (ending ≡ Finished) × (new ≡ old)
+      → EndsBy calls count left off 0 old ending new → (ending ≡ Finished) × (new ≡ old)
   end_of_nothing old Finished new none h = (refl, h.1)
   end_of_nothing old Stuck new none h = let some = h.0 in absurd (omega arith)
   end_of_nothing old (Broken fault) new none h = let some = h.0 in absurd (omega arith)
@@ -123,7 +123,7 @@ module _ {F : Type 0}
 
   ends_short :
       (moved n : ℕ) (old : F) (ending : Ending) (new : F) → Same (Ok n) (outcome moved ending)
-      → n < min count left → Ends calls count left off moved old ending new
+      → n < min count left → EndsBy calls count left off moved old ending new
       → CallsFile calls count left off n old (Ok []) new
   ends_short moved n old Finished new e short h =
       let same : n ≡ moved = cc in

@@ -88,11 +88,11 @@ module _ {F : Type 0}
       × Goes (moved + length c.0) c.1 cs new
 
   -- how they end: where nothing is to be moved any more by no call, else by one
-  abbrev pub Ends : ℕ → F → Ending → F → Type 0
-  Ends moved old Finished new = (view_len moved ≡ 0) × (new ≡ old)
-  Ends moved old Stuck new = CallsFile moved old (Ok []) new
-  Ends moved old (Broken fault) new = CallsFile moved old (Err fault) new
-  Ends moved old (Past part) new =
+  abbrev pub EndsBy : ℕ → F → Ending → F → Type 0
+  EndsBy moved old Finished new = (view_len moved ≡ 0) × (new ≡ old)
+  EndsBy moved old Stuck new = CallsFile moved old (Ok []) new
+  EndsBy moved old (Broken fault) new = CallsFile moved old (Err fault) new
+  EndsBy moved old (Past part) new =
       MovesSome moved old part new × (2 ^ 64 ≤ off + moved + length part)
 
   -- a transfer: calls that moved bytes and an ending; the bytes that were moved, one after the
@@ -103,6 +103,6 @@ module _ {F : Type 0}
     pub middle : F
     pub ending : Ending
     pub goes : Goes 0 old row middle
-    pub ends : Ends (count_moved row) middle ending new
+    pub ends : EndsBy (count_moved row) middle ending new
     pub bytes_are : bytes ≡ bytes_moved row ++ last_bytes ending
     pub answered : result ≡ outcome (count_moved row) ending

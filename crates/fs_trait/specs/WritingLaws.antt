@@ -5,7 +5,7 @@ use Rattle.std.proofs.lemmas.List.{take_min, nil_from_length, length-replicate}
 use Rattle.std.proofs.lemmas.List.Sums.{sum_by-cons}
 use Rattle.fuse_views.specs.Segments.{with_bytes_at}
 use Rattle.fuse_views.specs.declared.file.WritevFlags.{WritevFlags}
-use Rattle.fs_trait.specs.Transfers.{Ending, Finished, Stuck, Broken, Past, outcome, count_moved, writes_of, Goes, Ends, Transfers}
+use Rattle.fs_trait.specs.Transfers.{Ending, Finished, Stuck, Broken, Past, outcome, count_moved, writes_of, Goes, EndsBy, Transfers}
 use Rattle.fs_trait.specs.declared.bytes_mut.BytesMut.{BytesMut}
 use Rattle.fs_trait.specs.Bytes.{fitting, lengthened, written, Writes}
 use Rattle.fs_trait.specs.BytesMut.{bytes_held, Keeps, WritesFile}
@@ -135,7 +135,7 @@ module _ (count off : ℕ) (left : List ℕ) (flags : Option WritevFlags) where
       (ending : Ending)
       → WritesFile old (take count left) off (Ok (length part)) one → middle ≡ one
       → m ≡ length part
-      → Ends (writes_of gives left flags) count (length left) off m middle ending new
+      → EndsBy (writes_of gives left flags) count (length left) off m middle ending new
       → WritesFile old (take count left) off (outcome m ending) new
   after_one old part one middle new m Finished w mid same e =
       let end = e.1 ∙ mid in (
@@ -165,7 +165,7 @@ module _ (count off : ℕ) (left : List ℕ) (flags : Option WritevFlags) where
   -- so a transfer is one write, of all that is to be moved
   write_cases : (old middle new : BytesMut) (row : List (List ℕ × BytesMut)) (ending : Ending)
       → old.most < 2 ^ 64 → Goes (writes_of gives left flags) count (length left) off 0 old row middle
-      → Ends (writes_of gives left flags) count (length left) off (count_moved row) middle ending new
+      → EndsBy (writes_of gives left flags) count (length left) off (count_moved row) middle ending new
       → WritesFile old (take count left) off (outcome (count_moved row) ending) new
   write_cases old middle new [] Finished low g e =
       let none : length (take count left) ≡ 0 = omega (arith, e.0, length-take count left) in

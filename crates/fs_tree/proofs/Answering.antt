@@ -14,22 +14,22 @@ use Rattle.fs_contents.specs.Contents.{lacking}
 use Rattle.fs_nodes.specs.declared.children.Child.{Child}
 use Rattle.fs_nodes.specs.declared.node.Node.{Node}
 use Rattle.fs_tree.specs.Naming.{directory_refusal, is_directory_at, is_improper, is_nameless, is_crowded, name_refusal}
-use Rattle.fs_tree.specs.Outcome.{Outcome, Tried, Ends, first_of, unless, refusal_of, on}
+use Rattle.fs_tree.specs.Outcome.{Outcome, Tried, HandsBack, first_of, unless, refusal_of, on}
 use Rattle.fs_tree.specs.State.{State, node_at, child_at, with_node, with_resized, lead, change}
 use Rattle.fs_tree.specs.Tree.{contents_refusal, link_refusal, linked, longest, most_size}
 use Rattle.fs_tree.proofs.Nodes.{changed, kinds_apart}
 
 -- it ends as the second of two
 pub as_second : (old new : State) (handed : Handed (List Item)) (t : Bool) (a b : Outcome) → t ≡ false
-    → Ends old b handed new → Ends old (if t then a else b) handed new
+    → HandsBack old b handed new → HandsBack old (if t then a else b) handed new
 as_second old new handed true a b is ends = cc is
 as_second old new handed false a b is ends = ends
 
 -- where an entry is answered, a file is opened too
 pub created_too : (old new : State) (refusal : Option ℕ) (made : Entry) (left : State) (entry : Entry)
     (options : ℕ) → options ≡ 0
-    → Ends old (unless refusal (Tried true (Plain (Found made)) left)) (Plain (Found entry)) new
-    → Ends old (unless refusal (Tried true (Plain (Created made None 0)) left))
+    → HandsBack old (unless refusal (Tried true (Plain (Found made)) left)) (Plain (Found entry)) new
+    → HandsBack old (unless refusal (Tried true (Plain (Created made None 0)) left))
     (Plain (Created entry None options)) new
 created_too old new (Some error) made left entry options none ends = cc (ends.0)
 created_too old new None made left entry options none ends =
@@ -39,15 +39,15 @@ created_too old new None made left entry options none ends =
 
 -- where it is refused, or there is no memory, so it is here
 pub failed_too : (old new : State) (refusal : Option ℕ) (made : Entry) (left : State) (fault : Option ℕ)
-    → Ends old (unless refusal (Tried true (Plain (Found made)) left)) (Plain (Failed fault)) new
-    → Ends old (unless refusal (Tried true (Plain (Created made None 0)) left)) (Plain (Failed fault)) new
+    → HandsBack old (unless refusal (Tried true (Plain (Found made)) left)) (Plain (Failed fault)) new
+    → HandsBack old (unless refusal (Tried true (Plain (Created made None 0)) left)) (Plain (Failed fault)) new
 failed_too old new (Some error) made left fault ends = ends
 failed_too old new None made left fault ends = ends
 
 -- an entry is answered where nothing is refused
 pub made_ends : (s new : State) (refusal : Option ℕ) (entry made : Entry) (left : State)
     → refusal ≡ None → entry ≡ made → new ≡ left
-    → Ends s (unless refusal (Tried true (Plain (Found made)) left)) (Plain (Found entry)) new
+    → HandsBack s (unless refusal (Tried true (Plain (Found made)) left)) (Plain (Found entry)) new
 made_ends s new None entry made left none is leaves = (ap (λ e. Plain (Found e)) is, leaves)
 made_ends s new (Some error) entry made left none is leaves = cc none
 
@@ -78,14 +78,14 @@ writes s n delayed kill off size bytes node =
 -- a call of a node that is there is refused
 pub refused_ends : (s : State) (o : Option Node) (refusal : Node → Option ℕ) (f : Node → Outcome)
     (node : Node) (error : ℕ) → o ≡ Some node → refusal node ≡ Some error
-    → Ends s (on o refusal f) (Plain (Failed (Some error))) s
+    → HandsBack s (on o refusal f) (Plain (Failed (Some error))) s
 refused_ends s None refusal f node error is refused = cc is
 refused_ends s (Some x) refusal f node error is refused =
-    subst (λ (y : Node). Ends s (unless (refusal y) (f y)) (Plain (Failed (Some error))) s)
+    subst (λ (y : Node). HandsBack s (unless (refusal y) (f y)) (Plain (Failed (Some error))) s)
     (sym (same_Some x node is)) (by (refusal node) refused)
   where
     by : (o : Option ℕ) → o ≡ Some error
-        → Ends s (unless o (f node)) (Plain (Failed (Some error))) s
+        → HandsBack s (unless o (f node)) (Plain (Failed (Some error))) s
     by None same = cc same
     by (Some e) same = (ap (λ x. Plain (Failed x)) (sym same), refl)
 
@@ -130,14 +130,14 @@ file_linked s parent name node none =
 -- what is done with a node that is there and gives no refusal
 on_there : (old new : State) (o : Option Node) (refusal : Node → Option ℕ) (f : Node → Outcome)
     (node : Node) (entry : Entry) → o ≡ Some node → refusal node ≡ None
-    → Ends old (f node) (Plain (Found entry)) new
-    → Ends old (on o refusal f) (Plain (Found entry)) new
+    → HandsBack old (f node) (Plain (Found entry)) new
+    → HandsBack old (on o refusal f) (Plain (Found entry)) new
 on_there old new None refusal f node entry is free ends = cc is
 on_there old new (Some x) refusal f node entry is free ends =
-    subst (λ (y : Node). Ends old (unless (refusal y) (f y)) (Plain (Found entry)) new)
+    subst (λ (y : Node). HandsBack old (unless (refusal y) (f y)) (Plain (Found entry)) new)
     (sym (same_Some x node is)) (by (refusal node) free)
   where
-    by : (o : Option ℕ) → o ≡ None → Ends old (unless o (f node)) (Plain (Found entry)) new
+    by : (o : Option ℕ) → o ≡ None → HandsBack old (unless o (f node)) (Plain (Found entry)) new
     by None none = ends
     by (Some error) none = cc none
 
@@ -169,7 +169,7 @@ module _ (s : State) (n parent : ℕ) (name : List ℕ) (entry : Entry) (last : 
   ends : (node : Node) → node_at s n ≡ Some node → link_refusal s parent name node ≡ None
       → IsCounted (named_too (record { node = n; kind = node.kind }))
       (node_at (named_too (record { node = n; kind = node.kind })) n)
-      → Ends s links (Plain (Found entry)) last
+      → HandsBack s links (Plain (Found entry)) last
   ends node is free counts =
       let child : Child = record { node = n; kind = node.kind } in
       let named = named_too child in
@@ -200,7 +200,7 @@ module _ (s : State) (n parent : ℕ) (name : List ℕ) (entry : Entry) (last : 
       → refusal_of o (link_refusal s parent name) ≡ None
       → named ≡ lead s parent name false (Some child)
       → IsCounted named (node_at named n)
-      → Ends s links (Plain (Found entry)) last
+      → HandsBack s links (Plain (Found entry)) last
   linked_ends None child named is same free step counts = cc free
   linked_ends (Some node) child named is same free step counts =
       ends node is free

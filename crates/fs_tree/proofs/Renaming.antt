@@ -8,7 +8,7 @@ use Rattle.fs_trait.specs.Calls.{Done, Plain, done_answer}
 use Rattle.fs_trait.specs.declared.entry.Context.{Context}
 use Rattle.fs_nodes.specs.declared.children.Child.{Child}
 use Rattle.fs_nodes.specs.declared.node.Node.{Node}
-use Rattle.fs_tree.specs.Outcome.{Tried, Ends, done, first_of, unless, with_it}
+use Rattle.fs_tree.specs.Outcome.{Tried, HandsBack, done, first_of, unless, with_it}
 use Rattle.fs_tree.specs.Rename.{moved_into, renamed, whiteout}
 use Rattle.fs_tree.specs.State.{State, lead, unnamed, with_new}
 
@@ -51,19 +51,19 @@ module _ (s new : State) (child : Child) (target : Option Child) (needs : Bool) 
     (err : IfErr result (λ fault. (fault ≡ Some enomem) × (new ≡ s) × IsTrue needs)) where
   tried : (r : Result (Unit {0}) (Option ℕ)) → OnOk r (new ≡ last child)
       → IfErr r (λ fault. (fault ≡ Some enomem) × (new ≡ s) × IsTrue needs)
-      → Ends s (Tried needs (Plain Done) (last child)) (Plain (done_answer r)) new
+      → HandsBack s (Tried needs (Plain Done) (last child)) (Plain (done_answer r)) new
   tried (Ok x) done failed = (refl, done)
   tried (Err fault) done failed = failed
 
   pub moved_ends : (a b r : Option ℕ) (moved : Option Child) (same : Bool) → a ≡ None → b ≡ None
       → r ≡ None → moved ≡ Some child → same ≡ false
-      → Ends s
+      → HandsBack s
       (unless (option_or a (option_or b r)) (with_it moved (λ (x : Child).
       if same then done s else Tried needs (Plain Done) (last x))))
       (Plain (done_answer result)) new
   moved_ends None None None (Some x) false one two three is apart =
       subst
-      (λ (y : Child). Ends s (Tried needs (Plain Done) (last y)) (Plain (done_answer result)) new)
+      (λ (y : Child). HandsBack s (Tried needs (Plain Done) (last y)) (Plain (done_answer result)) new)
       (sym (same_Some x child is)) (tried result ok err)
   moved_ends (Some e) b r moved same one two three is apart = cc one
   moved_ends None (Some e) r moved same one two three is apart = cc two

@@ -16,12 +16,12 @@ pub data Outcome : Type 0 where
   Tried : (needs_memory : Bool) → Handed (List Item) → State → Outcome
 
 -- from the old state a call that ends so may hand this back and leave the new state
-abbrev pub Ends : State → Outcome → Handed (List Item) → State → Type 0
-Ends old (Refused error) handed new = (handed ≡ Plain (Failed (Some error))) × (new ≡ old)
-Ends old (Answered reply left) handed new = (handed ≡ reply) × (new ≡ left)
-Ends old (Tried needs reply left) (Plain (Failed fault)) new =
+abbrev pub HandsBack : State → Outcome → Handed (List Item) → State → Type 0
+HandsBack old (Refused error) handed new = (handed ≡ Plain (Failed (Some error))) × (new ≡ old)
+HandsBack old (Answered reply left) handed new = (handed ≡ reply) × (new ≡ left)
+HandsBack old (Tried needs reply left) (Plain (Failed fault)) new =
     (fault ≡ Some enomem) × (new ≡ old) × IsTrue needs
-Ends old (Tried needs reply left) handed new = (handed ≡ reply) × (new ≡ left)
+HandsBack old (Tried needs reply left) handed new = (handed ≡ reply) × (new ≡ left)
 
 -- nothing is told but that it is done
 abbrev pub done : State → Outcome

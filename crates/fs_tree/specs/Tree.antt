@@ -21,7 +21,7 @@ use Rattle.fs_nodes.specs.declared.kind.Kind.TheVariants as kind
 use Rattle.fs_nodes.specs.declared.node.Node.{Node}
 use Rattle.fs_nodes.specs.declared.node.Time.{Time}
 use Rattle.fs_tree.specs.Naming.{directory_refusal, is_crowded, name_refusal, has_no_number, new_in, asks_nameless, new_nameless, nameless_refusal}
-use Rattle.fs_tree.specs.Outcome.{Outcome, Refused, Answered, Tried, Ends, done, first_of, unless, with_it, on}
+use Rattle.fs_tree.specs.Outcome.{Outcome, Refused, Answered, Tried, HandsBack, done, first_of, unless, with_it, on}
 use Rattle.fs_tree.specs.Rename.{renames}
 use Rattle.fs_tree.specs.State.{State, node_at, room_of, with_node, with_resized, with_new, settled, change, lead, unnamed, child_at}
 use Rattle.fs_tree.specs.declared.fs.Capacity.{Capacity}
@@ -267,4 +267,4 @@ outcome s call = Answered (Plain (default_answer call)) s
 
 -- from the old state this call may hand this back and leave the new state
 abbrev pub TreeAllows : State → Call → Handed (List Item) → State → Type 0
-TreeAllows old call handed new = Ends old (outcome old call) handed new
+TreeAllows old call handed new = HandsBack old (outcome old call) handed new

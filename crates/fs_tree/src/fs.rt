@@ -13,7 +13,7 @@ ghost use Rattle.fs_trait.specs.Calls.{Plain, Found, entry_answer};
 ghost use Rattle.fs_nodes.specs.Held.{may_hold};
 ghost use Rattle.fs_nodes.specs.Node.{weight};
 ghost use Rattle.fs_tree.specs.Naming.{has_no_number, is_crowded, new_in};
-ghost use Rattle.fs_tree.specs.Outcome.{Ends};
+ghost use Rattle.fs_tree.specs.Outcome.{HandsBack};
 ghost use Rattle.fs_nodes.specs.declared.node.Node.{Node};
 ghost use Rattle.fs_tree.specs.Holding.{first_held, rests};
 ghost use Rattle.fs_tree.specs.State.{following, child_at, lead, node_at, room_of, with_new};
@@ -184,7 +184,7 @@ impl TreeFs {
         name: CStr<'_>,
         text: &[u8],
     ) -> Result<Entry, Fault>
-        ensures { Ends self.old
+        ensures { HandsBack self.old
             (makes self.old ctx Found kind permissions parent (name_text name.entry) text.now)
             (Plain (entry_answer result)) self.new }
     {
@@ -205,7 +205,7 @@ impl TreeFs {
         name: CStr<'_>,
         flags: u32,
     ) -> Result<Entry, Fault>
-        ensures { Ends self.old
+        ensures { HandsBack self.old
             (makes_nameless self.old ctx Found permissions parent (name_text name.entry) flags)
             (Plain (entry_answer result)) self.new }
     {

@@ -3,7 +3,7 @@
 use Rattle.std.proofs.Common.{◌≡◌, ◌≤◌, ◌<◌, ◌+◌, ◌-◌, ◌^◌, ◌⊎◌, inl, inr, ℕ, List, [], ◌∷◌, ◌++◌, length, min, Option, None, Result, Ok, Err, arith, refl, ap, ◌∙◌, append-nil}
 use Rattle.std.proofs.lemmas.Grind.{flat_map-append}
 use Rattle.std.proofs.lemmas.List.Sums.{sum_by_push, sum_by-cons}
-use Rattle.fs_trait.specs.Transfers.{Ending, Finished, Stuck, Broken, Past, last_bytes, outcome, bytes_moved, count_moved, CallsFile, MovesSome, Goes, Ends, Transfers}
+use Rattle.fs_trait.specs.Transfers.{Ending, Finished, Stuck, Broken, Past, last_bytes, outcome, bytes_moved, count_moved, CallsFile, MovesSome, Goes, EndsBy, Transfers}
 
 -- what bytes are put into or taken from: what it is for bytes to be moved, how many may still be, and
 -- the laws of both
@@ -117,7 +117,7 @@ module _ {F S : Type 0} (side : Side S)
     -- the calls are over, and this is the ending
     ended :
         {moved place : ℕ} {f g : F} {now new : S} → Going moved place f now → (ending : Ending)
-        → Ends calls count (side.left old) off moved f ending g
+        → EndsBy calls count (side.left old) off moved f ending g
         → side.moves now (last_bytes ending) new → Ended (outcome moved ending) g new
     ended {moved} {place} {f} {g} {now} {new} going ending ends moves = (
       bytes_moved going.row ++ last_bytes ending,

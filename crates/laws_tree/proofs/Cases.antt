@@ -17,7 +17,7 @@ use Rattle.fs_contents.specs.Contents.{Contents, resized, allocated, punched, ze
 use Rattle.fs_tree.specs.Children.{leading, is_directory, is_file, is_link}
 use Rattle.fs_tree.specs.Listing.{items_after}
 use Rattle.fs_tree.specs.Node.{attr_of, entry_of, lasting, weight, rewritten, is_other, truncates, opened, set_attr, overwritten, kind_by_mode, new_node, accessed}
-use Rattle.fs_tree.specs.Outcome.{Outcome, Refused, Answered, Tried, Ends, done, first_of, unless, with_it, on}
+use Rattle.fs_tree.specs.Outcome.{Outcome, Refused, Answered, Tried, HandsBack, done, first_of, unless, with_it, on}
 use Rattle.fs_tree.specs.Rename.{same_node, rename_refusal, renamed}
 use Rattle.fs_tree.specs.State.{State, node_at, room_of, with_new, with_node, with_resized, change, child_at}
 use Rattle.laws_tree.specs.Laws.{IsShort}
@@ -816,7 +816,7 @@ pub left_so : (old new : State) (F : Type 0) (L : Handed (List Item) → State �
     (handed : Handed (List Item)) (C : Type 0)
     → (F → (error : Option ℕ) → handed ≡ Plain (Failed error) → new ≡ old → C)
     → ((reply : Handed (List Item)) → handed ≡ reply → L reply new → C)
-    → Each F L o → Ends old o handed new → C
+    → Each F L o → HandsBack old o handed new → C
 left_so old new F L (Refused error) handed C fails leaves each h =
     fails each (Some error) h.0 h.1
 left_so old new F L (Answered reply left) handed C fails leaves each h =
@@ -826,7 +826,7 @@ left_so old new F L (Tried needs reply left) handed C fails leaves each h = by h
     by : (handed : Handed (List Item))
         → (F → (error : Option ℕ) → handed ≡ Plain (Failed error) → new ≡ old → C)
         → ((reply : Handed (List Item)) → handed ≡ reply → L reply new → C)
-        → Ends old (Tried needs reply left) handed new → C
+        → HandsBack old (Tried needs reply left) handed new → C
     by (Plain (Failed x)) fails leaves h = fails each.0 x refl h.1
     by (Iterator x) fails leaves h = leaves reply h.0 (subst (L reply) (sym h.1) each.1)
     by (Plain Done) fails leaves h = leaves reply h.0 (subst (L reply) (sym h.1) each.1)

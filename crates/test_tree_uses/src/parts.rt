@@ -18,7 +18,7 @@ ghost use Rattle.fs_nodes.specs.Writing.{Overwrites};
 ghost use Rattle.fs_nodes.specs.Xattrs.{with_xattr, xattr_bytes};
 ghost use Rattle.fs_nodes.specs.declared.node.Node.{Node as NodeValue};
 ghost use Rattle.fs_nodes.specs.declared.node.Time.{Time as TimeValue};
-ghost use Rattle.fs_tree.specs.Outcome.{Ends, Tried};
+ghost use Rattle.fs_tree.specs.Outcome.{HandsBack, Tried};
 ghost use Rattle.fs_tree.specs.State.{State};
 
 use fs_contents::{Contents, is_mode};
@@ -156,7 +156,7 @@ fn value_that_is_given(
 /// A call that is tried fails by ENOMEM alone, only where it needs memory, and then nothing changes.
 fn calls_that_are_tried()
     ensures { (old left new : State) (needs : Bool) (reply : Handed (List Item)) (fault : Option ℕ) →
-        Ends old (Tried needs reply left) (Plain (Failed fault)) new →
+        HandsBack old (Tried needs reply left) (Plain (Failed fault)) new →
         (fault ≡ Some 12) × (new ≡ old) × (needs ≡ true) }
 {}
 

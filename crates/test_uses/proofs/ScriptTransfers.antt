@@ -3,7 +3,7 @@
 use Rattle.std.proofs.Common.{◌≡◌, ◌<◌, ◌+◌, ℕ, List, [], ◌∷◌, ◌++◌, length, replicate, Option, Some, None, Result, Ok, Err, refl, ap, ◌∙◌, arith}
 use Rattle.std.proofs.lemmas.List.Sums.{sum_by-cons}
 use Rattle.fs_trait.specs.Answers.{Counts, Plain, read_answer, written_answer}
-use Rattle.fs_trait.specs.Transfers.{Ending, Finished, Stuck, Broken, Past, last_bytes, outcome, bytes_moved, count_moved, reads_of, writes_of, Goes, Ends}
+use Rattle.fs_trait.specs.Transfers.{Ending, Finished, Stuck, Broken, Past, last_bytes, outcome, bytes_moved, count_moved, reads_of, writes_of, Goes, EndsBy}
 use Rattle.fs_mock.specs.Scripts.{ReadsScript, WritesScript, ReadsFile, WritesFile, called}
 use Rattle.fs_mock.specs.declared.file.ScriptFile.{ScriptFile}
 
@@ -27,7 +27,7 @@ module _ (room : ℕ) (some_room : 0 < room) where
       (part : List ℕ) (row : List (List ℕ × ScriptFile)) (old middle : ScriptFile)
       (ending : Ending) (new : ScriptFile) → length part ≡ 1
       → Goes (reads_of ReadsScript) 1 room 0 (0 + length part) old row middle
-      → Ends (reads_of ReadsScript) 1 room 0 (length part + count_moved row) middle ending new
+      → EndsBy (reads_of ReadsScript) 1 room 0 (length part + count_moved row) middle ending new
       → (row ≡ []) × (ending ≡ Finished) × (new ≡ old)
   then_nothing part [] old middle Finished new one g e = (refl, refl, e.1 ∙ g)
   then_nothing part [] old middle Stuck new one g e = let some = e.0 in absurd (omega arith)
@@ -41,7 +41,7 @@ module _ (room : ℕ) (some_room : 0 < room) where
   reads_seven :
       (row : List (List ℕ × ScriptFile)) (middle : ScriptFile) (ending : Ending) (new : ScriptFile)
       → Goes (reads_of ReadsScript) 1 room 0 0 (moving 1 7) row middle
-      → Ends (reads_of ReadsScript) 1 room 0 (count_moved row) middle ending new
+      → EndsBy (reads_of ReadsScript) 1 room 0 (count_moved row) middle ending new
       → (outcome (count_moved row) ending ≡ Ok 1)
       × (bytes_moved row ++ last_bytes ending ≡ 7 ∷ [])
       × (new ≡ called (moving 1 7))
@@ -84,7 +84,7 @@ module _ (bytes : List ℕ) (some_byte : 0 < length bytes) where
   takes_none :
       (row : List (List ℕ × ScriptFile)) (middle : ScriptFile) (ending : Ending) (new : ScriptFile)
       → Goes (writes_of WritesScript bytes None) 4096 (length bytes) 0 0 (moving 0 0) row middle
-      → Ends (writes_of WritesScript bytes None) 4096 (length bytes) 0 (count_moved row) middle ending new
+      → EndsBy (writes_of WritesScript bytes None) 4096 (length bytes) 0 (count_moved row) middle ending new
       → (outcome (count_moved row) ending ≡ Ok 0) × (new ≡ called (moving 0 0))
   takes_none [] middle Finished new g e = absurd (omega (arith, e.0))
   takes_none [] middle Stuck new g e = (refl, (rw g at e).1.0.counted)

@@ -3,7 +3,7 @@ use Rattle.fs_trait.specs.Calls.{Plain, done_answer}
 use Rattle.fs_trait.specs.Values.{name_text}
 use Rattle.fs_nodes.specs.declared.children.Child.{Child}
 use Rattle.fs_tree.specs.Naming.{directory_refusal}
-use Rattle.fs_tree.specs.Outcome.{Ends}
+use Rattle.fs_tree.specs.Outcome.{HandsBack}
 use Rattle.fs_tree.specs.Rename.{rename_refusal, renamed, renames, same_node}
 use Rattle.fs_tree.specs.State.{child_at, node_at}
 use Rattle.fs_tree.proofs.Renaming.{moved_ends}
@@ -32,8 +32,8 @@ returns c =
     (directory_refusal (node_at s od) on) (directory_refusal (node_at s nd) nn)
     (rename_refusal s od nd nn flags moved target) moved (same_node moved target) one two three is apart in
     subst
-    (λ (t : Option Child). Ends s (renames s c.args.ctx od on nd nn flags t (child_at s od on))
+    (λ (t : Option Child). HandsBack s (renames s c.args.ctx od on nd nn flags t (child_at s od on))
     (Plain (done_answer c.move_child.result)) c.move_child.new.self) target_is
     (subst
-    (λ (m : Option Child). Ends s (renames s c.args.ctx od on nd nn flags target m)
+    (λ (m : Option Child). HandsBack s (renames s c.args.ctx od on nd nn flags target m)
     (Plain (done_answer c.move_child.result)) c.move_child.new.self) moved_is ends)
