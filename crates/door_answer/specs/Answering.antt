@@ -45,7 +45,7 @@ Comes limits call kind answer old came new =
     (node_answered kind answer)) 0)
     × (came.taken ≡ 0)
 
--- after the place of the reply's header, where the data of a READ stand, nothing changes
+-- after the place of the reply's header, where the data of a READ are, nothing changes
 abbrev pub KeepsData : Kind → (old new : Written) → Type 0
 KeepsData (Data size) old new =
     (header : List ℕ) × (length header ≡ size_of out_header)

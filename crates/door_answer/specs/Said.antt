@@ -25,7 +25,7 @@ IsTooMuch size room_len count =
 abbrev pub IsFailed : AnswerData → (fault : Option ℕ) → Type 0
 IsFailed a fault = (a.error ≢ pos 0) × IsFaultOf a.error fault
 
--- The value of an answer to a call of this kind. The text stands beside the answer, and the data of a READ
+-- The value of an answer to a call of this kind. The text is beside the answer, and the data of a READ
 -- in the room, after the place of the reply's header.
 abbrev pub IsValue : AnswerData → (text room : List ℕ) → Kind → Answer → Type 0
 IsValue a text room Told Done = ⊤
@@ -79,12 +79,12 @@ IsSaid a text room kind answer = (a.error ≡ pos 0) × IsValue a text room kind
 
 -- ---- no more is of the promise: the rest is for proofs, and for contracts of parts
 
--- the answer of a call that answers a text, where it stands beside
+-- the answer of a call that answers a text, where it is beside
 abbrev pub text_said : Result (Unit {0}) (Option ℕ) → (text : List ℕ) → Answer
 text_said (Ok _) text = Text text
 text_said (Err fault) text = Failed fault
 
--- the answer of a call that answers a text, which stands beside, or a count
+-- the answer of a call that answers a text, which is beside, or a count
 abbrev pub value_said : Result (Option ℕ) (Option ℕ) → (text : List ℕ) → Answer
 value_said (Ok None) text = Text text
 value_said (Ok (Some count)) text = Count count

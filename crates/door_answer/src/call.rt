@@ -28,7 +28,7 @@ use fuse_messages::{hold_header, reply_data};
 use fuse_segments::Writer;
 use fuse_wire::{AttrOut, ByteValued, EntryOut, OutHeader};
 
-/// Whether that many bytes are left, and the first segment has them all. No promise stands on it: what is put is
+/// Whether that many bytes are left, and the first segment has them all. No promise rests on it: what is put is
 /// the same.
 #[inline(always)]
 fn fits_in_one(w: &Writer, len: usize) -> bool {
@@ -55,7 +55,7 @@ fn entry_apart(call: &CallData, answer: &AnswerData, w: &mut Writer) -> Answered
 }
 
 /// Answers an entry. As of an item of a directory, what puts it into one segment is spelled right from the
-/// answer, and stands apart from what puts together in memory what is cut.
+/// answer, and is apart from what puts together in memory what is cut.
 #[inline(always)]
 fn answer_entry(call: &CallData, answer: &AnswerData, w: &mut Writer) -> Answered
     ensures { (limits : Limits) (text : List ℕ) →
@@ -88,7 +88,7 @@ fn attributes_apart(call: &CallData, answer: &AnswerData, w: &mut Writer) -> Ans
 }
 
 /// Answers attributes. As of an item of a directory, what puts them into one segment is spelled right from the
-/// answer, and stands apart from what puts together in memory what is cut.
+/// answer, and is apart from what puts together in memory what is cut.
 #[inline(always)]
 fn answer_attributes(call: &CallData, answer: &AnswerData, w: &mut Writer) -> Answered
     ensures { (limits : Limits) (text : List ℕ) →

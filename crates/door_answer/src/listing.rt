@@ -54,7 +54,7 @@ fn named<'a>(offered: &ItemData<'_>, name: CStr<'a>) -> DirEntry<'a>
     }
 }
 
-/// Whether the first segment has the next `len` bytes. No promise stands on it: what is put is the same.
+/// Whether the first segment has the next `len` bytes. No promise rests on it: what is put is the same.
 #[inline(always)]
 pub(crate) fn has_left(w: &Writer, len: usize) -> bool {
     match w.segments().first() {
@@ -91,7 +91,7 @@ fn add_anywhere(
 }
 
 /// The same. Most records lie in the first segment: those are spelled right from the item into the room. For
-/// one over a cut the entry is put together in memory, so that stands apart, with what is rare.
+/// one over a cut the entry is put together in memory, so that is apart, with what is rare.
 #[inline(always)]
 fn add_item(
     offered: &ItemData<'_>,

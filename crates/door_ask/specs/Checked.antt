@@ -66,7 +66,7 @@ checked_of room asked.Call = checked.Call
 checked_of room (asked.Finished (Ok len) interrupts) = checked.Finished interrupts
 checked_of room (asked.Finished (Err error) interrupts) = refused_as room interrupts error
 
--- what is said of a request with this header, after which a reader stands
+-- what is said of a request with this header, after which a reader is
 abbrev pub JudgesHeader : Terms → InHeader → Unread → Checked → CallData → Type 0
 JudgesHeader terms h r result told =
     (request : List ℕ) → length request ≡ terms.len → record_of in_header request ≡ Ok h

@@ -1,4 +1,4 @@
--- Where a security context stands.
+-- Where a security context is.
 use Rattle.std.specs.Prelude.{◌≡◌, ◌⊎◌, ◌<◌, ◌+◌, ◌-◌, ◌==◌, ◌^◌, min, ℕ, Bool, false, if◌then◌else◌, List, drop, length, Some, Ok, Err, Result}
 use Rattle.fuse_flags.specs.Flags.{security_ctx, has_flag}
 use Rattle.fuse_flags.specs.declared.opcode.Opcode.{Opcode}
@@ -52,7 +52,7 @@ GivesTailOf (Ok bytes) tail = tail ≡ Ok bytes
 GivesTailOf (Err e) tail =
     (tail ≡ Err e) ⊎ ((whole : List ℕ) × (tail ≡ Ok whole) × (e ≡ OutOfMemory))
 
--- the last name or text of such a request, after which its blocks stand
+-- the last name or text of such a request, after which its blocks are
 abbrev pub last_name : Opcode → CallData → Range
 last_name opcode.Symlink c = c.other_name
 last_name opcode c = c.name
@@ -64,7 +64,7 @@ blocks_place o c = place_after (last_name o c).at (last_name o c)
 abbrev pub blocks_of : Opcode → CallData → (tail : List ℕ) → List ℕ
 blocks_of o c tail = drop (blocks_place o c - c.name.at) tail
 
--- a call whose context, where it has one, stands so far after the place of the blocks
+-- a call whose context, where it has one, is so far after the place of the blocks
 abbrev pub with_context_at : (place : ℕ) → CallData → CallData
 with_context_at place c =
     if c.context.len == 0 then c

@@ -1,4 +1,4 @@
--- Where the names and values of a request stand, by its opcode.
+-- Where the names and values of a request are, by its opcode.
 use Rattle.std.specs.Prelude.{◌+◌, ◌-◌, ◌*◌, ◌^◌, ℕ, min}
 use Rattle.fuse_flags.specs.declared.opcode.Opcode.{Opcode}
 use Rattle.fuse_flags.specs.declared.opcode.Opcode.TheVariants as opcode

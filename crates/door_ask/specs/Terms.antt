@@ -25,7 +25,7 @@ TellsAfter terms wanted interrupts h rest a writer result writer_after told =
     → Tells wanted request (fs_options_bits terms.options) interrupts terms.room a writer result writer_after
     told
 
--- What is told of a request with this header, after which a reader stands.
+-- What is told of a request with this header, after which a reader is.
 abbrev pub TellsOfHeader : Terms → InHeader → Unread → (writer : Written) → Asked → (writer_after : Written)
     → CallData → Type 0
 TellsOfHeader terms h r writer result writer_after told =

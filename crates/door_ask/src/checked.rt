@@ -97,7 +97,7 @@ fn check_version(
     )
 }
 
-// What an INIT with this header is, after which `r` stands.
+// What an INIT with this header is, after which `r` is.
 fn check_init(
     alloc: Global,
     header: &InHeader,

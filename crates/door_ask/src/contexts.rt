@@ -1,4 +1,4 @@
-//! Where a security context stands among the extensions of a request.
+//! Where a security context is among the extensions of a request.
 
 ghost use Rattle.std.specs.Prelude.{◌≡◌, Err, drop};
 ghost use Rattle.fuse_flags.specs.Flags.{fs_options_bits};
@@ -53,7 +53,7 @@ pub fn may_have_context(opcode: Opcode, options: FsOptions) -> bool
     }
 }
 
-/// The tail of a request that may have a context, after whose header `r` stands: the bytes that its
+/// The tail of a request that may have a context, after whose header `r` is: the bytes that its
 /// names and its blocks lie in. It is refused as the request is.
 pub fn read_tail_of<'a>(
     opcode: Opcode,
@@ -80,7 +80,7 @@ pub fn read_tail_of<'a>(
     }
 }
 
-/// The last name or text of a call, after which its blocks stand.
+/// The last name or text of a call, after which its blocks are.
 fn last_name(opcode: Opcode, call: &CallData) -> Range
     ensures { result ≡ last_name opcode call.now }
 {

@@ -16,7 +16,7 @@ use fuse_messages::{offered_options, read_record, read_second_flags, reply_unser
 use fuse_segments::{Reader, Writer};
 use fuse_wire::{InHeader, InitInCompat};
 
-/// What an INIT with this header asks, after which `r` stands: its one or two records.
+/// What an INIT with this header asks, after which `r` is: its one or two records.
 #[inline(never)]
 pub fn ask_init(
     header: &InHeader,

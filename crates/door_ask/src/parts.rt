@@ -16,7 +16,7 @@ use fuse_wire_more::{
     CreateIn, GetxattrIn, LinkIn, MkdirIn, MknodIn, Rename2In, RenameIn, WriteIn,
 };
 
-/// The parts of a request that a call takes as they stand, each from a place of the request on.
+/// The parts of a request that a call takes as they are, each from a place of the request on.
 #[derive(Clone, Copy)]
 pub enum Parts {
     /// None.

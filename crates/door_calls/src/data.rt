@@ -90,7 +90,7 @@ pub struct StatisticsData {
 }
 
 /// An answer: the fault that `error` is, or where that is 0 what the call's kind of answer names. A
-/// text, the data of a READ and the items of a directory stand beside it.
+/// text, the data of a READ and the items of a directory are beside it.
 #[repr(C)]
 #[derive(Clone, Copy, Debug, Default)]
 pub struct AnswerData {

@@ -1,4 +1,4 @@
-//! An example: a tree of three files that is served read-only. `hello.txt` and `readme.txt` stand
+//! An example: a tree of three files that is served read-only. `hello.txt` and `readme.txt` are
 //! in the root, and `a.txt` in the directory `docs`.
 #![tactic(auto)]
 

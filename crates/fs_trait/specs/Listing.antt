@@ -20,13 +20,13 @@ items_from begin names (kept ∷ entries) =
       name = slice_range names begin kept.end;
     } ∷ items_from kept.end names entries
 
--- the names of these items stand one after the other from a place to the end
+-- the names of these items are one after the other from a place to the end
 abbrev pub AreInTurn : (begin : ℕ) → (names : List ℕ) → List Kept → Type 0
 AreInTurn begin names [] = begin ≡ length names
 AreInTurn begin names (kept ∷ entries) =
     (begin ≤ kept.end) × (kept.end ≤ length names) × AreInTurn kept.end names entries
 
--- what holds of a list: that many items were given, the names of those that are left stand from a
+-- what holds of a list: that many items were given, the names of those that are left are from a
 -- place to the end, and no byte of a name is 0
 pub record IsEntryList (names : List ℕ) (entries : List Kept) (given begin : ℕ) : Type 0 where
   pub within : given ≤ length entries

@@ -49,7 +49,7 @@ outcome moved Stuck = Ok moved
 outcome moved (Broken fault) = Err fault
 outcome moved (Past part) = Err None
 
--- the bytes that calls moved, where each stands beside the file after it
+-- the bytes that calls moved, where each is beside the file after it
 abbrev pub bytes_moved : {F : Type 0} → List (List ℕ × F) → List ℕ
 bytes_moved calls = flat_map (λ c. c.0) calls
 

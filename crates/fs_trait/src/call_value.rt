@@ -423,7 +423,7 @@ pub enum AnswerKind {
     Faults,
 }
 
-/// An answer to such a call. A fault stands beside it, as the `Err` of a result.
+/// An answer to such a call. A fault is beside it, as the `Err` of a result.
 #[derive(Drop)]
 pub enum Given {
     /// It was done, or there is nothing to answer.

@@ -12,7 +12,7 @@ use memchr::memchr;
 use std::alloc::Global;
 use std::marker::Model;
 
-/// Where the first 0 stands.
+/// Where the first 0 is.
 #[tactic(auto, using(crate::proofs::Texts::first_zero_is_place))]
 pub fn first_nul(bytes: &[u8]) -> Option<usize>
     ensures { result ≡ position (λ b. b == 0) bytes.now }

@@ -17,7 +17,7 @@ use Rattle.fuse_grammar.specs.declared.limits.Limits.{Limits}
 use Rattle.fuse_grammar.specs.declared.error.Error.{Error}
 
 -- What comes back of a request: an error, with no byte put; nothing; these bytes, after which
--- the room stays as it was; or these bytes, after which the room is open: any bytes may stand there.
+-- the room stays as it was; or these bytes, after which the room is open: any bytes may be there.
 pub data Reply : Type 0 where
   Refusal : (error : Error) → Reply
   NoReply : Reply

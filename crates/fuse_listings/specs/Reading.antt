@@ -98,7 +98,7 @@ module _ {S I : Type 0}
     (allows : S → Call → Handed I → S → Type 0) (gives : I → Option Item → I → Type 0)
     (ctx : Context) where
   -- A directory is read from an iterator: there is a run whose events are those of a listing, and
-  -- its records are put into the room. After them stands the beginning of one more where the room
+  -- its records are put into the room. After them is the beginning of one more where the room
   -- was too small for it.
   pub record ReadsItems
       (plus : Bool) (parent size : ℕ) (it : I)

@@ -182,7 +182,7 @@ fn read_items<F: FileSystem>(
 }
 
 /// Serves READDIR or, where `plus`, READDIRPLUS, but for the reply's header: calls `readdir`, and
-/// puts the records of the entries where the writer stands, at most `read_in.size` bytes of them.
+/// puts the records of the entries where the writer is, at most `read_in.size` bytes of them.
 /// For READDIRPLUS each entry but `.` and `..` is looked up before its record is put.
 ///
 /// The reading stops at the directory's end, or at the first entry that isn't written: one whose

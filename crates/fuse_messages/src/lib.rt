@@ -1,7 +1,7 @@
 //! The parts of a request, read from a reader, and replies, put into the room of a writer: without a
 //! file system, and as the written grammar says.
 //!
-//! The server stands on this crate and shows the parts of it that its callers need again.
+//! The server uses this crate and shows the parts of it that its callers need again.
 #![tactic(auto)]
 
 mod extensions;

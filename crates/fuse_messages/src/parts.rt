@@ -27,7 +27,7 @@ use std::alloc::Global;
 /// One request whose header was read: where its memory comes from, the header, and the reader of
 /// what comes after it.
 ///
-/// Each part is read from where the reader stands: first the records, then the tail or the pairs.
+/// Each part is read from where the reader is: first the records, then the tail or the pairs.
 #[derive(Drop)]
 pub struct Request<'a, 'r> {
     /// Where the memory for a tail or a list is taken from.

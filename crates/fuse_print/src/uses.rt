@@ -10,7 +10,7 @@ use crate::request::print_request;
 use crate::take::take_name;
 use fuse_flags::FsOptions;
 
-/// Whatever the bytes, an escape (27), on which a terminal acts, stands nowhere in their text.
+/// Whatever the bytes, an escape (27), on which a terminal acts, is nowhere in their text.
 fn no_escape_is_shown()
     ensures { (bytes : List ℕ) → All (λ b. b < 256) bytes →
         (k : ℕ) → k < length (quoted bytes) → slice_index_or (quoted bytes) k 32 ≢ 27 }

@@ -67,7 +67,7 @@ alike first second e u t m n questions answers others v w p r =
     let start : AreAlike u t = record { left = m.0 ∙ e ∙ sym n.0; taken = m.1 ∙ sym n.1 } in
     all-same u t start questions answers others v w p r
 
--- a reader has advanced to where it stands n bytes on
+-- a reader has advanced to where it is n bytes on
 advanced-is : (u : Unread) (n : ℕ) → AdvancesBy u n (advanced u n)
 advanced-is u n = record { left = refl; taken = refl }
 

@@ -15,7 +15,7 @@ pub record Written : Type 0 where
   pub lengths : List ℕ
 
 -- A writer keeps the bytes that it had passed, and those of its room are `room_after`, as many as
--- before, in segments of the same lengths. Where it stands isn't said.
+-- before, in segments of the same lengths. Where it is isn't said.
 pub record Leaves (old : Written) (room_after : List ℕ) (new : Written) : Type 0 where
   pub kept : new.passed ++ new.left ≡ old.passed ++ room_after
   pub same_length : length room_after ≡ length old.left

@@ -24,7 +24,7 @@ fn clear_end<T: ByteValued>(out: &mut [u8], n: usize)
     }
 }
 
-// Writes sixteen bytes, those from place `from` on, over as many that stand from place `at` on. They go by a
+// Writes sixteen bytes, those from place `from` on, over as many that are from place `at` on. They go by a
 // value, which no place overlaps.
 #[inline(always)]
 fn put_sixteen(out: &mut [u8], at: usize, bytes: &[u8], from: usize)
@@ -49,7 +49,7 @@ fn put_eight(out: &mut [u8], at: usize, bytes: &[u8], from: usize)
     put_at(out, at, &block);
 }
 
-// Writes the bytes over as many that stand from place `at` on. Few of them are two blocks, which may overlap:
+// Writes the bytes over as many that are from place `at` on. Few of them are two blocks, which may overlap:
 // a call costs more than these do.
 #[inline(always)]
 fn put_name(out: &mut [u8], at: usize, bytes: &[u8])

@@ -10,7 +10,7 @@ use crate::spelled::copy_piece;
 use fuse_wire::ByteValued;
 use std::alloc::{AllocError, Global};
 
-// Writes the bytes over as many that stand from place `at` on.
+// Writes the bytes over as many that are from place `at` on.
 pub(crate) fn put_at(buf: &mut [u8], at: usize, bytes: &[u8])
     requires { at + length bytes.now ≤ length buf.old }
     ensures { buf.new ≡ with_bytes_at at bytes.now buf.old }
@@ -81,7 +81,7 @@ impl<'a> Segments<&'a [&'a [u8]]> {
         }
     }
 
-    // Copies into the buffer the bytes that stand from place `at` on. Where one segment has all of
+    // Copies into the buffer the bytes that are from place `at` on. Where one segment has all of
     // them they are copied at once.
     pub(crate) fn copy_from(&self, at: usize, near: &mut usize, buf: &mut [u8])
         requires { at + length buf.old ≤ length (flat_bytes self.now) }
@@ -141,7 +141,7 @@ impl<'a> Segments<&'a [&'a [u8]]> {
         T::take(&buf[..T::SIZE])
     }
 
-    // The record whose bytes stand from place `at` on. Where one segment has all of them it is read
+    // The record whose bytes are from place `at` on. Where one segment has all of them it is read
     // right there.
     #[inline(always)]
     pub(crate) fn record_at<T: ByteValued>(&self, at: usize, near: &mut usize) -> T

@@ -9,7 +9,7 @@ use crate::segments::Segments;
 use crate::spelled::{Record, Spelled};
 use fuse_wire::ByteValued;
 
-// Spells a value over as many bytes that stand from place `at` of a segment on: `len` of them.
+// Spells a value over as many bytes that are from place `at` of a segment on: `len` of them.
 #[inline(always)]
 fn spell_over<S: Spelled>(segment: &mut Vec<u8>, at: usize, len: usize, x: &S)
     requires whole { len ≡ S.size x.now }
@@ -37,7 +37,7 @@ impl Segments<Vec<Vec<u8>>> {
         list
     }
 
-    // Spells a value over as many bytes that stand from place `at` of segment `i` on: `len` of them.
+    // Spells a value over as many bytes that are from place `at` of segment `i` on: `len` of them.
     #[inline(always)]
     fn spell_in<S: Spelled>(&mut self, i: usize, at: usize, len: usize, x: &S)
         requires listed { i < length self.old }
@@ -51,7 +51,7 @@ impl Segments<Vec<Vec<u8>>> {
         spell_over(&mut self.list[i], at, len, x);
     }
 
-    // Spells a value over as many bytes that stand from place `at` on, `skip` bytes into segment
+    // Spells a value over as many bytes that are from place `at` on, `skip` bytes into segment
     // `i`, where this has all of them. Answers whether it has, and else writes nothing.
     #[inline(always)]
     fn spell_at<S: Spelled>(&mut self, i: usize, skip: usize, x: &S) -> bool
@@ -76,7 +76,7 @@ impl Segments<Vec<Vec<u8>>> {
         }
     }
 
-    // Spells a value over as many bytes that stand from place `at` on, where one segment has all of
+    // Spells a value over as many bytes that are from place `at` on, where one segment has all of
     // them. Answers whether it has, and else writes nothing.
     #[inline(always)]
     pub(crate) fn put_whole<S: Spelled>(&mut self, at: usize, near: &mut usize, x: &S) -> bool
@@ -120,7 +120,7 @@ impl Segments<Vec<Vec<u8>>> {
         }
     }
 
-    // Writes the bytes over as many that stand from place `at` on. Where one segment has all of
+    // Writes the bytes over as many that are from place `at` on. Where one segment has all of
     // them they are copied at once.
     pub(crate) fn put_from(&mut self, at: usize, near: &mut usize, bytes: &[u8])
         requires { at + length bytes.now ≤ length (flat_bytes self.old) }
@@ -160,7 +160,7 @@ impl Segments<Vec<Vec<u8>>> {
         self.scatter(first, skip, near, &buf[..T::SIZE]);
     }
 
-    // Writes a record over as many bytes that stand from place `at` on. Where one segment has all
+    // Writes a record over as many bytes that are from place `at` on. Where one segment has all
     // of them it is spelled right there.
     #[inline(always)]
     pub(crate) fn put_obj<T: ByteValued + Drop>(&mut self, at: usize, near: &mut usize, x: T)

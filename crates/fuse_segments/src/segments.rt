@@ -73,7 +73,7 @@ fn sum_of<L: SegmentList>(list: &L) -> Option<usize>
     Some(total)
 }
 
-// The same of many segments, by a loop that stands apart.
+// The same of many segments, by a loop that is apart.
 #[inline(never)]
 fn sum_of_many<L: SegmentList>(list: &L) -> Option<usize>
     ensures { MatchOption result (2 ^ 64 ≤ length (flat_bytes (L.bytes list.now)))

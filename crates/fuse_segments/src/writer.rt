@@ -394,7 +394,7 @@ impl Writer {
         }
     }
 
-    /// The segments as they stand now, with what was written.
+    /// The segments as they are now, with what was written.
     pub fn segments(&self) -> &[Vec<u8>]
         ensures bytes { flat_bytes (contents result.now) ≡ whole self.now }
         ensures lengths { lengths_of (contents result.now) ≡ self.now.lengths }

@@ -68,7 +68,7 @@ module _ {F S : Type 0} (side : Side S)
           goes-snoc (moved + length c.0) c.1 cs g h part m (omega arith) goes.2 more below,
         )
 
-    -- what a loop of calls keeps: the calls that were made, what they moved and where they stand
+    -- what a loop of calls keeps: the calls that were made, what they moved and where they are
     pub record Going (moved place : ℕ) (f : F) (now : S) : Type 0 where
       pub row : List (List ℕ × F)
       pub goes : Goes calls count (side.left old) off 0 first row f

@@ -43,7 +43,7 @@ module _ (following : (lengths : List ℕ) (k at n : ℕ) → lie_together at n 
       let t = second _ (lie_together (size_of in_header + layout_size layout) n u.pieces) together in
       apart (lie_together 0 n (pieces_after layout (lengths_from (size_of in_header) u.pieces))) (from_record layout n ∙ t) cut
 
-  -- of a form with a tail, and of one in whose tail a context may stand
+  -- of a form with a tail, and of one in whose tail a context may be
   with_context : {R : Type 0} (h : InHeader) (l : Layout R) (options : ℕ) → TailIsTogether h u l × IsFalse (has_flag options security_ctx)
       → TailIsCut h (layout_size l) (pieces_after l (lengths_from (size_of in_header) u.pieces)) ⊎ MayHoldContext options → ⊥
   with_context h l options n (inl w) = whole h l n.0 w

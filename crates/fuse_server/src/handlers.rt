@@ -1,7 +1,7 @@
 //! The handlers of the opcodes. Each reads the parts of its request, makes its call of the file
 //! system, and puts the reply into the writer's room. They are in files by subject.
 //!
-//! A [`Session`] has what they stand over, and takes a [`Request`] to its handler; a server is a
+//! A [`Session`] has what they work on, and takes a [`Request`] to its handler; a server is a
 //! session that reads the headers of requests.
 
 mod attributes;

@@ -178,7 +178,7 @@ impl<F: FileSystem> Server<F> {
     /// written.
     ///
     /// A hold that the caller left on `w` is given up first. What `w` had passed before stays, held
-    /// bytes too; where it stands afterwards isn't said.
+    /// bytes too; where it is afterwards isn't said.
     pub fn handle_message(
         &mut self,
         alloc: Global,

@@ -6,7 +6,7 @@ use Rattle.std.specs.declared.alloc.Global.{Global}
 use Rattle.fuse_views.specs.Segments.{contents}
 use Rattle.fuse_views.specs.declared.span.Span.{Span}
 
--- the bytes of segments, where one of them stands beside the list
+-- the bytes of segments, where one of them is beside the list
 abbrev pub contents_with : List (Vec ℕ Global) → ℕ → Vec ℕ Global → List (List ℕ)
 contents_with segments place lent = slice_set (contents segments) place lent.items
 

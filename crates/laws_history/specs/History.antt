@@ -58,7 +58,7 @@ GivesBackWithinHeld n held turns =
     (k : ℕ)
     → sum_by (accepted n) (take k turns) ≤ held + sum_by (delivered n) (take k turns)
 
--- after each event no more of a node was sent back than so many that were held to begin with and those
+-- after each event no more of a node was sent back than those that were held to begin with and those
 -- that were answered
 abbrev pub NeverBelowHeld : (n held : ℕ) → List Event → Type 0
 NeverBelowHeld n held events =

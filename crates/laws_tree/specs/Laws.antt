@@ -108,7 +108,7 @@ abbrev pub names_of : Option Node → ℕ
 names_of None = 0
 names_of (Some node) = node.names
 
--- no name stands twice
+-- no name is there twice
 abbrev pub AreApart : List (ℕ × Link) → Type 0
 AreApart links = IsDistinct bytes_eq (map (λ link. link.1.name) links)
 

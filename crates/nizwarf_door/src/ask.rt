@@ -163,7 +163,7 @@ fn ask_cut(
 }
 
 /// Whether a request in one segment or in two is a LOOKUP, a GETATTR, a READ or a WRITE, if its header is whole. No promise
-/// stands on it: what is told is the same.
+/// rests on it: what is told is the same.
 #[inline(always)]
 pub fn is_asked_most(request: &[&[u8]]) -> bool {
     if request.is_empty() || request.len() > 2 || request[0].len() < InHeader::SIZE {

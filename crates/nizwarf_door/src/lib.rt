@@ -1,4 +1,4 @@
-//! The door for a file system that stands outside, in any language: a request is asked for its
+//! The door for a file system that is outside, in any language: a request is asked for its
 //! call, which is told as data, and the answer to the call becomes the reply.
 //!
 //! The header is `include/nizwarf.h`. The functions there look at pointers first, since no function
@@ -53,7 +53,7 @@ use c_rooms::codes::{NO_SERVER, OK, OUT_OF_MEMORY, WRONG_SIZE};
 use door_calls::{AnswerData, CallData, ItemData};
 use std::alloc::Global;
 
-// New memory. `None` where there is none. It stands apart, since a slot has its memory from its first call on.
+// New memory. `None` where there is none. It is apart, since a slot has its memory from its first call on.
 #[cold]
 #[inline(never)]
 fn new_memory(alloc: Global) -> Option<Box<Memory>> {
@@ -165,7 +165,7 @@ pub extern "C" fn nizwarf_ask_at(
     }
 }
 
-// The same, of a request that may be told at once. It stands apart, since any other is to go on with few steps.
+// The same, of a request that may be told at once. It is apart, since any other is to go on with few steps.
 #[inline(never)]
 fn ask_at_once(
     alloc: Global,

@@ -17,7 +17,7 @@ use fuse_grammar::Limits;
 use fuse_server::server::Server;
 use std::alloc::{AllocError, Global};
 
-/// The opcode of a CREATE, as a request has it, and where it stands.
+/// The opcode of a CREATE, as a request has it, and where it is.
 static CREATE: [u8; 4] = [35, 0, 0, 0];
 
 const OPCODE_AT: usize = 4;

@@ -47,7 +47,7 @@ fn room_and_count(writer: Writer) -> (usize, usize) {
 }
 
 /// A thousand segments that a writer fills with these bytes, without the last 264 of its room, of
-/// which it is split. What is left of both parts, and the number of segments of the second, stand
+/// which it is split. What is left of both parts, and the number of segments of the second, are
 /// beside them.
 fn thousand_written(
     alloc: Global,

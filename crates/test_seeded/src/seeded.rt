@@ -2,7 +2,7 @@
 //! each call and what it answered.
 //!
 //! The word is 0 at first. Each call with a caller sets it to the caller's process, and is answered
-//! by it; a call without one is answered by the word as it stands. Where the word's rest by 8 is 7
+//! by it; a call without one is answered by the word as it is. Where the word's rest by 8 is 7
 //! the answer is a fault. Everything else goes by the word divided by 8, the *seed*; the module
 //! `rules` has the numbers:
 //!

@@ -1,6 +1,6 @@
 //! Serves batches of requests over file systems in memory, for a benchmark that is written in C or
 //! Rust and links this library. It claims nothing of the replies: what the server answers is
-//! promised where the server stands.
+//! promised where the server is.
 #![tactic(auto)]
 
 mod batch;

@@ -75,7 +75,7 @@ fn pair_of_two_numbers()
     decoding_is_the_inverse::<ForgetOne>();
 }
 
-/// The header of a reply that stands among other bytes: it has sixteen bytes, which are read as it
+/// The header of a reply that is among other bytes: it has sixteen bytes, which are read as it
 /// again.
 fn reply_header_at(bytes: &[u8], at: usize) -> OutHeader
     requires { at + 16 ≤ length bytes.now }

@@ -70,7 +70,7 @@ impl<F: FileSystem> Session<F> {
         answer
     }
 
-    /// WRITE (`struct fuse_write_in`): all bytes after the record are passed on, as they stand.
+    /// WRITE (`struct fuse_write_in`): all bytes after the record are passed on, as they are.
     pub(super) fn write(&mut self, mut q: Request<'_, '_>, w: &mut Writer) -> Result<usize>
         ensures { Serves F.allows F.DirIter.gives Opcode.Write q.entry
             self.old w.old result w.new self.new }

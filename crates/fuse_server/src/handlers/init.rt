@@ -25,7 +25,7 @@ impl<F: FileSystem> Session<F> {
         self.init_version(q.header, &init_in, flags2, w)
     }
 
-    /// INIT of this version: where it is served, both sides agree on options, which stand even
+    /// INIT of this version: where it is served, both sides agree on options, which hold even
     /// where the reply does not fit.
     fn init_version(
         &mut self,

@@ -1,4 +1,4 @@
--- The flags that the call was given are those of the record: its answer is followed as it stands.
+-- The flags that the call was given are those of the record: its answer is followed as it is.
 use Rattle.std.proofs.Common.{◌≡◌, ap, rules}
 use Rattle.fs_trait.specs.Answers.{done_answer}
 use Rattle.fuse_server.specs.Handling.{Serves}
