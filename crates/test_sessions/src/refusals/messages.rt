@@ -32,7 +32,7 @@ fn try_each_cutting<W: io::Write + Drop>(
     let last = message.request(alloc)?.0.len().saturating_sub(1);
     for (how, cutting) in &[
         ("whole", (Cut::Whole, Cut::Whole)),
-        ("cut behind its header", (Cut::At(HEADER), Cut::Whole)),
+        ("cut after its header", (Cut::At(HEADER), Cut::Whole)),
         ("cut before its last byte", (Cut::At(last), Cut::Whole)),
         ("in single bytes", BYTES),
     ] {
