@@ -173,7 +173,8 @@ typedef struct nizwarf_ops {
 	/* Locks of fcntl(2), if `init` added FUSE_POSIX_LOCKS to `*want`: otherwise Linux keeps them
 	 * itself, and asks for none. `fi->lock_owner` is who asks. getlk answers in `lock` one that is in
 	 * the way, or F_UNLCK as its type. With `sleep`, setlk waits until it has the lock: it answers
-	 * later, or holds the thread. A close of a file is a flush, which gives up all locks of its owner. */
+	 * later, or holds the thread. A close of a file is a flush, which gives up all that its
+	 * owner has of that file. */
 	int (*getlk)(const nizwarf_req *req, uint64_t ino, const nizwarf_file_info *fi, nizwarf_lock *lock);
 	int (*setlk)(const nizwarf_req *req, uint64_t ino, const nizwarf_file_info *fi,
 		     const nizwarf_lock *lock, int sleep);
@@ -395,8 +396,8 @@ static inline int nizwarf_add_item(nizwarf_dir *dir, const char *name, nizwarf_i
 	return 1;
 }
 
-/* Adds an item for readdir. `type` is DT_REG .., `off` that of a reading that goes on after it, and
- * not 0, which is that of the beginning. 0: it wasn't added, since there is no more room. */
+/* Adds an item for readdir. `type` is DT_REG .. of dirent.h, or 0, `off` that of a reading that goes on after
+ * it, and not 0, which is that of the beginning. 0: it wasn't added, since there is no more room. */
 static inline int nizwarf_add_direntry(nizwarf_dir *dir, const char *name, uint64_t ino, uint32_t type,
 				       uint64_t off)
 {
