@@ -4,8 +4,9 @@
 Usage: tools/dev/numbers.py
 
 The tables are in crates: opcodes in fuse_flags/src/opcode.rt, with their names where fuse_print has opcode_name; calls,
-kinds of answers, bits of `has` and the records of a call in door_calls/src/call.rt; the records of an answer in
-door_calls/src/data.rt; what is told in nizwarf_door/src/data.rt; codes in c_rooms/specs/Codes.antt.
+kinds of answers, bits of `has` and the records of a call in door_calls/src/call.rt; the rows that a file system offers
+in door_further/src/offers.rt, with opcodes that virtiofsd lacks in fuse_print/src/further.rt; the records of an answer
+in door_calls/src/data.rt; what is told in nizwarf_door/src/data.rt; codes in c_rooms/specs/Codes.antt.
 
 It prints a line for each difference, with the file and the name, and ends with their count. Status 0: there is none;
 1: there are some.
@@ -84,7 +85,8 @@ if os.path.exists(LINUX):
          {name: n for name, n in kernel.items() if name in NUMBER}, "opcode")
 
 # Those that a file system may offer and virtiofsd's opcodes lack.
-BEYOND = {"STATX": 52, "COPY_FILE_RANGE_64": 53}
+BEYOND_NAMES = "crates/fuse_print/src/further.rt"
+BEYOND = numbers(r"^const (\w+): u32 = (\d+);", read(BEYOND_NAMES))
 PAGE = "docs/PROTOCOL.md"
 rows = re.findall(r"^\| ([\d, ]+) ([A-Z][A-Z_0-9, ]+) \|", read(PAGE), re.M)
 hold(PAGE, {name: int(n) for ns, names in rows for n, name in zip(ns.split(", "), names.split(", "))}, NAMES,
@@ -102,7 +104,8 @@ CALL, KIND, HAS = (constants(CALLS, it, "u32") for it in ("number", "kind", "has
 # Opcodes of which no call is told, and calls that have a shorter name.
 UNTOLD = {"INTERRUPT", "READDIRPLUS", "RENAME2", "SETUPMAPPING", "REMOVEMAPPING"}
 SHORT = {"COPY_FILE_RANGE": "COPY", "COPY_FILE_RANGE_64": "COPY_64"}
-hold(CALLS, CALL, NAMES, {SHORT.get(it, it): n for it, n in {**NUMBER, **BEYOND}.items() if it not in UNTOLD}, "call")
+hold(CALLS, CALL, f"{NAMES} and {os.path.basename(BEYOND_NAMES)}",
+     {SHORT.get(it, it): n for it, n in {**NUMBER, **BEYOND}.items() if it not in UNTOLD}, "call")
 for at, bit in enumerate(HAS.values()):
     if bit != 1 << at:
         faults.append(f"{CALLS}: the bits of `has` are not one after another")
@@ -141,6 +144,18 @@ for name, kind in NOTED.items():
 hold(HEADER, enum_with("QUIET"), CALLS, KIND, "kind")
 hold(HEADER, enum_with("PLUS"), CALLS, {in_header[it]: bit for it, bit in HAS.items()}, "bit")
 hold(HEADER, {**enum_with("OK"), **enum_with("ASKED")}, CODES, CODE, "code")
+
+# The rows that are offered: each with a bit of its own, also beside the header's INIT, which is no row.
+OFFERS, RUST_OFFERS = "crates/door_further/src/offers.rt", "bindings/rust/src/flags.rs"
+OFFER = {name: value(n) for name, n in re.findall(r"^pub const (\w+): u32 = ([\d <]+);", read(OFFERS), re.M)}
+offers_in_c = enum_with("OFFER_LOCKS")
+hold(HEADER, {name: bit for name, bit in offers_in_c.items() if name != "OFFER_INIT"}, OFFERS,
+     {f"OFFER_{name}": bit for name, bit in OFFER.items()}, "row")
+rust_offers = numbers(r"^        (\w+) = (\d+);", part(RUST_OFFERS, "\n    Offers: u32 {", r"\n    \}"))
+hold(RUST_OFFERS, {name: 1 << bit for name, bit in rust_offers.items()}, OFFERS, OFFER, "row")
+faults += [f"{OFFERS}: row {name} has the bit of NIZWARF_OFFER_INIT in {HEADER}" for name, bit in OFFER.items()
+           if bit == offers_in_c.get("OFFER_INIT")]
+
 hold(RUST_CALLS, numbers(r"^ +([A-Z_0-9]+) = (\d+): \w+ {", part(RUST_CALLS, "\ncalls! {", r"\n}")), HEADER, CALL, "call")
 hold(RUST, constants(RUST, "has", "u32"), HEADER, HAS, "bit")
 hold(RUST, constants(RUST, "code", "i32"), HEADER, CODE, "code", False)
