@@ -21,8 +21,8 @@ HERE = os.path.dirname(os.path.dirname(os.path.dirname(os.path.abspath(__file__)
 # Of each opcode how it is spelled, in any case.
 SPELLED = {"LSEEK": "lseek", "FALLOCATE": "fallocate", "SYNCFS": "syncfs",
            "COPY_FILE_RANGE": r"copy_?file_?range|nizwarf_copy\b|number(::|\.)copy\b"}
-# Of a row that a file system offers, for --files and --lacks alone.
-ROWS = {"COPY_64": r"copy_?64|copy_?file_?range_?64"}
+# Of a row that a file system offers, for --files and --lacks alone. (the last is its field in a proof)
+ROWS = {"COPY_64": r"copy_?64|copy_?file_?range_?64|copy_told|(?m:^  copy = λ h r)"}
 PAGE = "CONTRIBUTING.md"
 # Written by tools or recorded, and what tells of the past or of this list.
 APART = ["docs/generated/*", "crates/test_sessions/std*", "crates/text_decode/std*", "crates/text_demo/std*",

@@ -5,9 +5,9 @@ Usage: tools/dev/record.py NAME | --check
 
 It prints, for the struct NAME, whose fields are unsigned numbers: its impl of ByteValued, which is after it; its
 decoder, its table and its layout, for the definitions in specs; and the lines that name these. Before each it says
-which file it is for. `rt fmt` lays them out. What else names a record is in CONTRIBUTING.md. With --check it derives
-those of all records, and tells how many stand as they are derived; others have parts, arrays or signed fields, or are
-put in another order for speed.
+which file it is for, and at the end where it is printed. `rt fmt` lays them out. What else names a record is in
+CONTRIBUTING.md. With --check it derives those of all records, and tells how many stand as they are derived; others
+have parts, arrays or signed fields, or are put in another order for speed.
 Status 0: it was written; 1: there is no such struct, or another field; 2: it was started otherwise.
 """
 import glob
@@ -104,6 +104,13 @@ def check():
     print(f"{same} of {len(names)} records stand as their structs say")
 
 
+def specs_of(crate, text):
+    """The modules of a crate's specs from which a file has the tables of its records."""
+    tables = {table_of(it) for it in re.findall(r"pub struct (\w+) \{", text)}
+    used = re.findall(rf"ghost use Rattle\.{crate}\.specs\.(\w+)\.\{{([^}}]*)\}}", text)
+    return [module for module, names in used if tables & set(re.split(r",\s*", names))]
+
+
 def tell(name, fields):
     """Prints what is derived of a struct, each piece with its place."""
     path = next(it for it, text in SOURCES.items() if f"pub struct {name} {{" in text)
@@ -111,10 +118,19 @@ def tell(name, fields):
     declared = f"declared.{name}" if module == "lib" else f"declared.{module}.{name}"
     after, made, table, lies = derive(name, fields)
     size = re.search(r"SIZE: usize = (\d+)", after)[1]
+    specs = specs_of(crate, SOURCES[path])
+    place = f"/{specs[0]}.antt" if len(specs) == 1 else ", in the file that has records like it"
+    print(f"""// {path}, at its top:
+ghost use Rattle.{crate}.specs.{' or '.join(specs) or 'FILE'}.{{{table_of(name)}}};
+""")
+    if module != "lib":
+        print(f"""// crates/{crate}/src/lib.rt:
+pub use {module}::{name};
+""")
     print(f"""// {path}, after the struct:
 {after}
 
--- crates/{crate}/specs, in the file that has records like it:
+-- crates/{crate}/specs{place}:
 use Rattle.{crate}.specs.{declared}.{{{name}}}
 
 -- the {name} of its fields
@@ -127,7 +143,9 @@ use Rattle.{crate}.specs.{declared}.{{{name}}}
 {lies}
 
 -- the same file, in one of the records `..Lie`, of which src/layouts.rt has the laws:
-  pub {table_of(name)} : {name}Lies""")
+  pub {table_of(name)} : {name}Lies
+
+// then crates/fuse_print/src/opcodes.rt has what is printed of it: impl Fields for {name}""")
 
 
 def main(words):
