@@ -16,7 +16,6 @@
 #include <inttypes.h>
 #include <poll.h>
 #include <pthread.h>
-#include <signal.h>
 #include <stdio.h>
 #include <stdlib.h>
 #include <sys/ioctl.h>
@@ -70,8 +69,9 @@ static struct waiting {
 	transport_later *later; /* NULL: nobody waits here */
 } waiting[MOST_LOCKS];
 
-/* A lock that keeps the owner from this one, or NULL. Those of the two kinds don't see each other. The lock of all
- * that is here is held, also in the next ones. */
+/* A lock that keeps the owner from this one, or NULL. Those of the two kinds don't see each other; nor would those of
+ * two files, in all of which a process is the same owner. The lock of all that is here is held, also in the next
+ * ones. */
 static const struct held *in_the_way(uint64_t owner, const nizwarf_lock *wanted, int flock)
 {
 	for (int i = 0; i < MOST_LOCKS; i++) {
@@ -688,19 +688,15 @@ int main(int count, char **words)
 			       .end = end,
 			       .serve = serve };
 	pthread_t lines;
-	sigset_t ending;
 	int device, status;
 
 	if (count != 2 + by_ring || !strcmp(words[1], "--help"))
 		return fputs("Usage: news [--io_uring] MOUNTPOINT\n", stderr), 2;
 	device = fuse_device_mount(&by, "news", words[1 + by_ring], MS_NOSUID | MS_NODEV,
 				   ",default_permissions");
-	/* (a signal is for who serves) (blocked here, since threads have the mask of who starts them) */
-	sigemptyset(&ending);
-	sigaddset(&ending, SIGTERM);
-	pthread_sigmask(SIG_BLOCK, &ending, NULL);
 	if (device < 0)
 		return 1;
+	/* (the thread has the mask of who starts it, where a mount has blocked signals: they are for who serves) */
 	if (pthread_create(&lines, NULL, obey_each, NULL)) {
 		/* (nobody would serve what is mounted) */
 		fuse_device_detach(&by, words[1 + by_ring]);
