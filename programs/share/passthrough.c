@@ -87,28 +87,6 @@ static void let_pass(void)
 	nanosleep(&pause, NULL);
 }
 
-/* Gives back what a call came to whose client has gone: that was let go of all that it had, and who comes next knows
- * nothing of it. */
-static void give_back_all(const struct call *call)
-{
-	struct passthrough *all = call->all;
-	const nizwarf_call *asked = call->asked;
-	const nizwarf_answer *answer = call->answer;
-
-	if (all->locks && (asked->call == NIZWARF_SETLK || asked->call == NIZWARF_SETLKW))
-		locks_lose(all->locks, asked);
-	if (answer->error)
-		return;
-	if (answer->entry.node)
-		node_forget(&all->nodes, answer->entry.node, 1);
-	if (answer->has_handle)
-		file_release(&all->nodes, answer->handle);
-	if (asked->call == NIZWARF_READDIR)
-		for (size_t i = 0; i < answer->items_len; i++)
-			if (answer->items[i].entry.node)
-				node_forget(&all->nodes, answer->items[i].entry.node, 1);
-}
-
 /* Makes the call, and gives back what the client doesn't get. */
 static int32_t answer_call(struct call *call, const nizwarf_session *session, const nizwarf_room *room,
 			   size_t rooms, ssize_t pieces, nizwarf_told *told)
@@ -126,21 +104,17 @@ static int32_t answer_call(struct call *call, const nizwarf_session *session, co
 		return NIZWARF_ASKED;
 	/* (the slot that it was asked with has memory for the reply) */
 	code = nizwarf_reply(&call->worker->slot, session, asked, answer, room, rooms, told);
-	/* (the next one may have agreed on other options) */
-	if (!is_there(call)) {
-		give_back_all(call);
-		return code;
-	}
-	if (asked->call == NIZWARF_INIT || asked->call == NIZWARF_DESTROY)
+	/* (its client may have gone meanwhile, and the next one have agreed on others) */
+	if ((asked->call == NIZWARF_INIT || asked->call == NIZWARF_DESTROY) && is_there(call))
 		atomic_store(&all->agreed, told->options);
 	if (told->give_back)
-		node_forget(&all->nodes, told->give_back, 1);
+		node_forget(&all->nodes, call->client, told->give_back, 1);
 	if (asked->call == NIZWARF_READDIR)
 		for (size_t i = told->taken; i < answer->items_len; i++)
 			if (answer->items[i].entry.node)
-				node_forget(&all->nodes, answer->items[i].entry.node, 1);
+				node_forget(&all->nodes, call->client, answer->items[i].entry.node, 1);
 	if (code != NIZWARF_OK && answer->has_handle)
-		file_release(&all->nodes, answer->handle);
+		file_release(&all->nodes, call->client, answer->handle);
 	return code;
 }
 
@@ -197,7 +171,7 @@ int32_t passthrough_serve(void *user, unsigned worker, const nizwarf_segment *re
 	nizwarf_told told = { 0 };
 	struct call call = { .all = all,
 			     .worker = w,
-			     .client = atomic_load(&all->clients),
+			     .client = atomic_load(&all->nodes.clients),
 			     .asked = &asked,
 			     .request = request->at,
 			     .data = NULL,
@@ -300,8 +274,8 @@ void passthrough_parted(void *user)
 	struct passthrough *all = user;
 	struct left *left = calloc(1, sizeof(*left));
 
-	/* (first: what a late request of it has from then on that gives back itself) */
-	atomic_fetch_add(&all->clients, 1);
+	/* (first: a late request of it enters nothing from then on, and takes nothing out) */
+	atomic_fetch_add(&all->nodes.clients, 1);
 	if (left) {
 		left->all = all;
 		left->locks = all->locks ? locks_take_all(all->locks) : NULL;

@@ -310,7 +310,7 @@ static void tell_open(const struct call *call, bool is_directory, int fd, const 
 static int add_file(const struct call *call, uint64_t node, int fd, int flags, struct backing *backing)
 {
 	tell_open(call, flags & O_DIRECTORY, fd, backing);
-	call->answer->handle = file_add(&call->all->nodes, node, fd, flags, backing);
+	call->answer->handle = file_add(&call->all->nodes, call->client, node, fd, flags, backing);
 	if (call->answer->handle)
 		return 0;
 	backing_put(backing);
@@ -434,7 +434,7 @@ static int tell_new(const struct call *call, const char *name, int fd, int path,
 	if (!error)
 		error = add_file(call, entry->node, fd, flags_of(call), backing);
 	if (error)
-		node_forget(nodes, entry->node, 1);
+		node_forget(nodes, call->client, entry->node, 1);
 	return error;
 }
 
@@ -656,6 +656,9 @@ static int make_with_node(struct call *call)
 	}
 	if (!error && (asked->call == NIZWARF_RENAME || asked->call == NIZWARF_LINK))
 		error = node_get(nodes, asked->other_node, &call->other);
+	/* (while one was taken in hand the client may have gone, and a number be the next one's) */
+	if (!error && !is_there(call))
+		error = ESTALE;
 	if (!error)
 		error = check_names(call);
 	if (!error)
@@ -756,7 +759,7 @@ static void forget_each(const struct call *call)
 
 	for (uint64_t i = 0; i < nizwarf_batch_forget_pairs(call->asked); i++) {
 		memcpy(pair, pairs + i * sizeof(pair), sizeof(pair));
-		node_forget(&call->all->nodes, pair[0], pair[1]);
+		node_forget(&call->all->nodes, call->client, pair[0], pair[1]);
 	}
 }
 
@@ -772,17 +775,17 @@ int make_call(struct call *call)
 		forget_all(call);
 		return 0;
 	case NIZWARF_FORGET:
-		node_forget(&all->nodes, asked->node, nizwarf_forget_lookups(asked));
+		node_forget(&all->nodes, call->client, asked->node, nizwarf_forget_lookups(asked));
 		return 0;
 	case NIZWARF_BATCH_FORGET:
 		forget_each(call);
 		return 0;
 	case NIZWARF_RELEASE:
 		if (all->locks)
-			locks_close(all->locks, asked);
-		return file_release(&all->nodes, asked->handle);
+			locks_close(call);
+		return file_release(&all->nodes, call->client, asked->handle);
 	case NIZWARF_RELEASEDIR:
-		return file_release(&all->nodes, asked->handle);
+		return file_release(&all->nodes, call->client, asked->handle);
 	/* If locks are not offered, nothing is told of these, and the client locks files by itself. Nothing is told
 	 * of the others. */
 	case NIZWARF_GETLK:

@@ -49,9 +49,8 @@ struct passthrough {
 	struct locks *locks;
 	/* NULL: files are read and written by requests. */
 	struct backings *backings;
-	/* The options that are agreed on with the client, and how many clients have gone. */
+	/* The options that are agreed on with the client. */
 	atomic_ullong agreed;
-	atomic_uint clients;
 	/* How many threads close what such had. */
 	atomic_uint closing;
 	/* It was said that the client lacks what it must have. */
@@ -70,7 +69,7 @@ struct passthrough {
 struct call {
 	struct passthrough *all;
 	struct worker *worker;
-	/* Which client asks, by `clients`. */
+	/* Which client asks, by `nodes.clients`. */
 	unsigned client;
 	const nizwarf_call *asked;
 	const uint8_t *request;
@@ -85,7 +84,7 @@ struct call {
 /* Whether the client that asks is still there. */
 static inline bool is_there(const struct call *call)
 {
-	return call->client == atomic_load(&call->all->clients);
+	return is_client(&call->all->nodes, call->client);
 }
 
 /* The options that are wanted of those that a client offers. */

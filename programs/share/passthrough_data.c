@@ -259,7 +259,7 @@ static int flush(const struct call *call)
 	const int copy = dup(call->file->counted.fd);
 
 	if (call->all->locks)
-		locks_close(call->all->locks, call->asked);
+		locks_close(call);
 	return copy < 0 ? errno : failed(close(copy));
 }
 

@@ -119,7 +119,7 @@ int enter(const struct call *call, const struct found *found, int fd, const stru
 	  nizwarf_entry *entry, bool *is_new)
 {
 	uint64_t number;
-	const int error = node_enter(&call->all->nodes, found, fd, seen, &number, is_new);
+	const int error = node_enter(&call->all->nodes, call->client, found, fd, seen, &number, is_new);
 
 	if (!error)
 		tell_entry(call, number, seen, entry);
@@ -151,7 +151,7 @@ static int find_known(const struct call *call, const struct found *found, int er
 	if (fd < 0)
 		return errno;
 	if (!look_at(fd, &seen))
-		number = node_find_opened(&call->all->nodes, fd, &seen);
+		number = node_find_opened(&call->all->nodes, call->client, fd, &seen);
 	close(fd);
 	if (!number)
 		return error;
@@ -178,7 +178,7 @@ int look_up(const struct call *call, const struct found *found, nizwarf_entry *e
 		if (statx(found->directory, found->name, AT_SYMLINK_NOFOLLOW | AT_NO_AUTOMOUNT, WANTED,
 			  &seen))
 			return errno;
-		number = node_find(&call->all->nodes, &seen);
+		number = node_find(&call->all->nodes, call->client, &seen);
 		if (number) {
 			tell_entry(call, number, &seen, entry);
 			return 0;

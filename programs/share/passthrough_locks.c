@@ -17,7 +17,8 @@
  *
  * A hostile client may name any owner and any node. It gets holders of files alone that it has open,
  * each with a descriptor that counts among those that it may have, and can give up no locks but its
- * own. */
+ * own. A request whose client has gone takes no holder and drops none: under the lock it is looked whether that
+ * is so, and the table is emptied after it. */
 #define _GNU_SOURCE
 #include <errno.h>
 #include <fcntl.h>
@@ -181,9 +182,10 @@ static struct holder *take(const struct call *call, bool is_flock, bool makes)
 	struct locks *all = call->all->locks;
 	const nizwarf_call *asked = call->asked;
 	struct holder *h, *made, **chain = chain_of(all, asked->node, asked->lock_owner);
+	bool is_late;
 
 	pthread_mutex_lock(&all->lock);
-	h = find(all, asked->node, asked->lock_owner, is_flock);
+	h = is_there(call) ? find(all, asked->node, asked->lock_owner, is_flock) : NULL;
 	if (h)
 		h->users++;
 	pthread_mutex_unlock(&all->lock);
@@ -195,17 +197,19 @@ static struct holder *take(const struct call *call, bool is_flock, bool makes)
 	if (!made)
 		return NULL;
 	pthread_mutex_lock(&all->lock);
-	h = find(all, asked->node, asked->lock_owner, is_flock);
+	is_late = !is_there(call);
+	h = is_late ? NULL : find(all, asked->node, asked->lock_owner, is_flock);
 	/* (for the table, and below one more for the caller) */
 	made->users = 1;
-	if (!h) {
+	if (!h && !is_late) {
 		h = made;
 		h->next = *chain;
 		*chain = h;
 	}
-	h->users++;
+	if (h)
+		h->users++;
 	pthread_mutex_unlock(&all->lock);
-	/* (another call of this owner came first) */
+	/* (another call of this owner came first, or the client has gone) */
 	if (h != made)
 		put(all, made);
 	return h;
@@ -258,16 +262,19 @@ static int lock_host(const struct holder *h, const nizwarf_lock *lock, bool wait
 
 /* Takes an owner's holder out of the table: its locks go at once. (Who has it in hand, as one that asks about locks or
  * waits for one, keeps the description, and so would keep them.) */
-static void drop(struct locks *all, uint64_t node, uint64_t owner, bool is_flock)
+static void drop(const struct call *call, bool is_flock)
 {
 	const nizwarf_lock none = { .start = 0, .end = INT64_MAX, .type = F_UNLCK };
-	struct holder *h, **at = chain_of(all, node, owner);
+	const uint64_t node = call->asked->node, owner = call->asked->lock_owner;
+	struct locks *all = call->all->locks;
+	struct holder *h = NULL, **at = chain_of(all, node, owner);
 	bool is_in_hand = false;
 
 	pthread_mutex_lock(&all->lock);
-	/* cppcheck-suppress uninitvar */
-	while ((h = *at) && (h->node != node || h->owner != owner || h->is_flock != is_flock))
-		at = &h->next;
+	if (is_there(call))
+		/* cppcheck-suppress uninitvar */
+		while ((h = *at) && (h->node != node || h->owner != owner || h->is_flock != is_flock))
+			at = &h->next;
 	if (h) {
 		*at = h->next;
 		is_in_hand = h->users > 1;
@@ -558,23 +565,20 @@ int set_lock(const struct call *call)
 		put(all, h);
 	/* (it was one of the whole file, and the holder has no other; by fcntl(2) there may be more) */
 	if (!error && is_flock && lock.type == F_UNLCK)
-		drop(all, asked->node, asked->lock_owner, true);
+		drop(call, true);
 	return error;
 }
 
 /* By POSIX whoever closes a descriptor of a file loses all its locks of fcntl(2) in it: that is FLUSH.
  * A lock of flock(2) lasts up to the last close of the description, of which RELEASE tells. */
-void locks_close(struct locks *all, const nizwarf_call *asked)
+void locks_close(const struct call *call)
 {
-	if (asked->call == NIZWARF_FLUSH || asked->has & NIZWARF_FLUSHES)
-		drop(all, asked->node, asked->lock_owner, false);
-	if (asked->has & NIZWARF_FLOCK_RELEASE)
-		drop(all, asked->node, asked->lock_owner, true);
-}
+	const nizwarf_call *asked = call->asked;
 
-void locks_lose(struct locks *all, const nizwarf_call *asked)
-{
-	drop(all, asked->node, asked->lock_owner, asked->has & NIZWARF_HAS_FLOCK);
+	if (asked->call == NIZWARF_FLUSH || asked->has & NIZWARF_FLUSHES)
+		drop(call, false);
+	if (asked->has & NIZWARF_FLOCK_RELEASE)
+		drop(call, true);
 }
 
 /* It kicks once: the transport calls again while something is kept, since a kick may be missed. */

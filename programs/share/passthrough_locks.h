@@ -22,9 +22,7 @@ int get_lock(const struct call *call);
 int set_lock(const struct call *call);
 
 /* A FLUSH or a RELEASE: what its owner has locked by fcntl(2), or flock(2), is given up. */
-void locks_close(struct locks *all, const nizwarf_call *asked);
-/* A SETLK or SETLKW of a client that has gone: its owner has no locks in that file. */
-void locks_lose(struct locks *all, const nizwarf_call *asked);
+void locks_close(const struct call *call);
 /* Whoever waits for a lock by this request waits no longer. */
 void locks_interrupt(struct locks *all, uint64_t unique);
 /* Whoever waits for a lock waits no longer, or soon. */

@@ -156,7 +156,7 @@ int link_node(const struct call *call)
 				    .stx_ino = node->inode,
 				    .stx_mnt_id = node->on->id };
 	struct statx seen;
-	int error = node_look_up(nodes, node);
+	int error = node_look_up(nodes, call->client, node);
 
 	if (error)
 		return error;
@@ -169,7 +169,7 @@ int link_node(const struct call *call)
 		unmake(call->other.fd, name, &made);
 	}
 	if (error)
-		node_forget(nodes, node->counted.number, 1);
+		node_forget(nodes, call->client, node->counted.number, 1);
 	else
 		tell_entry(call, node->counted.number, &seen, &call->answer->entry);
 	return error;

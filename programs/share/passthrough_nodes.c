@@ -386,13 +386,13 @@ bool node_may_be_known(struct nodes *all, const struct node *directory, uint64_t
 	return node != NULL;
 }
 
-int node_look_up(struct nodes *all, struct node *node)
+int node_look_up(struct nodes *all, unsigned client, struct node *node)
 {
 	bool is_there;
 
 	/* (no node goes meanwhile) */
 	pthread_rwlock_rdlock(&all->nodes.lock);
-	is_there = thing_of(&all->nodes, node->counted.number) != NULL;
+	is_there = is_client(all, client) && thing_of(&all->nodes, node->counted.number) == &node->counted;
 	if (is_there)
 		atomic_fetch_add(&node->lookups, 1);
 	pthread_rwlock_unlock(&all->nodes.lock);
@@ -437,11 +437,13 @@ static void enchain(struct nodes *all, struct node *node)
 }
 
 /* Adds a lookup of a known node, under the lock: its number; 0: it isn't known. */
-static uint64_t add_to_known(const struct nodes *all, const struct statx *seen,
+static uint64_t add_to_known(const struct nodes *all, unsigned client, const struct statx *seen,
 			     const struct file_handle *handle)
 {
 	struct node *node = known(all, seen, handle);
 
+	if (!is_client(all, client))
+		return OF_NOBODY;
 	if (!node)
 		return 0;
 	atomic_fetch_add(&node->lookups, 1);
@@ -449,25 +451,26 @@ static uint64_t add_to_known(const struct nodes *all, const struct statx *seen,
 }
 
 /* The same, with the lock: which others may have meanwhile that only look. (No node goes meanwhile.) */
-static uint64_t find_known(struct nodes *all, const struct statx *seen, const struct file_handle *handle)
+static uint64_t find_known(struct nodes *all, unsigned client, const struct statx *seen,
+			   const struct file_handle *handle)
 {
 	uint64_t number;
 
 	pthread_rwlock_rdlock(&all->nodes.lock);
-	number = add_to_known(all, seen, handle);
+	number = add_to_known(all, client, seen, handle);
 	pthread_rwlock_unlock(&all->nodes.lock);
 	return number;
 }
 
 /* Adds a lookup of a known node; or `*made`, which is NULL then: but not if no handle is told, and the file may be
  * known by one. The node's number; 0: neither could be. */
-static uint64_t add_lookup(struct nodes *all, const struct statx *seen, const struct file_handle *handle,
-			   struct node **made)
+static uint64_t add_lookup(struct nodes *all, unsigned client, const struct statx *seen,
+			   const struct file_handle *handle, struct node **made)
 {
 	uint64_t number;
 
 	pthread_rwlock_wrlock(&all->nodes.lock);
-	number = add_to_known(all, seen, handle);
+	number = add_to_known(all, client, seen, handle);
 	if (!number && (handle || !is_by_handle(all, seen)) && add(&all->nodes, &(*made)->counted)) {
 		enchain(all, *made);
 		number = (*made)->counted.number;
@@ -479,35 +482,37 @@ static uint64_t add_lookup(struct nodes *all, const struct statx *seen, const st
 	return number;
 }
 
-uint64_t node_find(struct nodes *all, const struct statx *seen)
+uint64_t node_find(struct nodes *all, unsigned client, const struct statx *seen)
 {
-	return find_known(all, seen, NULL);
+	return find_known(all, client, seen, NULL);
 }
 
 /* The same of a file that is open, and known by a handle meanwhile; or `*made`, if that isn't NULL. */
-static uint64_t add_opened(struct nodes *all, int fd, const struct statx *seen, struct node **made)
+static uint64_t add_opened(struct nodes *all, unsigned client, int fd, const struct statx *seen,
+			   struct node **made)
 {
 	union handle_room room;
 
 	if (!some_handle(all, seen) || !handle_by(fd, &room))
 		return 0;
-	return made ? add_lookup(all, seen, &room.handle, made) : find_known(all, seen, &room.handle);
+	return made ? add_lookup(all, client, seen, &room.handle, made) :
+		      find_known(all, client, seen, &room.handle);
 }
 
-uint64_t node_find_opened(struct nodes *all, int fd, const struct statx *seen)
+uint64_t node_find_opened(struct nodes *all, unsigned client, int fd, const struct statx *seen)
 {
-	const uint64_t number = node_find(all, seen);
+	const uint64_t number = node_find(all, client, seen);
 
-	return number ? number : add_opened(all, fd, seen, NULL);
+	return number ? number : add_opened(all, client, fd, seen, NULL);
 }
 
 /* add_lookup() of a node that holds its file. Another worker may have entered that by a handle meanwhile. */
-static uint64_t add_made(struct nodes *all, const struct statx *seen, struct node **made)
+static uint64_t add_made(struct nodes *all, unsigned client, const struct statx *seen, struct node **made)
 {
 	const int fd = (*made)->counted.fd;
-	const uint64_t number = add_lookup(all, seen, handle_in(*made), made);
+	const uint64_t number = add_lookup(all, client, seen, handle_in(*made), made);
 
-	return !number && *made && fd >= 0 ? add_opened(all, fd, seen, made) : number;
+	return !number && *made && fd >= 0 ? add_opened(all, client, fd, seen, made) : number;
 }
 
 /* The size of the name by which a file may be opened, if it may be. */
@@ -615,15 +620,15 @@ static struct file_handle *handle_wanted(struct nodes *all, int fd, const struct
 	return by_handle && handle_by(fd, room) ? &room->handle : NULL;
 }
 
-int node_enter(struct nodes *all, const struct found *found, int fd, const struct statx *seen,
-	       uint64_t *number, bool *is_new)
+int node_enter(struct nodes *all, unsigned client, const struct found *found, int fd,
+	       const struct statx *seen, uint64_t *number, bool *is_new)
 {
 	union handle_room room;
 	struct file_handle *handle = handle_wanted(all, fd, seen, &room);
 	struct node *made;
 	int error;
 
-	*number = handle ? find_known(all, seen, handle) : 0;
+	*number = handle ? find_known(all, client, seen, handle) : 0;
 	/* (what is known by its handle is not found without one either) */
 	if (is_new && *number)
 		*is_new = true;
@@ -634,7 +639,7 @@ int node_enter(struct nodes *all, const struct found *found, int fd, const struc
 	error = make(all, found, fd, seen, handle, &made);
 	if (error)
 		return error;
-	*number = add_made(all, seen, &made);
+	*number = add_made(all, client, seen, &made);
 	if (is_new && !made)
 		*is_new = true;
 	free_node(made);
@@ -682,12 +687,13 @@ static void detach(struct nodes *all, struct node *node)
 	take(&all->nodes, &node->counted);
 }
 
-void node_forget(struct nodes *all, uint64_t number, uint64_t count)
+void node_forget(struct nodes *all, unsigned client, uint64_t number, uint64_t count)
 {
-	struct node *node;
+	struct node *node = NULL;
 
 	pthread_rwlock_wrlock(&all->nodes.lock);
-	node = number == ROOT_NODE ? NULL : (struct node *)thing_of(&all->nodes, number);
+	if (number != ROOT_NODE && is_client(all, client))
+		node = (struct node *)thing_of(&all->nodes, number);
 	if (node && atomic_load(&node->lookups) > count) {
 		atomic_fetch_sub(&node->lookups, count);
 		node = NULL;
@@ -861,7 +867,7 @@ int nodes_begin(struct nodes *all, int root, int proc, enum file_handles handles
 	all->most_kept = most_to_keep(others);
 	all->most_nodes = most;
 	atomic_flag_clear(&all->said_most);
-	if (node_reserve(all) || node_enter(all, &nowhere, root, &seen, &number, NULL))
+	if (node_reserve(all) || node_enter(all, 0, &nowhere, root, &seen, &number, NULL))
 		return -1;
 	all->named_mount = no_devices ? mount_of(&seen) : 0;
 	all->handles_alone = handles == HANDLES_ALONE;
@@ -902,7 +908,8 @@ static struct open_file *new_file(struct nodes *all, uint64_t node, int fd, int 
 	return file;
 }
 
-uint64_t file_add(struct nodes *all, uint64_t node, int fd, int flags, struct backing *backing)
+uint64_t file_add(struct nodes *all, unsigned client, uint64_t node, int fd, int flags,
+		  struct backing *backing)
 {
 	struct open_file *file = new_file(all, node, fd, flags, backing);
 	uint64_t number = 0;
@@ -910,12 +917,16 @@ uint64_t file_add(struct nodes *all, uint64_t node, int fd, int flags, struct ba
 	if (file) {
 		pthread_rwlock_wrlock(&all->files.lock);
 		/* (once the lock is given up a client that guesses the number may have released it) */
-		if (add(&all->files, &file->counted))
+		if (!is_client(all, client))
+			number = OF_NOBODY;
+		else if (add(&all->files, &file->counted))
 			number = file->counted.number;
 		pthread_rwlock_unlock(&all->files.lock);
 	}
 	if (!number)
 		free(file);
+	else if (number == OF_NOBODY)
+		file_put(file);
 	return number;
 }
 
@@ -955,12 +966,12 @@ void file_put(struct open_file *file)
 	free(file);
 }
 
-int file_release(struct nodes *all, uint64_t number)
+int file_release(struct nodes *all, unsigned client, uint64_t number)
 {
 	struct counted *file;
 
 	pthread_rwlock_wrlock(&all->files.lock);
-	file = thing_of(&all->files, number);
+	file = is_client(all, client) ? thing_of(&all->files, number) : NULL;
 	if (file)
 		take(&all->files, file);
 	pthread_rwlock_unlock(&all->files.lock);

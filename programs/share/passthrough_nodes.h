@@ -138,6 +138,9 @@ struct nodes {
 	uint64_t named_mount;
 	pthread_mutex_t mounts_lock;
 	struct host_mount *mounts;
+	/* How many clients have gone. Who calls says how many had as its request came. (Each request reads it: it is apart from
+	 * what requests write.) */
+	atomic_uint clients;
 };
 
 /* A directory in which a file is found, with its node if that is known, and the name; NULL: it isn't known. */
@@ -186,23 +189,34 @@ bool node_may_be_known(struct nodes *all, const struct node *directory, uint64_t
 /* Whether a file is on another device or mount than a node. */
 bool is_across(const struct node *node, const struct statx *seen);
 
+/* What a client that has gone is told of a node, or an open file: the number leads to nothing, and nothing was
+ * entered. It gives nothing back either: all that it had went with it, and numbers may be another one's by then. */
+#define OF_NOBODY UINT64_MAX
+
 /* The number of a file that is known already, with a lookup more; 0 where it isn't. Nothing of it
  * is opened. */
-uint64_t node_find(struct nodes *all, const struct statx *seen);
+uint64_t node_find(struct nodes *all, unsigned client, const struct statx *seen);
 /* The same of one that was opened with O_PATH, also if it is known by a handle. */
-uint64_t node_find_opened(struct nodes *all, int fd, const struct statx *seen);
+uint64_t node_find_opened(struct nodes *all, unsigned client, int fd, const struct statx *seen);
 
 /* A lookup more of a node that is in hand. 0, or ESTALE: the client gave it back meanwhile. */
-int node_look_up(struct nodes *all, struct node *node);
+int node_look_up(struct nodes *all, unsigned client, struct node *node);
 
 /* Gives the number of a file, with a lookup more, which was opened with O_PATH: `fd`, and what was reserved
  * for a node, is the node's from then on, or given back. `*is_new`, if there is one, becomes true if it
  * wasn't known, or is known by a handle, which node_find() doesn't look for. 0, or an error. */
-int node_enter(struct nodes *all, const struct found *found, int fd, const struct statx *seen,
-	       uint64_t *number, bool *is_new);
+int node_enter(struct nodes *all, unsigned client, const struct found *found, int fd,
+	       const struct statx *seen, uint64_t *number, bool *is_new);
 
 /* Gives lookups back. With the last one the node goes. */
-void node_forget(struct nodes *all, uint64_t number, uint64_t count);
+void node_forget(struct nodes *all, unsigned client, uint64_t number, uint64_t count);
+
+/* Whether the client of a request is still there. What looks under a lock of the tables sees it go before they are
+ * emptied. */
+static inline bool is_client(const struct nodes *all, unsigned client)
+{
+	return client == atomic_load(&all->clients);
+}
 
 /* Lets go of all nodes but the root, and of all open files. */
 void nodes_forget_all(struct nodes *all);
@@ -232,12 +246,13 @@ int open_again(const struct nodes *all, int fd, int flags);
 
 /* The number of a new open file of a node, which has the descriptor from then on, for which one was reserved, and which
  * was opened with these flags, and an open of `backing`, if there is one; 0: there is no memory, and both stay the caller's. */
-uint64_t file_add(struct nodes *all, uint64_t node, int fd, int flags, struct backing *backing);
+uint64_t file_add(struct nodes *all, unsigned client, uint64_t node, int fd, int flags,
+		  struct backing *backing);
 /* Takes an open file in hand, or NULL. */
 struct open_file *file_get(struct nodes *all, uint64_t number);
 void file_put(struct open_file *file);
 /* 0, or EBADF where there is none. */
-int file_release(struct nodes *all, uint64_t number);
+int file_release(struct nodes *all, unsigned client, uint64_t number);
 
 /* The number of the next node, or open file, after a place, which begins as 0; 0: there is none. */
 uint64_t node_next(struct nodes *all, uint32_t *place);

@@ -2,13 +2,15 @@
 an event that is full, keeps nobody: neither the next front end, nor a signal. And what is unmounted is what was
 mounted. Usage: ends.py SHARE WORK [WORDS]; and for tests/mount/check.sh ends.py --tree MOUNT VHOST WORK. It
 wants root, in a namespace of mounts of its own. With LATE_CLOSE in the environment, the built late_close.c, a machine
-begins anew, which takes long, and goes meanwhile: what the next one has stays, and nothing else."""
+begins anew, which takes long, and goes meanwhile: what the next one has stays, and nothing else, also where it has the
+numbers that the one before had."""
 
 import atexit, contextlib, ctypes, fcntl, mmap, os, select, signal, socket, struct, subprocess, sys, time
 
 sys.path.insert(0, os.path.dirname(os.path.abspath(__file__)) + "/../lib")
 import held  # noqa: E402
 from held import faults, hold, wait_for  # noqa: E402
+from machine import Machine, Op, record  # noqa: E402
 
 of_tree = sys.argv[1] == "--tree"
 if of_tree:
@@ -285,6 +287,66 @@ def comes_late():
     server.ends("a signal, once requests came late")
 
 
+def restored():
+    """What comes late of a machine takes nothing from the next one, which has the same state, and so the same numbers."""
+    server = Server("--sandbox=none", "--thread-pool-size=2", "--flock", "--socket-path=" + path, folder,
+                    LD_PRELOAD=os.environ["LATE_CLOSE"])
+    with open(folder + "/locked", "w") as file:
+        file.write("x" * 4244)
+
+    def machine(state=None):
+        one = Machine(path)
+        if state:
+            hold(one.load(state), "a state is not loaded")
+        return one.begin()
+
+    first = machine()
+    first.init()
+    nodes = {name: first.look_up(name) for name in (b"late", b"leased", b"locked")}
+    files = {name: first.open(node) for name, node in nodes.items()}
+    listed = first.open(1, os.O_DIRECTORY)
+    # (what is listed is looked at by its name if it is known)
+    first.look_up(b"slow")
+    first.stop()
+    state = first.save()
+    first.end()
+
+    def lock(one, name, asks):
+        asked = record(Op.SETLK, handle=files[name], lock_owner=7, start=0, end=2**63 - 1, type=fcntl.F_WRLCK, pid=1,
+                       lock_flags=1)
+        return asks(one, Op.SETLK, asked, nodes[name])
+
+    def closes(one):
+        hold(lock(one, b"late", Machine.ask)[0] == 0, "a lock of what is closed late")
+        one.post(Op.RELEASE, record(Op.RELEASE, handle=files[b"late"], release_flags=2, lock_owner=7), nodes[b"late"])
+
+    def lists(one):
+        one.post(Op.READDIRPLUS, record(Op.READDIRPLUS, handle=listed, size=4000), 1)
+
+    def locks(one):
+        lock(one, b"locked", Machine.post)
+
+    for what, begin in (("a SETLK", locks), ("a RELEASE", closes), ("a READDIRPLUS", lists)):
+        one = machine(state)
+        begin(one)
+        time.sleep(0.3)
+        one.end()
+        other = machine(state)
+        hold(lock(other, b"locked", Machine.ask)[0] == 0, f"{what} that comes late: the next machine has no lock")
+        time.sleep(4)
+        for name, node in nodes.items():
+            hold(other.ask(Op.GETATTR, record(Op.GETATTR), node)[0] == 0, f"{what} that came late took {name}")
+            hold(other.read(node, files[name])[0] == 0, f"{what} that came late closed {name}")
+        with open(folder + "/locked") as file:
+            try:
+                fcntl.flock(file, fcntl.LOCK_EX | fcntl.LOCK_NB)
+                hold(False, f"{what} that came late took a lock")
+            except BlockingIOError:
+                pass
+        other.end()
+    server.ends("a signal, once requests came late to the next machine")
+
+
 def mount_waits(how, *sandbox):
     """Who uses the mount waits, and a signal ends it."""
     hung = Hung(folder + "/hung") if how == "a file system" else None
@@ -357,6 +419,7 @@ if "LATE_CLOSE" in os.environ:
     begins_anew()
     closes_late()
     comes_late()
+    restored()
 alone = "--sandbox=none" in words
 for sandbox in ([[]] if alone else [["--sandbox=namespace"], ["--sandbox=none"]]):
     mount_waits("a lease", *sandbox)

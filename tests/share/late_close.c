@@ -1,5 +1,5 @@
 /* Loaded before a share, for ends.py: to close an open file of 4242 bytes takes three seconds, as over a network, and so
- * does to open one of 4243, and to look at what is named `slow`. */
+ * does to open one of 4243, to open one of 4244 for its first lock, and to look at what is named `slow`. */
 #define _GNU_SOURCE
 #include <dlfcn.h>
 #include <errno.h>
@@ -37,6 +37,7 @@ int openat(int directory, const char *name, int flags, ...)
 {
 	int (*own)(int, const char *, int, ...) =
 		(int (*)(int, const char *, int, ...))dlsym(RTLD_NEXT, "openat");
+	static int had_lock;
 	unsigned mode = 0;
 	va_list more;
 	int fd;
@@ -46,7 +47,7 @@ int openat(int directory, const char *name, int flags, ...)
 		mode = va_arg(more, unsigned);
 	va_end(more);
 	fd = own(directory, name, flags, mode);
-	if (fd >= 0 && has_size(fd, 4243))
+	if (fd >= 0 && (has_size(fd, 4243) || (flags & O_NOCTTY && has_size(fd, 4244) && !had_lock++)))
 		take_long();
 	return fd;
 }

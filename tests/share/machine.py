@@ -82,8 +82,8 @@ class Machine:
         self.tell(GET_BASE, QUEUE, 0, shape="II")
         return struct.unpack("<II", self.answer())[1]
 
-    def ask(self, opcode, body=b"", node=1, room=4096, user=0):
-        """The error and what is after the header of the reply; None: it was completed without one."""
+    def post(self, opcode, body=b"", node=1, room=4096, user=0):
+        """Asks, and waits for nothing."""
         self.unique += 2
         asked = struct.pack("<IIQQIIIHH", 40 + len(body), opcode, self.unique, node, user, user, 1, 0, 0) + body
         self.view[REQUEST:REQUEST + len(asked)] = asked
@@ -94,6 +94,10 @@ class Machine:
         self.next += 1
         self.view[AVAILABLE + 2:AVAILABLE + 4] = struct.pack("<H", self.next % 65536)
         os.eventfd_write(self.kick, 1)
+
+    def ask(self, opcode, body=b"", node=1, room=4096, user=0):
+        """The error and what is after the header of the reply; None: it was completed without one."""
+        self.post(opcode, body, node, room, user)
         until = time.monotonic() + LONG
         while struct.unpack_from("<H", self.view, USED + 2)[0] != self.next % 65536:
             if time.monotonic() > until or select.select([self.socket], [], [], 0.0002)[0]:
