@@ -605,12 +605,14 @@ static bool end_waiting(struct locks *all)
 	return is_idle;
 }
 
-/* Takes all out of the table: the first one of a list. */
+/* Takes all out of the table: the first one of a list. What was interrupted before it came is forgotten. */
 static struct holder *take_all(struct locks *all)
 {
 	struct holder *gone = NULL, *h;
 
 	pthread_mutex_lock(&all->lock);
+	/* (who comes next has requests of the same numbers) */
+	memset(&all->early, 0, sizeof(all->early));
 	for (unsigned i = 0; i < CHAINS; i++)
 		while ((h = all->chains[i])) {
 			all->chains[i] = h->next;

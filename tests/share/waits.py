@@ -196,6 +196,7 @@ def ask_all(path):
     freed(one, node, handle, True)
     stopped(one, node, handle)
     waiting(one, node, handle, False)
+    hold("what is not asked is interrupted", one.interrupt(16), 0)
     one.end()
     one, node, handle = begun(path)
     hold("no lock is left", one.error(one.lock(node, handle, 5, WRITE)), 0)
