@@ -361,6 +361,10 @@ static int64_t answer(struct worker *w, struct guest *g, struct queue *q, uint16
 		broken++;
 		return 0;
 	}
+	/* (to read a guest's memory may take as long as its front end wants: one that has gone meanwhile asks for nothing, or
+	 * it would be the next one that does) */
+	if (atomic_load(&g->gone))
+		return 0;
 	transport_withhold(by, w->request, w->copied);
 	if (ask(w, g, q, head, &code, &len))
 		return -1;
