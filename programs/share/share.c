@@ -29,6 +29,7 @@
 #include <sys/socket.h>
 #include <sys/stat.h>
 #include <sys/un.h>
+#include <time.h>
 #include <unistd.h>
 #include "fuse_ring.h"
 #include "passthrough.h"
@@ -44,6 +45,8 @@ enum { LARGE_TABLE = 65536 };
 enum { OF_MOUNT = 16, OF_MOUNT_WORKER = 3, OF_RING_WORKER = 2, OF_SOCKET = 24, OF_SOCKET_WORKER = 2 };
 /* How many requests of each processor may wait for locks over io_uring. */
 enum { MOST_WAITING = 63 };
+/* In milliseconds: how long it may take to serve, once a signal came. */
+enum { MOST_START = 1800 };
 
 static int failed(const char *what)
 {
@@ -231,14 +234,40 @@ static int give_to_group(const char *path, gid_t group)
 	return error;
 }
 
-/* Removes the socket, and then the file of the process, by whose lock no other share makes one meanwhile. It is called
- * where the process ends, by the transport if a request doesn't come back, and by what stands by a sandbox. Where
- * neither was made, or the process is in the sandbox, it does nothing. */
-static void remove_socket(void *user)
+static void *remove_both(void *none)
 {
-	(void)user;
 	vhost_user_remove_socket();
 	pid_file_remove();
+	return none;
+}
+
+/* Removes the socket, and then the file of the process, by whose lock no other share makes one meanwhile. It is called
+ * where the process ends, by the transport if a request doesn't come back, and by what stands by a sandbox. Where
+ * neither was made, or the process is in the sandbox, it does nothing. Another thread does it, which is waited for a
+ * second: if their folder doesn't answer they are left. What stands by a namespace of processes can make no thread, and
+ * SIGALRM ends it then. */
+static void remove_socket(void *user)
+{
+	struct timespec until;
+	pthread_t thread;
+	int error;
+
+	(void)user;
+	if (!words.socket_path)
+		return;
+	error = pthread_create(&thread, NULL, remove_both, NULL);
+	if (error) {
+		if (error == EINVAL)
+			alarm(1);
+		remove_both(NULL);
+		if (error == EINVAL)
+			alarm(0);
+		return;
+	}
+	clock_gettime(CLOCK_REALTIME, &until);
+	until.tv_sec++;
+	if (pthread_timedjoin_np(thread, NULL, &until))
+		pthread_detach(thread);
 }
 
 static void remove_at_exit(void)
@@ -304,6 +333,98 @@ static transport by = { .program = "nizwarf-share",
 			.serve = passthrough_serve };
 static int device = -1;
 static transport_notices notices = TRANSPORT_NO_NOTICES;
+/* Without a sandbox: it has mounted, and nobody else unmounts. */
+static atomic_bool is_mounted;
+
+/* Where nothing stands by, a thread waits for a signal while something is done that a file system may not answer: of the
+ * socket's folder; and without a sandbox of the folder that is shared, up to when it serves. It takes no signal, so that
+ * the transport has it. `done` is told once all is. */
+static struct guard {
+	pthread_t thread;
+	int signals, done;
+	unsigned long tasks;
+} guard;
+
+/* How many threads Linux has of this process, and two more; 0: it doesn't tell. */
+static unsigned long count_tasks(void)
+{
+	struct stat seen;
+
+	return fstatat(AT_FDCWD, "/proc/self/task", &seen, 0) ? 0 : (unsigned long)seen.st_nlink;
+}
+
+/* Status 0: a signal is no failure. */
+static void *keep_guard(void *given)
+{
+	const struct guard *g = given;
+	struct pollfd wait[] = { { g->done, POLLIN, 0 }, { g->signals, POLLIN, 0 } };
+
+	while (poll(wait, 2, -1) < 0 && errno == EINTR)
+		;
+	while (!wait[0].revents && poll(wait, 1, MOST_START) < 0 && errno == EINTR)
+		;
+	if (wait[0].revents)
+		return NULL;
+	/* (before that, what is mounted there is another's) */
+	if (atomic_load(&is_mounted))
+		fuse_device_detach(&by, words.mount_point);
+	remove_socket(NULL);
+	_exit(0);
+}
+
+static int begin_guard(void)
+{
+	const sigset_t ending = transport_hold_signals(SIG_BLOCK);
+
+	guard.signals = signalfd(-1, &ending, SFD_CLOEXEC);
+	guard.done = eventfd(0, EFD_CLOEXEC);
+	guard.tasks = count_tasks();
+	if (guard.signals < 0 || guard.done < 0)
+		return failed("signalfd and eventfd");
+	errno = pthread_create(&guard.thread, NULL, keep_guard, &guard);
+	return errno ? failed("a thread") : 0;
+}
+
+/* (Linux has the thread for a moment still when it is joined, and a process of several gets no namespace of users) */
+static void end_guard(void)
+{
+	enum { TRIES = 1000 };
+	const struct timespec pause = { 0, 1000000 };
+	const uint64_t one = 1;
+
+	if (write(guard.done, &one, sizeof(one)) < 0)
+		failed("eventfd");
+	pthread_join(guard.thread, NULL);
+	for (int i = 0; i < TRIES && count_tasks() > guard.tasks; i++)
+		nanosleep(&pause, NULL);
+	close(guard.signals);
+	close(guard.done);
+}
+
+/* Makes the socket, and writes the file of the process: their folder may not answer. */
+static int listen_guarded(void)
+{
+	int listener;
+
+	if (begin_guard())
+		exit(1);
+	listener = listen_on_socket(&by);
+	end_guard();
+	return listener;
+}
+
+static int write_pid_guarded(void)
+{
+	int error;
+
+	if (words.mount_point)
+		return 0;
+	error = begin_guard() || pid_file_write();
+	if (!error)
+		end_guard();
+	return error;
+}
+
 /* How many queues it has over io_uring, and workers. */
 static unsigned queues, ring_workers;
 
@@ -396,9 +517,6 @@ static int limit(struct passthrough *all)
 				      (opens_handles ? MAY_OPEN_HANDLES : 0) | (by.ring ? MAY_USE_RINGS : 0));
 }
 
-/* Without a sandbox: it has mounted, and nobody else unmounts. */
-static atomic_bool is_mounted;
-
 /* Mounts, from within the sandbox if there is one. */
 static int begin_mount(void)
 {
@@ -421,58 +539,6 @@ static void tell_outside(void)
 		sandbox_ready();
 		go_quiet();
 	}
-}
-
-/* In milliseconds: how long it may take to serve, once a signal came. */
-enum { MOST_START = 1800 };
-
-/* Without a sandbox nothing stands by: a thread waits for a signal up to when it serves, as the file system of the
- * folder may not answer. It takes none, so that the transport has it. `serves` is told once it does. */
-static struct guard {
-	pthread_t thread;
-	int signals, serves;
-} guard;
-
-/* Status 0: a signal is no failure. */
-static void *keep_guard(void *given)
-{
-	const struct guard *g = given;
-	struct pollfd wait[] = { { g->serves, POLLIN, 0 }, { g->signals, POLLIN, 0 } };
-
-	while (poll(wait, 2, -1) < 0 && errno == EINTR)
-		;
-	while (!wait[0].revents && poll(wait, 1, MOST_START) < 0 && errno == EINTR)
-		;
-	if (wait[0].revents)
-		return NULL;
-	/* (before that, what is mounted there is another's) */
-	if (atomic_load(&is_mounted))
-		fuse_device_detach(&by, words.mount_point);
-	remove_socket(NULL);
-	_exit(0);
-}
-
-static int begin_guard(void)
-{
-	const sigset_t ending = transport_hold_signals(SIG_BLOCK);
-
-	guard.signals = signalfd(-1, &ending, SFD_CLOEXEC);
-	guard.serves = eventfd(0, EFD_CLOEXEC);
-	if (guard.signals < 0 || guard.serves < 0)
-		return failed("signalfd and eventfd");
-	errno = pthread_create(&guard.thread, NULL, keep_guard, &guard);
-	return errno ? failed("a thread") : 0;
-}
-
-static void end_guard(void)
-{
-	const uint64_t one = 1;
-
-	if (write(guard.serves, &one, sizeof(one)) < 0)
-		failed("eventfd");
-	pthread_join(guard.thread, NULL);
-	close(guard.signals);
-	close(guard.serves);
 }
 
 /* Serves in the sandbox, from its entering on: the status with which the process ends. Rings are made
@@ -578,12 +644,12 @@ int main(int count, char **given)
 	if (words.mount_point && (device = fuse_device_open(&by)) < 0)
 		return 1;
 	if (!words.mount_point)
-		listener = listen_on_socket(&by);
+		listener = listen_guarded();
 	look_for_rings();
 	count_workers();
 	if (words.daemonizes && (starter = go_to_background()) < 0)
 		return 1;
-	if (pid_file_write())
+	if (write_pid_guarded())
 		return 1;
 	/* (outside of the sandbox: what is forked here keeps CAP_SYS_ADMIN) */
 	if (words.files.passthrough &&

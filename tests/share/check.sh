@@ -243,13 +243,14 @@ try_early_signals() {
     done
 }
 
-# A signal ends it also before it serves, where the folder's file system does not answer.
+# A signal ends it also before it serves, where the folder's file system does not answer, or the socket's, and at its end.
 try_no_answer() {
-    local sandbox words child
+    local sandbox words child came
     cc -shared -fPIC -Wall -Wextra -Werror -o "$work/no_answer.so" "$here/tests/share/no_answer.c"
     mkdir -p "$work/folder" "$work/mount"
     for sandbox in namespace chroot none; do
-        for words in "$work/mount" "$work/mount MOUNTED=" --socket-path="$work/unanswered"; do
+        for words in "$work/mount" "$work/mount MOUNTED=" --socket-path="$work/unanswered" \
+            "--socket-path=$work/unanswered BOUND=" "--socket-path=$work/unanswered REMOVED="; do
             # (what is mounted there before stays)
             [ "$words" != "$work/mount" ] || mount -t tmpfs none "$work/mount"
             # shellcheck disable=SC2086
@@ -272,9 +273,14 @@ try_no_answer() {
             done
             kill -TERM "$server"
             await_end "$((child ? child : server))"
-            wait "$server" || wrong "a signal while the folder does not answer: $?, in the sandbox $sandbox, with $words"
+            came=0
+            wait "$server" || came=$?
             server=
-            [ ! -e "$work/unanswered" ] || wrong "a socket is left of a folder that does not answer, with $sandbox"
+            # (what stands by a namespace of processes ends by SIGALRM, if it can't remove the socket)
+            [ "$came" = 0 ] || [ "$came:$sandbox:${words##* }" = 142:namespace:REMOVED= ] ||
+                wrong "a signal while the folder does not answer: $came, in the sandbox $sandbox, with $words"
+            [ "$words" != "${words% REMOVED=}" ] || { [ ! -e "$work/unanswered" ] && [ ! -e "$work/unanswered.pid" ]; } ||
+                wrong "a socket is left of a folder that does not answer, with $sandbox"
             [ "$words" != "$work/mount" ] || umount "$work/mount" || wrong "another's mount is gone, with $sandbox"
             ! umount -l "$work/mount" 2> /dev/null || wrong "a mount is left of a folder that does not answer, with $sandbox"
             rm -f "$work/unanswered"*

@@ -347,6 +347,21 @@ def restored():
     server.ends("a signal, once requests came late to the next machine")
 
 
+def waits_for_socket():
+    """The folder of the socket does not answer, and a signal ends it before there is one."""
+    hung = Hung(folder + "/hung")
+    server = subprocess.Popen([share, "--log-level=error", *words, f"--socket-path={folder}/hung/socket", folder])
+    time.sleep(0.5)
+    server.terminate()
+    try:
+        hold(server.wait(SOON) == 0, "a signal while the folder of the socket does not answer")
+    except subprocess.TimeoutExpired:
+        hold(False, "a folder of the socket that does not answer holds up a signal")
+        server.kill()
+        server.wait()
+    hung.end()
+
+
 def mount_waits(how, *sandbox):
     """Who uses the mount waits, and a signal ends it."""
     hung = Hung(folder + "/hung") if how == "a file system" else None
@@ -420,6 +435,7 @@ if "LATE_CLOSE" in os.environ:
     closes_late()
     comes_late()
     restored()
+waits_for_socket()
 alone = "--sandbox=none" in words
 for sandbox in ([[]] if alone else [["--sandbox=namespace"], ["--sandbox=none"]]):
     mount_waits("a lease", *sandbox)

@@ -1,26 +1,48 @@
 /* Loaded before a share, for check.sh: the file system of its folder does not answer, before it serves; or with MOUNTED in
- * the environment, once it is mounted. */
+ * the environment, once it is mounted. With BOUND that of its socket does not, when that is made, and with REMOVED when it
+ * is removed. */
 #define _GNU_SOURCE
 #include <dlfcn.h>
 #include <stdarg.h>
 #include <stdlib.h>
 #include <sys/prctl.h>
+#include <sys/socket.h>
 #include <sys/vfs.h>
 #include <unistd.h>
 
 static void wait_for_ever(void)
 {
+	/* (a filter of calls has none for pause(2)) */
 	for (;;)
-		pause();
+		sleep(1000);
 }
 
 int fstatfs(int fd, struct statfs *told)
 {
 	int (*own)(int, struct statfs *) = (int (*)(int, struct statfs *))dlsym(RTLD_NEXT, "fstatfs");
 
-	if (!getenv("MOUNTED"))
+	if (!getenv("MOUNTED") && !getenv("REMOVED"))
 		wait_for_ever();
 	return own(fd, told);
+}
+
+int bind(int fd, const struct sockaddr *address, socklen_t len)
+{
+	int (*own)(int, const struct sockaddr *, socklen_t) =
+		(int (*)(int, const struct sockaddr *, socklen_t))dlsym(RTLD_NEXT, "bind");
+
+	if (getenv("BOUND"))
+		wait_for_ever();
+	return own(fd, address, len);
+}
+
+int unlink(const char *path)
+{
+	int (*own)(const char *) = (int (*)(const char *))dlsym(RTLD_NEXT, "unlink");
+
+	if (getenv("REMOVED"))
+		wait_for_ever();
+	return own(path);
 }
 
 int prctl(int what, ...)
