@@ -180,7 +180,8 @@ static void go_quiet(void)
 		close(manager);
 }
 
-/* Tells the service manager, as soon as that takes it, or unless a signal comes first. */
+/* Tells the service manager, as soon as that takes it, or unless a signal comes first; without a descriptor that tells of
+ * one, within MOST_START. */
 static void tell_manager(void)
 {
 	static const char ready[] = "READY=1\n";
@@ -191,7 +192,8 @@ static void tell_manager(void)
 	/* (its socket holds some messages, and who is to take them may wait itself) */
 	do
 		told = send(manager, ready, sizeof(ready) - 1, MSG_NOSIGNAL | MSG_DONTWAIT);
-	while (told < 0 && errno == EAGAIN && poll(wait, 2, -1) > 0 && !wait[0].revents);
+	while (told < 0 && errno == EAGAIN && poll(wait, 2, wait[0].fd < 0 ? MOST_START : -1) > 0 &&
+	       !wait[0].revents);
 	if (told < 0)
 		failed("NOTIFY_SOCKET");
 	if (wait[0].fd >= 0)

@@ -606,7 +606,8 @@ try_words() {
     came=$(timeout 200 "$share" --daemonize --log-level=error "$work/folder" "$work/mount" 2>&1) || wrong "--daemonize"
     mountpoint -q "$work/mount" || wrong "--daemonize, which did not wait for the mount, and said: $came"
     umount "$work/mount"
-    timeout 600 python3 -B "$here/tests/share/notify.py" "$share" "$work" || wrong "NOTIFY_SOCKET"
+    cc -shared -fPIC -Wall -Wextra -Werror -o "$work/no_signalfd.so" "$here/tests/share/no_signalfd.c"
+    timeout 600 python3 -B "$here/tests/share/notify.py" "$share" "$work" "$work/no_signalfd.so" || wrong "NOTIFY_SOCKET"
     echo "Words that can't be are refused, and it is told when it serves."
 }
 

@@ -1,4 +1,5 @@
-"""Starts a share as systemd does, for check.sh: it tells NOTIFY_SOCKET that it serves. notify.py SHARE WORK"""
+"""Starts a share as systemd does, for check.sh: it tells NOTIFY_SOCKET that it serves. notify.py SHARE WORK NO_SIGNALFD, of
+which the last is the built no_signalfd.c"""
 import os
 import socket
 import struct
@@ -6,7 +7,7 @@ import subprocess
 import sys
 import time
 
-share, work = sys.argv[1:]
+share, work, no_signalfd = sys.argv[1:]
 told = socket.socket(socket.AF_UNIX, socket.SOCK_DGRAM)
 told.setsockopt(socket.SOL_SOCKET, socket.SO_PASSCRED, 1)
 told.bind(work + "/told")
@@ -26,15 +27,16 @@ for words in (["--socket-path=" + work + "/socket"], ["--fd=%d" % listening.file
 full = socket.socket(socket.AF_UNIX, socket.SOCK_DGRAM)
 full.connect(work + "/told")
 full.setblocking(False)
-for sandbox in "namespace", "none":
+for sandbox, loaded in (("namespace", {}), ("none", {}), ("namespace", {"LD_PRELOAD": no_signalfd})):
     try:
         while True:
             full.send(b"")
     except BlockingIOError:
         pass
-    for is_read in False, True:
+    # (without that descriptor it does not wait for long)
+    for is_read in (False,) if loaded else (False, True):
         server = subprocess.Popen([share, "--log-level=error", "--sandbox=" + sandbox, "--socket-path=" + work + "/socket",
-                                   work + "/folder"], env=dict(os.environ, NOTIFY_SOCKET=work + "/told"))
+                                   work + "/folder"], env=dict(os.environ, NOTIFY_SOCKET=work + "/told", **loaded))
         until = time.monotonic() + 20
         while not os.path.exists(work + "/socket") and time.monotonic() < until:
             time.sleep(0.01)
