@@ -6,11 +6,11 @@ use crate::file_system::FileSystem;
 use crate::notifier::Notifier;
 use crate::server::Server;
 use crate::system;
-use std::ffi::{CString, OsStr};
+use std::ffi::{CStr, CString, OsStr};
 use std::fs::{canonicalize, metadata, File};
 use std::io::{self, ErrorKind};
 use std::os::unix::ffi::OsStrExt;
-use std::os::unix::fs::MetadataExt;
+use std::os::unix::fs::{MetadataExt, OpenOptionsExt};
 use std::os::unix::io::{AsRawFd, OwnedFd};
 use std::os::unix::net::UnixStream;
 use std::panic::resume_unwind;
@@ -266,10 +266,66 @@ impl Drop for Ends<'_> {
     }
 }
 
+/// Where a mount is made: so what is unmounted is what was mounted. Who may write to a folder above could rename it
+/// meanwhile, put a link in its place, or mount something else there.
+#[derive(Debug)]
+struct Place {
+    /// The directory above, wherever that is now, and the name in it.
+    above: File,
+    name: CString,
+    /// The mounts that the name leads to, without this one and with it. None: it is not known.
+    before: Option<u64>,
+    own: Option<u64>,
+}
+
+impl Place {
+    /// The path is resolved. None: it cannot be known, as without `/proc`.
+    fn new(whole: &Path) -> Option<Self> {
+        const O_PATH: i32 = 0o10_000_000;
+        metadata("/proc/self/fd").ok()?;
+        // (that of the root alone has no name)
+        let name = whole.file_name().unwrap_or_else(|| OsStr::new("."));
+        let name = c_string(name.as_bytes()).ok()?;
+        let folder = whole.parent().unwrap_or(whole);
+        let above = File::options().read(true).custom_flags(O_PATH).open(folder).ok()?;
+        let before = system::number_of_mount(&above, &name);
+        Some(Place { above, name, before, own: None })
+    }
+
+    fn number(&self) -> Option<u64> {
+        system::number_of_mount(&self.above, &self.name)
+    }
+
+    /// A path that leads there whatever has the names of the folders above.
+    fn path(&self) -> io::Result<CString> {
+        let mut path = format!("/proc/self/fd/{}/", self.above.as_raw_fd()).into_bytes();
+        path.extend(self.name.as_bytes());
+        c_string(&path)
+    }
+
+    /// Whether what was mounted is what is there, as far as it is known; otherwise nothing is.
+    fn is_mounted(&self) -> io::Result<bool> {
+        match (self.own, self.number()) {
+            (Some(own), Some(there)) if own != there => {
+                let other = "another file system is mounted there";
+                let error = || io::Error::new(ErrorKind::Other, other);
+                if self.before == Some(there) {
+                    Ok(false)
+                } else {
+                    Err(error())
+                }
+            }
+            _ => Ok(true),
+        }
+    }
+}
+
 /// A folder on which a device is mounted.
 #[derive(Debug)]
 pub(crate) struct Point {
     folder: PathBuf,
+    /// None: it is not known.
+    place: Option<Place>,
     pub device: Arc<File>,
     /// What mounted it, if it is not root's own mount.
     helper: Option<Helper>,
@@ -289,9 +345,10 @@ impl Point {
         let of_folder = |error| named(folder.display(), &error);
         let whole = canonicalize(folder).map_err(of_folder)?;
         let mode = metadata(&whole).map_err(of_folder)?.mode();
+        let mut place = Place::new(&whole);
         let is_own = !options.contains(&MountOption::AutoUnmount);
         let own = if is_own && system::user_and_group().0 == 0 {
-            Some(mount_as_root(&whole, mode, options))
+            Some(mount_as_root(&path_of(&whole, place.as_ref())?, mode, options))
         } else {
             None
         };
@@ -303,14 +360,17 @@ impl Point {
                 (device, Some(helper))
             }
         };
+        if let Some(place) = &mut place {
+            place.own = place.number();
+        }
         let device = Arc::new(device);
-        Ok(Point { folder: whole, device, helper, is_mounted: AtomicBool::new(true) })
+        Ok(Point { folder: whole, place, device, helper, is_mounted: AtomicBool::new(true) })
     }
 
     /// A device that somebody else has mounted, and unmounts.
     pub fn of_other(device: File) -> Self {
         let (folder, is_mounted) = (PathBuf::new(), AtomicBool::new(false));
-        Point { folder, device: Arc::new(device), helper: None, is_mounted }
+        Point { folder, place: None, device: Arc::new(device), helper: None, is_mounted }
     }
 
     /// Unmounts, once, and only if it is still mounted.
@@ -319,9 +379,14 @@ impl Point {
         if !was_mounted || !system::is_connected(&self.device) {
             return Ok(());
         }
+        let of_folder = |error| named(self.folder.display(), &error);
+        if !self.place.as_ref().map_or(Ok(true), Place::is_mounted).map_err(of_folder)? {
+            return Ok(());
+        }
         match &self.helper {
-            None => system::unmount(&c_string(self.folder.as_os_str().as_bytes())?)
-                .map_err(|error| named(self.folder.display(), &error)),
+            None => {
+                system::unmount(&path_of(&self.folder, self.place.as_ref())?).map_err(of_folder)
+            }
             Some(Helper { name, .. }) => {
                 let mut command = Command::new(name);
                 let output = command.args(["-u", "-q", "-z", "--"]).arg(&self.folder).output()?;
@@ -342,8 +407,13 @@ impl Drop for Point {
     }
 }
 
+/// What leads to a folder: by its place, if that is known.
+fn path_of(folder: &Path, place: Option<&Place>) -> io::Result<CString> {
+    place.map_or_else(|| c_string(folder.as_os_str().as_bytes()), Place::path)
+}
+
 /// Mounts as root. Returns the device.
-fn mount_as_root(folder: &Path, mode: u32, options: &[MountOption]) -> io::Result<File> {
+fn mount_as_root(folder: &CStr, mode: u32, options: &[MountOption]) -> io::Result<File> {
     const MS_NOSUID: u64 = 2;
     const MS_NODEV: u64 = 4;
     let device = File::options().read(true).write(true).open("/dev/fuse");
@@ -367,7 +437,7 @@ fn mount_as_root(folder: &Path, mode: u32, options: &[MountOption]) -> io::Resul
     let kind = subtype.map_or_else(|| "fuse".into(), |subtype| format!("fuse.{subtype}"));
     system::mount_on(
         &c_string(source.as_bytes())?,
-        &c_string(folder.as_os_str().as_bytes())?,
+        folder,
         &c_string(kind.as_bytes())?,
         flags,
         &c_string(data.as_bytes())?,

@@ -40,6 +40,15 @@ struct Polled {
     came: c_short,
 }
 
+/// `struct statx`, up to the number of the mount.
+#[repr(C)]
+struct Seen {
+    mask: u32,
+    attributes: [u32; 35],
+    mount: u64,
+    others: [u64; 13],
+}
+
 extern "C" {
     fn mount(
         source: *const c_char,
@@ -49,6 +58,13 @@ extern "C" {
         data: *const c_char,
     ) -> c_int;
     fn umount2(folder: *const c_char, flags: c_int) -> c_int;
+    fn statx(
+        directory: c_int,
+        name: *const c_char,
+        flags: c_int,
+        mask: u32,
+        seen: *mut Seen,
+    ) -> c_int;
     fn geteuid() -> u32;
     fn getegid() -> u32;
     fn poll(polled: *mut Polled, count: c_ulong, milliseconds: c_int) -> c_int;
@@ -81,6 +97,21 @@ pub(crate) fn unmount(folder: &CStr) -> io::Result<()> {
     const UMOUNT_NOFOLLOW: c_int = 8;
     // SAFETY: the string ends with a NUL, and is valid for this call.
     done(unsafe { umount2(folder.as_ptr(), MNT_DETACH | UMOUNT_NOFOLLOW) })
+}
+
+/// The number of the mount that a name in a directory leads to; none before Linux 5.8. Nobody is asked for it, not even
+/// the file system that is mounted there, which may be this process, and would wait for itself.
+pub(crate) fn number_of_mount(directory: &File, name: &CStr) -> Option<u64> {
+    const AT_SYMLINK_NOFOLLOW: c_int = 0x100;
+    const AT_NO_AUTOMOUNT: c_int = 0x800;
+    const AT_STATX_DONT_SYNC: c_int = 0x4000;
+    const HOW: c_int = AT_SYMLINK_NOFOLLOW | AT_NO_AUTOMOUNT | AT_STATX_DONT_SYNC;
+    const STATX_MNT_ID: u32 = 0x1000;
+    let mut seen = Seen { mask: 0, attributes: [0; 35], mount: 0, others: [0; 13] };
+    let (directory, name) = (directory.as_raw_fd(), name.as_ptr());
+    // SAFETY: the string ends with a NUL, and both it and the struct are valid for this call.
+    let failed = unsafe { statx(directory, name, HOW, STATX_MNT_ID, &mut seen) };
+    (failed == 0 && seen.mask & STATX_MNT_ID != 0).then_some(seen.mount)
 }
 
 /// Whether the mount that a device of `/dev/fuse` serves is still there.
@@ -135,6 +166,7 @@ fn done(failed: c_int) -> io::Result<()> {
 const _: () = assert!(size_of::<Message<'_>>() == 56);
 const _: () = assert!(size_of::<Control>() == 24);
 const _: () = assert!(size_of::<Polled>() == 8);
+const _: () = assert!(size_of::<Seen>() == 256);
 
 #[cfg(test)]
 mod tests {

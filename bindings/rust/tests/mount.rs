@@ -301,6 +301,58 @@ fn a_panic_ends_a_mount_after_its_caller_is_answered() {
     }
 }
 
+#[test]
+fn what_is_unmounted_is_what_was_mounted() {
+    let folder = match Folder::new("place") {
+        Some(folder) => folder,
+        None => return,
+    };
+    let (above, moved, other) =
+        (folder.0.join("above"), folder.0.join("moved"), folder.0.join("other"));
+    let point = above.join("point");
+    let is_mounted = |path: &Path| {
+        let lines = fs::read_to_string("/proc/self/mountinfo").unwrap();
+        lines.contains(&format!(" {} ", path.display()))
+    };
+    let run = |program: &str, words: &[&std::ffi::OsStr]| {
+        assert!(Command::new(program).args(words).status().unwrap().success(), "{program}");
+    };
+    let cover = |path: &Path| {
+        run(
+            "mount",
+            &["-t", "tmpfs", "none"]
+                .map(AsRef::as_ref)
+                .into_iter()
+                .chain([path.as_os_str()])
+                .collect::<Vec<_>>(),
+        );
+    };
+    fs::create_dir_all(&point).unwrap();
+    fs::create_dir_all(other.join("point")).unwrap();
+    // A link takes the place of the folder above.
+    let mounted = spawn_mount(Odd::default(), &point, &[]).unwrap();
+    cover(&other.join("point"));
+    fs::rename(&above, &moved).unwrap();
+    std::os::unix::fs::symlink(&other, &above).unwrap();
+    drop(mounted);
+    assert!(is_mounted(&other.join("point")) && !is_mounted(&moved.join("point")));
+    run("umount", &[other.join("point").as_os_str()]);
+    fs::remove_file(&above).unwrap();
+    fs::rename(&moved, &above).unwrap();
+    // Something else is mounted over it.
+    let mounted = spawn_mount(Odd::default(), &point, &[]).unwrap();
+    cover(&point);
+    let error = mounted.unmount().unwrap_err();
+    assert!(error.to_string().contains("another file system is mounted there"), "{error}");
+    let kind = Command::new("stat").args(["-f", "-c", "%T"]).arg(&point).output().unwrap().stdout;
+    assert_eq!(String::from_utf8_lossy(&kind).trim(), "tmpfs");
+    run("umount", &[point.as_os_str()]);
+    run("umount", &["-l".as_ref(), point.as_os_str()]);
+    for path in [other.join("point"), other, point, above] {
+        fs::remove_dir(path).unwrap();
+    }
+}
+
 /// A word for a second process of this program, which mounts on this folder.
 const MOUNTS: &str = "NIZWARF_MOUNTS";
 
