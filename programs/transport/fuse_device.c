@@ -1047,8 +1047,8 @@ static int await_signals(void)
 /* Ends the process, although a worker waits for what does not come. */
 static _Noreturn void leave(struct device *d)
 {
-	fprintf(stderr, "%s: a %s does not come back: it ends without\n", d->by->program,
-		is_answering(d) ? "request" : "worker");
+	fuse_device_say(d->by, is_answering(d) ? "a request" : "a worker",
+			"does not come back: it ends without");
 	if (d->folder && atomic_load(&d->failed))
 		fuse_device_detach(d->by, d->folder);
 	if (d->by->left)

@@ -8,6 +8,7 @@
 #include <errno.h>
 #include <fcntl.h>
 #include <limits.h>
+#include <poll.h>
 #include <stdio.h>
 #include <stdlib.h>
 #include <string.h>
@@ -21,6 +22,14 @@ static int say(const transport *by, const char *what)
 {
 	fprintf(stderr, "%s: %s: %s\n", by->program, what, strerror(errno));
 	return -1;
+}
+
+void fuse_device_say(const transport *by, const char *about, const char *what)
+{
+	struct pollfd error = { STDERR_FILENO, POLLOUT, 0 };
+
+	if (poll(&error, 1, 0) > 0 && error.revents & POLLOUT)
+		dprintf(STDERR_FILENO, "%s: %s %s\n", by->program, about, what);
 }
 
 /* Where the mount was made: the directory above, wherever that is now, the name there, and the numbers that
@@ -103,10 +112,10 @@ int fuse_device_unmount(const transport *by, const char *folder)
 		return found;
 	if (!unmount(point, 0))
 		return 0;
-	if (errno != EBUSY)
+	if (errno != EBUSY || unmount(point, MNT_DETACH))
 		return say(by, folder);
-	fprintf(stderr, "%s: %s is in use, and goes with its last user\n", by->program, folder);
-	return unmount(point, MNT_DETACH) ? say(by, folder) : 0;
+	fuse_device_say(by, folder, "is in use, and goes with its last user");
+	return 0;
 }
 
 void fuse_device_detach(const transport *by, const char *folder)

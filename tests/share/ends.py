@@ -142,10 +142,10 @@ class Front:
 
 
 class Server:
-    def __init__(self, *more, program=None, **loaded):
+    def __init__(self, *more, program=None, stderr=None, **loaded):
         self.mounts = point in more
         self.process = subprocess.Popen([*(program or [share, "--log-level=error", *words]), *more],
-                                        env={**os.environ, **loaded})
+                                        env={**os.environ, **loaded}, stderr=stderr)
         atexit.register(self.process.kill)
         if not wait_for(lambda: mounted(point) if self.mounts else os.path.exists(path), 20):
             raise OSError("there is no server")
@@ -438,6 +438,22 @@ def mount_waits(how, *sandbox):
         os.close(lease)
 
 
+def error_is_full(*sandbox):
+    """Who reads standard error waits, and so does the request that says something there: a signal ends it."""
+    ours, theirs = os.pipe()
+    fcntl.fcntl(theirs, fcntl.F_SETPIPE_SZ, 4096)
+    os.write(theirs, bytes(4096))
+    server = Server(*sandbox, "--node-limit=2", folder, point, stderr=theirs)
+    user = subprocess.Popen(["ls", point + "/hung", point + "/leased"], stdout=subprocess.DEVNULL, stderr=subprocess.DEVNULL)
+    time.sleep(0.5)
+    what = f"a signal while standard error is full with {sandbox}"
+    server.ends(what)
+    hold(not mounted(point), f"{what}: it is mounted")
+    hold(wait_for(lambda: user.poll() is not None), f"{what}: who waited still waits")
+    os.close(ours)
+    os.close(theirs)
+
+
 def link_above(*sandbox, program=None):
     """A link takes the place of the folder above the mount point: what it leads to stays mounted."""
     server = Server(*sandbox, *([] if program else [folder]), point, program=program)
@@ -499,6 +515,7 @@ alone = "--sandbox=none" in words
 for sandbox in ([[]] if alone else [["--sandbox=namespace"], ["--sandbox=none"]]):
     mount_waits("a lease", *sandbox)
     mount_waits("a file system", *sandbox)
+    error_is_full(*sandbox)
     link_above(*sandbox)
 if not alone:
     each_alone()
