@@ -296,9 +296,14 @@ impl Place {
         system::number_of_mount(&self.above, &self.name)
     }
 
-    /// A path that leads there whatever has the names of the folders above.
+    /// A path of the directory above whatever has its name now.
+    fn directory(&self) -> String {
+        format!("/proc/self/fd/{}", self.above.as_raw_fd())
+    }
+
     fn path(&self) -> io::Result<CString> {
-        let mut path = format!("/proc/self/fd/{}/", self.above.as_raw_fd()).into_bytes();
+        let mut path = self.directory().into_bytes();
+        path.push(b'/');
         path.extend(self.name.as_bytes());
         c_string(&path)
     }
@@ -389,8 +394,15 @@ impl Point {
             }
             Some(Helper { name, .. }) => {
                 let mut command = Command::new(name);
-                let output = command.args(["-u", "-q", "-z", "--"]).arg(&self.folder).output()?;
-                succeeded(name, &output)
+                command.args(["-u", "-q", "-z", "--"]);
+                match &self.place {
+                    // It looks where that directory is now.
+                    Some(place) => command
+                        .current_dir(place.directory())
+                        .arg(OsStr::from_bytes(place.name.as_bytes())),
+                    None => command.arg(&self.folder),
+                };
+                succeeded(name, &command.output()?)
             }
         }
     }

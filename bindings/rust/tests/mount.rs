@@ -329,16 +329,23 @@ fn what_is_unmounted_is_what_was_mounted() {
     };
     fs::create_dir_all(&point).unwrap();
     fs::create_dir_all(other.join("point")).unwrap();
-    // A link takes the place of the folder above.
-    let mounted = spawn_mount(Odd::default(), &point, &[]).unwrap();
-    cover(&other.join("point"));
-    fs::rename(&above, &moved).unwrap();
-    std::os::unix::fs::symlink(&other, &above).unwrap();
-    drop(mounted);
-    assert!(is_mounted(&other.join("point")) && !is_mounted(&moved.join("point")));
-    run("umount", &[other.join("point").as_os_str()]);
-    fs::remove_file(&above).unwrap();
-    fs::rename(&moved, &above).unwrap();
+    let has_helper = Command::new("fusermount3").arg("-V").output().is_ok();
+    for options in [vec![], vec![MountOption::AutoUnmount]] {
+        if !options.is_empty() && !has_helper {
+            eprintln!("place: fusermount3 is not installed.");
+            continue;
+        }
+        // A link takes the place of the folder above.
+        let mounted = spawn_mount(Odd::default(), &point, &options).unwrap();
+        cover(&other.join("point"));
+        fs::rename(&above, &moved).unwrap();
+        std::os::unix::fs::symlink(&other, &above).unwrap();
+        drop(mounted);
+        assert!(is_mounted(&other.join("point")) && !is_mounted(&moved.join("point")));
+        run("umount", &[other.join("point").as_os_str()]);
+        fs::remove_file(&above).unwrap();
+        fs::rename(&moved, &above).unwrap();
+    }
     // Something else is mounted over it.
     let mounted = spawn_mount(Odd::default(), &point, &[]).unwrap();
     cover(&point);
