@@ -14,7 +14,7 @@ if [ $# != 2 ]; then
     echo "Usage: tests/suites/get.sh WHAT FOLDER" >&2
     exit 2
 fi
-what=$1 there=$2
+what=$1 there=$(realpath -m "$2")
 root=$there/root
 libraries=$root/usr/lib/x86_64-linux-gnu
 [ ! -e "$there/have-$what" ] || exit 0
