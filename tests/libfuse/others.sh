@@ -9,7 +9,8 @@
 #   rofiles  rofiles-fuse of ostree: test-rofiles-fuse.sh
 #   nbdfuse  libnbd's tests of nbdfuse
 #   raw, qcow2   QEMU's iotests of such images over an export of qemu-storage-daemon, `check -fuse -g auto`
-#   bindfs   bindfs's tests, by bindfs of Debian's sid, which links libfuse3.so.4: only if it is named, with that library
+#   bindfs, overlay   bindfs's tests, and fuse-overlayfs's unlink.sh, by programs of Debian's sid, which link libfuse3.so.4:
+#            only if they alone are named, with that library
 #
 # apt-get downloads the packages and what tests of sources there are, 400 MB, by lists of its own into FOLDER/others, where
 # all runs, in a root of its own; nothing is installed. A line says of each suite how many cases passed with both, and
@@ -84,6 +85,13 @@ run_bindfs() {
         awk '/^:/ { name = $0; next } { print ++number name, $1 }'
 }
 
+# fuse-overlayfs's script.
+run_overlay() {
+    cp -r /sources/fuse-overlayfs/tests .
+    cd tests
+    if timeout 60 sh ./unlink.sh > "$said" 2>&1; then echo "unlink.sh passed"; else echo "unlink.sh failed"; fi
+}
+
 # (run_SUITE for each suite)
 run_raw() { run_image raw; }
 run_qcow2() { run_image qcow2; }
@@ -100,7 +108,7 @@ fi
 
 # Tells how it is used, and stops.
 usage() {
-    echo "Usage: tests/libfuse/others.sh LIB FOLDER [portal|rofiles|nbdfuse|raw|qcow2|bindfs].." >&2
+    echo "Usage: tests/libfuse/others.sh LIB FOLDER [portal|rofiles|nbdfuse|raw|qcow2|bindfs|overlay].." >&2
     exit 2
 }
 
@@ -118,11 +126,12 @@ shift 2
 suites=("$@")
 [ $# != 0 ] || suites=(portal rofiles nbdfuse raw qcow2)
 for it in "${suites[@]}"; do
-    [[ " portal rofiles nbdfuse raw qcow2 bindfs " == *" $it "* ]] || usage
+    [[ " portal rofiles nbdfuse raw qcow2 bindfs overlay " == *" $it "* ]] || usage
 done
-if [ "${suites[*]}" = bindfs ]; then
+of_sid=$(printf '%s\n' "${suites[@]}" | grep -cxE 'bindfs|overlay' || true)
+if [ "$of_sid" = ${#suites[@]} ]; then
     suite=sid folder=$folder-sid
-elif [[ " ${suites[*]} " == *" bindfs "* ]]; then
+elif [ "$of_sid" != 0 ]; then
     usage
 fi
 mkdir -p "$folder"
@@ -131,7 +140,8 @@ root=$folder/root
 # Unpacks what the suites want into a root, and does what scripts of packages would do.
 make_root() {
     if [ "$suite" = sid ]; then
-        unpack_root "$root" "$suite" dash libc-bin findutils attr e2fsprogs mawk passwd procps ruby bindfs || return
+        unpack_root "$root" "$suite" dash libc-bin findutils attr e2fsprogs mawk passwd procps ruby bindfs \
+            fuse-overlayfs || return
         printf '%s\n' 'nobody:x:65534:65534::/:/bin/sh' >> "$root/etc/passwd"
         printf '%s\n' 'root:x:0:' 'nogroup:x:65534:' > "$root/etc/group"
         ln -sf which.debianutils "$root/usr/bin/which"
@@ -155,7 +165,9 @@ fetch_sources() {
             'qemu */tests/qemu-iotests/* */python/*'
         return
     fi
+    unpack_sources "$folder/sources-sid" sid 'fuse-overlayfs */tests/*' || return 1
     unpack_sources "$folder/sources" bookworm 'bindfs */tests/*' || return 1
+    mv "$folder/sources-sid/fuse-overlayfs" "$folder/sources/" || return 1
     echo '#define HAVE_UTIMENSAT 1' > "$folder/sources/bindfs/config.h"
     for it in "$folder"/sources/bindfs/tests/*.c; do
         cc -w -D_GNU_SOURCE -I "$folder/sources/bindfs" -o "${it%.c}" "$it" || return 1

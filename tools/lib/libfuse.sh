@@ -69,7 +69,8 @@ unpack_sources() {
     for it in "${@:3}"; do
         read -ra words <<< "$it"
         mkdir "$part/${words[0]}"
-        (cd "$part" && apt-get "${apt[@]}" --download-only source "${words[0]}") || return
+        # (a mirror may have Debian's changes no more)
+        (cd "$part" && apt-get "${apt[@]}" --download-only source "${words[0]}") || true
         tar -C "$part/${words[0]}" --strip-components=1 --wildcards -xf "$part/${words[0]}"_*.orig.tar.?z \
             "${words[@]:1}" || return
         mv "$part/${words[0]}" "$part/tree/" || return
