@@ -64,7 +64,9 @@ def graph():
 def link(crate, below, folder):
     """Links a crate and those below it, with what is proved of them, into a folder. There no other run of rt waits for what
     this one holds."""
-    shutil.copy("crates.txt", folder)
+    with open(f"{folder}/crates.txt", "w", encoding="utf-8") as file:
+        # (rt wants each that is listed to be there)
+        file.writelines(f"{line}\n" for line in read("crates.txt").splitlines() if re.split(r"[ :]", line)[0] in (*below, crate))
     for it in [*below, crate]:
         for part in ("src", "specs", "proofs", "out/rlib", *["out/incremental"] * (it == crate)):
             if os.path.isdir(f"crates/{it}/{part}"):
