@@ -54,11 +54,12 @@ def has_contracts(crate):
 
 def graph():
     """Of each crate those that it stands on, the nearest last."""
-    below = {}
-    for name, uses in re.findall(r"^(\w+)[^:\n]*:(.*)", read("crates.txt"), re.M):
-        found = [one for it in uses.split() if it in below for one in [*below[it], it]]
-        below[name] = list(dict.fromkeys(found))
-    return below
+    named = {name: uses.split() for name, uses in re.findall(r"^(\w+)[^:\n]*:(.*)", read("crates.txt"), re.M)}
+
+    def below(name):
+        return list(dict.fromkeys(one for it in named[name] if it in named for one in [*below(it), it]))
+
+    return {name: below(name) for name in named}
 
 
 def link(crate, below, folder):
