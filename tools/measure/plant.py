@@ -52,6 +52,16 @@ def has_contracts(crate):
     return any(path.endswith(".rt") and re.search(r"\bensures\b", text) for path, text in files_of(crate))
 
 
+def functions_in(crate):
+    """How many functions of a crate there may be to plant in: those with contracts, and methods of traits."""
+    count = 0
+    for path, text in files_of(crate):
+        for it in re.split(r"^(?=(?:impl|trait|pub trait)\b)", text, flags=re.M) if path.endswith(".rt") else ():
+            is_of_trait = re.match(r"impl\b[^{]*\bfor\b", it)
+            count += len(re.findall(r"\bfn \w+" if is_of_trait else r"\bpub (?:const |unsafe |extern \"C\" )*fn \w+", it))
+    return count
+
+
 def graph():
     """Of each crate those that it stands on, the nearest last."""
     named = {name: uses.split() for name, uses in re.findall(r"^(\w+)[^:\n]*:(.*)", read("crates.txt"), re.M)}
@@ -84,7 +94,7 @@ def plant(crate, below, minutes, more):
         print(f"Planting in {crate} ..", file=sys.stderr)
         total = sum_of(crate)
         link(crate, below, folder)
-        words = ["rt", "plant", "--minutes", str(minutes), "--max", str(MOST), *more]
+        words = ["rt", "plant", "--minutes", str(minutes), *more]
         ran = subprocess.run(words, cwd=f"{folder}/crates/{crate}", stdout=subprocess.PIPE, stderr=err, text=True)
     with open(f"{OUT}/{crate}.txt", "w", encoding="utf-8") as file:
         file.write(ran.stdout)
@@ -106,11 +116,13 @@ def plant_all(crates, words, rows):
     below, failed = graph(), []
     os.makedirs(OUT, exist_ok=True)
     more = ["--jobs", "1"] if words.jobs > 1 else []
+    # (rt plant begins with one body of each)
+    most = {it: max(functions_in(it), 1) if words.first else MOST for it in crates}
     with concurrent.futures.ThreadPoolExecutor(words.jobs) as pool:
-        runs = {pool.submit(plant, it, below[it], words.minutes, more): it for it in crates}
+        runs = {pool.submit(plant, it, below[it], words.minutes, ["--max", str(most[it]), *more]): it for it in crates}
         for run in concurrent.futures.as_completed(runs):
             crate, (total, said) = runs[run], run.result()
-            row = row_of(total, words.minutes, said)
+            row = row_of(total, 0 if words.first else words.minutes, said)
             if row:
                 rows[crate] = row
                 write(rows)
@@ -188,6 +200,7 @@ def main():
     parser.add_argument("--minutes", type=int, default=3)
     parser.add_argument("--jobs", type=int, default=1)
     parser.add_argument("--anew", action="store_true")
+    parser.add_argument("--first", action="store_true")
     parser.add_argument("--tell", action="store_true")
     words = parser.parse_args()
     below = graph()
@@ -206,7 +219,7 @@ def main():
         for crate in asked:
             row = named(rows[crate][0]) if crate in rows else {}
             # (more minutes for what was not tried in fewer)
-            is_short = row.get("not-run") != "0" and words.minutes > int(row.get("minutes", 0))
+            is_short = row.get("not-run") != "0" and words.minutes > int(row.get("minutes", 0)) and not words.first
             if words.anew or is_short or row.get("files") != sum_of(crate):
                 old.append(crate)
         failed = plant_all(old, words, rows)
