@@ -1,6 +1,7 @@
 """Which conjuncts the terms of proofs use, by types that are inferred of the terms themselves. A conjunct is the node of a
 definition's or a clause's term that its text became, and it is used where a value of that type is projected, applied or taken
 by cases, or is handed to what wants another type, as a lemma or another clause."""
+import gc
 import hashlib
 import json
 import os
@@ -586,6 +587,8 @@ def uses_of(crate, below, crates, kept, kit, file):
         if was["of"] == key:
             return {(f"{crates}/{path}", start, end): where for path, start, end, where in was["uses"]}
     found = {}
+    # (of what is read, little is in circles, and much of the time goes into the search for them)
+    gc.disable()
     # (terms are deep)
     sys.setrecursionlimit(200_000)
     threading.stack_size(512 << 20)

@@ -15,7 +15,8 @@ How each ends (a use within the field or the part of the same name or number doe
            refused a line for the 8th
   cited    a proof uses it for something else
   goal     a goal is not proved any more
-  nothing  all is proved, here and in the crates above that name it, or it is of a function that nothing in Rattle calls
+  nothing  all is proved, here and in the crates above that name it; or no term uses it, and it is of a function that nothing
+           in Rattle calls, or of a definition that only clauses of such functions say
   own      all is proved in its own crate, and those above were not asked
   line     lines that can't be mended are refused, and no goal: look at it
   none     it is no fact, or the crate can't be stated without it
@@ -124,6 +125,65 @@ def its_proof(tag):
     return f"(λ _. {tag})"
 
 
+class Calls:
+    """Which functions nothing calls, and which definitions say something in clauses of these alone."""
+
+    def __init__(self, texts):
+        self.texts, self.naming, self.known = texts, {}, {}
+        # (by crate, and of all)
+        self.code, self.heads, self.proofs = [collections.defaultdict(collections.Counter) for _ in range(3)]
+        for path, source in texts.sources.items():
+            for crate in (self.crate_of(source), None):
+                if source.is_code:
+                    self.code[crate].update(re.findall(r"\w+", source.text))
+                    self.heads[crate].update(re.findall(r"\bfn (\w+)", source.text))
+                elif "/proofs/" in path:
+                    # (not which proof a proof takes something from, as its own goals)
+                    self.proofs[crate].update(re.findall(r"\w+", re.sub(r"^use Rattle\.\w+\.proofs\.[\w.]+", "", source.text, flags=re.M)))
+            for word in set(re.findall(r"[\w']+", source.text)) if "/proofs/" not in path else ():
+                self.naming.setdefault(word, []).append(source)
+
+    def crate_of(self, source):
+        return os.path.relpath(source.path, self.texts.crates).split("/")[0]
+
+    def is_called(self, path, it):
+        """Whether anything may call what has a conjunct, or name it in a proof; of a definition, whether anything else than
+        clauses of what nothing calls says it."""
+        word, source = re.match(r"[\w']+", it.owner)[0], self.texts.sources[path]
+        return self.is_function_called(source, word) if source.is_code else word not in source.declared or self.is_said(source.declared[word])
+
+    def is_function_called(self, source, word):
+        # (who doesn't see it calls another of this name)
+        crate = self.crate_of(source) if re.search(rf"^(unsafe )?fn {word}\b", source.text, re.M) else None
+        return self.heads[crate][word] != 1 or self.code[crate][word] > 1 or word in self.proofs[crate]
+
+    def is_said(self, it):
+        if it not in self.known:
+            # (one that names itself says no more by that)
+            self.known[it] = False
+            word = rf"(?<![\w'.]){re.escape(it.name)}(?![\w'])"
+            self.known[it] = any(self.is_said_at(source, one.start(), it) for source in self.naming.get(it.name, ()) for one in re.finditer(word, source.text))
+        return self.known[it]
+
+    def is_said_at(self, source, at, it):
+        """Whether a definition is said where its word stands: not if it is only brought in, nor in a clause of what nothing calls."""
+        text = source.text
+        module = os.path.relpath(it.source.path[: -len(".antt")], self.texts.crates).replace("/", ".")
+        if re.search(r"^ *(?:ghost |pub )*use [^{};\n]*\{[^{}]*\Z", text[:at], re.M):
+            # (by another name)
+            return (f"Rattle.{module}", it.name) in [one for name, one in source.brought.items() if name != it.name]
+        if source.brought.get(it.name, (f"Rattle.{module}",))[0] != f"Rattle.{module}" or (it.name in source.declared and source is not it.source):
+            return False
+        if not source.is_code:
+            owner = next((one for one in source.declared.values() if one.start <= at < one.end), None)
+            return owner is None or (owner is not it and self.is_said(owner))
+        head = [*re.finditer(r"\bfn (\w+)", text[:at])][-1:]
+        if not head or self.is_function_called(source, head[0][1]):
+            return True
+        clauses = re.finditer(r"^ *ensures (\w+ )?\{", text[head[0].start() : at], re.M)
+        return not any(at < conjuncts.end_of(text, head[0].start() + one.end() - 1, len(text)) for one in clauses)
+
+
 class Prover:
     """Checks copies of crates, over what a check of the crate as it stands kept."""
 
@@ -136,7 +196,7 @@ class Prover:
         of_kit = {it for names in self.below.values() for it in names if it not in self.below}
         texts = uses.Texts(f"{HERE}/crates")
         self.named, self.reached = uses.Named(f"{HERE}/crates", f"{self.kit}/rattle", of_kit), texts.all()
-        self.words_of(texts)
+        self.calls = Calls(texts)
         self.kept, self.uses = kept, {}
 
     def above(self, name):
@@ -152,21 +212,6 @@ class Prover:
                 for place, where in one.result().items():
                     self.uses.setdefault(place, where)
                 print(f"The terms of {it} are read.", file=sys.stderr)
-
-    def words_of(self, texts):
-        """Counts the words of all code and of all proofs, without where a proof takes its own goals from."""
-        self.code, self.heads, self.proofs = collections.Counter(), collections.Counter(), set()
-        for source in texts.sources.values():
-            if source.is_code:
-                self.code.update(re.findall(r"\w+", source.text))
-                self.heads.update(re.findall(r"\bfn (\w+)", source.text))
-            else:
-                self.proofs.update(re.findall(r"\w+", re.sub(r"^use \S+\.Goals as goal$", "", source.text, flags=re.M)))
-
-    def is_called(self, it):
-        """Whether anything may call a function, or name it in a proof."""
-        word = it.owner.split()[0]
-        return not it.file.startswith("src/") or self.heads[word] != 1 or self.code[word] > 1 or word in self.proofs
 
     def used(self, name, it):
         """Where the term of a proof, as the checker kept it, uses a conjunct: in its own crate or one above."""
@@ -719,7 +764,7 @@ def weaken(prover, name, words, ends, facts, results):
         if path and it in left:
             tell(it, "used", path, True)
     for it in list(left) if prover else ():
-        if not prover.is_called(found[it]):
+        if not prover.calls.is_called(f"{HERE}/crates/{name}/{found[it].file}", found[it]):
             tell(it, "nothing", "", True)
     if prover:
         results.write()
