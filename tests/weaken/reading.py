@@ -10,7 +10,7 @@ import sys
 import threading
 
 from places import Places
-from terms import Library, ALONG, APP, CASES, CONSTRUCTOR, DEF, LAM, LET, LITERAL, PROJECTION, RECORD, SUFFIX, TYPED, TYPES, VAR
+from terms import Library, ALONG, APP, CASES, CONSTRUCTOR, DEF, LAM, LET, LITERAL, PI, PROJECTION, RECORD, SORT, SUFFIX, TYPED, TYPES, VAR
 from values import ENDS, Lost, Machine, Thunk
 
 # What opens the types of its arguments, and is kept in no form that is read here.
@@ -291,13 +291,18 @@ class Reader:
         return type_
 
     def opened(self, type_):
-        """A type by a definition that is opened only where a proof says so, once it is."""
-        value = self.value(type_)
+        """A type by a definition that is opened only where a proof says so, once it is, of a value that is used."""
+        found = self.unfolded(type_)
+        return found if found is type_ or self.taken(found) is not None else type_
+
+    def unfolded(self, type_):
+        """The same of a value that is built."""
+        value = self.value(type_) if type_ else None
         item = self.library.item(f"{value[1][1]}.where.unfolding") if value is not None and value[0] == "stuck" and value[1][0] == "name" else None
         if item is None or item.kind != 0:
             return type_
         found = self.machine.applied(Thunk(item, item.roots[1], None), list(value[2]))
-        return found if self.taken(found) is not None else type_
+        return found if self.value(found) is not None else type_
 
     def given(self, function, argument):
         """The type of what a function of this type gives of an argument."""
@@ -410,6 +415,7 @@ class Reader:
         tag = it[0]
         if tag in TYPES or self.is_seen(item, node, env, "checked"):
             return
+        wanted = self.unfolded(wanted) if tag in (LAM, RECORD, CONSTRUCTOR) else wanted
         if tag == TYPED:
             self.check(item, it[2], env, wanted)
         elif tag == LAM:
@@ -540,9 +546,11 @@ def of_crate(crate, below, crates, kept, kit):
     for it in (*below, crate):
         places.crate(it)
     reader, folder = Reader(library, places.of), library.folder(crate)
-    start = f"Rattle-{crate}-proofs."
+    start, stated = f"Rattle-{crate}-proofs.", f"Rattle-{crate}-specs."
     for file in sorted(os.listdir(folder)) if folder else ():
         name = file[: -len(".oantt")]
+        if file.endswith(".oantt") and name.startswith(stated):
+            read_lemmas(reader, name, crate, f"specs/{name[len(stated) :].replace('.', '/')}.antt", crates)
         path = name[len(start) :].replace(".", "/")
         if not file.endswith(".oantt") or not name.startswith(start):
             continue
@@ -561,6 +569,18 @@ def of_crate(crate, below, crates, kept, kit):
         if name.endswith((".Proof", ".Answers", ".Invariants")):
             library.forget(name.rpartition(".")[0] + ".")
     return reader.used
+
+
+def read_lemmas(reader, name, crate, where, crates):
+    """Reads what a file of definitions proves: what is no type, nor a field of a record."""
+    module = reader.library.module(name) if os.path.isfile(f"{crates}/{crate}/{where}") else None
+    for it in list(module.items.values()) if module else ():
+        record = module.items.get(it.name.rpartition(".")[0])
+        node = it.roots[0] if it.kind == 0 and (record is None or record.kind != 2) else None
+        while node is not None and it.nodes[node][0] == PI:
+            node = it.nodes[node][3]
+        if node is not None and it.nodes[node][0] != SORT:
+            reader.read(it, f"{crate}/{where} {SUFFIX.sub('', it.name)[len(name) + 1 :]}")
 
 
 def text_of(folder):
