@@ -18,6 +18,7 @@ How each ends (a use within the field or the part of the same name or number doe
   nothing  all is proved, here and in the crates above that name it; or no term uses it, and it is of a function that nothing
            in Rattle calls, or of a definition that only clauses of such functions say
   own      all is proved in its own crate, and those above were not asked
+  unused   no term uses it, of all crates that reach it, and the prover was not asked: a run with minutes asks it
   line     lines that can't be mended are refused, and no goal: look at it
   none     it is no fact, or the crate can't be stated without it
   limit    the prover gave no verdict
@@ -52,7 +53,7 @@ import uses
 HERE = os.path.dirname(os.path.dirname(os.path.dirname(os.path.abspath(__file__))))
 RESULTS = f"{HERE}/tests/weaken/noticed.tsv"
 KNOWN = f"{HERE}/tests/weaken/known.txt"
-CLASSES = ("named", "used", "cited", "goal", "nothing", "own", "line", "none", "limit")
+CLASSES = ("named", "used", "cited", "goal", "nothing", "own", "unused", "line", "none", "limit")
 NOTICED = ("named", "used", "cited", "goal")
 HEAD = "# By tests/weaken/weaken.py: crate, what has the conjunct, a sum of its text, how it ended, where, a sum of that file.\n"
 # The number of the first conjunct: nothing else is as large.
@@ -158,30 +159,41 @@ class Calls:
         return self.heads[crate][word] != 1 or self.code[crate][word] > 1 or word in self.proofs[crate]
 
     def is_said(self, it):
+        """Whether a definition is said anywhere but in clauses of what nothing calls, or a definition that is."""
+        seen, left = {it}, [it]
+        while left:
+            for one in self.who_say(left.pop()):
+                if one is None:
+                    return True
+                if one not in seen:
+                    seen.add(one)
+                    left.append(one)
+        return False
+
+    def who_say(self, it):
+        """The definitions that say a definition, and None for what else does."""
         if it not in self.known:
-            # (one that names itself says no more by that)
-            self.known[it] = False
             word = rf"(?<![\w'.]){re.escape(it.name)}(?![\w'])"
-            self.known[it] = any(self.is_said_at(source, one.start(), it) for source in self.naming.get(it.name, ()) for one in re.finditer(word, source.text))
+            places = [(source, one.start()) for source in self.naming.get(it.name, ()) for one in re.finditer(word, source.text)]
+            self.known[it] = {one for place in places for one in self.who_says_at(*place, it)}
         return self.known[it]
 
-    def is_said_at(self, source, at, it):
-        """Whether a definition is said where its word stands: not if it is only brought in, nor in a clause of what nothing calls."""
+    def who_says_at(self, source, at, it):
+        """The same of one place of its word: nothing does where it is brought in, and in a clause of what nothing calls."""
         text = source.text
-        module = os.path.relpath(it.source.path[: -len(".antt")], self.texts.crates).replace("/", ".")
+        module = "Rattle." + os.path.relpath(it.source.path[: -len(".antt")], self.texts.crates).replace("/", ".")
         if re.search(r"^ *(?:ghost |pub )*use [^{};\n]*\{[^{}]*\Z", text[:at], re.M):
             # (by another name)
-            return (f"Rattle.{module}", it.name) in [one for name, one in source.brought.items() if name != it.name]
-        if source.brought.get(it.name, (f"Rattle.{module}",))[0] != f"Rattle.{module}" or (it.name in source.declared and source is not it.source):
-            return False
+            return [None] if (module, it.name) in [one for name, one in source.brought.items() if name != it.name] else []
+        if source.brought.get(it.name, (module,))[0] != module or (it.name in source.declared and source is not it.source):
+            return []
         if not source.is_code:
-            owner = next((one for one in source.declared.values() if one.start <= at < one.end), None)
-            return owner is None or (owner is not it and self.is_said(owner))
+            return [next((one for one in source.declared.values() if one.start <= at < one.end), None)]
         head = [*re.finditer(r"\bfn (\w+)", text[:at])][-1:]
         if not head or self.is_function_called(source, head[0][1]):
-            return True
+            return [None]
         clauses = re.finditer(r"^ *ensures (\w+ )?\{", text[head[0].start() : at], re.M)
-        return not any(at < conjuncts.end_of(text, head[0].start() + one.end() - 1, len(text)) for one in clauses)
+        return [] if any(at < conjuncts.end_of(text, head[0].start() + one.end() - 1, len(text)) for one in clauses) else [None]
 
 
 class Prover:
@@ -197,7 +209,7 @@ class Prover:
         texts = uses.Texts(f"{HERE}/crates")
         self.named, self.reached = uses.Named(f"{HERE}/crates", f"{self.kit}/rattle", of_kit), texts.all()
         self.calls = Calls(texts)
-        self.kept, self.uses = kept, {}
+        self.kept, self.uses, self.read = kept, {}, set()
 
     def above(self, name):
         """A crate and those that stand on it."""
@@ -206,6 +218,7 @@ class Prover:
     def read_terms(self, names, jobs):
         """Reads the terms of these crates' proofs, and of those above, so many at once."""
         wanted = [it for it in self.below if any(it in self.above(name) for name in names) and is_kept(it, f"{self.kept}/crates")]
+        self.read = set(wanted)
         with concurrent.futures.ProcessPoolExecutor(jobs, max_tasks_per_child=1) as pool:
             all_ = [pool.submit(reading.uses_of, it, all_below(it, self.below), f"{HERE}/crates", f"{self.kept}/crates", self.kit, f"{HERE}/out/weaken/{it}.uses") for it in wanted]
             for it, one in zip(wanted, all_):
@@ -701,7 +714,7 @@ def told(name, found, sums, results):
         elif kind not in (*NOTICED, "nothing") and line not in known:
             print(f"{kind:15}  {line}\n{'':17}{where}")
     print(f"{name}: {sum(counts.values())} of {len(found)} conjuncts are judged: proofs name {counts['named']}, use {counts['used']} and cite {counts['cited']}, goals need {counts['goal']}, "
-          f"nothing {counts['nothing']}, of which {counts['nothing'] - unknown} are known; lines alone {counts['line']}, no fact {counts['none']}, no verdict {counts['limit']}")
+          f"nothing {counts['nothing']}, of which {counts['nothing'] - unknown} are known; no term uses {counts['unused']}, lines alone {counts['line']}, no fact {counts['none']}, no verdict {counts['limit']}")
     return unknown
 
 
@@ -734,7 +747,9 @@ def weaken(prover, name, words, ends, facts, results):
     no prover, how many lack anything."""
     found, sums = named(name, facts)
     results.keep(name, set(sums.values()))
-    left = [it for it in found if not results.of(name, sums[it]) and all(w in found[it].name() for w in words)]
+    judged_by = {it: (results.of(name, sums[it]) or (None,))[0] for it in found}
+    again = (None, "unused") if prover and time.monotonic() < ends else (None,)
+    left = [it for it in found if judged_by[it] in again and all(w in found[it].name() for w in words)]
 
     def tell(tag, kind, where, is_quick=False):
         results.put(name, found[tag].owner, sums[tag], kind, where)
@@ -783,6 +798,11 @@ def weaken(prover, name, words, ends, facts, results):
     if prover and time.monotonic() < ends:
         for it in own:
             tell(it, "nothing", "")
+    for it in list(left) if prover and prover.read.issuperset(prover.above(name)) else ():
+        if it in left and not results.of(name, sums[it]):
+            tell(it, "unused", "", True)
+    if prover:
+        results.write()
     unknown = told(name, found, sums, results)
     return unknown if prover else lacking(name, words, found, sums, results)
 
