@@ -136,7 +136,8 @@ def cpython(run, modules=None, those=()):
     # What failed as a whole, and has no case that did.
     for module in modules:
         for line in text.splitlines():
-            words = line.split()
+            # (after this are others, which it has not ended)
+            words = line.partition(" -- running: ")[0].split()
             if module in words and ("failed" in words or "crashed" in words) and not told[module]:
                 run.case(module, "failed")
                 break
