@@ -160,6 +160,14 @@ class Locks:
         release()
         return ended(process)
 
+    def given_up(self, lock):
+        """What a lock comes to whose holder has ended, or closed the file. (Linux waits for no RELEASE of a FUSE server's,
+        which on the same mount comes before the next request, and on another one may come after it)"""
+        until = time.time() + (LONG if self.others != self.path else 0)
+        while (said := lock()) != "got" and time.time() < until:
+            time.sleep(0.05)
+        return said
+
     def flocks(self):
         """flock(2): exclusive and shared, waiting, and what an exit gives up."""
         step("flock", flock(self.fd, EXCLUSIVE), "got")
@@ -171,7 +179,7 @@ class Locks:
         step("flock by another", self.other(lambda fd: flock(fd, EXCLUSIVE | AT_ONCE)), "EAGAIN")
         said = self.waiting(lambda fd: flock(fd, EXCLUSIVE), lambda: step("unlock", flock(self.fd, UNLOCK), "got"))
         step("one that waited", said, "got late")
-        step("flock after an exit", flock(self.fd, EXCLUSIVE | AT_ONCE), "got")
+        step("flock after an exit", self.given_up(lambda: flock(self.fd, EXCLUSIVE | AT_ONCE)), "got")
         step("unlock", flock(self.fd, UNLOCK), "got")
 
     def ranges(self):
@@ -216,7 +224,8 @@ class Locks:
         step("unlock", flock(self.fd, UNLOCK), "got")
         step("flock", flock(self.fd, EXCLUSIVE), "got")
         os.close(self.fd)
-        step("flock after a close", self.other(lambda fd: flock(fd, EXCLUSIVE | AT_ONCE)), "got")
+        said = self.other(lambda fd: self.given_up(lambda: flock(fd, EXCLUSIVE | AT_ONCE)))
+        step("flock after a close", said, "got")
         step("fcntl after a close", self.other(lambda fd: setlk(fd, WRITE)), "got")
 
     def descriptions(self, with_close):
