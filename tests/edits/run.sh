@@ -1,16 +1,16 @@
 #!/usr/bin/env bash
-# Tries wrong bodies that the gate leaves out, and wrong definitions: the prover must refuse each. Another body of the
-# same public function, or of what it calls, is in the crate's must-fail; of fs_tree, nizwarf_tree and text_run, where
-# one takes most of a minute, one of the crate is. They are the files CRATE/NAME.edit beside this script, in the form of
-# must-fail's.
+# Tries wrong bodies that the gate leaves out, and wrong definitions: the prover must refuse each. The gate tries the
+# telling ones, at least one of each crate that has any, which are in the crate's must-fail; the rest are here, as the
+# files CRATE/NAME.edit beside this script, in the form of must-fail's. Between them a public function has a wrong body
+# of its own, or of what it calls.
 #
 # Usage: tests/edits/run.sh [CRATE..]
 #        tests/edits/run.sh --texts
 # Works on a copy of the crates below out/, with what `rt check` kept of them by links; what is not proved yet is
 # proved there first. --texts proves nothing: it looks whether each text that an edit replaces stands once in its file.
 #
-# It takes half a minute an edit, and a gigabyte of disk where nothing is proved yet. Status 0: each is refused; 1: one
-# is not, or can't be applied; 2: it could not start.
+# It takes 20 to 80 seconds an edit, and a gigabyte of disk where nothing is proved yet. Status 0: each is refused; 1:
+# one is not, or can't be applied; 2: it could not start.
 set -euo pipefail
 . "$(dirname "$0")/../../tools/lib/usage.sh"
 here=$(realpath "$(dirname "$0")")
