@@ -71,6 +71,7 @@ static void on_lookup(fuse_req_t req, const nizwarf_call *c, const struct door_m
 	CALL(req, lookup, c->node, bytes_at(m, c->name));
 }
 
+/* Of what makes a file libfuse tells the umask by the context, and not as an argument. */
 static void on_mknod(fuse_req_t req, const nizwarf_call *c, const struct door_message *m)
 {
 	req->ctx.umask = c->umask;
@@ -109,6 +110,7 @@ static void on_link(fuse_req_t req, const nizwarf_call *c, const struct door_mes
 	CALL(req, link, c->node, c->other_node, bytes_at(m, c->name));
 }
 
+/* The flags of open(2) are the file's before it is open, as in libfuse: with them, and no handle yet. */
 static void on_create(fuse_req_t req, const nizwarf_call *c, const struct door_message *m)
 {
 	struct fuse_file_info file = file_of(c);
@@ -142,6 +144,7 @@ static void on_readlink(fuse_req_t req, const nizwarf_call *c, const struct door
 
 /* ---- Lookups that are given back --------------------------------------------------------------------- */
 
+/* A FORGET has no reply, also where nobody serves it: fuse_reply_none() ends the request alone. */
 static void on_forget(fuse_req_t req, const nizwarf_call *c, const struct door_message *m)
 {
 	(void)m;
@@ -185,6 +188,7 @@ static void on_batch_forget(fuse_req_t req, const nizwarf_call *c, const struct 
 
 /* ---- Attributes -------------------------------------------------------------------------------------- */
 
+/* (NULL: the kernel asks by the node, and not by an open file) */
 static void on_getattr(fuse_req_t req, const nizwarf_call *c, const struct door_message *m)
 {
 	struct fuse_file_info file = file_of(c);
@@ -257,6 +261,7 @@ static void on_statx(fuse_req_t req, const nizwarf_call *c, const struct door_me
 }
 #endif
 
+/* df(1) works for a file system that doesn't say how large it is: so there is an answer, as libfuse's. */
 static void on_statfs(fuse_req_t req, const nizwarf_call *c, const struct door_message *m)
 {
 	const struct statvfs none = { .f_namemax = 255, .f_bsize = 512 }; /* what libfuse says */
@@ -300,6 +305,7 @@ static void on_opendir(fuse_req_t req, const nizwarf_call *c, const struct door_
 	open_by(req, c, FUSE_CAP_NO_OPENDIR_SUPPORT, req->se->op.opendir);
 }
 
+/* (the owner is of use to who locks files itself: the kernel names it if there are locks) */
 static void on_read(fuse_req_t req, const nizwarf_call *c, const struct door_message *m)
 {
 	struct fuse_file_info file = file_of(c);
@@ -331,6 +337,7 @@ static void write_buffers(fuse_req_t req, const nizwarf_call *c, const struct do
 		fuse_ll_clear_pipe(se);
 }
 
+/* Data that are in memory, for a program with `write` or `write_buf`. */
 static void on_write(fuse_req_t req, const nizwarf_call *c, const struct door_message *m)
 {
 	struct fuse_file_info file = file_of(c);
@@ -406,6 +413,8 @@ static void on_fsyncdir(fuse_req_t req, const nizwarf_call *c, const struct door
 	CALL(req, fsyncdir, c->node, (c->has & NIZWARF_DATASYNC) != 0, &file);
 }
 
+/* READDIR and READDIRPLUS are one call of the door; a program may have either function without the
+ * other. */
 static void on_readdir(fuse_req_t req, const nizwarf_call *c, const struct door_message *m)
 {
 	struct fuse_file_info file = file_of(c);
@@ -479,6 +488,7 @@ static void on_getlk(fuse_req_t req, const nizwarf_call *c, const struct door_me
 	CALL(req, getlk, c->node, &file, &lock);
 }
 
+/* SETLK and SETLKW, of fcntl(2) or of flock(2), which libfuse has in a function of its own. */
 static void on_setlk(fuse_req_t req, const nizwarf_call *c, const struct door_message *m)
 {
 	const int waits = c->call == NIZWARF_SETLKW;

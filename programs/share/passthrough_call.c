@@ -71,6 +71,7 @@ static int open_node(const struct call *call, int flags)
 	/* (a directory is where its own descriptor leads, whatever has its name now, unless the server may not search it) */
 	fd = type == S_IFDIR ? openat(call->node.fd, ".", flags | O_CLOEXEC) :
 			       open_by_name(&call->all->nodes, call->node.node, flags);
+	/* (by /proc, which takes longer, and needs neither name nor right of the directory) */
 	return fd >= 0 ? fd : open_again(&call->all->nodes, call->node.fd, flags);
 }
 
@@ -87,6 +88,7 @@ static int get_attr(const struct call *call)
 	return 0;
 }
 
+/* The host's time in the record of the reply, whose padding must be 0. */
 static nizwarf_sx_time time_of(const struct statx_timestamp *time)
 {
 	return (nizwarf_sx_time){ .tv_sec = time->tv_sec, .tv_nsec = time->tv_nsec };
@@ -123,12 +125,15 @@ static int get_statx(const struct call *call)
 	told.mtime = time_of(&seen.stx_mtime);
 	told.rdev_major = seen.stx_rdev_major;
 	told.rdev_minor = seen.stx_rdev_minor;
+	/* (the answer only points to its text, up to when the reply is written: so it is in the worker's
+	 * memory) */
 	memcpy(call->worker->text, &told, sizeof(told));
 	call->answer->text = (const uint8_t *)call->worker->text;
 	call->answer->text_len = sizeof(told);
 	return 0;
 }
 
+/* Linux has no mode of a symbolic link that could be set. */
 static int set_mode(const struct call *call)
 {
 	if (call->file)
@@ -145,11 +150,13 @@ static int set_size(const struct call *call)
 	const off_t size = (off_t)call->asked->attr.size;
 	int fd, error;
 
+	/* (a client's size has 64 bits without a sign) */
 	if (size < 0)
 		return EFBIG;
 	fd = call->file ? call->file->counted.fd : open_node(call, O_WRONLY);
 	if (fd < 0)
 		return errno;
+	/* (so ftruncate(2) takes set-user-ID bits away, if the client asks for that) */
 	lose_fsetid(call);
 	error = lose_capability(call, fd);
 	if (!error)
@@ -164,6 +171,7 @@ static int set_owner(const struct call *call, uint32_t valid)
 {
 	const struct passthrough_options *options = &call->all->options;
 	const nizwarf_setattr *to = &call->asked->attr;
+	/* (-1 leaves an owner as it is) */
 	uint32_t uid = UINT32_MAX, gid = UINT32_MAX;
 	int error = 0;
 
@@ -171,12 +179,15 @@ static int set_owner(const struct call *call, uint32_t valid)
 		error = ids_to_host(&options->users, to->uid, &uid);
 	if (!error && valid & FATTR_GID)
 		error = ids_to_host(&options->groups, to->gid, &gid);
+	/* (the kernel takes capabilities away as an owner changes, but not those under a name that it
+	 * doesn't know) */
 	if (!error && call->node.node->type == S_IFREG)
 		error = lose_capability(call, call->node.fd);
 	return error ? error :
 		       failed(fchownat(call->node.fd, "", uid, gid, AT_EMPTY_PATH | AT_SYMLINK_NOFOLLOW));
 }
 
+/* Linux says NOW where the server's clock is to be taken, which may differ from the client's. */
 static int set_times(const struct call *call)
 {
 	const nizwarf_setattr *to = &call->asked->attr;
@@ -193,6 +204,9 @@ static int set_times(const struct call *call)
 	return failed(utimensat(call->node.fd, "", times, AT_EMPTY_PATH | AT_SYMLINK_NOFOLLOW));
 }
 
+/* Sets one after the other, and stops at the first error: what was set by then stays. The owner is after
+ * the mode, as a change of owner takes bits away from that; so the mode that is answered is looked at
+ * last. */
 static int set_attr(const struct call *call)
 {
 	const uint32_t valid = nizwarf_setattr_fields(call->asked);
@@ -226,6 +240,7 @@ static int access_node(const struct call *call)
 		bits = seen.stx_mode >> 6 & 7;
 	else if (asked->gid == ids_to_client(&options->groups, seen.stx_gid))
 		bits = seen.stx_mode >> 3 & 7;
+	/* (root may read and write all, and execute what anyone may) */
 	if (!asked->uid)
 		bits = R_OK | W_OK | (S_ISDIR(seen.stx_mode) || seen.stx_mode & 0111 ? X_OK : 0);
 	return nizwarf_access_mask(asked) & 7 & ~bits ? EACCES : 0;
@@ -252,6 +267,8 @@ static int flags_of(const struct call *call)
 {
 	const uint32_t flags = call->asked->flags;
 	const unsigned direct = call->all->options.allow_direct ? O_DIRECT : 0;
+	/* (others, as O_CREAT or O_PATH, are the server's to choose: a client can't have it make or
+	 * follow anything) */
 	int made = (int)(flags & (O_ACCMODE | O_APPEND | O_TRUNC | O_SYNC | O_DSYNC | O_NOATIME | direct));
 
 	/* The kernel reads pages that are written in part, and knows itself where the end is. */
@@ -323,6 +340,7 @@ static int open_file(const struct call *call)
 	const int flags = is_directory ? O_RDONLY | O_DIRECTORY : flags_of(call);
 	struct nodes *nodes = &call->all->nodes;
 	struct backing *backing = NULL;
+	/* (before it is opened: one that is open and can't be kept would have cut the file already) */
 	int fd, error = fd_reserve(nodes, 1);
 
 	if (error)
@@ -352,6 +370,7 @@ static int open_file(const struct call *call)
 /* Opens a new file with O_PATH by its descriptor, and tells what it is. -1: it failed as errno says. */
 static int open_unnamed(const struct call *call, int fd, struct statx *seen)
 {
+	/* (a node holds what opens nothing: the descriptor that can read and write goes with RELEASE) */
 	const int path = open_again(&call->all->nodes, fd, O_PATH);
 	int error;
 
@@ -476,6 +495,7 @@ static int create_file(const struct call *call)
 	return error;
 }
 
+/* SYNCFS: of the whole file system of the node, as syncfs(2) knows no smaller part. */
 static int sync_all(const struct call *call)
 {
 	const int fd = open_node(call, O_RDONLY);
@@ -488,6 +508,7 @@ static int sync_all(const struct call *call)
 	return error;
 }
 
+/* STATFS: what the host says of the node's file system, which may be another one than the folder's. */
 static int statistics(const struct call *call)
 {
 	struct statvfs told;
@@ -531,6 +552,7 @@ static bool changes(const nizwarf_call *asked)
 	case NIZWARF_TMPFILE:
 		return true;
 	case NIZWARF_OPEN:
+		/* (Linux cuts a file that is opened to be read, too) */
 		return (asked->flags & O_ACCMODE) != O_RDONLY || asked->flags & O_TRUNC;
 	default:
 		return false;
@@ -541,6 +563,7 @@ static bool changes(const nizwarf_call *asked)
 static bool needs_file_alone(const nizwarf_call *asked)
 {
 	switch (asked->call) {
+	/* (the one looks its names up in the node, the other sets owner and times by it) */
 	case NIZWARF_READDIR:
 	case NIZWARF_SETATTR:
 		return false;
@@ -553,6 +576,7 @@ static bool needs_file_alone(const nizwarf_call *asked)
 static int check_names(const struct call *call)
 {
 	const nizwarf_call *asked = call->asked;
+	/* (any name that is plain, where a call has one alone) */
 	const char *name = name_of(call, asked->name), *other = "other";
 
 	switch (asked->call) {
@@ -663,6 +687,7 @@ static int make_with_node(struct call *call)
 		error = check_names(call);
 	if (!error)
 		error = call->file && !is_of_node(asked) ? make_of_file(call) : make_of_node(call);
+	/* (each may be none: then nothing was taken in hand) */
 	file_put(call->file);
 	if (call->other.node)
 		node_put(&call->other);
@@ -674,6 +699,7 @@ static int make_with_node(struct call *call)
 uint64_t wanted(const struct passthrough *all)
 {
 	const struct passthrough_options *options = &all->options;
+	/* (these are wanted of every client, the others by what the share was started with) */
 	uint64_t wants = FUSE_ASYNC_READ | FUSE_BIG_WRITES | FUSE_ATOMIC_O_TRUNC | FUSE_AUTO_INVAL_DATA |
 			 FUSE_ASYNC_DIO | FUSE_PARALLEL_DIROPS | FUSE_MAX_PAGES | CREATE_SUPP_GROUP;
 
@@ -752,12 +778,15 @@ static int agree(const struct call *call)
 	return 0;
 }
 
+/* BATCH_FORGET: pairs of a node and how many lookups of it are given back. The library has held their
+ * number against the length of the request. */
 static void forget_each(const struct call *call)
 {
 	const uint8_t *pairs = call->request + call->asked->data.at;
 	uint64_t pair[2];
 
 	for (uint64_t i = 0; i < nizwarf_batch_forget_pairs(call->asked); i++) {
+		/* (pairs are at any address: a request is not aligned) */
 		memcpy(pair, pairs + i * sizeof(pair), sizeof(pair));
 		node_forget(&call->all->nodes, call->client, pair[0], pair[1]);
 	}

@@ -45,6 +45,7 @@ static void put_attr(const struct call *call, const struct statx *seen, bool is_
 	attr->gid = ids_to_client(&options->groups, seen->stx_gid);
 	attr->rdev = (uint32_t)makedev(seen->stx_rdev_major, seen->stx_rdev_minor);
 	attr->blksize = seen->stx_blksize;
+	/* (the caller sets it, where something is mounted) */
 	attr->flags = 0;
 }
 
@@ -59,6 +60,8 @@ static bool is_told_of(const struct call *call)
 uint64_t name_time(const struct call *call, const struct node *directory, uint64_t time)
 {
 	const struct watch *watch = call->all->nodes.watch;
+	/* (without a watch the client's times are as the user said; with one, and without it here,
+	 * nobody tells of a change) */
 	const uint64_t most = !watch ? UINT64_MAX : directory->watched ? watch_longest(watch) : SHORT_TIME;
 
 	return time < most ? time : most;
@@ -97,6 +100,7 @@ void tell_entry(const struct call *call, uint64_t number, const struct statx *se
 		time = SHORT_TIME;
 	/* (what is not said here says tell_attr(): each field) */
 	entry->node = number;
+	/* (a node's number is never used again, so that of the generation needs not tell two apart) */
 	entry->generation = 0;
 	entry->entry_seconds = time / 1000;
 	entry->entry_nanoseconds = (uint32_t)(time % 1000) * 1000000;
@@ -137,6 +141,7 @@ int enter_name(const struct call *call, const struct found *found, nizwarf_entry
 	error = errno;
 	if (fd >= 0)
 		close(fd);
+	/* (nothing was opened: so neither the place nor the descriptor is used) */
 	node_give_back(&call->all->nodes);
 	return error;
 }
@@ -144,6 +149,7 @@ int enter_name(const struct call *call, const struct found *found, nizwarf_entry
 /* The entry of a name if its file is known, where nothing can be reserved for a new one: or else this error. */
 static int find_known(const struct call *call, const struct found *found, int error, nizwarf_entry *entry)
 {
+	/* (one descriptor for a moment, which those that are left for calls cover) */
 	const int fd = openat(found->directory, found->name, O_PATH | O_NOFOLLOW | O_CLOEXEC);
 	struct statx seen;
 	uint64_t number = 0;

@@ -24,6 +24,8 @@
 #include "passthrough_mounts.h"
 #include "passthrough_watch.h"
 
+/* How many slots and chains there are at first: both double as nodes come. No slot has the number 0, so
+ * that ends the list of free ones. */
 enum { FIRST_SLOTS = 1024, FIRST_CHAINS = 1024, NO_SLOT = 0 };
 /* Of how many nodes that go at once the memory is given back; and how many bytes the C library doesn't keep for itself
  * when they are free, nor maps apart. */
@@ -62,6 +64,8 @@ static struct counted *thing_of(const struct table *table, uint64_t number)
 	return thing && thing->number == number ? thing : NULL;
 }
 
+/* Takes what a number leads to in hand, or gives NULL. The lock for reading is enough: the table is a
+ * user itself, so the count isn't 0 while the thing is found. */
 static struct counted *get(struct table *table, uint64_t number)
 {
 	struct counted *thing;
@@ -77,6 +81,9 @@ static struct counted *get(struct table *table, uint64_t number)
 /* Gives a thing a number, under the lock. False: there is no memory. */
 static bool add(struct table *table, struct counted *thing)
 {
+	/* The lower half of a number is its slot, and the upper one how often that was used before: so
+	 * what is freed and what takes its slot have different numbers, and a number that a client kept
+	 * too long leads to nothing. */
 	uint32_t at = table->first_free;
 	uint64_t uses = 0;
 
@@ -87,6 +94,7 @@ static bool add(struct table *table, struct counted *thing)
 		if (table->used >= table->size) {
 			const size_t size = table->size ? 2 * (size_t)table->size : FIRST_SLOTS;
 			uint64_t *more =
+				/* (a free slot has the next one's number in 31 bits) */
 				size > UINT32_MAX / 2 ? NULL : realloc(table->slots, size * sizeof(*more));
 
 			if (!more)
@@ -144,6 +152,8 @@ static int place_in(struct table *table, struct counted *thing, uint64_t number)
 	const uint32_t at = (uint32_t)number, uses = (uint32_t)(number >> 32);
 	size_t size = table->size ? table->size : FIRST_SLOTS;
 
+	/* (the number comes from another server: who calls holds it against what there may be, so this
+	 * ends) */
 	while (size <= at)
 		size *= 2;
 	if (size > table->size) {
@@ -154,6 +164,7 @@ static int place_in(struct table *table, struct counted *thing, uint64_t number)
 		table->slots = more;
 		table->size = (uint32_t)size;
 	}
+	/* (those between are free, and not in the list of free ones up to settle()) */
 	for (; table->used <= at; table->used++)
 		table->slots[table->used] = 1;
 	if (thing_in(table, at))
@@ -186,6 +197,7 @@ static void settle(struct table *table)
 		if (thing_in(table, at))
 			continue;
 		uses = table->slots[at] >> 32;
+		/* (above all that the other server gave out: a client may still have such a number) */
 		uses = uses > table->most_uses ? uses : (uint32_t)(table->most_uses + 1);
 		table->slots[at] = uses << 32 | (uint64_t)table->first_free << 1 | 1;
 		table->first_free = at;
@@ -195,6 +207,7 @@ static void settle(struct table *table)
 
 /* ---- descriptors */
 
+/* Adds first and looks then: so two threads together don't take more than there is. */
 int fd_reserve(struct nodes *all, unsigned count)
 {
 	if (atomic_fetch_add(&all->kept, count) + count <= all->most_kept)
@@ -220,6 +233,7 @@ int node_reserve(struct nodes *all)
 
 	if (atomic_fetch_add(&all->places, 1) >= all->most_nodes) {
 		error = ENFILE;
+		/* (once: a client may ask as often as it likes) */
 		if (!atomic_flag_test_and_set(&all->said_most))
 			fprintf(stderr,
 				"nizwarf-share: the client knows %u files, as many as it may: "
@@ -259,6 +273,8 @@ static const char *name_in(const struct node *node)
 	return node->rest + node->handle_size;
 }
 
+/* One user less. The last one closes what the node holds, and is the only one that has it: so no lock is
+ * held. */
 static void free_node(struct node *node)
 {
 	struct nodes *all;
@@ -287,12 +303,15 @@ struct fd_name name_fd(int fd)
 
 int open_again(const struct nodes *all, int fd, int flags)
 {
+	/* (the name in /proc/self/fd is a link, which must be followed; the file itself was not reached
+	 * by one) */
 	return openat(all->proc, name_fd(fd).bytes, (flags & ~O_NOFOLLOW) | O_CLOEXEC);
 }
 
 int node_hold(struct nodes *all, uint64_t number, struct grip *grip)
 {
 	grip->node = (struct node *)get(&all->nodes, number);
+	/* (-1 too where the node has a handle: node_get() opens one) */
 	grip->fd = grip->node ? grip->node->counted.fd : -1;
 	grip->own = -1;
 	return grip->node ? 0 : ESTALE;
@@ -321,6 +340,7 @@ void node_put(struct grip *grip)
 	grip->own = -1;
 }
 
+/* The chain of a file. Inodes mostly come one after another: the upper half of a product spreads them. */
 static struct node **chain_of(const struct nodes *all, uint64_t device, uint64_t inode)
 {
 	const uint64_t mixed = (inode + device * 31) * UINT64_C(0x9e3779b97f4a7c15);
@@ -328,12 +348,14 @@ static struct node **chain_of(const struct nodes *all, uint64_t device, uint64_t
 	return &all->chains[(mixed >> 32) % all->chain_count];
 }
 
+/* Whether two handles are of one file: they have no other sign than their bytes. */
 static bool same_handle(const struct file_handle *a, const struct file_handle *b)
 {
 	return a && b && a->handle_type == b->handle_type && a->handle_bytes == b->handle_bytes &&
 	       !memcmp(a->f_handle, b->f_handle, a->handle_bytes);
 }
 
+/* Whether a node has these numbers, its mount among them. That is not yet the same file: known(). */
 static bool is_of(const struct node *node, const struct statx *seen)
 {
 	return node->inode == seen->stx_ino && !is_across(node, seen);
@@ -374,12 +396,14 @@ static bool some_handle(struct nodes *all, const struct statx *seen)
 	return is_some;
 }
 
+/* Of a name in a directory that is read only device and inode are known, and not the mount. */
 bool node_may_be_known(struct nodes *all, const struct node *directory, uint64_t inode)
 {
 	struct node *node;
 
 	pthread_rwlock_rdlock(&all->nodes.lock);
 	node = *chain_of(all, directory->on->device, inode);
+	/* (it is of this device, or else the name is where something is mounted) */
 	while (node && (node->inode != inode || node->on->device != directory->on->device))
 		node = node->next;
 	pthread_rwlock_unlock(&all->nodes.lock);
@@ -406,6 +430,7 @@ static void grow_chains(struct nodes *all)
 	struct node **old = all->chains, **more;
 
 	more = count < UINT32_MAX / 4 ? calloc(doubled, sizeof(struct node *)) : NULL;
+	/* (longer chains are slower, and still right) */
 	if (!more)
 		return;
 	all->chains = more;
@@ -553,6 +578,7 @@ static int make(struct nodes *all, const struct found *found, int fd, const stru
 	const size_t of_handle = is_held ? sizeof(*handle) + handle->handle_bytes : 0;
 	const size_t of_name = on ? name_size(all, found, on, seen) : 0;
 	const int error = on && !is_held && all->handles_alone ? EOPNOTSUPP : ENOMEM;
+	/* (one piece of memory: the handle and the name are in `rest`, after the node) */
 	struct node *node = on && error == ENOMEM ? calloc(1, sizeof(*node) + of_handle + of_name) : NULL;
 
 	*made = node;
@@ -579,6 +605,7 @@ static int make(struct nodes *all, const struct found *found, int fd, const stru
 		memcpy(node->rest + of_handle, found->name, of_name);
 	}
 	if (is_held)
+		/* (a handle stays valid without it: so a node that has one keeps no descriptor) */
 		fd_let_go(all, fd);
 	else
 		watch_node(all, node);
@@ -601,10 +628,12 @@ int open_by_name(struct nodes *all, struct node *node, int flags)
 	if (directory.fd >= 0)
 		fd = (int)syscall(SYS_openat2, directory.fd, name_in(node), &how, sizeof(how));
 	node_put(&directory);
+	/* (another file may have the name by now) */
 	if (fd >= 0 && !fstat(fd, &seen) && seen.st_ino == node->inode && seen.st_dev == node->on->device)
 		return fd;
 	if (fd >= 0)
 		close(fd);
+	/* (it was renamed, or may not be opened by its name: this is not tried again) */
 	atomic_store(&node->is_elsewhere, true);
 	return -1;
 }
@@ -636,6 +665,7 @@ int node_enter(struct nodes *all, unsigned client, const struct found *found, in
 		node_let_go(all, fd);
 		return 0;
 	}
+	/* (made before the lock is taken: the host is asked under none) */
 	error = make(all, found, fd, seen, handle, &made);
 	if (error)
 		return error;
@@ -654,6 +684,7 @@ int node_restore(struct nodes *all, int fd, const struct statx *seen, uint64_t n
 	struct file_handle *handle;
 	union handle_room room;
 	struct node *made;
+	/* (the slot is chosen by the other server's data: a large one would want as large a table) */
 	int error = (uint32_t)number > all->most_nodes ? ENFILE : node_reserve(all);
 
 	if (error) {
@@ -665,6 +696,7 @@ int node_restore(struct nodes *all, int fd, const struct statx *seen, uint64_t n
 	if (error)
 		return error;
 	atomic_store(&made->lookups, lookups);
+	/* (make() compared its mount with the root's, and not with that of its directory) */
 	made->is_apart = is_apart;
 	pthread_rwlock_wrlock(&all->nodes.lock);
 	error = known(all, seen, handle) ? EEXIST : place_in(&all->nodes, &made->counted, number);
@@ -694,6 +726,7 @@ void node_forget(struct nodes *all, unsigned client, uint64_t number, uint64_t c
 	pthread_rwlock_wrlock(&all->nodes.lock);
 	if (number != ROOT_NODE && is_client(all, client))
 		node = (struct node *)thing_of(&all->nodes, number);
+	/* (a client that gives back more than it has loses the node, and no other one) */
 	if (node && atomic_load(&node->lookups) > count) {
 		atomic_fetch_sub(&node->lookups, count);
 		node = NULL;
@@ -701,6 +734,7 @@ void node_forget(struct nodes *all, unsigned client, uint64_t number, uint64_t c
 		detach(all, node);
 	}
 	pthread_rwlock_unlock(&all->nodes.lock);
+	/* (the host is not called under the lock) */
 	free_node(node);
 }
 
@@ -708,6 +742,7 @@ void node_forget(struct nodes *all, unsigned client, uint64_t number, uint64_t c
  * end of a thread's heap go with a large one alone. */
 static void trim_heap(void)
 {
+	/* (volatile, so that the compiler doesn't leave both calls out) */
 	void *volatile large = malloc(LARGE);
 
 	free(large);
@@ -721,6 +756,7 @@ static struct node *take_nodes(struct nodes *all, uint32_t *count)
 
 	pthread_rwlock_wrlock(&all->nodes.lock);
 	*count = all->nodes.count;
+	/* (one is the root, which stays) */
 	for (uint32_t i = ROOT_NODE + 1; i < all->nodes.used && all->nodes.count > 1; i++) {
 		struct node *node = (struct node *)thing_in(&all->nodes, i);
 
@@ -842,6 +878,7 @@ static unsigned most_to_keep(unsigned others)
 
 	if (getrlimit(RLIMIT_NOFILE, &limit) || limit.rlim_cur > INT_MAX)
 		return INT_MAX;
+	/* (soft: share.c has raised it before, as far as it may) */
 	may_be = (unsigned)limit.rlim_cur;
 	return may_be / 4 + others < may_be ? may_be - others : may_be / 4;
 }
@@ -849,6 +886,7 @@ static unsigned most_to_keep(unsigned others)
 int nodes_begin(struct nodes *all, int root, int proc, enum file_handles handles, bool no_devices,
 		unsigned most, unsigned others)
 {
+	/* (the root is found in no directory, and by no name) */
 	const struct found nowhere = { -1, NULL, NULL };
 	struct statx seen;
 	uint64_t number;
@@ -923,6 +961,7 @@ uint64_t file_add(struct nodes *all, unsigned client, uint64_t node, int fd, int
 			number = file->counted.number;
 		pthread_rwlock_unlock(&all->files.lock);
 	}
+	/* (without memory its descriptor stays the caller's) */
 	if (!number)
 		free(file);
 	else if (number == OF_NOBODY)
@@ -954,6 +993,7 @@ struct open_file *file_get(struct nodes *all, uint64_t number)
 
 void file_put(struct open_file *file)
 {
+	/* (RELEASE takes it out of the table; a READ that is under way keeps it up to its end) */
 	if (!file || atomic_fetch_sub(&file->counted.users, 1) > 1)
 		return;
 	if (file->buffer)

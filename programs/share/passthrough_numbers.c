@@ -8,6 +8,8 @@
 #include <stdlib.h>
 #include "passthrough_numbers.h"
 
+/* An inode has 64 bits: the lower LOW_BITS stay as they are, and the upper ones are replaced, for which
+ * there are PREFIXES values. HEADS chains lead to those that are known. */
 enum { LOW_BITS = 48, PREFIXES = 65536, HEADS = 1024 };
 
 /* A device with upper bits that its numbers have, and what they are told as. */
@@ -27,6 +29,7 @@ struct numbers {
 	struct prefix known[PREFIXES];
 };
 
+/* Mixes all bits, so that numbers which differ in one have nothing in common (splitmix64's last step). */
 static uint64_t mix(uint64_t number)
 {
 	number = (number ^ number >> 30) * UINT64_C(0xbf58476d1ce4e5b9);
@@ -34,6 +37,7 @@ static uint64_t mix(uint64_t number)
 	return number ^ number >> 31;
 }
 
+/* The same of two numbers, where (1, 2) and (2, 1) come to different ones. */
 static uint64_t mix_both(uint64_t device, uint64_t number)
 {
 	return mix(number ^ mix(device + UINT64_C(0x9e3779b97f4a7c15)));
@@ -80,6 +84,7 @@ static int add(struct numbers *all, uint64_t device, uint16_t high)
 	/* One is the folder's own. */
 	if (all->count >= PREFIXES - 1)
 		return -1;
+	/* (it ends: fewer than PREFIXES are taken) */
 	while (all->is_taken[told])
 		told++;
 	all->is_taken[told] = true;
@@ -100,6 +105,7 @@ uint64_t numbers_tell(struct numbers *all, uint64_t device, uint64_t inode)
 	pthread_rwlock_unlock(&all->lock);
 	if (told < 0) {
 		pthread_rwlock_wrlock(&all->lock);
+		/* (another thread may have added it between the two locks) */
 		told = find(all, device, high);
 		if (told < 0)
 			told = add(all, device, high);

@@ -85,6 +85,7 @@ enum { MOST_TOLD = 20 };
 /* FNV-1a: it finds what was changed by chance, and stops no one who means to deceive. */
 #define FIRST_SUM UINT64_C(0xcbf29ce484222325)
 
+/* FNV-1a of 64 bits: it finds bytes that came to harm on their way, and not who forges them. */
 static uint64_t sum_up(uint64_t sum, const void *bytes, size_t len)
 {
 	const unsigned char *at = bytes;
@@ -740,6 +741,8 @@ static int load_header(struct loading *l)
 	return 0;
 }
 
+/* Takes all that the other server saved. What can't be had here, as a file that went, is no failure: the
+ * client sees an error where it uses that. */
 static int load_all(struct loading *l)
 {
 	int came = 0;

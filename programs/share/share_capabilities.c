@@ -52,6 +52,7 @@ static int capability_of(const char *name)
 		"checkpoint_restore",
 	};
 
+	/* (in letters of either case, and without CAP_) */
 	for (int i = 0; i < (int)(sizeof(known) / sizeof(*known)); i++)
 		if (!strcasecmp(name, known[i]))
 			return i;
@@ -66,11 +67,13 @@ void take_capabilities(char *rest)
 	while ((one = strsep(&rest, ":"))) {
 		uint64_t bit;
 
+		/* (a colon too many says nothing) */
 		if (!*one)
 			continue;
 		if (*one != '+' && *one != '-')
 			refuse("--modcaps: + or - is wanted before ", one);
 		bit = UINT64_C(1) << capability_of(one + 1);
+		/* (of a capability that is said twice the last one counts) */
 		words.files.more_capabilities &= ~bit;
 		words.files.fewer_capabilities &= ~bit;
 		*(*one == '+' ? &words.files.more_capabilities : &words.files.fewer_capabilities) |= bit;

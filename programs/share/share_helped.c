@@ -17,6 +17,7 @@ bool is_started_by_mount(const char *name)
 {
 	const char *last = name ? strrchr(name, '/') : NULL;
 
+	/* (mount(8) calls mount.TYPE, which is a link to the program) */
 	return name && !strncmp(last ? last + 1 : name, "mount.", 6);
 }
 
@@ -25,6 +26,8 @@ void take_from_mount(int count, char **given)
 	if (count < 3)
 		refuse("it is mount(8) that starts it by this name, with a folder and a mount point", "");
 	helped.is_there = true;
+	/* (mount(8) waits for it to end, and says nothing else: so it comes back once the folder is
+	 * mounted) */
 	words.daemonizes = true;
 	words.says_more = false;
 	/* (what is open here would stay so as long as it serves) */
@@ -51,6 +54,7 @@ void end_helped(void)
 {
 	if (!helped.is_fake && !helped.remounts)
 		return;
+	/* (a remount changes the flags of the mount, and not what the server serves) */
 	if (!helped.is_fake && mount(NULL, words.mount_point, NULL, MS_REMOUNT | words.flags, NULL)) {
 		fprintf(stderr, "nizwarf-share: %s: %s\n", words.mount_point, strerror(errno));
 		exit(1);

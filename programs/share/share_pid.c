@@ -13,10 +13,12 @@
 #include <unistd.h>
 #include "share_pid.h"
 
+/* Of a process there is one such file at most. -1: it has none, or left it. */
 static char path[PATH_MAX];
 /* (at an end that is late two threads may remove it) */
 static atomic_int file = -1;
 
+/* Says what failed, with the path, as errno has it. */
 static int failed(void)
 {
 	fprintf(stderr, "nizwarf-share: %s: %s\n", path, strerror(errno));
@@ -41,6 +43,7 @@ static int open_locked(void)
 	if (file < 0 || fstat(file, &opened))
 		return -1;
 	if (!S_ISREG(opened.st_mode) || opened.st_nlink > 1 || opened.st_uid != geteuid()) {
+		/* (no name is left: another server removed it just then, and it is tried again) */
 		errno = opened.st_nlink ? EPERM : EAGAIN;
 		return opened.st_nlink ? -1 : 0;
 	}
@@ -63,6 +66,7 @@ int pid_file_take(const char *socket_path)
 	enum { TRIES = 100 };
 	int come = 0;
 
+	/* (virtiofsd's name for it: so no two servers, of whichever kind, have one socket) */
 	if (snprintf(path, sizeof(path), "%s.pid", socket_path) >= (int)sizeof(path)) {
 		errno = ENAMETOOLONG;
 		return failed();
@@ -92,6 +96,7 @@ int pid_file_write(void)
 
 	if (file < 0)
 		return 0;
+	/* (not before: up to here the process may have forked, and the number be another one) */
 	len = snprintf(text, sizeof(text), "%d\n", (int)getpid());
 	return ftruncate(file, 0) || pwrite(file, text, (size_t)len, 0) != len ? failed() : 0;
 }
@@ -111,6 +116,7 @@ void pid_file_remove(void)
 
 	if (left < 0)
 		return;
+	/* (a file that another server made meanwhile is not removed) */
 	if (!fstat(left, &own) && is_there(&own))
 		unlink(path);
 	/* (the lock goes with it: who waits for that sees the name gone) */

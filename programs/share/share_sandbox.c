@@ -33,6 +33,7 @@
 #include "share_sandbox.h"
 #include "transport.h"
 
+/* Says what failed, as errno has it: -1. */
 static int failed(const char *what)
 {
 	fprintf(stderr, "nizwarf-share: %s: %s\n", what, strerror(errno));

@@ -16,6 +16,7 @@
 #include <unistd.h>
 #include "share_syslog.h"
 
+/* Says what failed, where it still can be read: on standard error. */
 static int failed(const char *what)
 {
 	fprintf(stderr, "nizwarf-share: --syslog: %s: %s\n", what, strerror(errno));
@@ -59,8 +60,11 @@ static _Noreturn void begin_log(const int ends[2])
 	const pid_t child = fork();
 
 	if (child)
+		/* (the one between ends at once: so the log is nobody's child that would have to be
+		 * waited for) */
 		_exit(child < 0);
 	dup2(ends[0], STDIN_FILENO);
+	/* (who waits for the server's output to end must not wait for the log) */
 	for (int fd = STDOUT_FILENO; fd <= STDERR_FILENO; fd++)
 		close(fd);
 #ifdef SYS_close_range
@@ -77,6 +81,7 @@ int syslog_start(void)
 	pid_t child;
 
 	if (!is_there())
+		/* (that is no error, as nobody would be told of it later either) */
 		return failed(_PATH_LOG), 0;
 	if (pipe2(ends, O_CLOEXEC))
 		return failed("a pipe");

@@ -51,6 +51,7 @@ struct share_words words = {
 	.says_more = true,
 };
 
+/* (2, as what the caller said is wrong, and not what the host has) */
 _Noreturn void refuse(const char *why, const char *word)
 {
 	fprintf(stderr, "nizwarf-share: %s%s\nnizwarf-share --help lists the words.\n", why, word);

@@ -137,12 +137,14 @@ struct device {
 	atomic_int unmount_failed;
 };
 
+/* Says what failed, as errno has it: -1. */
 static int say(const transport *by, const char *what)
 {
 	fprintf(stderr, "%s: %s: %s\n", by->program, what, strerror(errno));
 	return -1;
 }
 
+/* The same of a worker, which ends by it, and all others with it. */
 static enum outcome failed(const struct worker *w, const char *what)
 {
 	say(w->of->by, what);
@@ -176,6 +178,7 @@ int32_t fuse_device_ask(struct device *of, unsigned worker, const nizwarf_segmen
 	return code;
 }
 
+/* Wakes who polls an eventfd. It may be told more than once before it looks. */
 static void tell(const struct device *d, int event)
 {
 	const uint64_t one = 1;
@@ -278,6 +281,7 @@ static void call_if_late(const struct worker *w, const struct fuse_in_header *as
 	}
 }
 
+/* Nanoseconds of a clock that nobody sets. */
 static uint64_t now(void)
 {
 	struct timespec time;
@@ -286,12 +290,15 @@ static uint64_t now(void)
 	return (uint64_t)time.tv_sec * 1000000000 + (uint64_t)time.tv_nsec;
 }
 
+/* Data of a WRITE, or of a READ, go between the device and a file by it, and are not copied. Without one
+ * they are copied. */
 static void make_pipe(struct worker *w)
 {
 	if (pipe2(w->pipe, O_CLOEXEC))
 		w->pipe[0] = w->pipe[1] = -1;
 }
 
+/* What is left in a pipe goes with it: the next request must not find data of the last one there. */
 static void close_pipe(struct worker *w)
 {
 	for (int i = 0; i < 2; i++) {
@@ -352,6 +359,7 @@ static ssize_t take_by_pipe(struct worker *w)
 	return got;
 }
 
+/* One request, whole: the kernel gives no part of one. The length, or -1 with errno. */
 static ssize_t take(struct worker *w)
 {
 	return w->writes && has_pipe(w) ? take_by_pipe(w) : read(w->fd, w->request, LONGEST);
@@ -812,6 +820,8 @@ static enum outcome serve_beside(struct device *d)
 	return serve_waiting(d);
 }
 
+/* A worker, from its begin to its end. The first one serves INIT alone, and the others wait for what
+ * that agreed on. */
 static void *run(void *given)
 {
 	struct worker *w = given;
@@ -886,6 +896,8 @@ static int end(struct worker *w, uint64_t since)
 	return 0;
 }
 
+/* Does nothing: but without SA_RESTART a call that waits comes back with EINTR, so that its thread sees
+ * that it is to end. */
 static void interrupted(int number)
 {
 	(void)number;
@@ -1091,6 +1103,7 @@ static int serve(struct device *d, int device, int signals)
 	return atomic_load(&d->failed);
 }
 
+/* Those below 0 were never open. */
 static void close_each(const int *fds, size_t count)
 {
 	for (size_t i = 0; i < count; i++)

@@ -104,6 +104,7 @@ struct fuse_rings {
 	struct worker worker[];
 };
 
+/* Says what failed: io_uring gives an error as a number, not by errno. */
 static int say(const struct fuse_rings *r, int error)
 {
 	fprintf(stderr, "%s: io_uring: %s\n", r->by->program, strerror(error));
@@ -416,6 +417,8 @@ static int await_begin(struct worker *w, int is_ready)
 	return serves;
 }
 
+/* The workers' end, by an error that none of them can answer: who serves the device is told, and ends
+ * too. */
 static void fail(struct fuse_rings *r)
 {
 	const uint64_t one = 1;
@@ -425,6 +428,7 @@ static void fail(struct fuse_rings *r)
 		say(r, errno);
 }
 
+/* A worker's thread. `end` is called by the thread for which `begin` was, and only if that worked. */
 static void *run(void *given)
 {
 	struct worker *w = given;
@@ -485,6 +489,7 @@ static void join_each(struct fuse_rings *r)
 		}
 }
 
+/* Ends in this order: answers that come later, then the workers, then what both used. */
 static int end(struct fuse_rings *r)
 {
 	int failed;
@@ -521,6 +526,8 @@ static int make_each(struct fuse_rings *r)
 	return 0;
 }
 
+/* As many to each queue as are wanted, or fewer, so that all together are as many as there may be. The
+ * kernel has a queue for each processor, and wants all served: with more of them a worker has several. */
 static unsigned count_workers(const transport *by, unsigned queues)
 {
 	const unsigned most = TRANSPORT_MOST_WORKERS - 1, wanted = by->ring_workers ? by->ring_workers : 1;
@@ -593,6 +600,7 @@ static int start_each(struct fuse_rings *r)
 	return are_ready;
 }
 
+/* Whether the kernel's INIT offers it: from Linux 6.14 on, and if its switch fuse.enable_uring is on. */
 static int is_offered(const unsigned char *request, size_t len)
 {
 	return (nizwarf_init_offered_at(request, len) & TRANSPORT_OVER_IO_URING) != 0;
@@ -613,6 +621,8 @@ static int has_room(const unsigned char *reply, size_t len)
 	return init.max_write <= TRANSPORT_PAYLOAD && pages <= TRANSPORT_PAYLOAD / page;
 }
 
+/* Makes the workers, and adds to the reply of INIT that it is agreed on. -1: the reply stays as it was,
+ * and requests come by read(2). */
 static int start(struct fuse_rings *r, struct device *of, int over, unsigned char *reply, size_t len)
 {
 	const nizwarf_init_more more = { .want = TRANSPORT_OVER_IO_URING };
@@ -624,6 +634,7 @@ static int start(struct fuse_rings *r, struct device *of, int over, unsigned cha
 	return nizwarf_add_to_init_at(reply, len, TRANSPORT_OVER_IO_URING, &more) ? 0 : -1;
 }
 
+/* Lets the workers go, all of which are ready. */
 static void begin(struct fuse_rings *r)
 {
 	pthread_mutex_lock(&r->lock);

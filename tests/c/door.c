@@ -62,6 +62,7 @@ static void read_attr(nizwarf_answer *answer, const uint8_t *body)
 	memcpy(&answer->entry.attr, &out.attr, sizeof(out.attr));
 }
 
+/* These read a reply back into the answer that it was made of. */
 static void read_open(nizwarf_answer *answer, const uint8_t *body)
 {
 	answer->has_handle = 1;

@@ -209,6 +209,7 @@ static void spoil(const void *request, unsigned char *room, size_t *len)
 	memcpy(room, &reply, sizeof(reply));
 }
 
+/* A reply is spoilt after it is made: as by a server with a fault, which this layer can't be. */
 static int32_t serve(void *user, unsigned worker, const nizwarf_segment *request, size_t segments,
 		     const nizwarf_room *room, size_t rooms, size_t *len)
 {

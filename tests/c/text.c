@@ -64,6 +64,7 @@ struct messages {
 	uint64_t options;
 };
 
+/* The two lines that are held, in one form, so that both are tried with each size of the text. */
 static size_t request_line(const void *of, char *text, size_t size)
 {
 	const struct messages *m = of;

@@ -151,6 +151,7 @@ static size_t put_class(const char *name)
 
 enum { PARTS = 40 };
 
+/* Of times, for the median. */
 static int compare(const void *a, const void *b)
 {
 	const double x = *(const double *)a, y = *(const double *)b;

@@ -53,6 +53,7 @@ static int is_refused(void)
 	return refused && ++allocated == refused;
 }
 
+/* (in place of the C library's: so libfuse's own allocations can be refused, one after another) */
 void *malloc(size_t size)
 {
 	return is_refused() ? NULL : __libc_malloc(size);
@@ -252,6 +253,8 @@ static void answer_around(fuse_req_t req)
 /* Answers by as many pieces as a kernel takes from nobody, of a byte each. */
 enum { PIECES = 2000 };
 
+/* As many pieces as a reply may have, of a byte each: a reply that is built in pieces has no room of a
+ * fixed size. */
 static void answer_by_pieces(fuse_req_t req)
 {
 	struct iovec pieces[PIECES];
@@ -339,6 +342,7 @@ enum { MANY = 60 }; /* records, some 3 KiB */
 static _Alignas(8) char listing[SIZE];
 static size_t listing_len;
 
+/* A copy of the listing, which goes as soon as it is handed over: nobody may read it later. */
 static void list_many(fuse_req_t req)
 {
 	char *at = malloc(listing_len);
@@ -1284,6 +1288,7 @@ static void on_getattr_queue(fuse_req_t req, fuse_ino_t ino, struct fuse_file_in
 	pthread_mutex_unlock(&lock);
 }
 
+/* (that there is one is what counts: it is called if the kernel interrupts the request) */
 static void on_told(fuse_req_t req, void *data)
 {
 	(void)req, (void)data;

@@ -20,6 +20,7 @@ int mount(const char *from, const char *to, const char *type, unsigned long flag
 	int (*own)(const char *, const char *, const char *, unsigned long, const void *) =
 		(int (*)(const char *, const char *, const char *, unsigned long, const void *))dlsym(
 			RTLD_NEXT, "mount");
+	/* (mounts of the sandbox itself are let be: of those one is of FUSE) */
 	const int came = own(from, to, type, flags, options);
 
 	return came || !type || strncmp(type, "fuse.", 5) != 0 ? came : kill(getpid(), SIGTERM);

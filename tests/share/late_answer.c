@@ -101,9 +101,11 @@ int main(void)
 	queues_go();
 	if (write(kick, &once, sizeof(once)) < 0)
 		return wrong("it could not kick");
+	/* (up to ten seconds, for a machine that is busy) */
 	for (int i = 0; i < 1000 && atomic_load(&calls) < 2; i++)
 		usleep(10000);
 
+	/* (so the memory is about to change: what is kept is to be answered, and the queues held) */
 	queues_recall();
 	if (queues_hold_answered(-1, -1))
 		return wrong("nothing is held");

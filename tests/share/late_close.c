@@ -9,6 +9,7 @@
 #include <sys/stat.h>
 #include <time.h>
 
+/* (a signal must not make it shorter) */
 static void take_long(void)
 {
 	struct timespec left = { 3, 0 };
@@ -17,6 +18,7 @@ static void take_long(void)
 		;
 }
 
+/* Whether it is an open file of that size: one of O_PATH, as of a node, is let be. */
 static int has_size(int fd, off_t size)
 {
 	struct stat is;

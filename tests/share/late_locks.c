@@ -16,6 +16,7 @@ int fcntl(int fd, int what, ...)
 	va_start(more, what);
 	given = va_arg(more, void *);
 	va_end(more);
+	/* (late, and not never: the share has two workers, and the other one must go on) */
 	if (what == F_OFD_GETLK && ((const struct flock *)given)->l_type == F_WRLCK)
 		while (nanosleep(&left, &left) && errno == EINTR)
 			;

@@ -10,6 +10,7 @@
 #include <sys/vfs.h>
 #include <unistd.h>
 
+/* As on a network file system whose server is gone: it doesn't come back by a signal either. */
 static void wait_for_ever(void)
 {
 	/* (a filter of calls has none for pause(2)) */
@@ -45,6 +46,7 @@ int unlink(const char *path)
 	return own(path);
 }
 
+/* (the server calls it right after it has mounted, before it serves) */
 int prctl(int what, ...)
 {
 	int (*own)(int, ...) = (int (*)(int, ...))dlsym(RTLD_NEXT, "prctl");

@@ -22,6 +22,7 @@ static int has_one(void)
 	return 0;
 }
 
+/* The first one is made, and each after it fails as if no descriptor were left. */
 int signalfd(int fd, const sigset_t *signals, int flags)
 {
 	int (*own)(int, const sigset_t *, int) =

@@ -4,6 +4,8 @@
 #include <stdlib.h>
 #include "../../programs/share/passthrough_numbers.h"
 
+/* The folder's device; how many others; how many files of each; and how many upper bits, more than there
+ * are. */
 enum { OWN = 7, DEVICES = 300, FILES = 4, HIGH = 70000 };
 
 static const uint64_t inodes[FILES] = { 1, 2, (UINT64_C(1) << 48) - 1, UINT64_C(1) << 47 };
@@ -11,6 +13,7 @@ static uint64_t told[DEVICES * FILES + FILES + HIGH];
 static size_t count;
 static int status;
 
+/* Says each fact that doesn't hold, and goes on. */
 static void hold(int fact, const char *what)
 {
 	if (!fact) {

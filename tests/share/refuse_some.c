@@ -12,12 +12,14 @@
 #include <stdlib.h>
 #include <unistd.h>
 
+/* The linker gives the C library's own functions these names. */
 void *__real_malloc(size_t size);
 void *__real_calloc(size_t count, size_t size);
 void *__real_realloc(void *at, size_t size);
 void *__real_aligned_alloc(size_t alignment, size_t size);
 int __real_openat(int directory, const char *name, int flags, mode_t mode);
 
+/* 0: nothing is said, and nothing refused. */
 static unsigned long number_in(const char *name)
 {
 	const char *text = getenv(name);
@@ -42,6 +44,7 @@ static bool is_chosen(uint64_t number)
 	return one_in ? ((number * UINT64_C(0x9e3779b97f4a7c15)) >> 33) % one_in == 0 : number == from;
 }
 
+/* Counts an allocation, of any function and thread, and says whether it is refused. */
 static bool refuses(void)
 {
 	static const char said[] = "an allocation is refused\n";
@@ -92,6 +95,7 @@ int __wrap_openat(int directory, const char *name, int flags, ...)
 		return __real_openat(directory, name, flags, mode);
 	if (write(2, said, sizeof(said) - 1) < 0)
 		_exit(3);
+	/* (that the machine has no more: EMFILE is what a server that counts its own may avoid) */
 	errno = ENFILE;
 	return -1;
 }

@@ -15,6 +15,7 @@ int bind(int fd, const struct sockaddr *to, socklen_t len)
 	const char *path = ((const struct sockaddr_un *)to)->sun_path;
 	struct stat is;
 
+	/* (99 is no status of the server: so it is seen that this failed) */
 	if (own(fd, to, len) || lstat(path, &is) || (is.st_mode & 07777) != 0660)
 		_exit(99);
 	return unlink(path) || symlink(getenv("TARGET"), path);
