@@ -37,6 +37,7 @@ class Server:
     """A share of FOLDER at MOUNT, whose messages are kept."""
 
     def __init__(self, *words):
+        """Mounts, and reads what the server says in a thread, so that a full pipe doesn't hold it up."""
         self.said = []
         self.process = subprocess.Popen([SHARE, *words, *WORDS, FOLDER, MOUNT], stderr=subprocess.PIPE, text=True)
         self.reader = threading.Thread(target=lambda: self.said.extend(self.process.stderr))
@@ -56,6 +57,7 @@ class Server:
         return next(iter(names.values()), self.process.pid), naming
 
     def descriptors(self):
+        """How many each of its processes has: what names files to Linux is one of its own."""
         return [len(os.listdir(f"/proc/{pid}/fd")) for pid in self.pids() if pid]
 
     def asked(self, *names):
@@ -64,6 +66,7 @@ class Server:
         return sum(line.split()[0] in names for line in self.said if line.strip())
 
     def end(self):
+        """Unmounts; the server must end by that with 0."""
         subprocess.run(["umount", MOUNT], stderr=subprocess.DEVNULL, check=False)
         try:
             status = self.process.wait(60)
@@ -103,6 +106,7 @@ class Beside:
              os.O_RDWR | os.O_CREAT, os.O_RDONLY)
 
     def __init__(self, chance):
+        """`opened` has pairs of descriptors, one of either side."""
         self.chance, self.opened, self.names = chance, [], ["a", "b"]
         self.places = (MOUNT, PLAIN)
 
@@ -127,6 +131,9 @@ class Beside:
         return [come_to(act, file) for file in self.chance.choice(self.opened)]
 
     def mapped(self, write):
+        """Reads or writes five bytes by a map of each side's file, unless that is too short: beyond its end is
+        SIGBUS.
+        """
         at, data = self.chance.randrange(9000), self.chance.randbytes(5)
 
         def act(file):
@@ -140,6 +147,7 @@ class Beside:
         return self.each(act)
 
     def one(self):
+        """A call by chance, of both sides: what each came to."""
         chance = self.chance
         at, data = chance.randrange(20000), chance.randbytes(chance.choice((1, 7, 4096, 9000)))
         flags = chance.choice((0, os.O_APPEND))
@@ -165,6 +173,7 @@ class Beside:
 
 
 def random_calls(seed):
+    """Makes the same calls of the mount and of a plain folder, by chance, and compares what each comes to."""
     for place in (FOLDER, PLAIN):
         subprocess.run(["rm", "-rf", place], check=True)
         os.mkdir(place)
@@ -346,6 +355,7 @@ def ends():
 
 
 def time_pieces(act, file, buffer):
+    """Seconds of reading or writing a file in pieces, one after the other."""
     begun = time.perf_counter()
     for at in range(0, PIECES * len(buffer), len(buffer)):
         act(file, [buffer], at)

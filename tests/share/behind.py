@@ -30,11 +30,13 @@ def begin(act):
 
 
 def ask(name):
+    """Asks once those that take long have begun."""
     time.sleep(SOON)
     os.stat(name)
 
 
 def ends(child):
+    """Whether a child ends, and well, before it is too late."""
     until = time.time() + LONG
     while time.time() < until:
         ended, status = os.waitpid(child, os.WNOHANG)

@@ -52,6 +52,7 @@ class Mount:
         return self
 
     def __exit__(self, *_):
+        """Unmounts lazily: a test that failed may have left a file open."""
         subprocess.run(["umount", "-l", self.at], check=False)
         self.said = self.server.communicate(timeout=30)[1]
         if self.server.returncode:
@@ -99,6 +100,7 @@ def open_with(path, flags, act):
 
 
 def look(path):
+    """What is compared of a file, of which times and numbers differ anyway."""
     is_so = os.lstat(path)
     return oct(is_so.st_mode), is_so.st_uid, is_so.st_gid
 

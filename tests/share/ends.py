@@ -76,6 +76,7 @@ class Slow(Hung):
 
 
 def request(opcode, body=b"", node=1):
+    """A request of root, numbered 2, as all are here: one is asked at a time, or the chain tells which one it is."""
     return struct.pack("<IIQQIIIHH", 40 + len(body), opcode, 2, node, 0, 0, 1, 0, 0) + body
 
 
@@ -112,6 +113,9 @@ class Front:
         return self.post_at(at, len(data))
 
     def post_at(self, at, size):
+        """Hands a chain of two descriptors to the server: the request, which is at this address, and room for a
+        reply.
+        """
         number = self.posted % 32
         room = self.ROOMS + number * 4096
         self.memory[number * 32:number * 32 + 32] = struct.pack("<QIHHQIHH", at, size, 1, 2 * number + 1, room, 256, 2, 0)
@@ -123,6 +127,7 @@ class Front:
         return room
 
     def done(self):
+        """How many chains the server gave back, as the used ring says."""
         return struct.unpack_from("<H", self.memory, 0x8002)[0]
 
     def ask(self, opcode, body=b"", node=1):
@@ -136,6 +141,7 @@ class Front:
         return self.ask(26, struct.pack("<IIII", 7, 38, 1 << 20, 1 << 30) + bytes(48))[0]
 
     def hang_up(self):
+        """Its kick and its call go too, as with a VMM that was killed."""
         self.socket.close()
         os.close(self.kick)
         os.close(self.call)
@@ -151,6 +157,7 @@ class Server:
             raise OSError("there is no server")
 
     def child(self):
+        """The process that serves, where a sandbox has one of its own; or else the only one."""
         with open(f"/proc/{self.process.pid}/task/{self.process.pid}/children") as children:
             return int((children.read().split() or [self.process.pid])[0])
 
@@ -185,6 +192,7 @@ def leased(name="leased"):
 
 
 def next_is_served(what):
+    """Whatever became of a front end, the one after it must be served."""
     one = Front()
     hold(one.init() == 0 and one.ask(3, bytes(16))[0] == 0, f"{what}: the next front end is not served")
     return one
@@ -215,6 +223,9 @@ def full_event(ends_by_signal, program=None):
 
 
 def waits_for_lease(ends_by_signal):
+    """An OPEN of a file with a lease waits until the lease is given up: neither who hangs up nor a signal waits for
+    it.
+    """
     server, one = Server("--socket-path=" + path, folder), Front()
     one.init()
     node = struct.unpack_from("<Q", one.ask(1, b"leased\0")[1])[0]

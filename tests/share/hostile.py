@@ -57,6 +57,7 @@ class Server:
     """The program, which listens on PATH."""
 
     def __init__(self, log, *words):
+        """All that the server says goes to the log."""
         self.log = log
         self.process = subprocess.Popen([*DAEMON, *words, "--log-level=warn", "--socket-path=" + PATH, FOLDER], stdout=log,
                                         stderr=log)
@@ -114,6 +115,7 @@ class Front:
         return -struct.unpack_from("<i", reply, 4)[0] if len(reply) >= 16 else answer
 
     def body(self, text):
+        """What follows the header of a reply."""
         return bytes.fromhex(self.ask(text).split()[1])[16:]
 
     def hold(self, name, text, *errors):

@@ -82,6 +82,7 @@ class Keeper:
         return self.retry(look)
 
     def remove(self, name):
+        """Removes a file, which an earlier try may have removed before it failed."""
         def act():
             try:
                 os.remove(f"{self.mount}/{name}")
@@ -228,6 +229,9 @@ def stress(place, chance, seconds):
 
 
 def stress_and_keep(server, chance, what, seconds=20):
+    """Load by many, while one looks after files of its own, whose bytes nobody else changes: none may be lost or
+    mixed up.
+    """
     before = server.descriptors()
     # (by default each file that is known takes a descriptor, of which a machine may have few)
     keeper = Keeper(server.mount, server.folder, FULL | SCARCE, chance)
@@ -471,6 +475,7 @@ class Asking:
         self.program = subprocess.Popen([ask, path], stdin=subprocess.PIPE, stdout=subprocess.PIPE, text=True)
 
     def send(self, text):
+        """Sends a request. If the server has ended, that no answer comes tells it."""
         try:
             self.program.stdin.write(text + "\n")
             self.program.stdin.flush()
@@ -653,6 +658,7 @@ def in_turn(what, variable):
 
 
 def main(minutes):
+    """The seed is printed, so that a round that failed can be made again."""
     seed = random.SystemRandom().randrange(1 << 32)
     chance = random.Random(seed)
     print(f"Load for {minutes} minutes, by seed {seed}.", flush=True)

@@ -15,6 +15,7 @@ counts = {}
 
 
 def wrong(what):
+    """Says at once what failed, and goes on: more may be wrong."""
     faults.append(what)
     print(f"WRONG: {what}", file=sys.stderr, flush=True)
 
@@ -54,6 +55,7 @@ class Server:
             return int((children.read().split() or [self.process.pid])[0])
 
     def descriptors(self):
+        """How many the process has that serves."""
         return len(os.listdir(f"/proc/{self.pid()}/fd"))
 
     def memory(self):
@@ -90,6 +92,7 @@ def drop_caches():
 
 
 def hold_end(server, what):
+    """A server must end with 0, also after load."""
     status = server.end()
     if status != 0:
         wrong(f"{what}: the server ended with {status}: {server.said()}")
@@ -109,5 +112,6 @@ def hold_descriptors(server, before, what):
 
 
 def empty(folder):
+    """Empties a folder: by find(1), and what that could not remove once more."""
     subprocess.run(["find", folder, "-mindepth", "1", "-delete"], stderr=subprocess.DEVNULL, check=False)
     subprocess.run(f"rm -rf {folder}/* {folder}/.[!.]*", shell=True, check=False)

@@ -53,6 +53,7 @@ class Server:
             signal.sigtimedwait([], 0.02)
 
     def said(self):
+        """What the server wrote to standard error so far."""
         self.log.seek(0)
         return self.log.read()
 
@@ -182,17 +183,20 @@ def move(source_words, target_words, meanwhile=None, name=b"file", loads=True, t
 
 
 def without_gone(machine, had, folder, name):
+    """What can't be had again is an error to who uses it, and all else goes on."""
     hold("GETATTR of what is missing", machine.ask(Op.GETATTR, record(Op.GETATTR), had[b"gone"])[0], ESTALE)
     hold("READ of what is missing", machine.read(had[b"gone"], had["gone"])[0], ESTALE)
     go_on(machine, had, folder, name)
 
 
 def with_gone(machine, had, folder, name):
+    """By a handle a file is had again that lost its last name while it was open."""
     hold("READ of a file without a name", machine.read(had[b"gone"], had["gone"]), (0, b"gone"))
     go_on(machine, had, folder, name)
 
 
 def rename_and_unlink(folder):
+    """What others may do in the folder between the saving and the loading."""
     os.rename(folder + "/d/file", folder + "/d/moved")
     os.unlink(folder + "/d/gone")
 
@@ -306,6 +310,7 @@ def state_of(header, records, nodes=None):
 
 
 def node(number, path, lookups=1, kind=0o100000, handle=b"", handle_type=1, mount=0):
+    """A record of a saved state, made up: for what a server must refuse of one that lies."""
     return NODE_KIND, struct.pack(NODE, number, lookups, kind, mount, handle_type if handle else 0, len(handle), 0, 0) + handle + path
 
 

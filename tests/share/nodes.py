@@ -51,6 +51,7 @@ def make_folder(folder):
 
 
 def paths_below(top):
+    """All names, of folders and of files."""
     for folder, folders, files in os.walk(top):
         yield from (f"{folder}/{name}" for name in folders + files)
 
@@ -236,6 +237,7 @@ def memory(folder, mount, files, *words):
 
 
 def main(work):
+    """Over a mount, where Linux asks; and as a machine, which may ask anything."""
     folder, mount, socket = work + "/folder", work + "/mount", work + "/socket"
     os.mkdir(mount)
     make_folder(folder)

@@ -40,6 +40,7 @@ MOVES = 5
 
 
 def end_by(server, how):
+    """Ends a mount or its server; `umount` is tried again while somebody is at a file."""
     if how.startswith("umount"):
         wait_for(lambda: not subprocess.call([*how.split(), server.mount], stderr=subprocess.DEVNULL))
     elif how == "a signal":
@@ -208,6 +209,7 @@ class Moving:
         self.one, self.directory, self.chance, self.files = one, directory, chance, {}
 
     def make(self, name):
+        """Makes a file, and notes node, handle and bytes, which the next machine must find again."""
         asked = record(Op.CREATE, flags=os.O_RDWR, mode=0o644) + name + b"\0"
         error, reply = self.one.ask(Op.CREATE, asked, node=self.directory)
         if error:

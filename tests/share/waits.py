@@ -76,6 +76,9 @@ class Machine:
         self.socket.recv(100)
 
     def begin(self, base):
+        """Starts the queue at this index: its size, its base, its rings, both descriptors, and last that it is
+        enabled.
+        """
         self.tell(8, QUEUE, SLOTS, shape="II")
         self.tell(10, QUEUE, base, shape="II")
         self.tell(9, QUEUE, 0, BASE + DESCRIPTORS, BASE + USED, BASE + AVAILABLE, 0, shape="IIQQQQ")
@@ -127,6 +130,7 @@ class Machine:
         return self.done.pop(unique, None)
 
     def error(self, unique, wait=None):
+        """The error of a reply, 0 of a chain that came back with none, or None if nothing came in time."""
         reply = self.reply(unique, wait)
         return None if reply is None else -struct.unpack_from("<i", reply, 4)[0] if len(reply) >= 16 else 0
 
@@ -167,6 +171,7 @@ def waiting(one, node, handle, is_flock):
 
 
 def freed(one, node, handle, is_flock):
+    """Of those that wait for a lock one is interrupted; the others have it once it is free."""
     asked = waiting(one, node, handle, is_flock)
     hold("interrupted", (one.interrupt(asked[0]), one.error(asked[0])), (0, EINTR))
     hold("unlock", one.error(one.lock(node, handle, 1, NONE, is_flock=is_flock)), 0)
@@ -178,6 +183,8 @@ def freed(one, node, handle, is_flock):
 
 
 def stopped(one, node, handle):
+    """What waits for a lock is answered with ENOLCK before a queue stops, or memory goes: its room is in that memory.
+    """
     asked = waiting(one, node, handle, False)
     base = one.stop()
     hold("a queue that stops", [one.error(it) for it in asked], [ENOLCK] * WAITERS)

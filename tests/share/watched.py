@@ -60,6 +60,7 @@ class Server:
 
 
 def error_of(act, *given):
+    """What a call comes to, or its error: both can be compared."""
     try:
         return act(*given)
     except OSError as error:
@@ -84,6 +85,7 @@ def plain(name):
 
 
 def see(names, what, most=SOON):
+    """Waits until the mount shows these names as the folder has them; it fails after `most` seconds."""
     until = time.monotonic() + most
     while True:
         differ = [name for name in names if look(name) != plain(name)]
@@ -156,6 +158,7 @@ def remember():
 
 
 def steps():
+    """Each change by others shows in the mount in time, though it remembers names and attributes for an hour."""
     make_folder()
     server = Server("--watch")
     remember()

@@ -61,6 +61,7 @@ def name_of(error):
 class Daemon:
     """One that shares a new folder, with a front end that asks it."""
     def __init__(self, *words, flags=SECURITY_CTX | CREATE_SUPP_GROUP | ALLOW_MMAP | KILLPRIV_V2):
+        """A folder with one file, anew for each server: what was tried before leaves nothing."""
         self.folder, self.socket = WORK + "/folder", WORK + "/socket"
         shutil.rmtree(self.folder, ignore_errors=True)
         os.mkdir(self.folder)
@@ -106,6 +107,7 @@ class Daemon:
         return -struct.unpack_from("<i", reply, 4)[0], reply[16:]
 
     def look_up(self, name, node=1):
+        """The node of a name; 0: there is none."""
         error, said = self.ask(LOOKUP, name.encode() + b"\0", node)
         return struct.unpack_from("<Q", said)[0] if not error else 0
 
@@ -146,6 +148,7 @@ def attributes(path):
 
 
 def shortened(name):
+    """A name that a line of the stored answers has room for."""
     return name if len(name) < 100 else f"one of {len(name)} letters"
 
 
@@ -157,6 +160,7 @@ def changes(before, path):
 
 
 def options():
+    """Which options of INIT words agree on, and what labels a server with --security-label refuses."""
     for words in ([], ["--allow-mmap"], ["--killpriv-v2"], ["--no-killpriv-v2"], ["--security-label"],
                   ["-o", "killpriv_v2,no_killpriv_v2,security_label,no_security_label"]):
         with Daemon(*words) as one:
@@ -176,6 +180,7 @@ def options():
 
 
 def labels():
+    """What is made with a label has it, or is not made, by each way to map attributes."""
     for words in (["--security-label"], ["--security-label", "--xattrmap=:map::user.virtiofs.:"],
                   ["--security-label", "--xattrmap=:unsupported:all:user.l:user.l: :ok:all:::"],
                   ["--security-label", "--xattrmap=:bad:all:user.l:user.l: :ok:all:::"]):
@@ -204,6 +209,7 @@ RULES = (
 
 
 def rules():
+    """What each map of attributes makes of names of the guest and of the host."""
     for text in RULES:
         with Daemon(f"--xattrmap={text}") as one:
             shown = " ".join(text.split())
@@ -255,6 +261,7 @@ def capabilities():
 
 
 def flags():
+    """Which flags of open(2) come to the host's file, by its own /proc."""
     for words in ([], ["--allow-direct-io"], ["--preserve-noatime"], ["-o", "allow_direct_io"],
                   ["-o", "allow_direct_io,no_allow_direct_io"]):
         with_words = " ".join(words) or "a word"
@@ -303,6 +310,7 @@ TRANSLATIONS = (
 
 
 def ids():
+    """How each translation of users and groups makes and shows files."""
     for what, words, asking, looked in TRANSLATIONS:
         with Daemon(*words) as one:
             one.look_up("file")
@@ -330,6 +338,7 @@ def ids():
 
 
 def pid_file():
+    """The file SOCKET.pid is there, names the process, and is locked."""
     with Daemon() as one:
         path = one.socket + ".pid"
         with open(path) as file:
@@ -406,6 +415,7 @@ def starts(text):
 
 
 def all_words():
+    """Which words start a server, and which end it at once."""
     for text in (*WRONG, *RIGHT):
         came[f"word {' '.join(text.split(' '))}"] = starts(text)
 

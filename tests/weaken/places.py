@@ -11,9 +11,13 @@ class Places:
     """Of each node that a conjunct's text became, the conjunct's place in its file."""
 
     def __init__(self, library, crates):
+        """`of` has the places by the name of an item and the number of a node in its term; `taken` the crates that
+        were read.
+        """
         self.library, self.crates, self.of, self.taken = library, crates, {}, set()
 
     def crate(self, name):
+        """Reads the definitions of a crate, and the clauses of its functions, once."""
         if name in self.taken:
             return
         self.taken.add(name)
@@ -29,14 +33,19 @@ class Places:
                         self.source(name, file, conjuncts.blanked(whole, "//"))
 
     def put(self, file, start, end, item, node):
+        """Notes that this piece of the text became that node. More than one piece may: an abbreviation leaves none of
+        its own.
+        """
         place = (file, *conjuncts.trimmed(self.text, start, end))
         all_ = self.of.setdefault((item.name, node), [])
         if place not in all_:
             all_.append(place)
 
     def specs(self, crate, file, text):
+        """Pairs each definition of a file with the item that the checker named after it."""
         self.text = text
         module = f"Rattle-{crate}-specs." + os.path.relpath(file, f"{self.crates}/{crate}/specs")[: -len(".antt")].replace("/", ".")
+        # A head ends the definition before it, also if it is none itself, as an import.
         heads = [*re.finditer(r"^ *((?:abbrev |unfoldable )?pub (?:record |data )?([\w']+)|module _|use )", text, re.M)]
         heads = [it for it in heads if not re.match(r" *pub [\w']+ :", text[it.start() :]) or text[it.start()] != " "]
         for i, head in enumerate(heads):
@@ -56,6 +65,7 @@ class Places:
                     self.equations(file, item, head[2], text, head.start(), end)
 
     def record(self, file, item, text, start, end):
+        """Pairs the types of a record's fields, by their names."""
         where = re.search(r"Type 0\s+where", text[start:end])
         if not where:
             return
@@ -68,6 +78,9 @@ class Places:
                 self.pair(file, at + field.end(), last, item, nodes[field[1]])
 
     def equations(self, file, item, word, text, start, end):
+        """Pairs the right sides of a definition's equations with the leaves of its term. The term takes cases where
+        the text has patterns, so that leaves are found by the constructors on the way to them.
+        """
         heads = [*re.finditer(rf"^( *){re.escape(word)}(?![\w'-])(?! *:)", text[start:end], re.M)]
         all_ = []
         for i, it in enumerate(heads):
@@ -126,6 +139,8 @@ class Places:
         yield path, node
 
     def source(self, crate, file, text):
+        """Pairs the clauses of each function of a file, which the toolchain keeps as items below the function's name.
+        """
         self.text = text
         path = os.path.relpath(file, f"{self.crates}/{crate}/src")[: -len(".rt")].replace("/", ".")
         module = "" if path == "lib" else f"{path}."

@@ -34,6 +34,9 @@ class Reader:
     """Reads the terms of proofs, and notes what they use."""
 
     def __init__(self, library, places):
+        """`used` is what was found, by the place of a conjunct; `unknown` counts values that could not be worked out,
+        and `unread` terms that have another form than is known here. Neither says that anything is unused.
+        """
         self.library, self.machine, self.places = library, Machine(library), places
         self.used, self.unknown, self.unread = {}, 0, 0
         self.machine.type_of_path, self.machine.marked = self.known_type, places
@@ -41,11 +44,15 @@ class Reader:
     # What is used.
 
     def note(self, state):
+        """What was reached is used: the conjuncts of this node, and of those that are the same."""
         for it in (state, *self.same.get(state, ())):
             if it in self.places:
                 self.found.update(self.places[it])
 
     def value(self, thunk):
+        """What a type comes to, or None if that takes too long, or is of a form that is not known: then it is
+        counted, and nothing is said of what it would have used.
+        """
         if thunk is None:
             return None
         self.machine.steps = MOST_STEPS
@@ -79,6 +86,7 @@ class Reader:
         return self.before_of_shape(thunk, shape_of(value)) if value is not None else []
 
     def before_of_shape(self, thunk, shape):
+        """The terms on the way to a type which have this shape, down to what they were themselves worked out from."""
         found = []
         for it in thunk.trail:
             if isinstance(it, Thunk):
@@ -171,10 +179,12 @@ class Reader:
     # Types.
 
     def type_of(self, name):
+        """The type that a module declares for a name, or None if it declares a type, or has no such name."""
         it = self.library.item(name)
         if it is None or it.kind not in (0, 4, 5):
             return None
         root = it.roots[0]
+        # (kept with the type after it)
         if it.kind == 4 and it.nodes[root][0] == 35:
             root = it.nodes[root][1]
         return Thunk(it, root, None)
@@ -187,6 +197,7 @@ class Reader:
         return found
 
     def own_field(self, thunk, whole, label):
+        """The type of a record's field, where the fields before it are those of `whole`."""
         value = self.value(thunk)
         if value is None:
             return None
@@ -343,6 +354,7 @@ class Reader:
         return found
 
     def bound(self, item, it, env):
+        """What a LET binds: its term, that with its type, and where both hold."""
         type_ = Thunk(item, it[2], env)
         if item.module.strings[it[1]].endswith(".elim"):
             return (Thunk(item, it[3], env), (it[3], env, type_), env)
@@ -352,6 +364,8 @@ class Reader:
         return (Thunk(item, it[3], env), inferred or type_, env)
 
     def check_only_new(self, item, node, env, type_):
+        """Checks what no type can be inferred of, since it only builds a value: its parts are used as the type says.
+        """
         if item.nodes[node][0] in (LAM, RECORD, CONSTRUCTOR):
             self.check(item, node, env, type_)
 
@@ -449,6 +463,9 @@ class Reader:
             self.handed(self.infer(item, node, env, (), wanted), wanted)
 
     def is_seen(self, item, node, env, how):
+        """Whether this was read before, in the same place. Environments are kept, so that no new one gets the id of
+        one that went.
+        """
         key = (item.name, node, id(env), how)
         if key in self.seen:
             return True
@@ -457,6 +474,7 @@ class Reader:
         return False
 
     def check_built(self, item, it, env, wanted):
+        """Reads the arguments of a constructor by the types that the wanted type's declaration gives them."""
         value = self.value(wanted) if wanted else None
         word = item.module.named(it[1])
         types, declared = None, None

@@ -29,6 +29,9 @@ class Item:
     __slots__ = ("module", "name", "kind", "nodes", "roots", "parameters", "fields", "constructors")
 
     def __init__(self, module, name, kind, nodes, roots=(), parameters=(), fields=(), constructors=()):
+        """Nodes are in the order of the file, each after those that it is made of; `roots` are the numbers of its
+        type and its term.
+        """
         self.module, self.name, self.kind, self.nodes, self.roots = module, name, kind, nodes, roots
         self.parameters, self.fields, self.constructors = parameters, fields, constructors
 
@@ -37,6 +40,7 @@ class Module:
     """A module that the checker kept: its names, and its items, each with a type and a term."""
 
     def __init__(self, data, path):
+        """Reads the bytes of a module: a text, and after it names and items as numbers. Raises Unread."""
         self.bytes, self.strings, self.globals, self.items, self.order = data, [], [], {}, []
         body = re.search(rb"\n--@ body \d+\n", data)
         if not body:
@@ -56,6 +60,7 @@ class Module:
                 self.items.setdefault(name, one)
 
     def take_at(self, at):
+        """Reads names and items from here on."""
         self.at = at
         for _ in range(self.number()):
             size = self.number()
@@ -64,6 +69,7 @@ class Module:
         self.take()
 
     def number(self):
+        """A number as LEB128: seven bits a byte, the lowest first, and the eighth bit says that more follow."""
         value = shift = 0
         while True:
             byte = self.bytes[self.at]
@@ -74,6 +80,7 @@ class Module:
                 return value
 
     def take(self):
+        """What comes before the names, which is passed over, then names, then items."""
         for _ in range(self.number()):
             self.number()
             for _ in range(2 * self.number()):
@@ -91,10 +98,12 @@ class Module:
                 return
 
     def put(self, name, *parts, **more):
+        """Adds an item. Names refer to items by their order too."""
         self.items[name] = Item(self, name, *parts, **more)
         self.order.append(name)
 
     def take_item(self):
+        """One item by its kind: 1 a data type, 2 a record, and others what has a type and may have a term."""
         kind = self.number()
         if kind == 1:
             self.take_data()
@@ -118,6 +127,7 @@ class Module:
         self.put(name, kind, nodes, [self.number() for _ in range(1 if kind == 4 else 2)])
 
     def take_data(self):
+        """A data type: its parameters, and its constructors with the types of their arguments."""
         nodes = self.nodes(self.number())
         for _ in range(self.number()):
             self.number()
@@ -145,6 +155,7 @@ class Module:
         self.put(name, 1, nodes, parameters=parameters, constructors=constructors)
 
     def nodes(self, count):
+        """The nodes of a term. A node names one before it by how far back that is."""
         nodes = []
         for i in range(count):
             tag = self.bytes[self.at] & 127
@@ -177,6 +188,7 @@ class Module:
         return nodes
 
     def named(self, number):
+        """The whole name of what a node refers to, or nothing if it is none that is known here."""
         it = self.globals[number]
         if it[0] < 4:
             return self.strings[it[-1]]
@@ -192,9 +204,13 @@ class Library:
     """The modules, by name, of the crates as they were kept and of the kit."""
 
     def __init__(self, kept, kit):
+        """Modules are read as they are asked for, and kept."""
         self.kept, self.kit, self.modules, self.found, self.folders, self.archives = kept, kit, {}, {}, {}, {}
 
     def folder(self, crate):
+        """Where a check of this crate left its modules, or None if there is none, or more than one: then it isn't
+        known which is of today's text.
+        """
         if crate not in self.folders:
             path = f"{self.kept}/{crate}/out/incremental"
             all_ = [it for it in os.listdir(path) if it.startswith("antt-checked-")] if os.path.isdir(path) else []
@@ -202,6 +218,7 @@ class Library:
         return self.folders[crate]
 
     def bytes_of(self, name):
+        """The bytes of a module: of a crate here, of one of the kit's, or of the logic's own. None: there is none."""
         it = re.match(r"Rattle-(\w+)-(specs|proofs)(?:\.|$)", name)
         if it is None:
             path = f"{self.kit}/logic_built/{name}.oantt"
@@ -215,6 +232,7 @@ class Library:
             return file.read()
 
     def of_archive(self, crate, name):
+        """A module of a crate of the kit's, which is in a file of many, with an index beside it."""
         folder = f"{self.kit}/rlibs/{crate}.rlib/toolchain"
         if crate not in self.archives:
             index = {}
@@ -234,6 +252,7 @@ class Library:
             return file.read(size)
 
     def module(self, name):
+        """A module, or None if there is none, or it isn't of the form that is known here."""
         if name not in self.modules:
             data = self.bytes_of(name)
             try:

@@ -16,6 +16,9 @@ class Declaration:
     """A record, or a definition by equations."""
 
     def __init__(self, source, name, is_record, is_abbrev, start, end):
+        """Of a record the parameters, and the fields with the places of their types; of a definition its type and its
+        equations.
+        """
         self.source, self.name, self.is_record, self.is_abbrev, self.start, self.end = source, name, is_record, is_abbrev, start, end
         self.fields, self.equations, self.type = {}, [], None
         text = source.text
@@ -65,6 +68,9 @@ class Source:
     """A file, with what it declares and brings in."""
 
     def __init__(self, path, text):
+        """A file of definitions, proofs or code: what it imports, by the names that it gives them, and what it
+        declares.
+        """
         self.path, self.is_code = path, path.endswith(".rt")
         self.text = conjuncts.blanked(text, "//" if self.is_code else "--")
         self.brought, self.declared, self.around = {}, {}, {}
@@ -86,6 +92,8 @@ class Source:
                 continue
 
     def is_head(self, it, records):
+        """Whether a match begins a declaration, and is no field of the record above it, and no line of an expression.
+        """
         last = [one for one in records if one.start() < it.start()]
         if last and len(it[1]) > len(last[-1][1]) and not re.search(rf"^ {{0,{len(last[-1][1])}}}\S", self.text[self.text.index("\n", last[-1].start()) + 1 : it.start()], re.M):
             return False
@@ -98,6 +106,7 @@ class Texts:
     """All crates' files, and what proofs reach by them."""
 
     def __init__(self, crates):
+        """Reads all files of all crates; of code the clauses alone."""
         self.crates, self.sources, self.clauses = crates, {}, {}
         for crate in sorted(os.listdir(crates)):
             for part in ("src", "specs", "proofs"):
@@ -112,6 +121,7 @@ class Texts:
         self.reached = {}
 
     def take_clauses(self, source):
+        """Notes by a function's name the clauses of each that has it, by their labels."""
         heads = [*re.finditer(r"\bfn (\w+)", source.text)]
         for i, head in enumerate(heads):
             end = heads[i + 1].start() if i + 1 < len(heads) else len(source.text)
@@ -123,6 +133,7 @@ class Texts:
             all_.append(mine)
 
     def resolved(self, source, name):
+        """The declaration that a name of a file leads to, its own or an imported one, or None."""
         if name in source.declared:
             return source.declared[name]
         module, name = source.brought.get(name, ("", ""))
@@ -192,6 +203,7 @@ class Texts:
         return self.step(body, label, depth - 1) if body else None
 
     def reach(self, type_, where):
+        """Notes that the piece of text which is this type is used there, and what it abbreviates too."""
         for it in (type_, self.plain(type_)):
             self.reached.setdefault((it[0].path, *conjuncts.trimmed(it[0].text, it[1], it[2])), where)
 
@@ -211,6 +223,9 @@ class Texts:
         return self.reached
 
     def of_calls(self, source, is_answers):
+        """What proofs project of `FUNCTION.ensures`: it is known which clause, where one function alone has the name,
+        or the label.
+        """
         for it in re.finditer(r"\.([a-z_]\w*)(?:-[\w-]+)?\.ensures((?:\.[\w'-]+)*)", source.text):
             found, labels = self.clauses.get(it[1], []), it[2].split(".")[1:]
             named = [one for one in found if labels and labels[0] in one]
@@ -234,6 +249,9 @@ class Texts:
                 self.walk(type_, labels, source, f"{source.path}", True)
 
     def walk(self, type_, labels, source, where, counts_last):
+        """Follows projections from a type, and notes what each reaches. The last one counts if its value is used, not
+        only its parts.
+        """
         if not labels and counts_last:
             self.reach(type_, where)
         for i, label in enumerate(labels):
@@ -259,6 +277,8 @@ class Texts:
         return bool(field and ends)
 
     def of_equation(self, declaration, patterns, body):
+        """What an equation uses of its arguments: their types hold for the names in its patterns, and for its lets.
+        """
         source, text = declaration.source, declaration.source.text
         types, gives = declaration.arguments()
         given = [it for it in conjuncts.arguments(text, *patterns) if text[it[0]] != "{"]
@@ -343,6 +363,7 @@ class Texts:
         return bool(re.search(r"[\w'\])]\s+$|\((?:arith|rules),(?:[^()]*,)?\s*$|∙\s*$", before)) and not re.search(r"\b(in|then|else|let)\s+$", before)
 
     def take_pattern(self, source, pattern, type_, bind):
+        """Gives the names in a pattern the types that the parts of the whole one's type have."""
         text = source.text
         start, end = pattern
         if re.fullmatch(r"[\w'-]+", text[start:end]):
@@ -427,6 +448,9 @@ class Named:
     """What the text of proofs names: fields that one record alone has, and clauses of functions whose name one alone has."""
 
     def __init__(self, crates, kit, of_kit):
+        """Counts, over all that is here and what of the kit is used, who declares each name: one that two declare
+        says nothing.
+        """
         self.fields, self.functions, self.places = {}, {}, {}
         for crate in sorted(os.listdir(crates)):
             for part in ("src", "specs", "proofs"):
@@ -435,6 +459,7 @@ class Named:
             self.walk(f"{kit}/{library}", None)
 
     def walk(self, folder, crate):
+        """Takes each file below a folder."""
         for path, _, files in sorted(os.walk(folder)):
             for file in sorted(files):
                 if file.endswith((".antt", ".rt")):
@@ -442,6 +467,7 @@ class Named:
                         self.take(f"{path}/{file}", it.read(), crate)
 
     def take(self, path, text, crate):
+        """Notes the names of functions, and of the fields of structs and records."""
         is_code = path.endswith(".rt")
         text = conjuncts.blanked(text, "//" if is_code else "--")
         if is_code:

@@ -15,6 +15,7 @@ class Thunk:
     __slots__ = ("item", "node", "env", "value", "trail", "make")
 
     def __init__(self, item=None, node=0, env=None, value=None, make=None):
+        """Of a term in its environment; or of a value that is known; or of what `make` gives once it is wanted."""
         self.item, self.node, self.env, self.value, self.trail, self.make = item, node, env, value, (), make
 
 
@@ -26,15 +27,18 @@ class Machine:
     """Works out values, as far as their first sign."""
 
     def __init__(self, library):
+        """`steps` is how many more may be taken before Lost, and is set by who asks; `fresh` numbers variables."""
         self.library, self.steps, self.fresh, self.type_of_path = library, 0, 0, None
         # (terms that count on the way also before they are given all that they want)
         self.marked = ()
 
     def variable(self):
+        """A variable that nothing else is."""
         self.fresh += 1
         return Thunk(value=("stuck", ("variable", self.fresh), ()))
 
     def value(self, thunk):
+        """The value, which is worked out once."""
         if thunk.value is None:
             if thunk.make:
                 thunk.value, thunk.trail = thunk.make()
@@ -107,6 +111,9 @@ class Machine:
         return None
 
     def run(self, item, node, env, stack, trail=None):
+        """Works a term out with arguments and projections on a stack, the next one last, up to where its first sign
+        is known.
+        """
         trail = [] if trail is None else trail
         while True:
             self.steps -= 1
@@ -177,6 +184,9 @@ class Machine:
         return None
 
     def plain(self, item, node, env):
+        """The value of a term that is a sign already: a function, a record, a type, or a constructor with its
+        arguments.
+        """
         it = item.nodes[node]
         tag = it[0]
         if tag == LAM:

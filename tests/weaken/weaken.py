@@ -73,6 +73,7 @@ HAS_OPENED, WANTS_OPENED = re.compile(r"and `([^`]*)`\s*\(found\)"), re.compile(
 
 
 def stop(why):
+    """Ends with status 2: it could not be tried, which says nothing of any conjunct."""
     print(why, file=sys.stderr)
     sys.exit(2)
 
@@ -123,6 +124,7 @@ def equation(tag, lacks=0):
 
 
 def its_proof(tag):
+    """What is put where a proof builds a weakened conjunct, by the tag of that."""
     return f"(λ _. {tag})"
 
 
@@ -145,6 +147,7 @@ class Calls:
                 self.naming.setdefault(word, []).append(source)
 
     def crate_of(self, source):
+        """The crate of a file, by its path."""
         return os.path.relpath(source.path, self.texts.crates).split("/")[0]
 
     def is_called(self, path, it):
@@ -154,6 +157,7 @@ class Calls:
         return self.is_function_called(source, word) if source.is_code else word not in source.declared or self.is_said(source.declared[word])
 
     def is_function_called(self, source, word):
+        """Whether any code, or a proof, calls the function whose clause it is, as far as names say."""
         # (who doesn't see it calls another of this name)
         crate = self.crate_of(source) if re.search(rf"^(unsafe )?fn {word}\b", source.text, re.M) else None
         return self.heads[crate][word] != 1 or self.code[crate][word] > 1 or word in self.proofs[crate]
@@ -247,6 +251,9 @@ class Prover:
             stop(f"{name} is not proved as it stands:\n{ran.stdout[-1500:]}")
 
     def words(self, name, rlibs):
+        """The words of the toolchain's front end for a crate, over those below it, each as it was built, or as
+        `rlibs` says.
+        """
         words = ["--crate-name", name, "src/lib.rt", "--links", f"{name}="]
         # (std is always there, also beside core)
         for it in ["std", *[it for it in self.below[name] if it not in self.below]]:
@@ -325,6 +332,7 @@ class Text:
     """A file with edits, which stand in the places of the file as it was, and tells where a place of the new one was."""
 
     def __init__(self, was):
+        """Edits by the place in the text as it was, so that one doesn't move those after it."""
         self.was, self.edits = was, {}
 
     def put(self, start, end, new):
@@ -335,6 +343,7 @@ class Text:
         return True
 
     def now(self):
+        """The text with all edits."""
         text, at = [], 0
         for (start, end), new in sorted(self.edits.items()):
             text += [self.was[at:start], new]
@@ -391,6 +400,9 @@ class Round:
         return ("" if module == "lib" else module), it.owner.split()[0]
 
     def is_own(self, tag, path):
+        """Whether a goal that is not proved is one of the function or lemma whose conjunct was weakened, and not of
+        who uses it.
+        """
         own = self.own(tag)
         return bool(own) and all(f"::{it}::" in f"::{path}::" for it in own if it)
 
@@ -626,6 +638,7 @@ def judged_alone(look, tag, tell, ends):
 
 
 def sum_of(text, size):
+    """So that a result is found again as long as the text is the same."""
     return hashlib.sha256(text.encode()).hexdigest()[:size]
 
 
@@ -670,6 +683,7 @@ class Results:
         self.all = {key: it for key, it in self.all.items() if key not in self.gone}
 
     def put(self, crate, owner, one, kind, where):
+        """A result, with the first place that notices it."""
         where = " ".join(where.split())[:80]
         self.gone.discard((crate, one))
         self.all[(crate, one)] = (owner, kind, where, file_of(crate, where))
@@ -738,6 +752,7 @@ def lacking(name, words, found, sums, results):
 def leaves(tags, found):
     """Those that no other lies in."""
     def within(one, other):
+        """Whether a conjunct is a part of another."""
         return one.file == other.file and other.start <= one.start and one.end <= other.end and (one.start, one.end) != (other.start, other.end)
     return [it for it in tags if not any(within(found[other], found[it]) for other in tags if other != it)]
 
