@@ -68,10 +68,12 @@ class Client:
     """What a client of one daemon has: its nodes, and its open files and directories with their nodes."""
 
     def __init__(self):
+        """What a client was given so far, which its requests may name. The root is there from the beginning."""
         self.had = {"node": [ROOT], "file": [], "file's node": [], "directory": [], "directory's node": []}
         self.folders = {0}
 
     def number(self, it):
+        """The number that a server gave for it: each server has its own."""
         return self.had[it.kind][it.at] if isinstance(it, Ref) else it
 
     def build(self, it):
@@ -135,6 +137,7 @@ class Client:
 
 
 def hide(reply, at):
+    """Zeros in place of what differs from run to run: numbers of the folder's file system, and times."""
     for start, end in OF_FOLDER:
         reply[at + start:at + end] = bytes(end - start)
 

@@ -34,6 +34,7 @@ class Daemon:
     """A daemon over a folder, and what asks it, once it has loaded a state if there is one."""
 
     def __init__(self, at, name, words, mode, state=None):
+        """Starts a daemon, and a front end that gives it this saved state first, if there is one."""
         self.socket, self.at = f"{at}/{name}", at
         self.process = subprocess.Popen(
             [*words, "--socket-path", self.socket, "--shared-dir", f"{at}/share", f"--migration-mode={mode}", *WORDS],

@@ -77,6 +77,7 @@ FIRST, LAST = flat(requests.FIRST[1]), flat(requests.LAST[1])
 
 
 def opcode(request):
+    """The opcode of a request, or None of one that is too short to have one."""
     return struct.unpack_from("<I", request, 4)[0] if len(request) >= 8 else None
 
 
@@ -220,6 +221,9 @@ def shrink(peer, asked, wanted):
     tries = 60 if peer.how == "pair" else 20
 
     def breaks(rest):
+        """Whether a shorter session still breaks the rule in the same way. There are only so many tries: each is a
+        process.
+        """
         nonlocal tries
         tries -= 1
         return tries >= 0 and judge(peer, [FIRST, *rest], 1)[:2] == wanted
@@ -376,6 +380,7 @@ def main(peers, seed, count, page):
 
 
 def is_ours(peer):
+    """Whether it is over this layer: such a peer may break nothing."""
     return any(word in peer.name for word in OURS)
 
 

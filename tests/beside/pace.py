@@ -235,6 +235,7 @@ def all_instructions(given):
 
 
 def load_now():
+    """How busy the machine is, which each table says of itself."""
     return f"{os.getloadavg()[0]:.1f}"
 
 

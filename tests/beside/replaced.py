@@ -287,6 +287,7 @@ def over(what, workers, function, sessions):
 
 
 def in_sessions(seed, count):
+    """Seeds and lengths of sessions that have this many requests together."""
     return [(seed + n, min(LENGTH, count - n * LENGTH)) for n in range((count + LENGTH - 1) // LENGTH)]
 
 

@@ -109,10 +109,14 @@ def check(status):
 class Side:
     """A folder of one of the two, and what is open there."""
     def __init__(self, folder):
+        """`slots` are descriptors that stay open from one operation to the next. `began` is before any time that is
+        set now.
+        """
         self.folder, self.slots = folder, [None] * SLOTS
         self.began = time.time_ns() - 10**10
 
     def at(self, path):
+        """The path of a name on this side."""
         return f"{self.folder}/{path}"
 
     def is_directory(self, named):
@@ -213,6 +217,7 @@ class Side:
             os.close(file)
 
     def write(self, path, at, length, byte):
+        """Writes one byte many times, and another one each time, so that what is missing is seen."""
         return self.opened(path, os.O_WRONLY, lambda file: os.pwrite(file, bytes([byte]) * length, at))
 
     def append(self, path, length, byte):
@@ -313,6 +318,7 @@ class Side:
         return self.bits_after(other, lambda: self.opened(path, os.O_RDONLY, act))
 
     def map(self, path):
+        """Writes the first byte and the last of a shared map, and reads them."""
         return self.opened(path, os.O_RDWR, map_ends)
 
     def written_as_mapped(self, named):
@@ -415,6 +421,7 @@ def map_ends(file):
 
 
 def allocate(file, mode, at, length):
+    """fallocate(2), for which Python has no mode."""
     check(LIBC.fallocate(file, mode, ctypes.c_int64(at), ctypes.c_int64(length)))
 
 
@@ -493,6 +500,7 @@ class Session:
                        if first[path].get(key) != second[path].get(key)})
 
     def finish(self):
+        """Nothing is compared at the end that was not at each step."""
         return []
 
     def end(self):
@@ -518,11 +526,13 @@ def detailed(operation):
 
 
 def told(came):
+    """What a call came to, by the name of its error."""
     import errno
     return "ok" if came[0] == "ok" else errno.errorcode.get(came[1], str(came[1]))
 
 
 def shown(operation):
+    """An operation as a line, with who makes it if that is not root."""
     (user, group), name, *words = operation
     return f"{name} {', '.join(map(short, words))}" + (f"   (as user {user} of group {group})" if user or group else "")
 

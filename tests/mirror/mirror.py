@@ -18,6 +18,9 @@ MOST = 8
 class Mirror:
     """Random sessions of two sides, what is known to differ, and what is not."""
     def __init__(self, way, kind, known, places):
+        """`known` are the differences that are no faults, `came` counts what operations came to, and `unknown` has
+        the differences.
+        """
         self.way, self.places = {"calls": calls, "requests": requests}[way], places
         # (of the kind with its words, as `fuse.nizwarf writeback`, or of the kind alone)
         self.known = [line for line in known if any(fnmatch.fnmatchcase(it, line[0]) for it in (kind, kind.split()[0]))]
@@ -32,6 +35,7 @@ class Mirror:
         return None
 
     def session(self):
+        """A new session, in folders of its own: what one did is not there in the next."""
         self.sessions += 1
         return self.way.Session(self.places, self.sessions)
 

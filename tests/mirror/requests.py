@@ -49,9 +49,11 @@ def generate(random):
     name = random.choices(list(OPERATIONS), list(OPERATIONS.values()))[0]
 
     def node(kinds="dfl", likely=0.93):
+        """A node by kind and number: mostly of a kind that the operation wants, and else any."""
         return kinds if random.random() < likely else "dfl", random.randrange(1 << 16)
 
     def word():
+        """A name, which is mostly one of a few, so that names meet; or one that is too long."""
         return random.choice(NAMES) if random.random() < 0.97 else random.choice([b"x" * 256, b"y" * 300])
 
     words = {
@@ -164,6 +166,7 @@ class Library:
                 "mode": of[9], "nlink": of[10], "uid": of[11], "gid": of[12], "rdev": of[13]}
 
     def entry(self, *words):
+        """The node and the attributes of an entry."""
         bytes_ = self.ask(*words)
         return struct.unpack_from("<Q", bytes_)[0], self.attributes(bytes_, 40)
 
@@ -171,6 +174,7 @@ class Library:
         return self.attributes(self.ask(Op.GETATTR, node, record(Op.GETATTR)), 16)
 
     def statx(self, node):
+        """All that statx(2) tells, the time of birth too."""
         return told(self.ask(STATX, node, struct.pack("<IIQII", 0, 0, 0, 0, 0xFFF))[32:])
 
 
@@ -184,10 +188,12 @@ def told(of):
 
 
 def way(file):
+    """A path to a file that is held with O_PATH, for calls that take no such descriptor."""
     return f"/proc/self/fd/{file}"
 
 
 def keys_of(file):
+    """The names of its extended attributes, sorted: their order is nobody's promise."""
     return sorted(map(os.fsencode, os.listxattr(way(file))))
 
 
@@ -247,6 +253,7 @@ class Session:
         return self.found
 
     def note(self, what):
+        """Notes a difference, with the operation that shows it."""
         self.found.append(f"{self.operation}: {what}")
 
     def both(self, request, call, watched=()):

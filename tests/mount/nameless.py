@@ -13,6 +13,7 @@ named = f"{folder}/named"
 
 
 def made(flags=0, mode=0o640):
+    """A file without a name, in the mount."""
     return os.open(folder, os.O_TMPFILE | os.O_RDWR | flags, mode)
 
 
@@ -27,6 +28,7 @@ def link(file):
 
 
 def inodes():
+    """How many nodes the mount has in use."""
     of = os.statvfs(folder)
     return of.f_files - of.f_ffree
 

@@ -43,6 +43,7 @@ def statx(path, mask=ALL):
 
 
 def born(path):
+    """When it was made, as statx(2) says."""
     return statx(path)["btime"]
 
 

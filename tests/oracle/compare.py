@@ -195,6 +195,7 @@ def tell_counts(counts):
 
 
 def shown(text, most=1500):
+    """As much of a text as is read."""
     return text if len(text) <= most else f"{text[:most]}.. ({len(text)} characters)\n"
 
 

@@ -98,6 +98,7 @@ TESTS = re.compile(r"^(// .*\n)?#\[cfg\((debian_)?test\)\]$", re.M)
 
 
 def stop(why, status=1):
+    """Ends with the reason."""
     print(f"edits.py: {why}", file=sys.stderr)
     sys.exit(status)
 
@@ -115,6 +116,7 @@ def read_source(folder):
 
 
 def sum_of(text):
+    """The sum of a source up to its tests, which are not used."""
     return hashlib.sha256(TESTS.split(text)[0].rstrip().encode()).hexdigest()
 
 

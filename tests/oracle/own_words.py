@@ -11,6 +11,7 @@ RUN = 12
 
 
 def runs(words):
+    """Each run of RUN words."""
     return (tuple(words[at:at + RUN]) for at in range(len(words) - RUN + 1))
 
 

@@ -61,6 +61,8 @@ NO_OPCODES = [0, 7, 19, 52, 0xffffffff]
 
 
 def u16(n):
+    """Numbers as the protocol has them: little-endian, and cut to their width, so that any number can be asked for.
+    """
     return struct.pack("<H", n & 0xffff)
 
 
@@ -110,6 +112,7 @@ class Session:
         return self.rng.choice([1, 1, 1, 2, 3, 1005, 0, self.odd64()])
 
     def parent(self):
+        """Mostly the root, in which names are; or any node."""
         return 1 if self.rng.random() < 0.85 else self.node()
 
     def name(self):
@@ -366,6 +369,7 @@ class Session:
         return max(0, r.choice([reply] * 6 + more + less))
 
     def good(self, opcode):
+        """A message that breaks no rule."""
         message, reply = self.message(opcode)
         self.line(message, reply)
 
@@ -658,6 +662,7 @@ class Session:
                                         (1 << 31) - 1, r.randrange(1, 1 << 31)]))
 
     def told_value(self):
+        """A number that the file system of the test answers, or in one of five an error."""
         return self.told_fault() if self.rng.random() < 0.2 else str(self.odd64())
 
     def told_items(self, long):

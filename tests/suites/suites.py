@@ -85,6 +85,7 @@ class Run:
         return process.returncode, text
 
     def case(self, name, came):
+        """A line for each case, which run.sh compares with that of the folder itself."""
         print(f"{name}\t{came}", flush=True)
 
     def step(self, name, line, wanted=None, seconds=600, **more):
@@ -215,11 +216,13 @@ STRESS_BUT = {"binderfs", "bind-mount", "ramfs", "quota"}
 
 
 def stressors(run):
+    """The stressors of stress-ng that are about file systems, but for those that are left out by name."""
     _, text = run.call(["stress-ng", "--class", "filesystem?"], 20, said=False)
     return [name for name in text.split(":", 1)[1].split() if name not in STRESS_BUT]
 
 
 def stress_ng(run):
+    """Each of them, or in a quick run one of four."""
     every = stressors(run)
     stress(run, every[::4] if run.quick else every, 1, 1)
 
@@ -313,12 +316,14 @@ class Postgres:
         self.client = {"env": run.env, "cwd": self.own}
 
     def as_nobody(self, name, words, wanted=None, own=None):
+        """A step as a user that isn't root, as which PostgreSQL refuses to run."""
         return self.run.step(name, " ".join([*NOBODY, words]), wanted, 120, **self.client | {"cwd": own or self.own})
 
     def query(self, name, text, wanted):
         self.run.step(name, f'psql -AtX -c "{text}"', wanted, 60, **self.client)
 
     def init(self):
+        """Makes a database with checksums of pages, so that bytes that were mixed up are seen."""
         return self.as_nobody("init", "initdb -D data -U postgres -A trust --data-checksums > made")
 
     def starting(self, sockets=None, said="said"):
@@ -326,6 +331,7 @@ class Postgres:
                 "-c shared_buffers=16MB -c max_connections=20' start > started")
 
     def start(self, name, own=None):
+        """Starts the server, and waits until it answers."""
         return self.as_nobody(name, self.starting(), own=own)
 
     def fill(self, scale):
@@ -347,6 +353,7 @@ class Postgres:
         return int(done[0].split(":")[1].split("/")[0]) if done else 0
 
     def committed(self):
+        """What clients were told is committed is there after a kill; they wrote how many that are."""
         done = self.done()
         self.query("nothing committed is lost", f"SELECT count(*) >= {done} AND {done} > 0 FROM pgbench_history", "t")
 
@@ -647,10 +654,12 @@ def copied(run, copy, again=None):
 
 
 def rsync(run):
+    """Copies a tree with links, lists and attributes, and then has rsync compare bytes."""
     copied(run, "mkdir {to} && rsync -aHAX {source}/ {to}/", "rsync -aHAX --checksum --itemize-changes {source}/ {to}/")
 
 
 def tar(run):
+    """The same by an archive, which tar compares with what it unpacked."""
     copied(run, "mkdir {to} && tar --xattrs --xattrs-include='*' -cf t.tar -C {source} . && "
            "tar --xattrs --xattrs-include='*' -xpf t.tar -C {to} && tar -df t.tar -C {to} && rm t.tar")
 

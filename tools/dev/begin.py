@@ -35,6 +35,7 @@ def crate(path):
 
 
 def expect(true, what):
+    """Ends where a page's words would not be true of the sources any more."""
     if not true:
         sys.exit(f"tools/dev/begin.py: {what}")
 
@@ -153,10 +154,12 @@ def block(*lines):
 
 
 def form_of(opcode):
+    """The right side of an opcode's line of `form_of`."""
     return dict(rows_of(ASK, "form_of"))[opcode]
 
 
 def books(turn_answered, accepted, delivered, sent):
+    """The sum that a promise keeps, of one turn."""
     return f"answered {turn_answered} + accepted {accepted} = delivered {delivered} + sent {sent}"
 
 

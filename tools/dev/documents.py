@@ -56,6 +56,7 @@ named = {name: CRATE_NAMES.intersection(uses.split())
 
 
 def below_of(name):
+    """A crate's own imports, and all below them."""
     return named[name].union(*(below_of(it) for it in named[name]))
 
 
@@ -64,10 +65,12 @@ faults = []
 
 
 def count(pattern, *files):
+    """How often a pattern is in the sources whose paths begin so."""
     return sum(len(re.findall(pattern, sources[path], re.M)) for path in sources if path.startswith(files))
 
 
 def number_of(said):
+    """A number in figures, or in words as pages have small ones."""
     return NUMBERS.index(said) if said in NUMBERS else int(said.replace(",", ""))
 
 

@@ -46,6 +46,7 @@ NOTHING = r"^[ \t]*((//|/\*|\*|--|#)([ /!].*)?|((pub|ghost) )?use .*)$"
 
 
 def git(*words):
+    """What git says. A status that is not 0 is the caller's to look at: a commit may not be there."""
     return subprocess.run(["git", *words], cwd=HERE, stdout=subprocess.PIPE, stderr=subprocess.DEVNULL, text=True, check=False)
 
 
@@ -63,6 +64,7 @@ def parts():
 
 
 def below(crate, named):
+    """A crate, and all that it is built on."""
     return {crate}.union(*(below(it, named) for it in named[crate]))
 
 

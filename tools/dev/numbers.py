@@ -96,6 +96,7 @@ hold(PAGE, {name: int(n) for ns, names in rows for n, name in zip(ns.split(", ")
 
 
 def constants(path, module, kind):
+    """The constants of a module, by name."""
     text = part(path, f"mod {module} {{", r"\n\}")
     return {name: value(n) for name, n in re.findall(rf"pub const (\w+): {kind} = ([\d <]+);", text)}
 
@@ -127,6 +128,7 @@ IN_C = {name: n for it in ENUMS for name, n in it.items()}
 
 
 def enum_with(name):
+    """The enum of the header that has this name, by name and number."""
     return next((it for it in ENUMS if name in it), {})
 
 

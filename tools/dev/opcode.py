@@ -52,10 +52,12 @@ def tracked():
 
 
 def fits(path, patterns):
+    """Whether one of these patterns of a shell fits."""
     return any(fnmatch.fnmatchcase(path, it) for it in patterns)
 
 
 def files_of(opcode, texts):
+    """The files whose text has an opcode, in whichever spelling."""
     spelled = re.compile({**SPELLED, **ROWS}[opcode], re.I)
     return [path for path, text in texts.items() if spelled.search(text)]
 

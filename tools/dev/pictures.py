@@ -20,6 +20,7 @@ def read(path):
 
 
 def fault(text):
+    """Ends with a reason: a picture is drawn whole, or not at all."""
     sys.exit(f"tools/dev/pictures.sh: {text}")
 
 
@@ -41,6 +42,7 @@ def wide(words):
 
 
 def escaped(words):
+    """Words as SVG takes them."""
     return html.escape(words, quote=False)
 
 
