@@ -125,7 +125,7 @@ class Header:
         yield ".Ed"
 
     def fill(self, page):
-        """A page with what stands in place of its lines @..@."""
+        """A page, with its lines @..@ replaced."""
         lines = []
         for line in page.splitlines():
             wanted = re.fullmatch(r"@([A-Z]+)@", line)

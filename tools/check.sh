@@ -7,9 +7,9 @@
 #
 #   documents  the pages against the sources
 #   figures    the commands and commits that made pages name; `Older: PAGE ..` if what they measure changed since
-#   opcode     the files in which an opcode stands, against the list of CONTRIBUTING.md
+#   opcode     the files that an opcode is in, against the list of CONTRIBUTING.md
 #   edits      that each wrong body of tests/edits can still be tried
-#   numbers    opcodes, calls, kinds, bits, codes and fields, wherever they stand, against their one table
+#   numbers    opcodes, calls, kinds, bits, codes and fields, wherever they are, against their one table
 #   shell      scripts, by shellcheck
 #   rattle     the format of Rattle's files, by `rt fmt` on a copy
 #   rust       the format of Rust's, by rustfmt
@@ -104,7 +104,7 @@ check_opcode() { tools/dev/opcode.py; }
 check_edits() { tests/edits/run.sh --texts; }
 check_numbers() { tools/dev/numbers.py; }
 check_shell() { scripts | each shellcheck; }
-# (one by one from the input: some name modules that stand elsewhere)
+# (one by one from the input: some name modules that are elsewhere)
 # shellcheck disable=SC2016
 check_rust() { files '*.rs' | each -n 1 bash -c 'rustfmt --check --color never < "$0" || { echo "$0" && exit 1; }'; }
 check_python() { files '*.py' | each pyflakes3; }
@@ -124,7 +124,7 @@ check_format() { c_files | each clang-format --dry-run -Werror; }
 check_c() {
     local known
     known=$(files '*.c')
-    # (what stands on a header that is not here is built where that is)
+    # (what needs a header that is not here is built where that is)
     [ -e /usr/include/fuse3/fuse_lowlevel.h ] || known=$(xargs grep -LE '#include [<"]fuse_lowlevel' <<< "$known")
     # shellcheck disable=SC2016
     each -n 1 bash -c '

@@ -92,7 +92,7 @@ find_parts() {
     tell_build "${parts[@]}" > "$work/build-info"
 }
 
-# Joins a library and what it stands on to one object, in which the library's own names alone are global:
+# Joins a library and what it needs to one object, in which the library's own names alone are global:
 # join_library LIBRARY OBJECT.
 join_library() {
     # (so that the two libraries, which stand on the same crates, don't share names)

@@ -4,7 +4,7 @@
  * asks later, or that it has overtaken. */
 
 enum {
-	/* So many are kept, before the oldest is sent back at the next call; and it is after so many calls at most. */
+	/* How many are kept before the oldest is sent back at the next call, and after how many calls it is at most. */
 	MOST_KEPT = 64,
 	/* And that many at most, if no call comes. */
 	MOST_EVER = 8192,

@@ -8,7 +8,7 @@ a version whose functions have other names, so that what is to be replaced isn't
 import re
 import sys
 
-# Functions of which each must be there: those on which the door stands.
+# Functions that must all be there: the door is built on them.
 REPLACED = """send_reply_iov send_notify_iov fuse_reply_entry fuse_reply_attr fuse_reply_write fuse_reply_data
 fuse_lowlevel_notify_store fuse_ll_alloc_req fill_entry fuse_add_direntry fuse_add_direntry_plus check_interrupt do_lookup
 do_forget do_read do_write_buf do_setattr do_interrupt do_notify_reply opname""".split()

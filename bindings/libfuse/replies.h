@@ -203,7 +203,7 @@ static inline nizwarf_session session_of(struct fuse_session *se)
 	return session;
 }
 
-/* What is told of an ask, or of an answer, before it. (the door changes `options` at an INIT and a DESTROY alone) */
+/* `told` before an ask or an answer. (the door changes `options` at an INIT and a DESTROY alone) */
 static inline void begin_told(nizwarf_told *told, uint64_t options)
 {
 	memset(told, 0, sizeof(*told));

@@ -23,7 +23,7 @@ struct door_message {
 	size_t len;
 };
 
-/* Stands for data that are in a pipe, of which the door asks the length alone. */
+/* In place of data that are in a pipe: the door asks their length alone. */
 static const char door_absent[ABSENT];
 
 /* Linux asks no such call again, of most kinds, once it had ENOSYS. */
@@ -36,7 +36,7 @@ static const char door_absent[ABSENT];
  * neither the request nor `c`, which is in it, is looked at. The message stays until it comes back. */
 typedef void door_call(fuse_req_t req, const nizwarf_call *c, const struct door_message *m);
 
-/* Where a part of the message is, of which the door says that it's there. A name ends with a 0 there. */
+/* Where a part of the message is that the door said is there. A name ends with a 0 there. */
 static const char *bytes_at(const struct door_message *m, nizwarf_range range)
 {
 	return m->in + range.at;
@@ -740,7 +740,7 @@ static inline int is_row(const struct door_message *m)
 	return m->len < sizeof(*in) || (in->opcode < 64 && rows >> in->opcode & 1);
 }
 
-/* Asks the door for the call of a message that is of a row, or of which data are in a pipe. */
+/* Asks the door for the call of a message that is of a row, or has data in a pipe. */
 static __attribute__((noinline)) int32_t ask_further(struct door_thread *t, const nizwarf_session *session,
 						     size_t room, const struct door_message *m,
 						     nizwarf_call *call, nizwarf_told *told)
@@ -761,7 +761,7 @@ static __attribute__((noinline)) int32_t ask_further(struct door_thread *t, cons
 	return nizwarf_ask_at(&t->slot, session, segments, count, room, call, told);
 }
 
-/* How much room the door is told of. A slot keeps as much memory for each answer, but of a READ a header's: so it's
+/* How much room the door is said to have. A slot keeps as much memory for each answer, but of a READ a header's: so it's
  * no more than a reply without a text takes, or than a directory is asked for. In bytes. */
 static inline size_t room_for(const nizwarf_session *session, const struct door_message *m)
 {

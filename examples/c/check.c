@@ -131,7 +131,7 @@ static ssize_t judge(size_t size)
 }
 
 /* Takes what was agreed on from the reply to an INIT. After a refusal there may be another INIT. A notice, whose code
- * stands where a reply has an error below 0, is no reply. A reply may be shorter than the record: what it lacks is
+ * is where a reply has an error below 0, is no reply. A reply may be shorter than the record: what it lacks is
  * 0. */
 static void agree(const unsigned char *reply, size_t size)
 {

@@ -70,7 +70,7 @@ static struct waiting {
 } waiting[MOST_LOCKS];
 
 /* A lock that keeps the owner from this one, or NULL. Those of the two kinds don't see each other; nor would those of
- * two files, in all of which a process is the same owner. The lock of all that is here is held, also in the next
+ * two files, and a process is the same owner in all of them. The lock of all that is here is held, also in the next
  * ones. */
 static const struct held *in_the_way(uint64_t owner, const nizwarf_lock *wanted, int flock)
 {

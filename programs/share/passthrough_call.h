@@ -20,7 +20,7 @@ enum { SHORT_TIME = 1000 };
 /* What a worker uses again from one call to the next. */
 struct worker {
 	nizwarf_slot slot;
-	/* Whether it is root, with which capabilities, by bits, and of which group; and whether it has its other
+	/* Whether it is root, its capabilities, by bits, and its group; and whether it has its other
 	 * groups for good. */
 	bool is_root, keeps_groups;
 	uint64_t capabilities;
@@ -103,7 +103,7 @@ bool is_local(const struct call *call);
 const char *name_of(const struct call *call, nizwarf_range range);
 /* Whether a name is that of something in a directory. */
 bool is_plain(const char *name);
-/* What is told of a node that has a lookup more. */
+/* Answers a node, which has a lookup more. */
 void tell_entry(const struct call *call, uint64_t number, const struct statx *seen, nizwarf_entry *entry);
 /* For how many milliseconds a name in a directory may be remembered, if it is that many where all names are. */
 uint64_t name_time(const struct call *call, const struct node *directory, uint64_t time);

@@ -68,7 +68,7 @@ static int read_numbers(const char *text, char sign, uint32_t number[3])
 }
 
 /* The types of rules: which way they go, and how; and how many numbers follow. FROM is the client's id
- * but for those of the host, of which it is the host's. */
+ * but for the host's own, where it is the host's. */
 static const struct type {
 	const char *name;
 	bool of_client, of_host;

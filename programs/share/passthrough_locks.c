@@ -8,7 +8,7 @@
  * A lock that is not free is waited for by a thread of its own, and by no worker. A signal ends the
  * waiting.
  *
- * Workers make the calls, among them INIT and DESTROY, by which all locks go. The transport's own thread
+ * Workers make the calls, among them INIT and DESTROY, which end all locks. The transport's own thread
  * recalls who waits, asks whether locks are held, and lets all go once a client has gone.
  *
  * `lock` guards the table of holders, their counts, and the list of waiters. The host is asked nothing under

@@ -1,4 +1,4 @@
-/* The state of a passthrough, by which another server goes on with a machine: passthrough.h. That are the
+/* The state of a passthrough, with which another server goes on with a machine: passthrough.h. It is the
  * options of INIT, the nodes that the client knows, with its numbers and lookups, and the open files,
  * with their flags; no locks. Where a directory is read on the client says itself.
  *
@@ -79,7 +79,7 @@ enum { LONGEST_RECORD = sizeof(struct node_record) + MAX_HANDLE_SZ + LONGEST_PAT
 #define MOST_LOOKUPS (UINT64_C(1) << 62)
 /* Flags of open(2) that an open file keeps. */
 #define KEPT_FLAGS (O_ACCMODE | O_APPEND | O_SYNC | O_DSYNC | O_NOATIME | O_DIRECT | O_DIRECTORY)
-/* How many files that are lost are told of. */
+/* How many of the files that are lost are named on standard error. */
 enum { MOST_TOLD = 20 };
 
 /* FNV-1a: it finds what was changed by chance, and stops no one who means to deceive. */
@@ -292,7 +292,7 @@ static int for_each_node(struct saving *s, int (*call)(struct saving *s, uint64_
 	return failed;
 }
 
-/* By handles: tells of each mount a directory by which the other server opens its handles. What has no
+/* By handles: names for each mount a directory with which the other server opens its handles. What has no
  * directory among the nodes has none: its nodes go without a handle, and are lost. */
 static int save_mounts(struct saving *s)
 {
@@ -507,7 +507,7 @@ static bool has_handle(int fd, const struct file_handle *handle)
 	       !memcmp(room.handle.f_handle, handle->f_handle, handle->handle_bytes);
 }
 
-/* Whether a file, of which a descriptor was opened by its handle, is in the folder, by a path that
+/* Whether a file that was opened by its handle is in the folder, by a path that
  * Linux tells, or that the other server did; or has no name any more. By a handle any file of the file
  * system opens, so without this who sends a state could have one from outside. */
 static bool is_in_folder(struct loading *l, int fd, char *path)

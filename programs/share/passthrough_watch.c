@@ -1,6 +1,6 @@
 /* A watch of the files that a client knows: passthrough_watch.h.
  *
- * It stands on fanotify(7), which tells of a file whoever changes it by whichever name, and whether it
+ * It uses fanotify(7), which tells of a file whoever changes it by whichever name, and whether it
  * was this process: what a client does by requests is known to it. Marks are of single files, which takes
  * no capability, and nothing is told of files that the server can't open. A file is known by its handle.
  *

@@ -18,7 +18,7 @@
  * OK: it stays as it is; BAD: EPERM, and it isn't listed; UNSUPPORTED: EOPNOTSUPP, and it isn't listed
  * either. MAP stands for others. */
 enum type { PREFIX, OK, BAD, UNSUPPORTED, MAP };
-/* (bits of a scope: of which names a rule is) */
+/* (bits of a scope: whose names a rule is about) */
 enum { CLIENT = 1, SERVER = 2, ALL = CLIENT | SERVER };
 
 /* The first one whose `key` a name of the client begins with, or whose `prepend` one of the host does, is that which
@@ -46,7 +46,7 @@ static bool is_space(char c)
 	return c == ' ' || (c >= '\t' && c <= '\r');
 }
 
-/* Takes what stands before the sign: NULL, if that isn't there. It ends with a 0 in place of the sign,
+/* Takes what is before the sign: NULL, if that isn't there. It ends with a 0 in place of the sign,
  * and lives as long as the text. */
 static const char *take(char **rest, char sign)
 {

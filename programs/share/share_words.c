@@ -203,7 +203,7 @@ static void take_xattr_map(const char *rules)
 static const char *const sandboxes[] = { "none", "chroot", "namespace", NULL };
 
 /* The same of those that have a value. (`none` of a cache is virtiofsd's word of old for never, and
- * stands after the others, as no number of the enum is its own.) */
+ * comes after the others, as no number of the enum is its own.) */
 static bool take_setting(const char *key, char *value)
 {
 	static const char *const caches[] = { "never", "auto", "always", "metadata", "none", NULL };
@@ -632,7 +632,7 @@ static void take_word(int word)
 	case VERSION:
 	case HELP:
 		print(word);
-	/* (-f, by which virtiofsd stayed in the foreground) */
+	/* (-f, with which virtiofsd stayed in the foreground) */
 	default:
 		take_served(word);
 		break;
@@ -683,8 +683,7 @@ bool is_mount(void)
 	return !words.socket_path && words.fd < 0;
 }
 
-/* Refuses words of a mount, by which its kernel does something, that can't be together: each line says
- * why. */
+/* Refuses words of a mount, for its kernel, that can't be together: each line says why. */
 static void hold_mount_together(void)
 {
 	if (words.files.passthrough && !is_mount())
@@ -782,7 +781,7 @@ static char **copies_of(int count, char **given)
 		fprintf(stderr, "nizwarf-share: %s\n", strerror(errno));
 		exit(1);
 	}
-	/* (the texts stand after the pointers, of which the last one is NULL) */
+	/* (the texts come after the pointers, the last of which is NULL) */
 	at = (char *)(copies + count + 1);
 	for (int i = 0; i < count; i++, at += len) {
 		len = strlen(given[i]) + 1;

@@ -516,7 +516,7 @@ static ssize_t read_request(struct worker *w)
 	return got;
 }
 
-/* Data, names and attributes have as much room as is asked for, others less than a page. (What stands after
+/* Data, names and attributes have as much room as is asked for, others less than a page. (What comes after
  * may keep as much memory as the longest room.) */
 size_t fuse_device_room(const struct fuse_in_header *asked, const void *record, size_t len)
 {

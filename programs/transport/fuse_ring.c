@@ -6,7 +6,7 @@
  * So who asks and who answers are on one processor, and no other one has to be woken. The kernel takes the entry that
  * came back last, and so one worker of a queue, unless that has a request.
  *
- * A command hands an entry to the kernel, and completes once a request stands in it. The next one hands it
+ * A command hands an entry to the kernel, and completes once a request is in it. The next one hands it
  * back, with the reply. One system call does that, and waits for the next request.
  *
  * A request that is kept keeps its entry, in which its reply is put by whoever completes it. The ring is its worker's
@@ -33,8 +33,8 @@
 
 enum { REGISTER = 1, COMMIT_AND_FETCH = 2 };
 
-/* Where a request and its reply stand: the header of either, the record of the request, and what is told of
- * the rest, which stands in other memory. */
+/* Where a request and its reply are: the header of either, the record of the request, and what is told of
+ * the rest, which is in other memory. */
 struct header {
 	unsigned char in_out[128], record[128];
 	uint64_t flags, commit;

@@ -40,7 +40,7 @@ int32_t fuse_device_ask(struct device *of, unsigned worker, const nizwarf_segmen
 
 /* What both have, in fuse_device.c. The first answers the length of a reply to a request that was refused, 0
  * if none is awaited. The second: how much room a reply may want, at least that of a header; `record` is what
- * stands after the header of the request. */
+ * comes after the header of the request. */
 size_t fuse_device_refuse(const transport *by, const struct fuse_in_header *asked, int32_t code, void *room);
 size_t fuse_device_room(const struct fuse_in_header *asked, const void *record, size_t len);
 

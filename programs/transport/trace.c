@@ -1,6 +1,6 @@
 /* A trace of the requests and replies of a transport: trace.h.
  *
- * It stands between the transport and its function, and copies what is in several pieces or in the memory
+ * It is called between the transport and its function, and copies what is in several pieces or in the memory
  * of a virtual machine before it is printed. The options by which requests are printed are those of the
  * last reply to an INIT. A guest may change its memory between the copy and the answer: then the trace is
  * of other data of a WRITE, or another reply, than went. It is for who looks for a fault: it costs a copy
@@ -210,7 +210,7 @@ static void tell(const struct bytes *request, const nizwarf_room *room, size_t r
 	free(pieces);
 }
 
-/* Stands in place of the transport's function. The request is printed before that is called, so that one
+/* Called in place of the transport's function. The request is printed before that is called, so that one
  * that doesn't come back is seen. Without memory for a copy it is served all the same, and a line says that
  * there was none. */
 static int32_t serve(void *user, unsigned worker, const nizwarf_segment *request, size_t segments,

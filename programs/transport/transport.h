@@ -5,13 +5,13 @@
  *
  * Workers. Each is a thread of its own, which calls `begin` first, then `serve` for one request
  * after another, then `end`. So what may have one caller at a time, as a nizwarf_server, has one
- * worker or a lock; what stands on the door has any number of them, each with a slot. The thread
+ * worker or a lock; what is built on the door has any number of them, each with a slot. The thread
  * that calls a transport waits for signals: SIGINT, SIGTERM and SIGHUP end it. They are blocked from where it is
  * mounted, or a socket is listened on, so that one which comes before it serves leaves neither.
  *
  * Requests. /dev/fuse gives each in one segment, with one room, of which the data of a WRITE and
  * those of a READ's reply begin at a page. Over io_uring there are two rooms, of which the second is
- * where what follows the record of the request stands. A virtual machine gives a room in any pieces,
+ * where what follows the record of the request is. A virtual machine gives a room in any pieces,
  * right in its memory: the reply is written there, and must not be read back. So a table has its reply
  * in memory of yours in both, to be copied. A machine's requests are copied into one segment, since it
  * may change its memory at any time. With `writes_in_place` the data of a WRITE are not: they come in
@@ -29,7 +29,7 @@
 #include <sys/types.h>
 #include "nizwarf.h"
 
-/* The largest payload of a request or a reply: what stands after is made with this. */
+/* The largest payload of a request or a reply, which the server is made with. */
 enum { TRANSPORT_PAYLOAD = 1 << 20, TRANSPORT_MOST_WORKERS = 64 };
 /* The largest payload if it may go by a pipe: one that holds it must not take privileges. */
 enum { FUSE_DEVICE_PIPED = 1 << 19 };

@@ -15,7 +15,7 @@
 #
 # The lines of text_demo's stored session are parts too, by one server over files in memory. What is
 # answered after a refused one is what a session without that line answers: nothing was moved.
-# After them stands a LOOKUP of `a` twice, cut after its header, which wants no memory, and inside
+# After them comes a LOOKUP of `a` twice, cut after its header, which wants no memory, and inside
 # its name, which wants it once.
 #
 # text_demo answers its stored session. Any of its allocations is refused, and a run ends as above, or

@@ -163,7 +163,7 @@ int32_t nizwarf_check_offered_at(const nizwarf_session *session, uint32_t offers
 
 uint64_t nizwarf_init_offered_at(const uint8_t *request, size_t len)
 {
-	/* (not by look_at, so that what Eva can't show of nizwarf_front stands by itself) */
+	/* (not by look_at, so that what Eva can't show of nizwarf_front is told by itself) */
 	if (len)
 		seen = request[len - 1];
 	return ANY_LENGTH(UINT64_MAX);

@@ -264,7 +264,7 @@ def of_today():
 
 
 def hold(made, versions, write):
-    """Writes the tables into the page, or says whether it has them. Above them stands of when they are."""
+    """Writes the tables into the page, or says whether it has them. Above them the page says of when they are."""
     text = PAGE.read_text(encoding="utf-8")
     if any(text.count(mark) != 1 for mark in MARKS):
         raise Stopped(f"{PAGE.name} lacks the two marks of the tables.")

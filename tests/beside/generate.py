@@ -1,4 +1,4 @@
-"""Sessions made of a number, for others.py: requests that keep all rules, of which most are then broken."""
+"""Sessions made of a number, for others.py: requests that keep all rules, most of which are then broken."""
 import random
 import struct
 

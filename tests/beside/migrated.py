@@ -70,7 +70,7 @@ class Daemon:
         return struct.unpack_from("<Q", reply)[0]
 
     def end(self):
-        """Ends both, of which the daemon may hang."""
+        """Ends both; the daemon may hang."""
         for process, how in ((self.asking, signal.SIGTERM), (self.process, signal.SIGKILL)):
             process.send_signal(how)
             process.wait()

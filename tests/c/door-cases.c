@@ -10,8 +10,8 @@
 
 static uint8_t text[ROOM];
 
-/* Asks by hand, of a request in two pieces, what is told and right. `space` is the room's length, and the first piece
- * has `cut` bytes at most. */
+/* Asks by hand, with a request in two pieces, and holds what is told against what is right. `space` is the
+ * room's length, and the first piece has `cut` bytes at most. */
 static nizwarf_call ask_call(size_t space, size_t cut)
 {
 	const size_t first = cut < request_len ? cut : request_len;

@@ -23,7 +23,7 @@ struct prune_out {
 	uint64_t spare;
 };
 
-/* Numbers of which no byte is like another: what is put at a wrong place shows. */
+/* Numbers that have no byte twice: what is put at a wrong place shows. */
 #define NODE UINT64_C(0x1112131415161718)
 #define PARENT UINT64_C(0x2122232425262728)
 #define OFFSET UINT64_C(0x3132333435363738)
@@ -33,7 +33,7 @@ enum { COUNT = 0x51525354, FEW = 0x10 }; /* bytes of data that follow, and nodes
 
 static const char name[] = "a name that is not cut";
 enum { NAME_LEN = sizeof(name) - 1 };
-static char longest[4095]; /* bytes, of which no 0 is one */
+static char longest[4095]; /* bytes, and none is 0 */
 
 /* Each of the following puts one notice, as nizwarf.h does: how many bytes, or 0, where `size` is too little. */
 static size_t put_poll(void *out, size_t size)

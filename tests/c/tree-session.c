@@ -138,7 +138,7 @@ static void begin(char **rest)
 	CHECK(nizwarf_new(&server, 4096, 1 << 20, &settings) == NIZWARF_OK);
 }
 
-/* Asks what stands before `=`. The reply's length. */
+/* Asks what is before `=`. Gives the reply's length. */
 static size_t ask(const char *name, char **rest)
 {
 	const struct opcode *op = opcode_of(name);
@@ -165,7 +165,7 @@ static size_t ask(const char *name, char **rest)
 	return len;
 }
 
-/* Holds a reply of that length against what stands after `=`. */
+/* Holds a reply of that length against what is after `=`. */
 static void hold(size_t len, char **rest)
 {
 	uint8_t want[LINE];

@@ -24,7 +24,7 @@ need apt-get "The crate virtio-queue is a package of Debian."
 
 out=$here/out/chains
 packages=$out/packages
-# virtio-queue, and all that it stands on; Debian's package of one is librust-NAME-dev.
+# virtio-queue, and all that it needs; Debian's package of one is librust-NAME-dev.
 crates=(virtio-queue vm-memory virtio-bindings vmm-sys-util log libc arc-swap bitflags bitflags-1 rangemap thiserror
     thiserror-impl syn quote proc-macro2 unicode-ident serde)
 names=("${crates[@]/#/librust-}")

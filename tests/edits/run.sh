@@ -7,7 +7,7 @@
 # Usage: tests/edits/run.sh [CRATE..]
 #        tests/edits/run.sh --texts
 # Works on a copy of the crates below out/, with what `rt check` kept of them by links; what is not proved yet is
-# proved there first. --texts proves nothing: it looks whether each text that an edit replaces stands once in its file.
+# proved there first. --texts proves nothing: it looks whether each text that an edit replaces is once in its file.
 #
 # It takes 20 to 80 seconds an edit, and a gigabyte of disk where nothing is proved yet. Status 0: each is refused; 1:
 # one is not, or can't be applied; 2: it could not start.
@@ -16,7 +16,7 @@ set -euo pipefail
 here=$(realpath "$(dirname "$0")")
 root=$(realpath "$here/../..")
 
-# Looks whether each text that an edit replaces stands once in its file.
+# Looks whether each text that an edit replaces is once in its file.
 look_at_texts() {
     local edit crate line file count=0 bad=0
     for edit in "$here"/*/*.edit; do

@@ -29,7 +29,7 @@ is_empty() {
     fi
 }
 
-# Files of which the kernel then knows all.
+# Files that the kernel then knows all of.
 fill() {
     mkdir -p /mnt/one/two && head -c 100000 /dev/zero > /mnt/one/two/three && ls -lR /mnt > /tmp/list
 }

@@ -662,7 +662,7 @@ static void try_retrieve(size_t size, int by_file)
 	retrieved = 0;
 	for (i = 0; i < size; i++)
 		room[sizeof(head) + sizeof(in) + i] = (char)(i * 7 >> 3); /* bytes that don't repeat soon */
-	/* (by which libfuse waits for a reply with a number of its own) */
+	/* (so libfuse waits for a reply with a number of its own) */
 	fuse_lowlevel_notify_retrieve(session, 2, size, 0, NULL);
 	memcpy(&asked, reply + sizeof(struct fuse_out_header), sizeof(asked));
 	head.unique = asked.notify_unique;

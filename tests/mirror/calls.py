@@ -18,7 +18,7 @@ LENGTHS = [0, 1, 5, 100, 4096, 9000, 20000]
 PLACES = [0, 1, 4095, 4096, 10000, 30000]
 # Times of access and of change, in nanoseconds.
 TIMES = [(10**9 + 7, 5), (1234567890123456789, 2**31 * 10**9 - 1), (0, 987654321)]
-# Texts of symbolic links, of which 4095 bytes are the most.
+# Texts of symbolic links, which have 4095 bytes at most.
 TEXTS = ["a", "b/c", "c", "nope", "x" * 300, "", "y" * 4095, "z" * 4096, "h"]
 ATTRIBUTES = ["user.a", "trusted.b", "security.k", "user." + "n" * 250, "user." + "n" * 251, "user.", "other.a",
               *(f"trusted.{i}" for i in range(8))]

@@ -225,7 +225,7 @@ works '' 'sync'
 works '' 'mkdir t && cp -R d t/ && tar cf t.tar t && rm -r t && tar xf t.tar && diff -r d t/d'
 works '' 'rm -r t t.tar'
 
-# A directory in several pieces, of which names go while it is read.
+# A directory in several pieces, whose names go while it is read.
 works '' 'mkdir many && for i in $(seq 500); do echo $i > many/n$i || exit 1; done'
 works '500' 'ls many | wc -l'
 works '150' 'cat many/n150'

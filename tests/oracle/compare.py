@@ -42,7 +42,7 @@ OUTCOMES = {"reply": "reply", "error": "error", "none": "none", "EncodeMessage":
             "bad line": "bad line"}
 PART = re.compile(r"^request of a line; .*\nanswered\n(.*\nroom .*\nnow .*\n)", re.M)
 
-# A difference: the line of the request, where it stands, what the program said and what the oracle did.
+# A difference: the line of the request, where it is, what the program said and what the oracle did.
 Difference = collections.namedtuple("Difference", "request way session number text got wanted")
 
 FORK = multiprocessing.get_context("fork")

@@ -219,7 +219,7 @@ class Session:
         return self.extensions() if what == "extensions" else self.name() + b"\0"
 
     def record(self, opcode):
-        """The record of an opcode, of which fields that an answer depends on have values that matter."""
+        """The record of an opcode. Fields that an answer depends on have values that matter."""
         r = self.rng
         if opcode == Op.SETATTR:
             return u32(r.choice([0, 0x40, 0xdbf, 0xffffffff, self.odd32()])) + r.randbytes(84)
@@ -413,7 +413,7 @@ class Session:
                 self.agree()
 
     def mixed(self):
-        """Any requests, of which many are changed, in rooms of any size."""
+        """Any requests, many of them changed, in rooms of any size."""
         r = self.rng
         if r.random() < 0.8:
             self.agree()
@@ -477,7 +477,7 @@ class Session:
             self.line(message, reply, 1)
 
     def extensions_of_all_sorts(self):
-        """Requests with extensions, of which many are spoilt, and some are of messages that say fewer bytes."""
+        """Requests with extensions: many are spoilt, and some are of messages that say fewer bytes."""
         r = self.rng
         self.agree(r.choice([INIT_EXT | SECURITY_CTX, INIT_EXT | CREATE_SUPP_GROUP, ALL_EXTENSIONS, ALL_EXTENSIONS, 0]))
         plain = self.extensions

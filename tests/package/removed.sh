@@ -19,7 +19,7 @@ echo "# earlier" >> "$of"
 touch -d @1000000000 "$of"
 systemctl enable --now "$unit" > came 2>&1
 [ -S /run/nizwarf-share/srv.sock ]
-# (by which a container, of which this may be a copy, says that packages start and stop nothing)
+# (with this a container, which may be what was copied, says that packages start and stop nothing)
 rm -f /usr/sbin/policy-rc.d
 
 dpkg -i "$package" > came 2>&1

@@ -29,7 +29,7 @@ def acl(*entries):
 
 
 def for_user(user, may, group=0, mask=7):
-    """One by which a user may this, and the group of the file that."""
+    """A list that lets a user do this, and the group of the file that."""
     return acl((1, 6, NO_ONE), (2, may, user), (4, group, NO_ONE), (16, mask, NO_ONE), (32, 0, NO_ONE))
 
 

@@ -258,7 +258,7 @@ try_no_answer() {
                 "$@" "$work/folder" "${words%% *}" 2> "$work/said" &
             server=$!
             child=
-            # (without a sandbox it is a thread that stands by)
+            # (without a sandbox a thread waits to do it)
             for _ in $(seq 100); do
                 child=$(cat "/proc/$server/task/$server/children" 2> /dev/null) && [ -n "$child" ] && break
                 [ "$(find "/proc/$server/task" -mindepth 1 -maxdepth 1 2> /dev/null | wc -l)" -le 1 ] || break
@@ -353,7 +353,7 @@ try_escape() {
     echo "There is no way out of a sandbox, and no capability that isn't wanted."
 }
 
-# What a server has: capabilities, and directories, of which no `..` is another one. HANDLES WORDS
+# What a server has: capabilities, and directories, each of which is its own `..`. HANDLES WORDS
 hold_server() {
     local came=0
     "$share" --log-level=error "${@:2}" --socket-path="$work/held" "$work/folder" &
@@ -611,7 +611,7 @@ try_words() {
     echo "Words that can't be are refused, and it is told when it serves."
 }
 
-# The lines by which libvirt 9.0 and 11 start a daemon, with all that these have words for: each is served.
+# The lines with which libvirt 9.0 and 11 start a daemon, with all that these have words for: each is served.
 try_managers() {
     rm -rf "$work/a,b"
     mkdir "$work/a,b"

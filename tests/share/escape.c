@@ -60,7 +60,7 @@ static void walk(int directory, const char *from)
 		tell("..", from);
 }
 
-/* No capability can be got, and none is there by which the root is changed. */
+/* No capability can be got, and none is there that lets a process change its root. */
 static void look_at_capabilities(void)
 {
 	struct __user_cap_header_struct header = { _LINUX_CAPABILITY_VERSION_3, 0 };

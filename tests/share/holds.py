@@ -1,4 +1,4 @@
-"""What a server has, for check.sh: capabilities, and directories, of which no `..` is another one.
+"""What a server has, for check.sh: capabilities, and directories, each of which is its own `..`.
 
     holds.py PARENT FOLDER SOCKET HANDLES [WORDS]: the process that was started, what it shares and where it listens,
     what it was told of file handles (prefer or never), and its words"""

@@ -31,7 +31,7 @@ MIB = 1 << 20
 STRESSORS = ("access", "chdir", "chmod", "chown", "dentry", "dir", "dirdeep", "dirmany", "fallocate",
              "fcntl", "filename", "flock", "fpunch", "fstat", "getdent", "hdd", "iomix", "link", "lockf", "mknod",
              "open", "rename", "symlink", "sync-file", "touch", "utime", "xattr")
-# Of these two each holds thousands of files open, of which a server with few descriptors may have 140.
+# Each of these two holds thousands of files open; a server with few descriptors may have 140.
 FEW_OPEN = ("--chdir-dirs", "64", "--open-max", "32")
 # What a program may be told of a full disk, of descriptors that ran out, and of refused allocations.
 FULL = {errno.ENOSPC}
@@ -194,7 +194,7 @@ def kill_one(pids, killed, chance):
 
 
 def stress(place, chance, seconds):
-    """Programs that stress a mount, of which some are killed."""
+    """Programs that stress a mount; some are killed."""
     names = chance.sample(STRESSORS, 6)
     words = [word for name in names for word in (f"--{name}", "1")]
     os.makedirs(place + "/stress", exist_ok=True)

@@ -1,4 +1,4 @@
-"""Starts a share by the lines by which libvirt 9.0 and 11 start a daemon, with all that these have words for, for
+"""Starts a share as libvirt 9.0 and 11 start a daemon, with all that these have words for, for
 check.sh: each is served. managers.py ASK SHARE WORK, where ASK is the built tests/beside/ask.c"""
 import os
 import socket

@@ -6,7 +6,7 @@ Usage: tests/share/migrates.py WORK SHARE [WORDS]: a folder to work in, and nizw
 In both modes of --migration-mode the client goes on: reads and writes files that are open, one that was opened to append
 and one whose first name is gone, and goes on with a directory in the middle of its list. By handles it does so with a file
 that was renamed or unlinked meanwhile. What is missing ends it, or is an error to the client, as --migration-on-error says.
-A state that is cut, or of which a byte is another one, is refused, and so are paths and handles that lead out of the
+A state that is cut, or has a wrong byte, is refused, and so are paths and handles that lead out of the
 folder, numbers that come twice, another version, and options of INIT that the target lacks. Locks hold a machine where it
 is. While it is marked what is written, the marks are those of the pages that are written. Status 0: all came so.
 """

@@ -602,7 +602,7 @@ def read_lemmas(reader, name, crate, where, crates):
 
 
 def text_of(folder):
-    """All that stands in a crate."""
+    """All that is in a crate."""
     found = []
     for part in ("src", "specs", "proofs"):
         for path, _, files in sorted(os.walk(f"{folder}/{part}")):

@@ -84,7 +84,7 @@ def read(path):
 
 
 def graph():
-    """Of each crate what it stands on, and which are static libraries."""
+    """Of each crate what it is built on, and which are static libraries."""
     below, static = {}, set()
     for line in read(f"{HERE}/crates.txt").splitlines():
         head, colon, names = line.partition(":")
@@ -105,7 +105,7 @@ def all_below(name, below):
 
 
 def is_kept(name, kept):
-    """Whether what a crate's check kept in a checkout is of the text that stands here."""
+    """Whether what a crate's check kept in a checkout is of the text that is here."""
     whens = []
     for part in ("src", "specs", "proofs"):
         here, there = f"{HERE}/crates/{name}/{part}", f"{kept}/{name}/{part}"
@@ -201,7 +201,7 @@ class Calls:
 
 
 class Prover:
-    """Checks copies of crates, over what a check of the crate as it stands kept."""
+    """Checks copies of crates, over what a check of the unchanged crate left."""
 
     def __init__(self, pause, kept):
         said = subprocess.run(["rt", "doc"], stdout=subprocess.PIPE, text=True, check=True).stdout
@@ -220,7 +220,7 @@ class Prover:
         return [name, *[one for one in self.below if name in self.all_below[one]]]
 
     def read_terms(self, names, jobs):
-        """Reads the terms of these crates' proofs, and of those above, so many at once."""
+        """Reads the terms of these crates' proofs, and of those above, as many at once as are wanted."""
         wanted = [it for it in self.below if any(it in self.above(name) for name in names) and is_kept(it, f"{self.kept}/crates")]
         self.read = set(wanted)
         with concurrent.futures.ProcessPoolExecutor(jobs, max_tasks_per_child=1) as pool:
@@ -336,7 +336,7 @@ class Text:
         self.was, self.edits = was, {}
 
     def put(self, start, end, new):
-        """Puts a text there, unless another edit stands in the way."""
+        """Puts a text there, unless another edit is in the way."""
         if any(start < b and a < end or (start, end) == (a, b) for a, b in self.edits):
             return False
         self.edits[(start, end)] = new
@@ -673,12 +673,12 @@ class Results:
                 self.all[(crate, one)] = (owner, kind, where, of_file)
 
     def of(self, crate, one):
-        """How it ended, if that still stands."""
+        """How it ended, if that still holds."""
         it = self.all.get((crate, one))
         return it[1:3] if it and (it[3] == "-" or it[3] == file_of(crate, it[2])) else None
 
     def keep(self, crate, sums):
-        """Forgets what no text of a crate stands for any more."""
+        """Forgets results of texts that are in no crate any more."""
         self.gone |= {key for key in self.all if key[0] == crate and key[1] not in sums}
         self.all = {key: it for key, it in self.all.items() if key not in self.gone}
 

@@ -225,7 +225,7 @@ Below `INTERRUPT: no call and no reply`:
 
 
 def readdir(found):
-    """The section of a directory's two items, of which the second doesn't fit."""
+    """The section of a directory's two items, the second of which doesn't fit."""
     it = one(found, "READDIR of `.` and `..` with a size of 63")
     opcode, request = request_cells(it.request, "read_in")
     listing = dict((name, int(number)) for _, name, number in request if number.isdigit())

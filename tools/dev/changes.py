@@ -44,7 +44,7 @@ def rows():
 
 
 def crates_used():
-    """Each crate that is there, and what it stands on."""
+    """Each crate that is there, and what it is built on."""
     return {name: set(used.split()) for name, used in re.findall(r"^(\w+).*: (.*)", read("crates.txt"), re.M)}
 
 

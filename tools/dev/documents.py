@@ -8,7 +8,7 @@ KIT = os.environ["kit"]
 COUNTED = ["README.md", *sorted(glob.glob("docs/*.md")), "CONTRIBUTING.md", "CHANGELOG.md", "NOTICE.md",
            *sorted(glob.glob("crates/*/README.md"))]
 DOCUMENTS = [*COUNTED, "tools/README.md", "tests/README.md", "tests/oracle/README.md", "programs/README.md"]
-# Pages of which only links are looked at.
+# Pages whose links alone are looked at.
 LINKED = [*sorted(glob.glob("docs/generated/*.md")), *sorted(glob.glob("bindings/*/README.md"))]
 # Where no crate is named in PROTOCOL.md, it is this one, as that page says.
 CRATES = {"docs/PROTOCOL.md": ["fuse_grammar"]}
@@ -50,7 +50,7 @@ definitions = {path: set(DEFINITION.findall(text)) for path, text in sources.ite
 clauses = {path: set(CLAUSE.findall(text)) for path, text in sources.items()}
 # The must-fail edits: crate and name.
 edits = {(path.split("/")[1], path.split("/")[3][:-5]) for path in paths if path.endswith(".edit")}
-# The crates of this repository that each names in crates.txt, and all that it stands on.
+# The crates of this repository that each names in crates.txt, and all that it is built on.
 named = {name: CRATE_NAMES.intersection(uses.split())
          for name, uses in re.findall(r"^(\w+).*: (.*)", read("crates.txt"), re.M)}
 
@@ -229,7 +229,7 @@ def logic_of(kit):
 
 
 def check_block(fault, language, comment, block):
-    """Whether a block stands in the file of the comment above it: of Rust and C as a whole, else each line."""
+    """Whether a block is in the file of the comment above it: of Rust and C as a whole, else each line."""
     path = (re.fullmatch(r"<!-- (\S+) -->", comment) or [None, None])[1]
     if path and path not in paths:
         fault(f"there is no file {path}")
@@ -368,7 +368,7 @@ for crate in sorted(named):
         faults.append(f"docs/ARCHITECTURE.md: no family has {crate}")
     if not os.path.exists(f"crates/{crate}/README.md"):
         faults.append(f"crates/{crate}: it has no README.md")
-# Crates of the toolchain that any crate here stands on are named as trusted.
+# Crates of the toolchain that any crate here is built on are named as trusted.
 trusted = read("README.md").partition("**Trusted**")[2]
 kit_crates = {name for line in re.findall(r"^\w+.*: (.*)", read("crates.txt"), re.M) for name in line.split()}
 for name in sorted(kit_crates - CRATE_NAMES - {"core", "std_alloc"} - set(CODE.findall(trusted))):

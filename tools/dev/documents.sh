@@ -12,7 +12,7 @@
 #                       named last in the same line, else in the crate of the page's first heading
 #   names of code       stand in the sources. DIFFERENCES.md also has those of the Rust
 #   READMEs             each crate has one, and a place in a family of ARCHITECTURE.md
-#   blocks              one of Rust or C stands, as it is, in the file that the comment above it names,
+#   blocks              one of Rust or C is, to the letter, in the file that the comment above it names,
 #                       <!-- FILE -->; of another block with such a comment each line does
 #   commands            a path that begins an indented line is a file that can be run
 #   crates below one    `five crates below` it, or below a crate that is named, are as many as crates.txt has

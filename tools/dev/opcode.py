@@ -1,15 +1,15 @@
 #!/usr/bin/env python3
-"""Holds the list of CONTRIBUTING.md, To add an opcode, against the files in which opcodes stand.
+"""Holds the list of CONTRIBUTING.md, To add an opcode, against the files that opcodes are in.
 
 Usage: tools/dev/opcode.py [--opcodes | --count | --files OPCODE | --lacks NEW MODEL]
 Of some opcodes that are there, in all spellings (LSEEK, Lseek, lseek, NIZWARF_LSEEK), each file that git knows or would
 that has one must be named in that section, and each file or pattern that is named must have one. --opcodes prints
-which opcodes, --count how many files each stands in, --files these files; --lacks those in which NEW, an opcode that you
-add, as SYNC_RANGE, does not stand yet, and MODEL, one of these opcodes, does. Both take COPY_64 too, as the row that
+which opcodes, --count how many files each is in, --files these files; --lacks those in which NEW, an opcode that you
+add, as SYNC_RANGE, is not yet, and MODEL, one of these opcodes, is. Both take COPY_64 too, as the row that
 it is. Not counted are pages that a tool writes,
 recorded lines, and where the word is not the opcode; and apart are interfaces of others, as libfuse's and fuser's, which
 have the opcodes that they have.
-Status 0: the list holds, or NEW stands everywhere; 1: it does not.
+Status 0: the list holds, or NEW is everywhere; 1: it does not, or is not.
 """
 import fnmatch
 import os

@@ -82,7 +82,7 @@ class Picture:
 # The crates.
 
 def dependencies():
-    """Each crate with the crates that it stands on, lower ones first."""
+    """Each crate with the crates that it is built on, lower ones first."""
     lines = [line for line in read("crates.txt").splitlines() if line and line[0] != "#"]
     listed = {line.split(":")[0].split()[0]: line.split(":")[1].split() for line in lines}
     found = {}
@@ -99,7 +99,7 @@ def dependencies():
 
 
 def all_below(stands_on):
-    """Of each crate all that it stands on."""
+    """Of each crate all that it is built on."""
     below = {}
     for crate, names in stands_on.items():
         below[crate] = set(names).union(*[below[name] for name in names])
@@ -107,7 +107,7 @@ def all_below(stands_on):
 
 
 def families(stands_on):
-    """The families of crates, each with its crates, of which none may be left out or named twice."""
+    """The families of crates, each with its crates: none may be left out, or named twice."""
     found = [(name, CODE.findall(crates)) for name, crates in table(ARCHITECTURE, "| Family |")]
     named = [crate for _, crates in found for crate in crates]
     for crate in {*named, *stands_on}:
@@ -174,7 +174,7 @@ def spread(wanted, widths):
     offsets = [sum(widths[:i]) + width // 2 for i, width in enumerate(widths)]
     groups = []
     for want, offset in zip(wanted, offsets):
-        # Things that would overlap become a group, which stands at the mean of what its members want.
+        # Things that would overlap become a group, whose place is the mean of what its members want.
         groups.append((want - offset, 1))
         while len(groups) > 1 and groups[-2][0] > groups[-1][0]:
             (a, n), (b, m) = groups[-2:]

@@ -20,7 +20,7 @@ wrong() {
     exit 1
 }
 
-# Sets the name and the version of what is packed, which says if it stands on no proof: set_source NAME VERSION.
+# Sets the name and the version of what is packed, which says if it is not proved: set_source NAME VERSION.
 set_source() {
     source=$1 version=$2
     if [ -z "$proved" ]; then
@@ -68,7 +68,7 @@ prove_crates() {
     done
 }
 
-# A crate, and all that it stands on: its line in crates.txt, and theirs.
+# A crate, and all that it is built on: its line in crates.txt, and theirs.
 crates_below() {
     awk -v names="$*" '
         /^[a-z]/ { name = $1; sub(":$", "", name); sub("^[^:]*:", ""); uses[name] = $0 }

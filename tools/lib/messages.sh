@@ -32,7 +32,7 @@ path_of() {
 }
 
 # Prints each request of a file and its answer in another, a line each in turn, up to the first that is
-# not answered; a first line that sets the limit stands alone before them.
+# not answered; a first line that sets the limit is alone before them.
 in_turn() {
     awk -v answers="$2" '
         NR == 1 && /^limit / { limit = $0 "\n"; next }

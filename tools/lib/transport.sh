@@ -3,7 +3,7 @@
 # shellcheck shell=bash
 . "$(dirname "${BASH_SOURCE[0]}")/program.sh"
 
-# Sets `library` to the library, which is nizwarf_tree where no name is given, and what it stands on:
+# Sets `library` to the library, which is nizwarf_tree where no name is given, and what it needs:
 # find_library [NAME]. That is the proved one where it is built and no source is newer; otherwise
 # tools/lib/unproved.sh builds it without a proof. It says which one it is.
 find_library() {

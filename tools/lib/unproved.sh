@@ -4,7 +4,7 @@
 #
 # Usage: tools/lib/unproved.sh NAME
 # It leaves the program of crates/NAME as NAME in the folder `unproved` of `out`, or the static library as
-# libNAME.a, and builds it only where a source is newer. No promise stands on it: `rt run`, `rt lib` and
+# libNAME.a, and builds it only where a source is newer. No promise holds of it: `rt run`, `rt lib` and
 # `rt ci` build what is proved.
 #
 # `rt try` compiles a program without a proof, but with checks that make it a hundred times slower, and

@@ -51,7 +51,7 @@ static struct answer *find(const struct fuse_in_header *header, const char *name
 	return NULL;
 }
 
-/* What stands after the header of a LOOKUP, in the same piece or in the last one. */
+/* What comes after the header of a LOOKUP, in the same piece or in the last one. */
 static const char *name_of(const nizwarf_segment *request, size_t segments)
 {
 	return segments > 1 ? request[segments - 1].at :

@@ -3,7 +3,7 @@
 # memory of a file from 1,000 to 3,000,000, the time of a LOOKUP among them, of a FORGET of all, of DESTROY and INIT; of
 # a name of a folder of 10 to 1,000,000; requests a second over 1 to 8 queues, by 1 to 64 in flight, and of eight machines
 # at once; how long its locks are waited for; and where the processor's time of a request goes. It prints a page; how far it
-# is stands on standard error.
+# is goes to standard error.
 #
 # Usage: tools/measure/growth.sh [--page] [MOST]
 # With --page it writes docs/generated/growth.md once all is measured, and has tools/dev/pictures.sh draw it. MOST is the

@@ -24,7 +24,7 @@ def count(path):
             elif line.startswith("calls="):
                 is_call = True
             elif line.startswith("0x"):
-                # (after a call stands what it took)
+                # (after a call comes what it took)
                 if not is_call:
                     place, _, cost = line.split()[:3]
                     ran[function][int(place, 16)] += int(cost)

@@ -63,7 +63,7 @@ def functions_in(crate):
 
 
 def graph():
-    """Of each crate those that it stands on, the nearest last."""
+    """Of each crate those that it is built on, the nearest last."""
     named = {name: uses.split() for name, uses in re.findall(r"^(\w+)[^:\n]*:(.*)", read("crates.txt"), re.M)}
 
     def below(name):
@@ -89,7 +89,7 @@ def plant(crate, below, minutes, more):
     kept = [f"crates/{crate}/out/incremental", *[f"crates/{it}/out/rlib/{it}.rlib" for it in below]]
     with tempfile.TemporaryDirectory(prefix=f"{crate}.", dir=OUT) as folder, open(f"{OUT}/{crate}.err", "w", encoding="utf-8") as err:
         if not all(map(os.path.isdir, kept)):
-            # (where it stands, so that what is proved is there for others too)
+            # (where it is, so that what is proved is there for others too)
             subprocess.run(["rt", "check"], cwd=f"crates/{crate}", stdout=err, stderr=err)
         print(f"Planting in {crate} ..", file=sys.stderr)
         total = sum_of(crate)
@@ -112,7 +112,7 @@ def row_of(total, minutes, said):
 
 
 def plant_all(crates, words, rows):
-    """Plants in crates, so many at once, and writes the table after each. Answers in which nothing was planted."""
+    """Plants in crates, as many at once as are wanted, and writes the table after each. Answers in which nothing was planted."""
     below, failed = graph(), []
     os.makedirs(OUT, exist_ok=True)
     more = ["--jobs", "1"] if words.jobs > 1 else []
@@ -162,7 +162,7 @@ def write(rows):
 
 
 def reasons():
-    """The bodies that may be proved, with the reason that stands below them, indented."""
+    """The bodies that may be proved, with the reason that is below them, indented."""
     known, told = {}, []
     for line in read(KNOWN).splitlines():
         if line.startswith("    "):

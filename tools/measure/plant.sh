@@ -5,7 +5,7 @@
 # Usage: tools/measure/plant.sh [--minutes N] [--jobs N] [--first] [--anew] [CRATE..]
 #        tools/measure/plant.sh --tell [CRATE..]
 # Each crate that is named, or each with a contract, and whose files changed since it was planted, comments and imports
-# aside, is checked, and planted for 3 minutes, or N; so many crates at once as --jobs says. What that said is left in
+# aside, is checked, and planted for 3 minutes, or N; as many crates at once as --jobs says. What that said is left in
 # out/plant. docs/generated/plant.tsv keeps what came of it, and each body that is proved, with the reason for which it may
 # be, of tools/measure/plant_known.txt; so a run goes on where another ended. --first tries about one body of each function,
 # and leaves the others to a later run; --anew plants all. What the table lacks is told at the end; --tell plants nothing,

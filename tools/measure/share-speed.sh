@@ -3,7 +3,7 @@
 # files over a mount of each, in turns, by one job and by four. It prints the page docs/generated/share.md, or
 # docs/generated/tree.md: a row has the medians of ratios, the time here by that of another, and the same of the
 # servers' processor time; below 1 it is quicker here. The system calls of each stand in a table of their
-# own, docs/speed/share-calls.tsv or docs/speed/tree-calls.tsv, if strace is installed. How far it is stands on standard error.
+# own, docs/speed/share-calls.tsv or docs/speed/tree-calls.tsv, if strace is installed. How far it is goes to standard error.
 #
 # Usage: tools/measure/share-speed.sh [--tree [-o OPTIONS]] [--page] [ROUNDS [CLASS..]]
 # Without a word 9 rounds of all classes, which take some ten minutes. With --page it writes that page instead of
@@ -12,7 +12,7 @@
 # but passthrough_ll `cache=auto`, which is that of nizwarf-share, and `default_permissions`, which the beside have.
 # The folders are in memory. CLASS is stat, stat-missing, open-close, create-unlink, readdir, ls-l, write-1m,
 # read-1m, write-4k, read-4k, 'git status', untar or names-100k. With --tree it is the tree as tools/mount.sh mounts
-# it, with these options; a tmpfs itself stands beside it too, names-100k is a class of all, in three rounds, and so is
+# it, with these options; a tmpfs itself is beside it too, names-100k is a class of all, in three rounds, and so is
 # overwrite-1m.
 # So is floor, which is stat of a server that does nothing: the tree's transport says again what the tree said, by
 # tools/measure/floor.c. What it takes no server over this transport can win.
@@ -58,7 +58,7 @@ own_mounts "${given[@]}"
 get_passthrough
 version='' floor=''
 if [ "$what" = tree ]; then
-    # (floor.c stands between the transport and the library)
+    # (floor.c is between the transport and the library)
     build_transport mount nizwarf_tree "$here/tools/measure/floor.c" -Wl,--wrap=nizwarf_message_at -Wl,--wrap=nizwarf_take_at
     floor=$transport
     build_transport mount

@@ -165,7 +165,7 @@ static void write_large(void)
 	close(fd);
 }
 
-/* Opens the file, of which nothing is in the kernel's cache then. */
+/* Opens the file, and has nothing of it in the kernel's cache. */
 static int open_cold(int flags)
 {
 	const int fd = open_file("large", flags);

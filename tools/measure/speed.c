@@ -92,7 +92,7 @@ static void put_text(struct bytes *b, const char *text)
 	put(b, text, strlen(text) + 1);
 }
 
-/* Data of which no two blocks are alike. */
+/* Data in which no two blocks are alike. */
 static void put_data(struct bytes *b, size_t n)
 {
 	for (size_t i = 0; i < n; i++) {
@@ -444,7 +444,7 @@ static size_t rooms(const struct bytes *batch, uint32_t *room, uint32_t *len)
 /* Measuring. */
 
 static const char *only = ""; /* classes whose name has this text: all */
-static int runs = 21, ms = 5; /* of which the middle is told; how long each takes */
+static int runs = 21, ms = 5; /* how many runs, for their median, and how long each takes */
 
 static double now(void)
 {

@@ -1,4 +1,4 @@
-"""Counts what a statement stands on, for statement.sh, which says how."""
+"""Counts what a statement is made of, for statement.sh, which says how."""
 import collections, glob, os, re, sys
 
 sys.path.append("tools/lib")
@@ -13,7 +13,7 @@ WORD = re.compile(r"\w+(?:-\w+)*")
 
 
 class Definition:
-    """One definition: where it stands, its lines without comments, and the constructors of a data type."""
+    """One definition: where it is, its lines without comments, and the constructors of a data type."""
 
     def __init__(self, path, lines, kind):
         self.path = path

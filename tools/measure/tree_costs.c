@@ -83,7 +83,7 @@ static void write_in(size_t count)
 	       ask(FUSE_WRITE, make(0), &body, sizeof(body), 1 + count));
 }
 
-/* Makes as many files, of which no lookup is left: so no client has them. */
+/* Makes as many files, and gives their lookups back: so no client has them. */
 static void fill(unsigned count)
 {
 	const struct fuse_forget_in body = { .nlookup = 1 };
@@ -103,7 +103,7 @@ static void hold(unsigned count, unsigned held)
 	}
 }
 
-/* What INIT and DESTROY take, which give all lookups back: of files of which some are held. */
+/* What INIT and DESTROY take, which give all lookups back, if some files are held. */
 static void release(unsigned count, unsigned held)
 {
 	hold(count, held);

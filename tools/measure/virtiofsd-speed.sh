@@ -14,7 +14,7 @@
 # folder, which is out/virtiofsd if none is given. tests/beside/pace.c has the classes.
 #
 # With --page it counts instructions too, writes docs/generated/end-to-end.md and docs/speed/end-to-end.tsv, and
-# has tools/dev/pictures.sh draw the page: with no other option it is all that docs/SPEED.md stands on.
+# has tools/dev/pictures.sh draw the page: with no other option it is all that docs/SPEED.md needs.
 #
 # Processor time is that of the daemon's threads, the kernel's part too, as /proc/PID/task/*/schedstat has it.
 # With --instructions the table has also those of the daemons' own code for a request, which do not move with

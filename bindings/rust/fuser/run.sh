@@ -3,7 +3,7 @@
 # session.py on both mounts return. For this crate a line is added to each source: `use nizwarf::fuser;`.
 #
 # Usage: bindings/rust/fuser/run.sh [--get [SUITE]]
-# With --get it first gets fuser, and the crates that it stands on, from Debian's suite SUITE, sid if none is given:
+# With --get it first gets fuser, and the crates that it needs, from Debian's suite SUITE, sid if none is given:
 # 130 MB, which are unpacked into out/rust/fuser, and not installed. NIZWARF_LIB_DIR is the folder of the library, as
 # for build.rs; bindings/rust/check.sh, which calls this, sets it.
 # It needs root, /dev/fuse, python3, and the cargo that fuser needs, 1.85 or later.
@@ -57,7 +57,7 @@ copy_examples() {
     cp -r "$crates"/fuser-*/examples/common "$folder/src/bin"
     if [ "$way" = here ]; then
         sed -i "s,^fuser = .*,nizwarf = { path = \"$here/..\" }," "$folder/Cargo.toml"
-        # (after what stands at the top of a file: attributes and modules)
+        # (after what is at the top of a file: attributes and modules)
         sed -i '0,/^use /s//use nizwarf::fuser;\nuse /' "$folder"/src/bin/*.rs "$folder"/src/bin/common/args.rs
     fi
 }

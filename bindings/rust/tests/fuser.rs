@@ -476,7 +476,7 @@ fn what_is_given_back_may_answer_another_call() {
     client.send(&list(1)).unwrap();
     client.send(&list(2)).unwrap();
     assert_eq!(receive(&client), fault(5));
-    // The entry of the second is given back, by which the first is answered; then its own is.
+    // When the second one's entry is given back, the first is answered; then its own is given back.
     for _ in 0..2 {
         client.send(&getattr(2)).unwrap();
     }

@@ -1,4 +1,4 @@
-//! What stands where virtiofsd has a file of the system. It sees the flat bytes of the slices that it is
+//! What is here in place of virtiofsd's file of the system. It sees the flat bytes of the slices that it is
 //! lent. Bytes in memory, and a file that touches nothing, move without a copy between, so that what is
 //! measured is the server.
 use crate::file_traits::FileReadWriteAtVolatile;

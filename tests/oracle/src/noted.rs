@@ -51,7 +51,7 @@ fn fault(x: &io::Error) -> String {
 pub fn h(x: Option<u64>, f: OpenOptions) -> String {
     format!("handle={} opts={}", o(x), f.bits())
 }
-/// What is told of an answer that only says that it is one.
+/// The note of an answer that only says that it is one.
 pub fn nothing<T>(_: &T) -> String {
     String::new()
 }

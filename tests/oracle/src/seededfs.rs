@@ -60,7 +60,7 @@ impl SeededFs {
     pub fn new(answers: Answers, notes: Notes) -> SeededFs {
         SeededFs { word: AtomicU32::new(0), answers, notes }
     }
-    /// Notes a call with what it is answered, of which `told` tells. What a file does while it runs stands
+    /// Notes a call with its answer, as `told` has it. What a file does while it runs is
     /// between the two.
     fn noted<T>(
         &self,

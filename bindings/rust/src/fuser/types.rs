@@ -294,7 +294,7 @@ impl Request {
     }
 }
 
-/// A node of which lookups are dropped.
+/// A node whose lookups are dropped.
 #[derive(Debug)]
 pub struct ForgetOne {
     pub(super) node: u64,

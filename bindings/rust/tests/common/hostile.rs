@@ -2,7 +2,7 @@
 
 use super::{words, Request};
 
-/// The node of which each entry is.
+/// The node that each entry is of.
 pub const NODE: u64 = 50;
 
 /// Requests of all forms.
