@@ -4,6 +4,7 @@
 #include "__fc_builtin.h"
 #include <stddef.h>
 #include <stdint.h>
+/* Frama-C knows no such builtins. What another thread may write is read as volatile: any value may come. */
 #define __atomic_load_n(at, order) (*(volatile __typeof__(*(at)) *)(at))
 #define __atomic_store_n(at, value, order) ((void)(*(at) = (value)))
 #define __atomic_exchange_n(at, value, order)      \
@@ -51,6 +52,7 @@ static void look_at_text(const uint8_t *text, size_t len)
 	}
 }
 
+/* Names of a listing, each from its first byte to its last. (The library ends a name at its first 0.) */
 static void look_at_items(const nizwarf_item *items, size_t count)
 {
 	for (size_t i = 0; i < count; i++) {
@@ -62,6 +64,7 @@ static void look_at_items(const nizwarf_item *items, size_t count)
 	}
 }
 
+/* Segments of no length too: the header lets them through as they are. */
 static void look_at_request(const nizwarf_segment *request, size_t segments)
 {
 	for (size_t i = 0; i < segments; i++)
@@ -93,6 +96,7 @@ int32_t nizwarf_ask_at(nizwarf_slot *slot, const nizwarf_session *session, const
 	return any ? NIZWARF_ASKED : any_code();
 }
 
+/* What is offered changes which calls are told, and here any may be. */
 int32_t nizwarf_ask_offered_at(nizwarf_slot *slot, const nizwarf_session *session, uint32_t offers,
 			       const nizwarf_segment *request, size_t segments, size_t room,
 			       nizwarf_call *call, nizwarf_told *told)
@@ -100,6 +104,7 @@ int32_t nizwarf_ask_offered_at(nizwarf_slot *slot, const nizwarf_session *sessio
 	return nizwarf_ask_at(slot, session, request, segments, room, call, told);
 }
 
+/* Any length up to the room that was asked with, which the header holds against the rooms that it has now. */
 int32_t nizwarf_answer_at(nizwarf_slot *slot, const nizwarf_session *session, const nizwarf_call *call,
 			  const nizwarf_answer *answer, const uint8_t *text, size_t text_len,
 			  const nizwarf_item *items, size_t items_len, nizwarf_told *told)
@@ -133,12 +138,14 @@ static size_t fill(uint8_t *piece, size_t len)
 	return ANY_LENGTH(len);
 }
 
+/* Says any number of bytes that it copied, up to all. */
 size_t nizwarf_copy_slot_at(nizwarf_slot *slot, size_t at, uint8_t *piece, size_t piece_len)
 {
 	slot->at = &seen;
 	return fill(piece, piece_len);
 }
 
+/* A slot that was ended is empty, and may be asked by again. */
 int32_t nizwarf_end_slot_at(nizwarf_slot *slot)
 {
 	slot->at = NULL;
@@ -169,6 +176,7 @@ uint64_t nizwarf_init_offered_at(const uint8_t *request, size_t len)
 	return ANY_LENGTH(UINT64_MAX);
 }
 
+/* These change a reply where it is, in its own length. */
 uint64_t nizwarf_add_to_init_at(uint8_t *reply, size_t len, uint64_t offered, const nizwarf_init_more *more)
 {
 	fill(reply, len);
@@ -196,6 +204,7 @@ size_t nizwarf_print_reply_at(const uint8_t *request, size_t len, const uint8_t 
 	return fill(text, text_len);
 }
 
+/* Notices: each writes its room, and says any length up to that. */
 size_t nizwarf_notice_poll_at(uint64_t kh, uint8_t *out, size_t size)
 {
 	return fill(out, size);
@@ -258,6 +267,7 @@ int32_t nizwarf_new_at(nizwarf_server *server, uint32_t page_size, uint32_t max_
 	return any_code();
 }
 
+/* A call of a server that was ended gets a code: so `at` may be NULL before each of these. */
 int32_t nizwarf_tell_time_at(nizwarf_server *server, uint64_t seconds, uint32_t nanoseconds)
 {
 	server->at = &seen;
@@ -290,6 +300,7 @@ int32_t nizwarf_take_at(nizwarf_server *server, nizwarf_taken *taken, nizwarf_pl
 	return NIZWARF_OK;
 }
 
+/* The reply that was taken is no longer the caller's to read. */
 int32_t nizwarf_end_taken_at(nizwarf_taken *taken)
 {
 	taken->at = NULL;
@@ -323,6 +334,7 @@ static void any_segments(nizwarf_segment *list)
 		list[i] = (nizwarf_segment){ any ? bytes[i] : NULL, ANY_LENGTH(LONGEST) };
 }
 
+/* Rooms, each in memory of its own. */
 static void any_rooms(nizwarf_room *list)
 {
 	for (size_t i = 0; i < PIECES; i++)
@@ -366,6 +378,7 @@ static void asks(void)
 				    OR_NULL(5, &call), OR_NULL(6, &told));
 	}
 	nizwarf_end_slot(&slot);
+	/* (each function takes NULL, and says so by a code) */
 	nizwarf_end_slot(NULL);
 }
 
@@ -388,6 +401,8 @@ static void replies(void)
 	nizwarf_told told;
 
 	ANY(session);
+	/* (INIT apart from calls below and above it: by it alone options change, and Eva joins what it
+	 * does not tell apart) */
 	ROUNDS(8) COUNTS for (int range = 0; range < 3; range++)
 	{
 		any_rooms(room);
@@ -446,6 +461,7 @@ static void texts(void)
 	}
 }
 
+/* Any numbers are kept, also a count of them that is none. */
 static void interrupts(void)
 {
 	nizwarf_interrupts kept;
@@ -455,6 +471,7 @@ static void interrupts(void)
 	nizwarf_take_interrupt(&kept, ANY_LENGTH(UINT64_MAX));
 }
 
+/* A server, by each of its calls, and of each pointer once without it. */
 static void servers(void)
 {
 	nizwarf_server server = NIZWARF_NONE;
@@ -492,6 +509,7 @@ static int make_entry(nizwarf_entry_param *e)
 	return any;
 }
 
+/* Also what the client does not offer: the header takes that out. */
 static int op_init(const nizwarf_req *req, uint64_t capable, uint64_t *want)
 {
 	*want = ANY_LENGTH(UINT64_MAX);
@@ -579,6 +597,7 @@ static int op_link(const nizwarf_req *req, uint64_t ino, uint64_t newparent, con
 	return make_entry(e);
 }
 
+/* All of it, the fields too that are not an answer's. */
 static int op_open(const nizwarf_req *req, uint64_t ino, nizwarf_file_info *fi)
 {
 	ANY(*fi);
@@ -592,6 +611,7 @@ static int op_read(const nizwarf_req *req, uint64_t ino, size_t size, uint64_t o
 	return fill_all(buf, size, len);
 }
 
+/* More written than there were bytes: the header must not reply that. */
 static int op_write(const nizwarf_req *req, uint64_t ino, const void *buf, size_t size, uint64_t off,
 		    const nizwarf_file_info *fi, size_t *len)
 {
@@ -614,6 +634,7 @@ static int op_fsync(const nizwarf_req *req, uint64_t ino, int datasync, const ni
 /* A name of any length. */
 static char any_name[4096];
 
+/* Any number of items, of which the header takes as many as there is room for. */
 static int op_readdir(const nizwarf_req *req, uint64_t ino, uint64_t off, const nizwarf_file_info *fi,
 		      nizwarf_dir *dir)
 {

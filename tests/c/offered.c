@@ -139,6 +139,7 @@ static const struct {
 	    .length = 9,
 	    .lock_owner = 15 } },
 };
+/* (what each has of its header, told_as_asked() fills in) */
 enum { ROWS = sizeof(rows) / sizeof(*rows) };
 
 /* A check of the first bytes of what is in `request`. Of no row it wants memory, nor of a TMPFILE without a context. */
@@ -245,6 +246,7 @@ static void printed_by_name(void)
 	for (i = 0; i < ROWS; i++) {
 		begin_row(i);
 		hold_line(lines[i].name, lines[i].fields);
+		/* (a byte less than a record: it can't be printed by fields) */
 		begin_with(rows[i].opcode, 2, rows[i].record, rows[i].len - 1);
 		snprintf(cut, sizeof(cut), " ignored=%zu", rows[i].len - 1);
 		hold_line(lines[i].name, cut);
@@ -319,6 +321,7 @@ static int answered(size_t i, const void *text, size_t len)
 
 	begin_row(i);
 	CHECK(ask_cut(ALL, 50, request_len, &call, &told) == NIZWARF_ASKED);
+	/* (NIZWARF_NO_ANSWER is EIO) */
 	answer.error = 0;
 	answer.text = text;
 	answer.text_len = len;
@@ -382,6 +385,7 @@ static int say(const char *format, ...)
 #define INO ((void)req, (unsigned)ino)
 
 /* The functions say what they are called with, and answer something that the reply must show. */
+/* No lock is in the way: what was asked comes back, as unlocked. */
 static int note_getlk(REQ, FI, nizwarf_lock *asked)
 {
 	say("getlk %u %u %u %u %u %u %u", INO, (unsigned)fi->fh, (unsigned)fi->lock_owner,
@@ -390,17 +394,20 @@ static int note_getlk(REQ, FI, nizwarf_lock *asked)
 	return 0;
 }
 
+/* `sleep`: the caller waits for the lock. SETLK and SETLKW differ by this alone. */
 static int note_setlk(REQ, FI, const nizwarf_lock *asked, int sleep)
 {
 	return say("setlk %u %u %u %u %u %u %d", INO, (unsigned)fi->fh, (unsigned)fi->lock_owner,
 		   (unsigned)asked->start, (unsigned)asked->end, asked->type, sleep);
 }
 
+/* By flock(2)'s numbers, without LOCK_NB where the caller waits. */
 static int note_flock(REQ, FI, int op)
 {
 	return say("flock %u %u %u %d", INO, (unsigned)fi->fh, (unsigned)fi->lock_owner, op);
 }
 
+/* Where a block of a file is on the device, in blocks of the size that is asked with. */
 static int note_bmap(REQ, size_t blocksize, uint64_t idx, uint64_t *block)
 {
 	*block = 77;
@@ -417,6 +424,7 @@ static int note_ioctl(REQ, uint32_t cmd, uint64_t arg, FI, uint32_t flags, const
 		   (int)in_size, (const char *)in_buf, out_size);
 }
 
+/* `kh` is what a notice wakes the caller by; there is to be one only if `notify` says so. */
 static int note_poll(REQ, FI, uint32_t events, uint64_t kh, int notify, uint32_t *revents)
 {
 	*revents = POLLIN | POLLOUT;

@@ -44,6 +44,7 @@ static int note_init(const nizwarf_req *req, uint64_t capable, uint64_t *want)
 	return say("init %d %x", req->user == said, (unsigned)capable & 3 << 13);
 }
 
+/* 1: with the pointer that the caller handed in; it is no file's. */
 static void note_destroy(const nizwarf_req *req)
 {
 	say("destroy %d", req->user == said);
@@ -66,11 +67,13 @@ static int note_lookup(REQ, const char *name, nizwarf_entry_param *e)
 	return entry(e);
 }
 
+/* It begins with a blank, since it may come after another call of the same request. */
 static void note_forget(REQ, uint64_t nlookup)
 {
 	say(" forget %u %u", INO, (unsigned)nlookup);
 }
 
+/* A GETATTR of no open file has none: -1 in place of its handle. */
 static int note_getattr(REQ, FI, nizwarf_attr *attr, struct timespec *attr_timeout)
 {
 	attr->size = 7;
@@ -94,6 +97,7 @@ static int note_setattr(REQ, const nizwarf_setattr *set, uint32_t to_set, FI, ni
 /* By how many bytes what is answered is longer than it is. */
 static size_t excess;
 
+/* A text without a 0: its length says where it ends. */
 static int note_readlink(REQ, char *link, size_t size, size_t *len)
 {
 	memcpy(link, "target", 6);
@@ -101,6 +105,7 @@ static int note_readlink(REQ, char *link, size_t size, size_t *len)
 	return say("readlink %u %zu", INO, size);
 }
 
+/* The umask is no argument: whoever wants it reads it in the call. */
 static int note_mknod(REQ, const char *name, uint32_t mode, uint32_t rdev, nizwarf_entry_param *e)
 {
 	say("mknod %u %s %o %u %o", INO, name, mode, rdev, req->call->umask);
@@ -123,6 +128,7 @@ static int note_rmdir(REQ, const char *name)
 	return say("rmdir %u %s", INO, name);
 }
 
+/* The text comes first, as in libfuse. */
 static int note_symlink(const nizwarf_req *req, const char *link, uint64_t ino, const char *name,
 			nizwarf_entry_param *e)
 {
@@ -141,6 +147,8 @@ static int note_link(REQ, uint64_t to, const char *name, nizwarf_entry_param *e)
 	return entry(e);
 }
 
+/* The handle and the flags that it sets are replied; the client hands the handle back in each call of
+ * the file. */
 static int note_open(REQ, nizwarf_file_info *fi)
 {
 	say("open %u %x", INO, fi->flags);
@@ -149,6 +157,7 @@ static int note_open(REQ, nizwarf_file_info *fi)
 	return failure;
 }
 
+/* Puts fewer bytes than are asked for, as at the end of a file; or says that it put more than it could. */
 static int note_read(REQ, size_t size, uint64_t off, FI, void *buf, size_t *len)
 {
 	memcpy(buf, "data", 4);
@@ -156,6 +165,7 @@ static int note_read(REQ, size_t size, uint64_t off, FI, void *buf, size_t *len)
 	return say("read %u %zu %u %u", INO, size, (unsigned)off, FH);
 }
 
+/* The data have no 0 at their end. */
 static int note_write(REQ, const void *buf, size_t size, uint64_t off, FI, size_t *len)
 {
 	*len = size + excess;
@@ -167,6 +177,7 @@ static int note_flush(REQ, FI)
 	return say("flush %u %u %u", INO, FH, (unsigned)fi->lock_owner);
 }
 
+/* The flags are those of the open file, and not what the kernel says of the release. */
 static int note_release(REQ, FI)
 {
 	return say("release %u %u %x", INO, FH, fi->flags);
@@ -230,6 +241,7 @@ static int note_setxattr(REQ, const char *name, const void *value, size_t size, 
 	return say("setxattr %u %s %.*s %u", INO, name, (int)size, (const char *)value, flags);
 }
 
+/* A size of 0 asks how long the value is: nothing may be put anywhere then. */
 static int note_getxattr(REQ, const char *name, size_t size, void *value, size_t *len)
 {
 	if (size)
@@ -256,6 +268,7 @@ static int note_access(REQ, uint32_t mask)
 	return say("access %u %u", INO, mask);
 }
 
+/* It has an entry and a handle: if the reply doesn't fit, both are to be taken back. */
 static int note_create(REQ, const char *name, uint32_t mode, nizwarf_file_info *fi, nizwarf_entry_param *e)
 {
 	say("create %u %s %o %x", INO, name, mode, fi->flags);
@@ -268,6 +281,7 @@ static int note_fallocate(REQ, uint32_t mode, uint64_t offset, uint64_t length, 
 	return say("fallocate %u %u %u %u %u", INO, mode, (unsigned)offset, (unsigned)length, FH);
 }
 
+/* SEEK_DATA and SEEK_HOLE alone come here: Linux does the others itself. */
 static int note_lseek(REQ, uint64_t off, uint32_t whence, FI, uint64_t *found)
 {
 	*found = 15;
@@ -284,11 +298,13 @@ static int note_copy(REQ, uint64_t off_in, FI, uint64_t ino_out, uint64_t off_ou
 		   (unsigned)off_out, (unsigned)fi_out->fh, (unsigned)size, (unsigned)flags);
 }
 
+/* Of the file system, whichever node is named. */
 static int note_syncfs(const nizwarf_req *req, uint64_t ino)
 {
 	return say("syncfs %u", INO);
 }
 
+/* `unique` is the number of the request that is to be interrupted, and not of this one. */
 static void note_interrupt(void *user, uint64_t unique)
 {
 	say("interrupt %d %u", user == said, (unsigned)unique);
@@ -380,6 +396,7 @@ static void answers(void)
 	const uint32_t open[] = { 2, 0 }, create[] = { 1, 0600, 0, 0 };
 	const uint32_t mknod[] = { 0644, 9, 022, 0 };
 
+	/* (144 bytes: a header of 16 and an entry of 128; attributes with their time have 104) */
 	expect_record(NIZWARF_LOOKUP, zeros, 0, "a", NULL, "lookup 2 a", 144);
 	CHECK(u64(ours + 16) == 5 && u64(ours + 24) == 6 && u64(ours + 56) == 50);
 	CHECK(u64(ours + 32) == 3 && u32(ours + 48) == 4);
@@ -518,6 +535,8 @@ static void entries_that_do_not_fit(void)
 {
 	size_t len;
 
+	/* (each length of the room that is too short for the reply: not even one byte may make a
+	 * difference) */
 	begin(NIZWARF_LOOKUP, 2);
 	add_name("a");
 	for (space = 0; space < 144; space++) {
@@ -526,6 +545,8 @@ static void entries_that_do_not_fit(void)
 					0, &len) == NIZWARF_ENCODE_MESSAGE);
 		CHECK(!len && !strcmp(said, "lookup 2 a forget 5 1"));
 	}
+	/* (a fault has a header alone, so it fits where the entry did not; and there is no lookup to
+	 * give back) */
 	failure = ENOENT;
 	space = 16;
 	expect("lookup 2 a", 16);
@@ -657,6 +678,7 @@ static void ends(void)
 	said[0] = 0;
 	nizwarf_end_ops(&ops, said, &session);
 	CHECK(!strcmp(said, "destroy 1") && !session.options);
+	/* (once more: nothing is left that could be ended) */
 	nizwarf_end_ops(&ops, said, &session);
 	CHECK(!strcmp(said, "destroy 1"));
 	expect_options(FUSE_BIG_WRITES, FUSE_BIG_WRITES);

@@ -74,6 +74,7 @@ static union {
 } reply;
 static nizwarf_server server = NIZWARF_NONE;
 
+/* A line with another word is a fault of the file, and ends the program. */
 static const struct opcode *opcode_of(const char *name)
 {
 	size_t i;
@@ -85,6 +86,7 @@ static const struct opcode *opcode_of(const char *name)
 	return NULL;
 }
 
+/* A number as C writes them: 0x for hexadecimal, 0 for octal, as modes are. */
 static uint64_t number_in(const char *word)
 {
 	char *end;
@@ -148,8 +150,10 @@ static size_t ask(const char *name, char **rest)
 	const char *word;
 
 	memset(&request, 0, sizeof(request));
+	/* (no byte of an earlier reply is left that could pass for one of this) */
 	memset(&reply, 0xaa, sizeof(reply));
 	request.header.opcode = op->number;
+	/* (any number: the reply must have it too) */
 	request.header.unique = 9;
 	request.header.nodeid = number_in(next(rest));
 	for (word = next(rest); strcmp(word, "="); word = next(rest)) {
@@ -178,6 +182,7 @@ static void hold(size_t len, char **rest)
 	}
 	CHECK(len >= sizeof(reply.header) && reply.header.len == len && reply.header.unique == 9);
 	CHECK(reply.header.error <= 0);
+	/* (the file names errors, as ENOENT) */
 	CHECK(!strcmp(word, reply.header.error ? strerrorname_np(-reply.header.error) : "OK"));
 	CHECK(number_in(next(rest)) == len);
 	while ((word = next(rest))) {
@@ -228,6 +233,7 @@ static void gone(unsigned kept, const char *last)
 {
 	unsigned i;
 
+	/* (of so few nodes and bytes that one which is not given back shows in a later STATFS) */
 	say("NEW 64 8332 64");
 	for (i = 0; i < FILES; i++) {
 		say("MKNOD 1 4:0100644 '%c = OK 144  @16 8:%u", 'A' + i, i + 2);
@@ -257,10 +263,12 @@ int main(int count, char **words)
 	}
 	fclose(file);
 	CHECK(steps > 0);
+	/* (the last that was made, the first, and one between: wherever it is in the table of nodes) */
 	gone(FILES - 1, again);
 	gone(FILES - 1, end);
 	gone(0, end);
 	gone(17, again);
+	/* (`live` counts the library's allocations) */
 	CHECK(nizwarf_end(&server) == NIZWARF_OK && live == 0);
 	printf("The tree replied to %u steps of sessions as it should.\n", steps);
 	return 0;
