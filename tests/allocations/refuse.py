@@ -110,6 +110,7 @@ faults = []
 
 
 def wrong(what, it):
+    """Notes a run that came to something else, and shows the end of what it said."""
     faults.append(what)
     print(f"{what}: status {it.status}\n{it.output[-2000:]}", file=sys.stderr)
 
@@ -127,6 +128,7 @@ class Refusals:
             raise ValueError("test_sessions, refused nothing, does not end well")
 
     def stdin(self, but=None):
+        """The session's lines, without one of them: what is answered then is what a refusal must leave."""
         return b"".join([b"refusals\n", *(line for at, line in enumerate(self.lines) if at != but)])
 
     def wanted(self, at):

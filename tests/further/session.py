@@ -128,6 +128,7 @@ def others(news):
     woken = []
 
     def wait():
+        """Waits in poll(2), and notes what woke it, and when."""
         begun = time.time()
         woken.append((poll.poll(5000), time.time() - begun))
     # (poll(2) waits on a thread of its own, while this one has the event come)

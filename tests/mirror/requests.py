@@ -115,6 +115,7 @@ class Library:
         self.of = ctypes.CDLL(file)
         self.server, self.length = ctypes.c_void_p(), ctypes.c_size_t()
         self.room = ctypes.create_string_buffer(ROOM)
+        # (ctypes takes each argument and result for an int of 32 bits if it isn't told)
         self.of.nizwarf_copy_at.restype = ctypes.c_size_t
         self.of.nizwarf_tell_time_at.argtypes = [ctypes.c_void_p, ctypes.c_uint64, ctypes.c_uint32]
         self.of.nizwarf_message_at.argtypes = [ctypes.c_void_p, ctypes.c_void_p, ctypes.c_size_t, ctypes.c_size_t,
@@ -128,6 +129,7 @@ class Library:
         self.ask(Op.INIT, 0, record(Op.INIT, major=7, minor=31, readahead=131072, flags=0x3BFFFFFB & ~(1 << 26)))
 
     def end(self):
+        """Ends the server, with its tree."""
         self.of.nizwarf_end_at(ctypes.byref(self.server))
 
     def ask(self, opcode, node, body=b"", room=ROOM):
@@ -145,6 +147,7 @@ class Library:
         code = self.of.nizwarf_message_at(server, pieces, 2, room, ctypes.byref(self.length))
         if code:
             raise RuntimeError(f"opcode {opcode} came to {code}")
+        # (no reply: of a FORGET)
         length = self.length.value
         if not length:
             return b""

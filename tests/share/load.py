@@ -70,6 +70,7 @@ class Keeper:
 
     def hold_undone(self, error, name):
         """What finds no descriptor makes no name."""
+        # (looked for in the folder: through the mount that may want a descriptor too)
         if error.errno in SCARCE and os.path.lexists(f"{self.folder}/{name}"):
             wrong(f"{name} was made, and refused: {error}")
 
@@ -102,6 +103,7 @@ class Keeper:
                 opened, at = True, 0
                 while at < size:
                     at += file.write(data[at:at + self.chance.choice((100, 4096, 65536, MIB))])
+                # (what a disk that is full refuses later would otherwise come at no call)
                 os.fsync(file.fileno())
         except OSError as error:
             self.note(error, "a write")
@@ -109,6 +111,7 @@ class Keeper:
                 self.hold_undone(error, name)
             self.remove(name)
             return False
+        # (their sums alone: all files together may be larger than memory)
         self.files[name] = hashlib.sha256(data).digest()
         count("files kept")
         return True
@@ -164,6 +167,7 @@ def keep(keeper, until, size):
         if not keeper.write(keeper.chance.randrange(size)):
             time.sleep(0.01)
         keeper.change()
+        # (so that a small disk isn't full of these alone)
         if len(keeper.files) > 50:
             for name in sorted(keeper.files)[:25]:
                 keeper.remove(name)
@@ -183,6 +187,7 @@ def hold_failure(said, killed):
 
 def kill_one(pids, killed, chance):
     """Kills a process of stress-ng, and remembers which stressor it was."""
+    # (it may have ended by now: then nothing is killed)
     pid = int(chance.choice(pids))
     try:
         with open(f"/proc/{pid}/cmdline") as words:

@@ -25,6 +25,7 @@ import tempfile
 from machine import (GUEST, LOG_ALL, LONG, PAGE, ROOM, SET_FEATURES, SET_LOG_FD, SET_STATE_FD, USED, GET_FEATURES,
                      GET_PROTOCOL, DEVICE_STATE, LOG_SHMFD, Machine, Op, record)
 
+# Errors by Linux's numbers, and how many names a directory has: more than one answer holds.
 ESTALE, EBADF, EROFS, NAMES = 116, 9, 30, 300
 HANDLES = "--migration-mode=file-handles"
 # Of the state: its header, of a record, a node, an open file, and the end.
@@ -34,6 +35,7 @@ faults = []
 
 
 def hold(what, came, wanted):
+    """Notes what differs, and goes on: one run shows all that is wrong."""
     if came != wanted:
         faults.append(f"{what}: {came} and not {wanted}")
 
@@ -58,9 +60,11 @@ class Server:
         return self.log.read()
 
     def machine(self, **more):
+        """A machine that talks to the server, from its first message on."""
         return Machine(self.path, **more)
 
     def end(self):
+        """Ends the server by a signal; sanitizers may have said something without ending it."""
         self.process.terminate()
         try:
             status = self.process.wait(LONG)
@@ -75,6 +79,7 @@ class Server:
 
 
 def make_folder():
+    """A folder anew: a file with two names, one that will go, and a directory of many names."""
     folder = tempfile.mkdtemp(dir=WORK)
     os.makedirs(folder + "/d/deep")
     for name, data in (("file", b"0123456789"), ("first", b"a file of two names"), ("end", b"begun"), ("gone", b"gone")):
@@ -99,6 +104,7 @@ def begin(machine):
         machine.ask(Op.FORGET, record(Op.FORGET, lookups=1), number, room=16)
     for name in (b"file", b"first", b"end", b"gone", b"link", b"deep"):
         had[name] = machine.look_up(name, had[b"d"])
+    # (once more, so that a node has more lookups than one)
     machine.look_up(b"file", had[b"d"])
     had["file"] = machine.open(had[b"file"])
     had["first"] = machine.open(had[b"first"], os.O_RDONLY)
@@ -108,6 +114,7 @@ def begin(machine):
     made = machine.take(Op.CREATE, record(Op.CREATE, flags=os.O_RDWR, mode=0o644) + b"made\0", had[b"deep"])
     had[b"made"], had["made"] = struct.unpack_from("<Q", made)[0], struct.unpack_from("<Q", made, 128)[0]
     hold("WRITE", machine.write(had[b"made"], had["made"], b"made here"), 0)
+    # (a part of the names: the other server goes on where this one stopped)
     had["listed"], had["at"] = machine.list(had[b"many"], had["many"], 1000)
     return had
 
@@ -131,9 +138,11 @@ def go_on(machine, had, folder, name=b"file"):
     hold("the names of a list", sorted(names), sorted([b".", b"..", *(b"name%03d" % i for i in range(NAMES))]))
     if name:
         hold("LOOKUP of what is known", machine.look_up(name, had[b"d"]), had[b"file"])
+    # (those that the first server gave back, and others: the second one must give no number twice)
     for i in range(20):
         number = machine.look_up(b"name%03d" % i, had[b"many"])
         hold("a new node has a number of its own", number in had.values() or number <= 1, False)
+    # (in the upper half of a number is how often its place was used)
     for number in (2, 3, 7):
         hold("GETATTR of a number that was given back", machine.ask(Op.GETATTR, record(Op.GETATTR), number | 7 << 32)[0], ESTALE)
     hold("RELEASE", machine.ask(Op.RELEASE, record(Op.RELEASE, handle=had["file"]), had[b"file"])[0], 0)
@@ -208,6 +217,7 @@ def replace(folder):
 
 
 def modes():
+    """Each pair of modes in which the two servers may find files: by paths, or by handles."""
     move([], [])
     move([], ["--inode-file-handles=prefer"])
     move(["--inode-file-handles=prefer"], [])
@@ -218,6 +228,7 @@ def modes():
 
 
 def errors():
+    """What can't be found ends the loading, or is an error to the client alone, as is said at the start."""
     unlink = lambda folder: os.unlink(folder + "/d/gone")
     move([], [], unlink, loads=False)
     move([], ["--migration-on-error=guest-error"], unlink, then=without_gone)
@@ -315,6 +326,7 @@ def node(number, path, lookups=1, kind=0o100000, handle=b"", handle_type=1, moun
 
 
 def file(number, of, flags=0):
+    """A record of an open file of a node."""
     return FILE_KIND, struct.pack(FILE, number, of, flags, 0)
 
 
@@ -445,6 +457,7 @@ def by_handles(folder, outside):
 
 
 def states():
+    """States that are damaged, or made up by one who wants out of the folder."""
     folder = make_folder()
     outside = os.path.join(os.path.dirname(folder), "outside")
     pathlib.Path(outside).write_text("outside")

@@ -35,6 +35,7 @@ while time.monotonic() < until:
 """
 # How a mount goes, whether with a file that is open, and the status of its server.
 ENDS = {"umount": (False, 0), "umount -l": (True, 0), "a signal": (True, 0), "a server that is killed": (False, 1)}
+# By this the kernel remembers what it was told long after a change, unless the server tells it of that.
 HOUR = "-oentry_timeout=3600,attr_timeout=3600,negative_timeout=3600"
 MOVES = 5
 
@@ -55,6 +56,7 @@ def use_and_end(server, how, chance):
     name, data = os.path.basename(server.mount), chance.randbytes(chance.randrange(100000))
     with open(f"{server.mount}/{name}", "wb", buffering=0) as file:
         file.write(data)
+        # (a lazy unmount and a signal leave an open file to its user: what is written later must come too)
         if is_open:
             end_by(server, how)
             file.write(b"late")
@@ -79,6 +81,7 @@ def come_and_go(share, work, chance):
     folder = work + "/others"
     for _ in range(8):
         servers = []
+        # (several over one folder, each with words of its own)
         for i in range(chance.randrange(1, 5)):
             words = chance.choice(([], ["--sandbox=chroot"], ["--xattr", "--cache=always"], ["--thread-pool-size=1"],
                                    ["--flock", "--posix-lock"]))
@@ -109,6 +112,7 @@ def add_at_once(places, how, chance):
     with open(path) as file:
         number = int(file.read())
     told = sum(map(len, said))
+    # (one that was killed may have added without telling of it, at most once)
     if not told <= number <= told + len(killed) or not told or any(b"!" in it for it in said):
         wrong(f"{how}: {number} of {told}, and {b''.join(said).count(b'!')} changed under the lock")
     if any(it.returncode for it in adding if it not in killed):
@@ -177,6 +181,7 @@ def watched(share, work, chance):
     names = [f"name{i}" for i in range(30)]
 
     def others(chance):
+        """Changes the folder, not through the mount, up to a second after the rest has ended."""
         # (the last changes are theirs)
         while time.monotonic() < until + 1:
             change(folder, names, chance)

@@ -37,6 +37,7 @@ to {most:,}. Times are of the daemon's processor, its kernel's part too. {facts}
 
 
 def say(what):
+    """How far it is, on standard error: the page goes to standard output."""
     print(f"{time.strftime('%H:%M:%S')} {what}", file=sys.stderr)
 
 
@@ -67,6 +68,7 @@ class Daemon:
                 end.close()
 
     def send(self, kind, depth, count):
+        """Begins a class of requests; take() waits for its end."""
         self.front.stdin.write(f"{kind} {depth} {count}\n")
         self.front.stdin.flush()
 
@@ -78,6 +80,7 @@ class Daemon:
         return tuple(int(word) for word in line.split()[:2])
 
     def ask(self, kind, depth, count):
+        """A class of requests, up to their end."""
         self.send(kind, depth, count)
         return self.take()
 
@@ -253,6 +256,7 @@ def main():
     grown = {name: grow(name) for name in names}
 
     def cells(size, form):
+        """A row of the table; `-` where a server could not have that many."""
         return [f"{size:,}", *(form.format(*grown[name][0][size]) if size in grown[name][0] else "-" for name in names)]
 
     print("## Files that are known\n\n![bytes and microseconds of a file by the number of files](../pictures/growth.svg)\n\n"

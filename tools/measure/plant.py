@@ -49,6 +49,7 @@ def sum_of(crate):
 
 
 def has_contracts(crate):
+    """Without one nothing could refuse a wrong body."""
     return any(path.endswith(".rt") and re.search(r"\bensures\b", text) for path, text in files_of(crate))
 
 
@@ -67,6 +68,7 @@ def graph():
     named = {name: uses.split() for name, uses in re.findall(r"^(\w+)[^:\n]*:(.*)", read("crates.txt"), re.M)}
 
     def below(name):
+        """All that a crate is built on, each once, lower ones first."""
         return list(dict.fromkeys(one for it in named[name] if it in named for one in [*below(it), it]))
 
     return {name: below(name) for name in named}

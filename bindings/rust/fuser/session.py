@@ -41,11 +41,13 @@ def attributes(path):
 
 
 def times(path):
+    """When it was read and changed last, in nanoseconds."""
     of = os.lstat(path)
     return of.st_atime_ns, of.st_mtime_ns
 
 
 def statistics(path):
+    """What it says of the file system, but for what is free, which others change."""
     of = os.statvfs(path)
     return of.f_bsize, of.f_frsize, of.f_blocks, of.f_files, of.f_namemax, of.f_flag
 
