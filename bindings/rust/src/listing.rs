@@ -24,6 +24,7 @@ impl<F: FileSystem> Server<F> {
             Err(error) => return to.fail(slot, &error),
         };
         let mut listing = Listing::default();
+        // What the client asked for, or what its buffer has after the header, if that is less.
         let most = (size as usize).min(to.room().saturating_sub(HEADER));
         let list = || {
             while let Some(name) = self.take_item(&mut iterator, &mut listing, most, place.plus) {
@@ -35,6 +36,7 @@ impl<F: FileSystem> Server<F> {
         };
         // (a panic comes here only if none are caught)
         if let Err(panic) = catch_unwind(AssertUnwindSafe(list)) {
+            // Their lookups would never be told to the client, which could not give them back.
             listing
                 .items()
                 .iter()
@@ -105,6 +107,7 @@ impl Listing {
     /// Adds an item, if it fits. Returns whether it does.
     fn add(&mut self, item: &DirEntry<'_>, most: usize, plus: bool) -> bool {
         let record = Item::new(item.ino, item.offset, item.type_, item.name).record_len(plus);
+        // It doesn't underflow: `len` is the sum of records that each fitted.
         if record > most - self.len {
             return false;
         }
@@ -121,15 +124,18 @@ impl Listing {
         true
     }
 
+    /// Where the last item's name begins.
     fn last_at(&self) -> usize {
         self.records.last().map_or(0, |record| record.at)
     }
 
+    /// The last item's name, without its NUL.
     fn last_name(&self) -> &[u8] {
         let name = &self.names[self.last_at()..];
         name.split_last().map_or(name, |(_, name)| name)
     }
 
+    /// The items as the library takes them. They are made at the end, since `names` may move as it grows.
     fn items(&self) -> Vec<Item<'_>> {
         let ends = self.records.iter().skip(1).map(|record| record.at);
         let ends = ends.chain([self.names.len()]);

@@ -58,6 +58,8 @@ impl<F: FileSystem> Server<F> {
                 flags,
                 to,
             } => {
+                // A file system can't have written more than it was handed: Linux would take the difference
+                // for done.
                 let most = data.len();
                 let mut reader = Reader::new(data);
                 let written = self.ask(|files| {
@@ -80,6 +82,7 @@ impl<F: FileSystem> Server<F> {
                 let result =
                     self.ask(|files| files.open(ctx, node.into(), kill_priv, flags).map(opened));
                 let told = to.answer(slot, result);
+                // The reply does not fit, so the client does not know the handle.
                 if let Some((node, handle)) = told.lost_handle() {
                     self.release(ctx, node, handle, flags);
                 }
@@ -134,12 +137,15 @@ impl<F: FileSystem> Server<F> {
                 to.done(slot)
             }
             Call::BatchForget { forgets, to } => {
+                // The trait takes a `Vec`, as virtiofsd's does; the call itself only lends the request's
+                // bytes.
                 let forgets = forgets.map(|(node, count)| (node.into(), count)).collect();
                 self.quietly(|files| files.batch_forget(ctx, forgets));
                 to.done(slot)
             }
             Call::Init { to, .. } => to.fail(slot, &no_number()), // `begin` makes it
             Call::Destroy { to } => {
+                // So the end of the session calls `destroy` no second time.
                 self.begun.store(false, Ordering::Release);
                 self.quietly(F::destroy);
                 to.done(slot)
@@ -191,6 +197,7 @@ impl<F: FileSystem> Server<F> {
     }
 }
 
+/// A handle of the file system's own type as the number that the protocol has.
 fn opened<H: Into<u64>>((handle, options): (Option<H>, OpenOptions)) -> (Option<u64>, OpenOptions) {
     (handle.map(Into::into), options)
 }

@@ -33,6 +33,7 @@ impl<'r> Reader<'r> {
 impl Read for Reader<'_> {
     fn read(&mut self, to: &mut [u8]) -> io::Result<usize> {
         let piece = self.piece();
+        // Less than asked for where a piece ends: `Read` lets it, and `read_exact` goes on.
         let len = piece.len().min(to.len());
         to[..len].copy_from_slice(&piece[..len]);
         self.piece = &piece[len..];
@@ -52,6 +53,7 @@ impl ZeroCopyReader for Reader<'_> {
             let piece = self.piece();
             let moving = &piece[..piece.len().min(left)];
             let moved = match flags {
+                // pwrite(2): the file's own offset, which other threads may use, stays.
                 None => f.write_at(moving, at)?,
                 // (at the end of the data there is nothing to write)
                 Some(_) if moving.is_empty() => 0,
@@ -89,6 +91,7 @@ impl<'a, 'b> Writer<'a, 'b> {
                 is_full
             })
             .count();
+        // Full slices are dropped, so that they are looked at once and not at each call.
         self.room = std::mem::take(&mut self.room).split_at_mut(full).1;
         match self.room.first_mut() {
             Some(slice) => {
@@ -99,6 +102,7 @@ impl<'a, 'b> Writer<'a, 'b> {
         }
     }
 
+    /// Passes over what was put. `moved` is at most the length of `piece`, so none of the three overflows.
     fn advance(&mut self, moved: usize) {
         self.skip += moved;
         self.left -= moved;
@@ -124,6 +128,7 @@ impl ZeroCopyWriter for Writer<'_, '_> {
     fn read_from_file_at(&mut self, f: &File, count: usize, off: u64) -> io::Result<usize> {
         transfer(count, off, |left, at| {
             let piece = self.piece();
+            // A `count` below the room's length: a file must not be read past what was asked for.
             let len = piece.len().min(left);
             let moved = f.read_at(&mut piece[..len], at)?;
             self.advance(moved);
@@ -145,6 +150,7 @@ fn transfer(
             Ok(0) => break,
             Ok(moved) => done += moved,
             Err(error) if error.kind() == io::ErrorKind::Interrupted => {}
+            // What was moved is told, and the error comes again where the caller goes on.
             Err(_) if done > 0 => break,
             Err(error) => return Err(error),
         }

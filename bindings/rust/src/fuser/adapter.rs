@@ -68,6 +68,7 @@ pub(super) struct Adapter<F: Filesystem> {
 }
 
 impl<F: Filesystem> Adapter<F> {
+    /// `most_write` is the largest WRITE in bytes, which INIT's reply tells.
     pub fn new(files: F, acl: SessionACL, most_write: u32) -> Self {
         Adapter {
             stage: RwLock::new(Stage::New(files)),
@@ -105,10 +106,12 @@ impl<F: Filesystem> Adapter<F> {
         }
     }
 
+    /// The stage, for a call: any number may hold it. That one panicked is let be: the session ends by it.
     fn read(&self) -> RwLockReadGuard<'_, Stage<F>> {
         self.stage.read().unwrap_or_else(PoisonError::into_inner)
     }
 
+    /// The stage, to change it: it waits for the calls that are under way.
     fn write(&self) -> RwLockWriteGuard<'_, Stage<F>> {
         self.stage.write().unwrap_or_else(PoisonError::into_inner)
     }
@@ -147,6 +150,7 @@ impl<F: Filesystem> Adapter<F> {
 
     /// Whether a call of this user is made. Those that the kernel makes for nobody are.
     fn allows(&self, uid: u32, call: &Call<'_>) -> bool {
+        // The kernel makes these for what is open already, by whoever flushes or closes it.
         let is_of_nobody = matches!(
             call,
             Call::Read { .. }
@@ -198,6 +202,7 @@ impl<F: Filesystem> FileSystem for Adapter<F> {
             }
             Err(error) => {
                 files.destroy();
+                // The client gets a number, and `mount2` the error itself.
                 let told = Errno::from_i32(error.raw_os_error().unwrap_or(0));
                 *guard(&self.failed) = Some(error);
                 Err(told.into())
@@ -255,6 +260,7 @@ struct Made<'a, F> {
     link: &'a Link,
 }
 
+/// A name as fuser has it: without a NUL, and of any bytes.
 fn name_of(name: &CStr) -> &OsStr {
     OsStr::from_bytes(name.to_bytes())
 }
@@ -271,10 +277,12 @@ fn are_places(places: &[u64]) -> bool {
 }
 
 impl<F: Filesystem> Made<'_, F> {
+    /// What a reply answers by. It may be kept beyond the call, so it has a link of its own.
     fn answer<K>(&self, to: To<K>) -> Answer<K> {
         Answer::new(to, self.link)
     }
 
+    /// The reply of a call that tells nothing but its outcome.
     fn empty(&self, to: To<Done>) -> ReplyEmpty {
         ReplyEmpty(self.answer(to))
     }
