@@ -87,6 +87,15 @@ static void let_pass(void)
 	nanosleep(&pause, NULL);
 }
 
+/* Keeps the options of a client, unless it has gone: the next one may have agreed on others. */
+static void agree_on(struct passthrough *all, unsigned client, uint64_t options)
+{
+	pthread_mutex_lock(&all->agreeing);
+	if (is_client(&all->nodes, client))
+		atomic_store(&all->agreed, options);
+	pthread_mutex_unlock(&all->agreeing);
+}
+
 /* Makes the call, and gives back what the client doesn't get. */
 static int32_t answer_call(struct call *call, const nizwarf_session *session, const nizwarf_room *room,
 			   size_t rooms, ssize_t pieces, nizwarf_told *told)
@@ -104,9 +113,8 @@ static int32_t answer_call(struct call *call, const nizwarf_session *session, co
 		return NIZWARF_ASKED;
 	/* (the slot that it was asked with has memory for the reply) */
 	code = nizwarf_reply(&call->worker->slot, session, asked, answer, room, rooms, told);
-	/* (its client may have gone meanwhile, and the next one have agreed on others) */
-	if ((asked->call == NIZWARF_INIT || asked->call == NIZWARF_DESTROY) && is_there(call))
-		atomic_store(&all->agreed, told->options);
+	if (asked->call == NIZWARF_INIT || asked->call == NIZWARF_DESTROY)
+		agree_on(all, call->client, told->options);
 	if (told->give_back)
 		node_forget(&all->nodes, call->client, told->give_back, 1);
 	if (asked->call == NIZWARF_READDIR)
@@ -171,7 +179,7 @@ int32_t passthrough_serve(void *user, unsigned worker, const nizwarf_segment *re
 	nizwarf_told told = { 0 };
 	struct call call = { .all = all,
 			     .worker = w,
-			     .client = atomic_load(&all->nodes.clients),
+			     .client = vhost_user_client(),
 			     .asked = &asked,
 			     .request = request->at,
 			     .data = NULL,
@@ -185,7 +193,7 @@ int32_t passthrough_serve(void *user, unsigned worker, const nizwarf_segment *re
 
 	code = ask(w, &session, all->offers, &whole, room, rooms, &asked, &told);
 	if (told.interrupts && all->locks)
-		locks_interrupt(all->locks, told.interrupts);
+		locks_interrupt(all->locks, call.client, told.interrupts);
 	if (code != NIZWARF_ASKED) {
 		*len = told.len;
 		return code;
@@ -273,19 +281,19 @@ void passthrough_parted(void *user)
 {
 	struct passthrough *all = user;
 	struct left *left = calloc(1, sizeof(*left));
-
 	/* (first: a late request of it enters nothing from then on, and takes nothing out) */
-	atomic_fetch_add(&all->nodes.clients, 1);
+	const unsigned next = atomic_fetch_add(&all->nodes.clients, 1) + 1;
+
 	if (left) {
 		left->all = all;
-		left->locks = all->locks ? locks_take_all(all->locks) : NULL;
-		nodes_take_all(&all->nodes, &left->gone);
+		left->locks = all->locks ? locks_take_all(all->locks, next) : NULL;
+		nodes_take_all(&all->nodes, next, &left->gone);
 	} else {
 		if (all->locks)
-			locks_forget_all(all->locks);
-		nodes_forget_all(&all->nodes);
+			locks_forget_all(all->locks, next);
+		nodes_forget_all(&all->nodes, next);
 	}
-	atomic_store(&all->agreed, 0);
+	agree_on(all, next, 0);
 	atomic_store(&all->lacks_option, false);
 	if (left)
 		await_closed(left);
@@ -338,6 +346,7 @@ static void free_passthrough(struct passthrough *all)
 		free(w);
 	}
 	backings_free(all->backings);
+	pthread_mutex_destroy(&all->agreeing);
 	free(all);
 }
 
@@ -364,6 +373,7 @@ struct passthrough *passthrough_new(int root, int proc, const struct passthrough
 	if (!all)
 		return NULL;
 	all->options = *options;
+	pthread_mutex_init(&all->agreeing, NULL);
 	set_times(all);
 	all->offers = OFFERS | (options->flock || options->posix_lock ? NIZWARF_OFFER_LOCKS : 0) |
 		      (options->passthrough ? NIZWARF_OFFER_INIT : 0);

@@ -748,10 +748,9 @@ static void forget_all(const struct call *call)
 {
 	struct passthrough *all = call->all;
 
-	if (all->locks && is_there(call))
-		locks_forget_all(all->locks);
-	if (is_there(call))
-		nodes_forget_all(&all->nodes);
+	if (all->locks)
+		locks_forget_all(all->locks, call->client);
+	nodes_forget_all(&all->nodes, call->client);
 }
 
 /* INIT: of a new client, or of one that began anew. */

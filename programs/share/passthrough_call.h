@@ -49,8 +49,9 @@ struct passthrough {
 	struct locks *locks;
 	/* NULL: files are read and written by requests. */
 	struct backings *backings;
-	/* The options that are agreed on with the client. */
+	/* The options that are agreed on with the client. The lock is held by who changes them. */
 	atomic_ullong agreed;
+	pthread_mutex_t agreeing;
 	/* How many threads close what such had. */
 	atomic_uint closing;
 	/* It was said that the client lacks what it must have. */

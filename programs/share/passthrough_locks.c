@@ -17,8 +17,8 @@
  *
  * A hostile client may name any owner and any node. It gets holders of files alone that it has open,
  * each with a descriptor that counts among those that it may have, and can give up no locks but its
- * own. A request whose client has gone takes no holder and drops none: under the lock it is looked whether that
- * is so, and the table is emptied after it. */
+ * own. A request whose client has gone takes no holder, drops none and ends no waiting: under the lock it is looked
+ * whether that is so, and the table is emptied after it. */
 #define _GNU_SOURCE
 #include <errno.h>
 #include <fcntl.h>
@@ -470,7 +470,7 @@ static int start_waiter(const struct call *call, struct holder *h)
 	pthread_attr_setdetachstate(&attributes, PTHREAD_CREATE_DETACHED);
 	pthread_attr_setstacksize(&attributes, STACK < PTHREAD_STACK_MIN ? PTHREAD_STACK_MIN : STACK);
 	pthread_mutex_lock(&all->lock);
-	is_interrupted = nizwarf_take_interrupt(&all->early, w->asked.unique);
+	is_interrupted = is_there(call) && nizwarf_take_interrupt(&all->early, w->asked.unique);
 	if (!is_interrupted && all->waiting < MOST_WAITERS && (w->later = transport_keep())) {
 		w->at = &all->waiters;
 		w->next = all->waiters;
@@ -504,18 +504,21 @@ static int start_waiter(const struct call *call, struct holder *h)
 
 /* Kicks those that are to stop: that of this number, which is kept if there is none; or all, with
  * ENOLCK, since by EINTR Linux takes it that a signal has come. (One that did not wait yet misses it,
- * and is kicked again.) */
-static void kick_each(struct locks *all, const uint64_t *unique, bool keeps, bool *is_left)
+ * and is kicked again.) For a client that has gone nobody stops: who waits is the next one's. */
+static void kick_each(struct locks *all, unsigned client, const uint64_t *unique, bool keeps, bool *is_left)
 {
+	bool is_late;
+
 	*is_left = false;
 	pthread_mutex_lock(&all->lock);
-	for (struct waiter *w = all->waiters; w; w = w->next)
+	is_late = !is_client(all->nodes, client);
+	for (struct waiter *w = is_late ? NULL : all->waiters; w; w = w->next)
 		if (!unique || w->asked.unique == *unique) {
 			atomic_store(&w->stop, unique ? EINTR : ENOLCK);
 			pthread_kill(w->thread, kick());
 			*is_left = true;
 		}
-	if (keeps && !*is_left)
+	if (keeps && !is_late && !*is_left)
 		nizwarf_keep_interrupt(&all->early, *unique);
 	pthread_mutex_unlock(&all->lock);
 }
@@ -523,14 +526,14 @@ static void kick_each(struct locks *all, const uint64_t *unique, bool keeps, boo
 /* An INTERRUPT, whose worker kicks for some 50 milliseconds at most: if the host does not come back by
  * then, the waiter has the error for when it does. One that came before its SETLKW, by another worker,
  * is remembered. */
-void locks_interrupt(struct locks *all, uint64_t unique)
+void locks_interrupt(struct locks *all, unsigned client, uint64_t unique)
 {
 	bool is_left;
 
-	kick_each(all, &unique, true, &is_left);
+	kick_each(all, client, &unique, true, &is_left);
 	for (int i = 0; i < KICKS && is_left; i++) {
 		let_pass();
-		kick_each(all, &unique, false, &is_left);
+		kick_each(all, client, &unique, false, &is_left);
 	}
 }
 
@@ -586,18 +589,19 @@ void locks_recall(struct locks *all)
 {
 	bool is_left;
 
-	kick_each(all, NULL, false, &is_left);
+	kick_each(all, client_now(all->nodes), NULL, false, &is_left);
 }
 
-/* Ends all waiting, up to a second: one may wait for the host, which does not answer. Whether it ended. */
-static bool end_waiting(struct locks *all)
+/* Ends all waiting, up to a second: one may wait for the host, which does not answer. Whether it ended, or is none of this
+ * client's. */
+static bool end_waiting(struct locks *all, unsigned client)
 {
 	bool is_left, is_idle = false;
 
 	for (int i = 0; i < 20 * KICKS && !is_idle; i++) {
-		kick_each(all, NULL, false, &is_left);
+		kick_each(all, client, NULL, false, &is_left);
 		pthread_mutex_lock(&all->lock);
-		is_idle = !all->waiting;
+		is_idle = !all->waiting || !is_client(all->nodes, client);
 		pthread_mutex_unlock(&all->lock);
 		if (!is_idle)
 			let_pass();
@@ -605,15 +609,19 @@ static bool end_waiting(struct locks *all)
 	return is_idle;
 }
 
-/* Takes all out of the table: the first one of a list. What was interrupted before it came is forgotten. */
-static struct holder *take_all(struct locks *all)
+/* Takes all out of the table: the first one of a list; none, if the client has gone. What was interrupted before it came
+ * is forgotten. */
+static struct holder *take_all(struct locks *all, unsigned client)
 {
 	struct holder *gone = NULL, *h;
+	bool is_late;
 
 	pthread_mutex_lock(&all->lock);
+	is_late = !is_client(all->nodes, client);
 	/* (who comes next has requests of the same numbers) */
-	memset(&all->early, 0, sizeof(all->early));
-	for (unsigned i = 0; i < CHAINS; i++)
+	if (!is_late)
+		memset(&all->early, 0, sizeof(all->early));
+	for (unsigned i = 0; i < CHAINS && !is_late; i++)
 		while ((h = all->chains[i])) {
 			all->chains[i] = h->next;
 			h->next = gone;
@@ -660,10 +668,10 @@ bool locks_are_held(struct locks *all)
 
 /* What waits still after a second, since the host does not come back, keeps its holder, and puts it
  * when it ends. */
-struct holder *locks_take_all(struct locks *all)
+struct holder *locks_take_all(struct locks *all, unsigned client)
 {
-	end_waiting(all);
-	return take_all(all);
+	end_waiting(all, client);
+	return take_all(all, client);
 }
 
 void locks_let_go(struct locks *all, struct holder *first)
@@ -676,15 +684,17 @@ void locks_let_go(struct locks *all, struct holder *first)
 	}
 }
 
-void locks_forget_all(struct locks *all)
+void locks_forget_all(struct locks *all, unsigned client)
 {
-	locks_let_go(all, locks_take_all(all));
+	locks_let_go(all, locks_take_all(all, client));
 }
 
 bool locks_free(struct locks *all)
 {
-	locks_forget_all(all);
-	if (!end_waiting(all))
+	const unsigned client = client_now(all->nodes);
+
+	locks_forget_all(all, client);
+	if (!end_waiting(all, client))
 		return false;
 	nizwarf_end_slot(&all->slot);
 	free(all);

@@ -749,15 +749,15 @@ static void trim_heap(void)
 	malloc_trim(0);
 }
 
-/* Takes all nodes but the root out of the table: the first one of a list, and how many. */
-static struct node *take_nodes(struct nodes *all, uint32_t *count)
+/* Takes all nodes but the root out of the table: the first one of a list, and how many; none, if the client has gone. */
+static struct node *take_nodes(struct nodes *all, unsigned client, uint32_t *count)
 {
 	struct node *gone = NULL;
 
 	pthread_rwlock_wrlock(&all->nodes.lock);
-	*count = all->nodes.count;
+	*count = is_client(all, client) ? all->nodes.count : 0;
 	/* (one is the root, which stays) */
-	for (uint32_t i = ROOT_NODE + 1; i < all->nodes.used && all->nodes.count > 1; i++) {
+	for (uint32_t i = ROOT_NODE + 1; *count && i < all->nodes.used && all->nodes.count > 1; i++) {
 		struct node *node = (struct node *)thing_in(&all->nodes, i);
 
 		if (!node)
@@ -771,12 +771,14 @@ static struct node *take_nodes(struct nodes *all, uint32_t *count)
 }
 
 /* The same of open files. */
-static struct open_file *take_files(struct nodes *all)
+static struct open_file *take_files(struct nodes *all, unsigned client)
 {
 	struct open_file *gone = NULL;
+	bool is_late;
 
 	pthread_rwlock_wrlock(&all->files.lock);
-	for (uint32_t i = 1; i < all->files.used && all->files.count; i++) {
+	is_late = !is_client(all, client);
+	for (uint32_t i = 1; !is_late && i < all->files.used && all->files.count; i++) {
 		struct open_file *file = (struct open_file *)thing_in(&all->files, i);
 
 		if (!file)
@@ -789,10 +791,10 @@ static struct open_file *take_files(struct nodes *all)
 	return gone;
 }
 
-void nodes_take_all(struct nodes *all, struct gone *gone)
+void nodes_take_all(struct nodes *all, unsigned client, struct gone *gone)
 {
-	gone->file = take_files(all);
-	gone->node = take_nodes(all, &gone->count);
+	gone->file = take_files(all, client);
+	gone->node = take_nodes(all, client, &gone->count);
 }
 
 void nodes_let_go(struct gone *gone)
@@ -817,18 +819,18 @@ void files_let_go(struct gone *gone)
 	}
 }
 
-void nodes_forget_all(struct nodes *all)
+void nodes_forget_all(struct nodes *all, unsigned client)
 {
 	struct gone gone;
 
-	nodes_take_all(all, &gone);
+	nodes_take_all(all, client, &gone);
 	nodes_let_go(&gone);
 	files_let_go(&gone);
 }
 
 void nodes_empty(struct nodes *all)
 {
-	nodes_forget_all(all);
+	nodes_forget_all(all, client_now(all));
 	begin_placing(&all->nodes);
 	begin_placing(&all->files);
 }
@@ -916,7 +918,7 @@ int nodes_begin(struct nodes *all, int root, int proc, enum file_handles handles
 
 void nodes_end(struct nodes *all)
 {
-	nodes_forget_all(all);
+	nodes_forget_all(all, client_now(all));
 	free_node((struct node *)thing_of(&all->nodes, ROOT_NODE));
 	table_end(&all->nodes);
 	table_end(&all->files);

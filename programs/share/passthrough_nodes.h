@@ -138,8 +138,8 @@ struct nodes {
 	uint64_t named_mount;
 	pthread_mutex_t mounts_lock;
 	struct host_mount *mounts;
-	/* How many clients have gone. Who calls says how many had as its request came. (Each request reads it: it is apart from
-	 * what requests write.) */
+	/* How many clients have gone. Who calls says how many had before that of its request came. (Each request reads it: it is
+	 * apart from what requests write.) */
 	atomic_uint clients;
 };
 
@@ -218,8 +218,14 @@ static inline bool is_client(const struct nodes *all, unsigned client)
 	return client == atomic_load(&all->clients);
 }
 
-/* Lets go of all nodes but the root, and of all open files. */
-void nodes_forget_all(struct nodes *all);
+/* The client that is there now. The transport's own thread alone, by which they go, may ask so. */
+static inline unsigned client_now(const struct nodes *all)
+{
+	return atomic_load(&all->clients);
+}
+
+/* Lets go of all nodes but the root, and of all open files, unless that client has gone. */
+void nodes_forget_all(struct nodes *all, unsigned client);
 /* The same in steps: no number leads to any of them after the first one; then the descriptors of nodes are closed, which
  * opened nothing, and last those of open files, which may wait for a file system that does not answer. */
 struct gone {
@@ -227,7 +233,7 @@ struct gone {
 	struct open_file *file;
 	uint32_t count;
 };
-void nodes_take_all(struct nodes *all, struct gone *gone);
+void nodes_take_all(struct nodes *all, unsigned client, struct gone *gone);
 void nodes_let_go(struct gone *gone);
 void files_let_go(struct gone *gone);
 

@@ -772,12 +772,12 @@ int passthrough_load(void *user, transport_state *from)
 	l->from = from;
 	l->end.sum = FIRST_SUM;
 	if (all->locks)
-		locks_forget_all(all->locks);
+		locks_forget_all(all->locks, client_now(&all->nodes));
 	atomic_store(&all->agreed, 0);
 	nodes_empty(&all->nodes);
 	failed = load_all(l);
 	if (failed)
-		nodes_forget_all(&all->nodes);
+		nodes_forget_all(&all->nodes, client_now(&all->nodes));
 	else
 		atomic_store(&all->agreed, l->header.agreed);
 	nodes_settle(&all->nodes);

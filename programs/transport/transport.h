@@ -110,7 +110,7 @@ typedef struct {
 	int (*begin)(void *user, unsigned worker);
 	void (*end)(void *user, unsigned worker);
 	/* May be NULL. A front end of a virtual machine has gone, and no request of it is in flight, or with
-	 * `has_spare` those alone that don't come back. */
+	 * `has_spare` those alone that don't come back: these are told from the next one's by vhost_user_client(). */
 	void (*parted)(void *user);
 	/* May be NULL: then nothing of a virtual machine is kept (transport_keep). What is kept is to be completed now,
 	 * since the machine pauses, or its memory changes. */
@@ -246,5 +246,9 @@ int vhost_user_serve(const transport *by, int listener);
 
 /* The same with one front end that is connected already, until it hangs up. */
 int vhost_user_serve_one(const transport *by, int client);
+
+/* Whose request `serve` has now, on this thread: how many front ends had parted before that one, though more may have by
+ * now. Over /dev/fuse it is 0. */
+unsigned vhost_user_client(void);
 
 #endif

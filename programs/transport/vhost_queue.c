@@ -328,6 +328,12 @@ static void send_kept(void *about, int32_t code, const void *reply, size_t len)
 	queue_look(kept->q);
 }
 
+/* The number is the guest's own: it stays what it is when the front end goes, and the next one has another. */
+unsigned vhost_user_client(void)
+{
+	return this_worker ? atomic_load(&this_worker->serves)->client : 0;
+}
+
 /* Hands a chain to `serve`, which may keep it, if it can be called back. Answers whether it does: then it
  * may be completed already, and the worker may take the next chain. transport_keep() copies `kept`, which
  * so may stand here. */
@@ -361,8 +367,7 @@ static int64_t answer(struct worker *w, struct guest *g, struct queue *q, uint16
 		broken++;
 		return 0;
 	}
-	/* (to read a guest's memory may take as long as its front end wants: one that has gone meanwhile asks for nothing, or
-	 * it would be the next one that does) */
+	/* (to read a guest's memory may take as long as its front end wants: one that has gone meanwhile asks for nothing) */
 	if (atomic_load(&g->gone))
 		return 0;
 	transport_withhold(by, w->request, w->copied);
@@ -1012,6 +1017,7 @@ static int leave_guest(void)
 
 	if (!next)
 		return failed("a front end");
+	next->client = gone->client + 1;
 	/* (what it is kicked by is closed with it, and wakes nobody meanwhile) */
 	for (int i = 0; i < QUEUES; i++)
 		if (gone->queue[i].kick >= 0)
@@ -1081,6 +1087,7 @@ int queues_part(int signals)
 			return leave_guest();
 	}
 	drop_late(vhost_guest);
+	vhost_guest->client++;
 	later_open(&vhost_guest->later);
 	atomic_store(&vhost_guest->gone, 0);
 	return 0;

@@ -72,6 +72,8 @@ struct guest {
 	atomic_int wanted;
 	/* The front end has gone: no chain is taken or completed. */
 	atomic_int gone;
+	/* How many front ends had parted before it (vhost_user_client). */
+	unsigned client;
 	/* The calling thread, and the workers that serve it. */
 	unsigned users;
 	/* Requests that are answered later. */

@@ -334,8 +334,8 @@ def comes_late():
 
 def restored():
     """What comes late of a machine takes nothing from the next one, which has the same state, and so the same numbers."""
-    server = Server("--sandbox=none", "--thread-pool-size=2", "--flock", "--socket-path=" + path, folder,
-                    LD_PRELOAD=os.environ["LATE_CLOSE"])
+    server = Server("--sandbox=none", "--thread-pool-size=2", "--flock", "--trace", "--socket-path=" + path, folder,
+                    LD_PRELOAD=os.environ["LATE_CLOSE"], stderr=subprocess.DEVNULL)
     with open(folder + "/locked", "w") as file:
         file.write("x" * 4244)
 
@@ -371,7 +371,18 @@ def restored():
     def locks(one):
         lock(one, b"locked", Machine.post)
 
-    for what, begin in (("a SETLK", locks), ("a RELEASE", closes), ("a READDIRPLUS", lists)):
+    def closes_soon(one):
+        one.post(Op.RELEASE, record(Op.RELEASE, handle=files[b"leased"]), nodes[b"leased"], user=4245)
+
+    def begins(one):
+        one.post(Op.INIT, struct.pack("<IIIII", 7, 38, 131072, 0x7BFFFFFB, 15) + bytes(44), user=4245)
+
+    def destroys(one):
+        one.post(Op.DESTROY, user=4246)
+
+    for what, begin in (("a SETLK", locks), ("a RELEASE", closes), ("a READDIRPLUS", lists),
+                        ("a RELEASE that is held up", closes_soon), ("an INIT that is held up", begins),
+                        ("a DESTROY that is held up", destroys)):
         one = machine(state)
         begin(one)
         time.sleep(0.3)
