@@ -33,6 +33,7 @@
 #include <unistd.h>
 #include "fuse_ring.h"
 #include "passthrough.h"
+#include "say.h"
 #include "share_pid.h"
 #include "share_sandbox.h"
 #include "share_syslog.h"
@@ -50,7 +51,7 @@ enum { MOST_START = 1800 };
 
 static int failed(const char *what)
 {
-	fprintf(stderr, "nizwarf-share: %s: %s\n", what, strerror(errno));
+	transport_say("nizwarf-share", "%s: %s", what, strerror(errno));
 	return -1;
 }
 
@@ -205,11 +206,11 @@ static void tell_ready(void *user)
 {
 	(void)user;
 	if (words.says_more)
-		fprintf(stderr, "nizwarf-share: %s is served %s %s\n", words.folder,
-			words.mount_point ? "at" : "on",
-			words.mount_point ? words.mount_point :
-			words.socket_path ? words.socket_path :
-					    "the socket of --fd");
+		transport_say("nizwarf-share", "%s is served %s %s", words.folder,
+			      words.mount_point ? "at" : "on",
+			      words.mount_point ? words.mount_point :
+			      words.socket_path ? words.socket_path :
+						  "the socket of --fd");
 	if (manager >= 0)
 		tell_manager();
 	if (starter >= 0 && write(starter, "", 1) != 1)

@@ -30,13 +30,14 @@
 #include <sys/ioctl.h>
 #include "fuse_backing.h"
 #endif
+#include "say.h"
 #include "share_sandbox.h"
 #include "transport.h"
 
 /* Says what failed, as errno has it: -1. */
 static int failed(const char *what)
 {
-	fprintf(stderr, "nizwarf-share: %s: %s\n", what, strerror(errno));
+	transport_say("nizwarf-share", "%s: %s", what, strerror(errno));
 	return -1;
 }
 
@@ -125,7 +126,7 @@ static void pass_on(struct server *server, int signal)
 	const union sigval unmounted = { .sival_int = FUSE_DEVICE_UNMOUNTED };
 
 	if (signal < 0) {
-		fputs("nizwarf-share: the server doesn't end, and is killed\n", stderr);
+		transport_say("nizwarf-share", "the server doesn't end, and is killed");
 		kill(server->child, SIGKILL);
 		server->end = KILLED;
 		return;
@@ -176,7 +177,7 @@ static _Noreturn void stand_by(pid_t child, int signals, const struct outside *o
 	if (outside->end)
 		outside->end(outside->user);
 	if (WIFSIGNALED(status))
-		fprintf(stderr, "nizwarf-share: signal %d ended the server\n", WTERMSIG(status));
+		transport_say("nizwarf-share", "signal %d ended the server", WTERMSIG(status));
 	_exit(is_left ? 1 : WIFEXITED(status) ? WEXITSTATUS(status) : server.end != KILLED);
 }
 

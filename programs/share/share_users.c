@@ -13,11 +13,12 @@
 #include <string.h>
 #include <sys/wait.h>
 #include <unistd.h>
+#include "say.h"
 #include "share_users.h"
 
 static int failed(const char *what)
 {
-	fprintf(stderr, "nizwarf-share: --sandbox=namespace: %s: %s\n", what, strerror(errno));
+	transport_say("nizwarf-share", "--sandbox=namespace: %s: %s", what, strerror(errno));
 	return -1;
 }
 
@@ -107,16 +108,16 @@ static int leave(const int ends[2], const struct id_map *uids, const struct id_m
 	    (own_uid && put_own("/proc/self/uid_map", uids)) ||
 	    (own_gid && put_own("/proc/self/gid_map", gids))) {
 		failed("a namespace of users");
-		fputs("nizwarf-share: --sandbox=none serves without\n", stderr);
+		transport_say("nizwarf-share", "--sandbox=none serves without");
 		return -1;
 	}
 	/* (the namespace is there: the maps of more ids can be written from outside) */
 	if (write(ends[1], "", 1) != 1 || waitpid(child, &status, 0) != child)
 		return failed("ids of users");
 	if (!WIFEXITED(status) || WEXITSTATUS(status)) {
-		fputs("nizwarf-share: --uid-map, --gid-map: the ids can't be mapped so; subuid(5) and subgid(5) "
-		      "say which may be\n",
-		      stderr);
+		transport_say(
+			"nizwarf-share",
+			"--uid-map, --gid-map: the ids can't be mapped so; subuid(5) and subgid(5) say which may be");
 		return -1;
 	}
 	return 0;

@@ -25,6 +25,7 @@
 #include <sys/time.h>
 #include <unistd.h>
 #include "fuse_backing.h"
+#include "say.h"
 #include "transport.h"
 
 /* In seconds: how long it is waited for. After that it is taken for gone, so an answer that comes later is
@@ -46,7 +47,7 @@ union beside {
 /* Says on standard error what failed, and why by errno, and answers -1. */
 static int say(const transport *by, const char *what)
 {
-	fprintf(stderr, "%s: passthrough: %s: %s\n", by->program, what, strerror(errno));
+	transport_say(by->program, "passthrough: %s: %s", what, strerror(errno));
 	return -1;
 }
 

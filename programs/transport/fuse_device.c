@@ -42,6 +42,7 @@
 #include <unistd.h>
 #include "fuse_ring.h"
 #include "later.h"
+#include "say.h"
 
 /* The longest request and reply: a header and its record take less than a page. Before the data of
  * a WRITE stand 80 bytes, and before those of a READ's reply 16. */
@@ -140,7 +141,7 @@ struct device {
 /* Says what failed, as errno has it: -1. */
 static int say(const transport *by, const char *what)
 {
-	fprintf(stderr, "%s: %s: %s\n", by->program, what, strerror(errno));
+	transport_say(by->program, "%s: %s", what, strerror(errno));
 	return -1;
 }
 
@@ -1059,8 +1060,8 @@ static int await_signals(void)
 /* Ends the process, although a worker waits for what does not come. */
 static _Noreturn void leave(struct device *d)
 {
-	fuse_device_say(d->by, is_answering(d) ? "a request" : "a worker",
-			"does not come back: it ends without");
+	transport_say(d->by->program, "a %s does not come back: it ends without",
+		      is_answering(d) ? "request" : "worker");
 	if (d->folder && atomic_load(&d->failed))
 		fuse_device_detach(d->by, d->folder);
 	if (d->by->left)

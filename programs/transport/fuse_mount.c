@@ -8,28 +8,20 @@
 #include <errno.h>
 #include <fcntl.h>
 #include <limits.h>
-#include <poll.h>
 #include <stdio.h>
 #include <stdlib.h>
 #include <string.h>
 #include <sys/mount.h>
 #include <sys/stat.h>
 #include <unistd.h>
+#include "say.h"
 #include "transport.h"
 
 /* Says on standard error what failed, and why by errno, and answers -1. */
 static int say(const transport *by, const char *what)
 {
-	fprintf(stderr, "%s: %s: %s\n", by->program, what, strerror(errno));
+	transport_say(by->program, "%s: %s", what, strerror(errno));
 	return -1;
-}
-
-void fuse_device_say(const transport *by, const char *about, const char *what)
-{
-	struct pollfd error = { STDERR_FILENO, POLLOUT, 0 };
-
-	if (poll(&error, 1, 0) > 0 && error.revents & POLLOUT)
-		dprintf(STDERR_FILENO, "%s: %s %s\n", by->program, about, what);
 }
 
 /* Where the mount was made: the directory above, wherever that is now, the name there, and the numbers that
@@ -90,7 +82,7 @@ static int is_there(const transport *by, const char *folder)
 		return 1;
 	if (there == made.above)
 		return 0;
-	fprintf(stderr, "%s: %s: another file system is mounted there\n", by->program, folder);
+	transport_say(by->program, "%s: another file system is mounted there", folder);
 	return -1;
 }
 
@@ -114,7 +106,7 @@ int fuse_device_unmount(const transport *by, const char *folder)
 		return 0;
 	if (errno != EBUSY || unmount(point, MNT_DETACH))
 		return say(by, folder);
-	fuse_device_say(by, folder, "is in use, and goes with its last user");
+	transport_say(by->program, "%s is in use, and goes with its last user", folder);
 	return 0;
 }
 

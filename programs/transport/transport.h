@@ -186,8 +186,6 @@ int fuse_device_mount_on(const transport *by, int device, const char *source, co
 int fuse_device_unmount(const transport *by, const char *folder);
 /* The same without a word, and what is in use goes at once. */
 void fuse_device_detach(const transport *by, const char *folder);
-/* Says something on standard error if that takes it at once: who reads it may wait, and another thread that writes to it. */
-void fuse_device_say(const transport *by, const char *about, const char *what);
 
 /* Serves a device until it is unmounted, and closes it. A first signal unmounts the folder; where
  * that is in use it goes with its last user, or at a second signal, or after a second if a request does

@@ -29,6 +29,7 @@
 #include <sys/un.h>
 #include <time.h>
 #include <unistd.h>
+#include "say.h"
 #include "vhost_queue.h"
 #include "vhost_state.h"
 
@@ -613,19 +614,12 @@ static enum end serve_clients(int listener, int signals)
 }
 
 /* Ends the process, although a worker, or the calling thread, waits for what does not come. Nothing is
- * freed, and stdio is left alone: another thread may have its lock, and wait. */
+ * freed. */
 static _Noreturn void leave(int status)
 {
-	static const char said[] = ": a request does not come back: it ends without\n";
-	const struct iovec pieces[] = { { (char *)(uintptr_t)by->program, strlen(by->program) },
-					{ (char *)(uintptr_t)said, sizeof(said) - 1 } };
-	struct pollfd error = { STDERR_FILENO, POLLOUT, 0 };
-
 	if (by->left)
 		by->left(by->user);
-	/* (who reads it may wait too) */
-	if (poll(&error, 1, 0) > 0 && error.revents & POLLOUT && writev(STDERR_FILENO, pieces, 2) < 0)
-		_exit(1);
+	transport_say(by->program, "a request does not come back: it ends without");
 	_exit(status);
 }
 

@@ -161,7 +161,7 @@ class Server:
         with open(f"/proc/{self.process.pid}/task/{self.process.pid}/children") as children:
             return int((children.read().split() or [self.process.pid])[0])
 
-    def ends(self, what, *signals, wanted=0):
+    def ends(self, what, *signals, wanted=0, soon=SOON):
         """Ends by signals to itself, or others that are named."""
         from_then = time.monotonic()
         for it, number in signals or ((self.process.pid, signal.SIGTERM),):
@@ -169,7 +169,7 @@ class Server:
             with contextlib.suppress(ProcessLookupError):
                 os.kill(it, number)
         try:
-            came = self.process.wait(SOON)
+            came = self.process.wait(soon)
         except subprocess.TimeoutExpired:
             came = "no end"
             os.kill(self.child(), signal.SIGKILL)
@@ -460,20 +460,47 @@ def mount_waits(how, *sandbox):
         os.close(lease)
 
 
-def error_is_full(*sandbox):
-    """Who reads standard error waits, and so does the request that says something there: a signal ends it."""
+@contextlib.contextmanager
+def full_error():
+    """A pipe that nobody reads."""
     ours, theirs = os.pipe()
     fcntl.fcntl(theirs, fcntl.F_SETPIPE_SZ, 4096)
     os.write(theirs, bytes(4096))
-    server = Server(*sandbox, "--node-limit=2", folder, point, stderr=theirs)
-    user = subprocess.Popen(["ls", point + "/hung", point + "/leased"], stdout=subprocess.DEVNULL, stderr=subprocess.DEVNULL)
-    time.sleep(0.5)
-    what = f"a signal while standard error is full with {sandbox}"
-    server.ends(what)
-    hold(not mounted(point), f"{what}: it is mounted")
-    hold(wait_for(lambda: user.poll() is not None), f"{what}: who waited still waits")
+    yield theirs
     os.close(ours)
     os.close(theirs)
+
+
+def error_is_full(*sandbox):
+    """Who reads standard error waits, and so does the request that says something there: a signal ends it."""
+    with full_error() as theirs:
+        server = Server(*sandbox, "--node-limit=2", folder, point, stderr=theirs)
+        user = subprocess.Popen(["ls", point + "/hung", point + "/leased"], stdout=subprocess.DEVNULL, stderr=subprocess.DEVNULL)
+        time.sleep(0.5)
+        what = f"a signal while standard error is full with {sandbox}"
+        server.ends(what)
+        hold(not mounted(point), f"{what}: it is mounted")
+        hold(wait_for(lambda: user.poll() is not None), f"{what}: who waited still waits")
+        # (which says that another file system is there)
+        server = Server(*sandbox, folder, point, stderr=theirs)
+        mount("tmpfs", point)
+        server.ends(f"{what}, and another file system is mounted", wanted=1)
+        while mounted(point):
+            libc.umount2(point.encode(), 2)
+
+
+def error_is_full_apart():
+    """The same of what stands by: its server is killed, doesn't end, or has nothing more to say."""
+    with full_error() as theirs:
+        server = Server("--socket-path=" + path, folder, stderr=theirs)
+        Front().init()
+        server.ends("a server that is killed while standard error is full", (server.child(), signal.SIGKILL), wanted=1)
+        server = Server("--socket-path=" + path, folder, stderr=theirs)
+        Front().init()
+        server.ends("a server that is stopped while standard error is full", (server.child(), signal.SIGSTOP),
+                    (server.process.pid, signal.SIGTERM), soon=2 * SOON)
+        server = Server("--log-level=info", "--socket-path=" + path, folder, stderr=theirs)
+        server.ends("a server that says that it serves while standard error is full")
 
 
 def link_above(*sandbox, program=None):
@@ -541,5 +568,6 @@ for sandbox in ([[]] if alone else [["--sandbox=namespace"], ["--sandbox=none"]]
     link_above(*sandbox)
 if not alone:
     each_alone()
+    error_is_full_apart()
 print(f"What waits keeps nobody, and what is unmounted is what was mounted{', with ' if words else ''}{' '.join(words)}.")
 sys.exit(1 if faults else 0)
