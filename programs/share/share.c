@@ -21,7 +21,6 @@
 #include <stdio.h>
 #include <stdlib.h>
 #include <string.h>
-#include <sys/eventfd.h>
 #include <sys/mount.h>
 #include <sys/prctl.h>
 #include <sys/resource.h>
@@ -29,9 +28,9 @@
 #include <sys/socket.h>
 #include <sys/stat.h>
 #include <sys/un.h>
-#include <time.h>
 #include <unistd.h>
 #include "fuse_ring.h"
+#include "guard.h"
 #include "passthrough.h"
 #include "say.h"
 #include "share_pid.h"
@@ -46,8 +45,6 @@ enum { LARGE_TABLE = 65536 };
 enum { OF_MOUNT = 16, OF_MOUNT_WORKER = 3, OF_RING_WORKER = 2, OF_SOCKET = 24, OF_SOCKET_WORKER = 2 };
 /* How many requests of each processor may wait for locks over io_uring. */
 enum { MOST_WAITING = 63 };
-/* In milliseconds: how long it may take to serve, once a signal came. */
-enum { MOST_START = 1800 };
 
 static int failed(const char *what)
 {
@@ -182,7 +179,7 @@ static void go_quiet(void)
 }
 
 /* Tells the service manager, as soon as that takes it, or unless a signal comes first; without a descriptor that tells of
- * one, within MOST_START. */
+ * one, within GUARD_MOST. */
 static void tell_manager(void)
 {
 	static const char ready[] = "READY=1\n";
@@ -193,7 +190,7 @@ static void tell_manager(void)
 	/* (its socket holds some messages, and who is to take them may wait itself) */
 	do
 		told = send(manager, ready, sizeof(ready) - 1, MSG_NOSIGNAL | MSG_DONTWAIT);
-	while (told < 0 && errno == EAGAIN && poll(wait, 2, wait[0].fd < 0 ? MOST_START : -1) > 0 &&
+	while (told < 0 && errno == EAGAIN && poll(wait, 2, wait[0].fd < 0 ? GUARD_MOST : -1) > 0 &&
 	       !wait[0].revents);
 	if (told < 0)
 		failed("NOTIFY_SOCKET");
@@ -246,31 +243,12 @@ static void *remove_both(void *none)
 
 /* Removes the socket, and then the file of the process, by whose lock no other share makes one meanwhile. It is called
  * where the process ends, by the transport if a request doesn't come back, and by what stands by a sandbox. Where
- * neither was made, or the process is in the sandbox, it does nothing. Another thread does it, which is waited for a
- * second: if their folder doesn't answer they are left. What stands by a namespace of processes can make no thread, and
- * SIGALRM ends it then. */
+ * neither was made, or the process is in the sandbox, it does nothing; and if their folder doesn't answer they are left. */
 static void remove_socket(void *user)
 {
-	struct timespec until;
-	pthread_t thread;
-	int error;
-
 	(void)user;
-	if (!words.socket_path)
-		return;
-	error = pthread_create(&thread, NULL, remove_both, NULL);
-	if (error) {
-		if (error == EINVAL)
-			alarm(1);
-		remove_both(NULL);
-		if (error == EINVAL)
-			alarm(0);
-		return;
-	}
-	clock_gettime(CLOCK_REALTIME, &until);
-	until.tv_sec++;
-	if (pthread_timedjoin_np(thread, NULL, &until))
-		pthread_detach(thread);
+	if (words.socket_path)
+		guard_call(remove_both);
 }
 
 static void remove_at_exit(void)
@@ -339,69 +317,14 @@ static transport_notices notices = TRANSPORT_NO_NOTICES;
 /* Without a sandbox: it has mounted, and nobody else unmounts. */
 static atomic_bool is_mounted;
 
-/* Where nothing stands by, a thread waits for a signal while something is done that a file system may not answer: of the
- * socket's folder; and without a sandbox of the folder that is shared, up to when it serves. It takes no signal, so that
- * the transport has it. `done` is told once all is. */
-static struct guard {
-	pthread_t thread;
-	int signals, done;
-	unsigned long tasks;
-} guard;
-
-/* How many threads Linux has of this process, and two more; 0: it doesn't tell. */
-static unsigned long count_tasks(void)
+/* Where nothing stands by, this ends the process at a signal while something is done that a file system may not answer: of
+ * the socket's folder; and without a sandbox of the folder that is shared, up to when it serves. */
+static void leave(void)
 {
-	struct stat seen;
-
-	return fstatat(AT_FDCWD, "/proc/self/task", &seen, 0) ? 0 : (unsigned long)seen.st_nlink;
-}
-
-/* Status 0: a signal is no failure. */
-static void *keep_guard(void *given)
-{
-	const struct guard *g = given;
-	struct pollfd wait[] = { { g->done, POLLIN, 0 }, { g->signals, POLLIN, 0 } };
-
-	while (poll(wait, 2, -1) < 0 && errno == EINTR)
-		;
-	while (!wait[0].revents && poll(wait, 1, MOST_START) < 0 && errno == EINTR)
-		;
-	if (wait[0].revents)
-		return NULL;
 	/* (before that, what is mounted there is another's) */
 	if (atomic_load(&is_mounted))
 		fuse_device_detach(&by, words.mount_point);
 	remove_socket(NULL);
-	_exit(0);
-}
-
-static int begin_guard(void)
-{
-	const sigset_t ending = transport_hold_signals(SIG_BLOCK);
-
-	guard.signals = signalfd(-1, &ending, SFD_CLOEXEC);
-	guard.done = eventfd(0, EFD_CLOEXEC);
-	guard.tasks = count_tasks();
-	if (guard.signals < 0 || guard.done < 0)
-		return failed("signalfd and eventfd");
-	errno = pthread_create(&guard.thread, NULL, keep_guard, &guard);
-	return errno ? failed("a thread") : 0;
-}
-
-/* (Linux has the thread for a moment still when it is joined, and a process of several gets no namespace of users) */
-static void end_guard(void)
-{
-	enum { TRIES = 1000 };
-	const struct timespec pause = { 0, 1000000 };
-	const uint64_t one = 1;
-
-	if (write(guard.done, &one, sizeof(one)) < 0)
-		failed("eventfd");
-	pthread_join(guard.thread, NULL);
-	for (int i = 0; i < TRIES && count_tasks() > guard.tasks; i++)
-		nanosleep(&pause, NULL);
-	close(guard.signals);
-	close(guard.done);
 }
 
 /* Makes the socket, and writes the file of the process: their folder may not answer. */
@@ -409,10 +332,10 @@ static int listen_guarded(void)
 {
 	int listener;
 
-	if (begin_guard())
+	if (guard_begin(by.program, leave))
 		exit(1);
 	listener = listen_on_socket(&by);
-	end_guard();
+	guard_end();
 	return listener;
 }
 
@@ -422,9 +345,9 @@ static int write_pid_guarded(void)
 
 	if (words.mount_point)
 		return 0;
-	error = begin_guard() || pid_file_write();
+	error = guard_begin(by.program, leave) || pid_file_write();
 	if (!error)
-		end_guard();
+		guard_end();
 	return error;
 }
 
@@ -555,7 +478,7 @@ static int serve(int listener)
 	struct passthrough *all;
 	int root, proc, status = 1;
 
-	if (is_alone && begin_guard())
+	if (is_alone && guard_begin(by.program, leave))
 		return 1;
 	if (sandbox_enter((enum sandbox)words.sandbox, words.folder, &root, &proc, &words.files.no_devices))
 		return 1;
@@ -572,7 +495,7 @@ static int serve(int listener)
 		if (!limit(all)) {
 			tell_outside();
 			if (is_alone)
-				end_guard();
+				guard_end();
 			status = words.mount_point ? fuse_device_serve(&by, device, unmounts) :
 						     vhost_user_serve(&by, listener);
 		} else if (unmounts) {

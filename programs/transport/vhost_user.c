@@ -719,11 +719,11 @@ static int refuse(const transport *with, int answer, const char *path, const cha
 }
 
 /* The socket that was made: its path from the root on, as a server may change its working directory, and its file, open
- * so that its number is no other file's until the process ends; -1: there is none. Both are set before there are
- * threads. */
+ * so that its number is no other file's until the process ends; -1: there is none. The path is set before that, and does
+ * not change, as another thread may remove the socket. */
 static struct {
 	char path[PATH_MAX];
-	int file;
+	atomic_int file;
 } made = { .file = -1 };
 
 /* (Linux can't remove a name of one file alone: one that takes its place between the look and the removing goes) */

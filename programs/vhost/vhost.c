@@ -14,6 +14,7 @@
 #include <string.h>
 #include <time.h>
 #include <unistd.h>
+#include "guard.h"
 #include "heap.h"
 #include "trace.h"
 
@@ -66,10 +67,22 @@ static int32_t serve(void *user, unsigned worker, const nizwarf_segment *request
 	return code;
 }
 
+static void *remove_it(void *none)
+{
+	vhost_user_remove_socket();
+	return none;
+}
+
+/* Where the process ends. If the folder of the socket doesn't answer, it is left. */
 static void remove_socket(void *user)
 {
 	(void)user;
-	vhost_user_remove_socket();
+	guard_call(remove_it);
+}
+
+static void leave(void)
+{
+	remove_socket(NULL);
 }
 
 /* Prints what a word asks for. Whether it asks for something. */
@@ -117,7 +130,11 @@ int main(int count, char **words)
 	if (trace && trace_begin(&by, *trace ? trace + 1 : NULL))
 		return 1;
 	heap_begin();
+	/* (the folder of the socket may not answer) */
+	if (guard_begin(by.program, leave))
+		return 1;
 	listener = vhost_user_listen(&by, words[1]);
+	guard_end();
 	if (listener < 0)
 		return -listener; /* 1: it failed; 2: the path can't be */
 	status = vhost_user_serve(&by, listener);

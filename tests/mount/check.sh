@@ -4,7 +4,7 @@
 # Usage: tests/mount/check.sh
 # Words that can't be are refused. In a mount files are made without a name (nameless.py), births and flags are told as
 # by a tmpfs beside (rows.py), session.sh does what a person does, memory goes back that was written and cut, and it is unmounted; then so with writeback, and with
-# no_io_uring; with other options, where it ends by a signal, also by an early one; with a link above it, and over vhost-user with an event
+# no_io_uring; with other options, where it ends by a signal, also by an early one, or while the folder of a socket does not answer; with a link above it, and over vhost-user with an event
 # that is full (tests/share/ends.py); and once more, with limits, which bound the server's memory, and hold again once
 # what was there is removed.
 #
@@ -160,6 +160,28 @@ early_signals() {
     [ ! -e "$ends/early" ] || wrong "a socket is left on which nobody listens"
 }
 
+# A signal ends it where the folder of its socket does not answer, when that is made or removed.
+no_answer() {
+    local what came
+    cc -shared -fPIC -Wall -Wextra -Werror -o "$ends/no_answer.so" "$here/tests/share/no_answer.c"
+    for what in BOUND REMOVED; do
+        came=0
+        env "$what=" LD_PRELOAD="$ends/no_answer.so" "$vhost" "$ends/unanswered" &
+        server=$!
+        # (a thread stands by before there is a socket)
+        for _ in $(seq 200); do
+            [ "$what" = REMOVED ] || [ "$(find "/proc/$server/task" -mindepth 1 -maxdepth 1 | wc -l)" -lt 2 ] || break
+            [ ! -S "$ends/unanswered" ] || break
+            sleep 0.05
+        done
+        kill -TERM "$server"
+        timeout -k 1 20 tail --pid="$server" -f /dev/null || kill -KILL "$server"
+        wait "$server" || came=$?
+        [ "$came" = 0 ] || wrong "a signal while the folder of the socket does not answer, $what: $came"
+        rm -f "$ends/unanswered"
+    done
+}
+
 # What can't be unmounted is told, and is no good end.
 no_unmount() {
     local came=0
@@ -188,6 +210,7 @@ session "with no_io_uring" allow_other,no_io_uring
 part "options, and signals"
 options_hold
 early_signals
+no_answer
 no_unmount
 part "ends"
 unshare --mount timeout 60 python3 -B "$here/tests/share/ends.py" --tree "$transport" "$vhost" "$ends" ||

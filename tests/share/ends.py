@@ -427,10 +427,10 @@ def asks_late():
     slow.end()
 
 
-def waits_for_socket():
+def waits_for_socket(program):
     """The folder of the socket does not answer, and a signal ends it before there is one."""
     hung = Hung(folder + "/hung")
-    server = subprocess.Popen([share, "--log-level=error", *words, f"--socket-path={folder}/hung/socket", folder])
+    server = subprocess.Popen(program)
     time.sleep(0.5)
     server.terminate()
     try:
@@ -546,6 +546,7 @@ with open(folder + "/leased", "w"):
 if of_tree:
     full_event(False, [tree_vhost])
     full_event(True, [tree_vhost])
+    waits_for_socket([tree_vhost, folder + "/hung/socket"])
     link_above(program=[tree_mount])
     print("A full event keeps nobody, and what is unmounted is what was mounted.")
     sys.exit(1 if faults else 0)
@@ -559,7 +560,7 @@ if "LATE_CLOSE" in os.environ:
     comes_late()
     restored()
 asks_late()
-waits_for_socket()
+waits_for_socket([share, "--log-level=error", *words, f"--socket-path={folder}/hung/socket", folder])
 alone = "--sandbox=none" in words
 for sandbox in ([[]] if alone else [["--sandbox=namespace"], ["--sandbox=none"]]):
     mount_waits("a lease", *sandbox)
