@@ -10,7 +10,7 @@ import atexit, contextlib, ctypes, fcntl, mmap, os, select, signal, socket, stru
 sys.path.insert(0, os.path.dirname(os.path.abspath(__file__)) + "/../lib")
 import held  # noqa: E402
 from held import faults, hold, wait_for  # noqa: E402
-from machine import Machine, Op, record  # noqa: E402
+from machine import USED, Machine, Op, record  # noqa: E402
 
 of_tree = sys.argv[1] == "--tree"
 if of_tree:
@@ -356,10 +356,10 @@ def restored():
     state = first.save()
     first.end()
 
-    def lock(one, name, asks):
-        asked = record(Op.SETLK, handle=files[name], lock_owner=7, start=0, end=2**63 - 1, type=fcntl.F_WRLCK, pid=1,
+    def lock(one, name, asks, opcode=Op.SETLK):
+        asked = record(opcode, handle=files[name], lock_owner=7, start=0, end=2**63 - 1, type=fcntl.F_WRLCK, pid=1,
                        lock_flags=1)
-        return asks(one, Op.SETLK, asked, nodes[name])
+        return asks(one, opcode, asked, nodes[name])
 
     def closes(one):
         hold(lock(one, b"late", Machine.ask)[0] == 0, "a lock of what is closed late")
@@ -400,6 +400,19 @@ def restored():
             except BlockingIOError:
                 pass
         other.end()
+    # (of the number by which the next machine waits for a lock)
+    one = machine(state)
+    one.post(Op.INTERRUPT, struct.pack("<Q", one.unique + 2), user=4245)
+    time.sleep(0.3)
+    one.end()
+    other = machine(state)
+    with open(folder + "/leased") as file:
+        fcntl.flock(file, fcntl.LOCK_EX)
+        lock(other, b"leased", Machine.post, Op.SETLKW)
+        time.sleep(4)
+        hold(other.view[USED + 2:USED + 4] == bytes(2), "an INTERRUPT that came late ended the waiting of the next machine")
+    hold(wait_for(lambda: other.view[USED + 2:USED + 4] != bytes(2)), "the next machine gets no lock that is free")
+    other.end()
     server.ends("a signal, once requests came late to the next machine")
 
 
