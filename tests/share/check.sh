@@ -670,6 +670,11 @@ try_files() {
         "$share" --log-level=error --sandbox="$sandbox" --socket-path="$work/pid/socket" "$work/pid/folder" &
         server=$!
         await_socket "$work/pid/socket"
+        # (it is written a moment later)
+        for _ in $(seq 200); do
+            [ ! -s "$work/pid/socket.pid" ] || break
+            sleep 0.05
+        done
         [ "$(cat "$work/pid/socket.pid")" = "$server" ] || wrong "the file of the process, in the sandbox $sandbox"
         kill "$server"
         wait "$server" || wrong "the server with a file of its process ended with $?"
