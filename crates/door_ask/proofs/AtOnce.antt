@@ -12,14 +12,15 @@ use Rattle.fuse_wire.specs.Fields.{value_of}
 use Rattle.fuse_wire.specs.Records.{in_header}
 use Rattle.fuse_wire.specs.declared.headers.InHeader.{InHeader}
 use Rattle.fuse_segments.specs.Written.{Written}
-use Rattle.fuse_grammar.specs.Words.{ask_opcode}
+use Rattle.fuse_grammar.specs.Words.{ask_header, ask_opcode}
 use Rattle.fuse_grammar.specs.Forms.{Ask, Ends, Asks, Lists, WithMemory}
 use Rattle.fuse_grammar.specs.Limits.{max_len}
 use Rattle.fuse_grammar.specs.Records.{record_of}
 use Rattle.fuse_grammar.specs.declared.error.Error.TheVariants.{DecodeMessage}
+use Rattle.fuse_grammar.specs.declared.limits.Limits.{Limits}
 use Rattle.door_calls.specs.declared.call.CallData.{CallData}
 use Rattle.door_ask.specs.Asked.{IsTold, Tells}
-use Rattle.door_ask.specs.AtOnce.{IsCallTold, IsToldAtOnce, TellsAtOnce}
+use Rattle.door_ask.specs.AtOnce.{AsksAfterHeader, AsksAtOnce, AsksForCall, IsAskedMost, IsCallAsked, IsCallTold, IsToldAtOnce, TellsAtOnce}
 use Rattle.door_ask.specs.Contexts.{may_have_context}
 use Rattle.door_ask.specs.Parts.{told_with}
 use Rattle.door_ask.specs.declared.asked.Asked.TheVariants as asked
@@ -57,6 +58,13 @@ tells_at_once terms h rest o told_call fits within other known no_init no_readdi
     (tells_call request options terms.room writer writer_after h terms.len o
     (ask_opcode terms.limits options terms.room o h rest) told_call is n)
 
+-- what asks for a call by its header does so by its opcode
+pub asks_by_opcode : (terms : Terms) (h : InHeader) (rest : List ℕ) (o : Opcode) → h.len ≤ max_len terms.limits
+    → opcode_of h.opcode ≡ Some o → AsksAfterHeader terms h rest → AsksForCall terms o h rest
+asks_by_opcode terms h rest o within known asks =
+    let below : nat_lt (max_len terms.limits) h.len ≡ false = not_above (max_len terms.limits) h.len within in
+    rw (below, known) at asks
+
 -- ---- bytes of a header, and others after them
 
 header_whole : (short : Bool) (v h : InHeader) → (if short then Err DecodeMessage else Ok v) ≡ Ok h → v ≡ h
@@ -76,3 +84,26 @@ front_header head rest h long is =
 
 pub front_rest : (head rest : List ℕ) → length head ≡ 40 → drop 40 (head ++ rest) ≡ rest
 front_rest head rest long = ap (λ (n : ℕ). drop n (head ++ rest)) (sym long) ∙ drop-append_seam head rest
+
+header_in_front : (head rest : List ℕ) (h : InHeader) → length head ≡ 40 → record_of in_header head ≡ Ok h
+    → value_of in_header (head ++ rest) ≡ h
+header_in_front head rest h long is =
+    header_whole (nat_lt (length (head ++ rest)) 40) (value_of in_header (head ++ rest)) h (front_header head rest h long is)
+
+module _ (limits : Limits) (options room : ℕ) (head rest : List ℕ) (h : InHeader) (long : length head ≡ 40)
+    (is : record_of in_header head ≡ Ok h) where
+  -- a request is told at once if its header has one of the four opcodes, and asks for a call
+  pub asks_whole : IsAskedMost h.opcode → IsCallAsked (ask_header limits options room h rest)
+      → AsksAtOnce limits options room (head ++ rest)
+  asks_whole most asks = (
+    subst (λ (g : InHeader). IsAskedMost g.opcode) (sym (header_in_front head rest h long is)) most,
+    rw (front_header head rest h long is, front_rest head rest long) asks,
+  )
+
+  -- and only then
+  pub asks_of_whole : AsksAtOnce limits options room (head ++ rest)
+      → IsAskedMost h.opcode × IsCallAsked (ask_header limits options room h rest)
+  asks_of_whole asks = (
+    subst (λ (g : InHeader). IsAskedMost g.opcode) (header_in_front head rest h long is) asks.0,
+    rw (front_header head rest h long is, front_rest head rest long) at asks.1,
+  )

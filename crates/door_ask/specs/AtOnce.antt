@@ -1,11 +1,16 @@
 -- What is told at once of a request: the call that it asks for.
-use Rattle.std.specs.Prelude.{◌≡◌, ⊤, List, ℕ}
+use Rattle.std.specs.Prelude.{◌≡◌, ◌⊎◌, ⊤, List, ℕ}
 use Rattle.fuse_flags.specs.Flags.{fs_options_bits}
+use Rattle.fuse_flags.specs.Numbers.{number_of}
 use Rattle.fuse_flags.specs.declared.opcode.Opcode.{Opcode}
+use Rattle.fuse_flags.specs.declared.opcode.Opcode.TheVariants.{Lookup, Getattr, Read, Write}
 use Rattle.fuse_wire.specs.declared.headers.InHeader.{InHeader}
 use Rattle.fuse_segments.specs.Written.{Written}
+use Rattle.fuse_grammar.specs.Ask.{ask}
 use Rattle.fuse_grammar.specs.Words.{ask_header, ask_opcode}
 use Rattle.fuse_grammar.specs.Forms.{Ask, Ends, Asks, Lists, WithMemory}
+use Rattle.fuse_grammar.specs.Memory.{header_of}
+use Rattle.fuse_grammar.specs.declared.limits.Limits.{Limits}
 use Rattle.door_calls.specs.Shapes.{shape_of}
 use Rattle.door_calls.specs.declared.call.CallData.{CallData}
 use Rattle.door_ask.specs.Asked.{interrupted_after}
@@ -13,6 +18,35 @@ use Rattle.door_ask.specs.Parts.{told_with}
 use Rattle.door_ask.specs.Terms.{TellsAfter}
 use Rattle.door_ask.specs.declared.asked.Asked.TheVariants as asked
 use Rattle.door_ask.specs.declared.asked.Terms.{Terms}
+
+-- what is asked is a call
+abbrev pub IsCallAsked : Ask → Type 0
+IsCallAsked (Ends reply) = ⊥
+IsCallAsked (Asks echo call) = ⊤
+IsCallAsked (Lists echo l) = ⊥
+IsCallAsked (WithMemory rest) = IsCallAsked rest
+
+-- the opcode of what is asked for most: a LOOKUP, a GETATTR, a READ or a WRITE
+abbrev pub IsAskedMost : (opcode : ℕ) → Type 0
+IsAskedMost n =
+    (n ≡ number_of Lookup) ⊎ (n ≡ number_of Getattr) ⊎ (n ≡ number_of Read) ⊎ (n ≡ number_of Write)
+
+-- a request that is told at once: one of these four that asks for a call
+abbrev pub AsksAtOnce : Limits → (options room : ℕ) → (request : List ℕ) → Type 0
+AsksAtOnce limits options room request =
+    IsAskedMost (header_of request).opcode × IsCallAsked (ask limits options room request)
+
+-- ---- no more is of the promise: the rest is for contracts of parts
+
+-- a request of this opcode asks for a call
+abbrev pub AsksForCall : Terms → Opcode → InHeader → (rest : List ℕ) → Type 0
+AsksForCall terms o h rest =
+    IsCallAsked (ask_opcode terms.limits (fs_options_bits terms.options) terms.room o h rest)
+
+-- a request with this header asks for one
+abbrev pub AsksAfterHeader : Terms → InHeader → (rest : List ℕ) → Type 0
+AsksAfterHeader terms h rest =
+    IsCallAsked (ask_header terms.limits (fs_options_bits terms.options) terms.room h rest)
 
 -- what is asked is a call, and it is told with its places
 abbrev pub IsCallTold : Ask → (place : CallData → CallData) → CallData → Type 0

@@ -1,14 +1,14 @@
 //! Asking at once what is asked for most: a LOOKUP, a GETATTR, a READ or a WRITE, of a request whose header lies in one
 //! piece, and in one all that follows it. No reader is made, and no writer.
 
-ghost use Rattle.std.specs.Prelude.{◌≡◌, ◌<◌, ◌^◌, ◌++◌, false, length, true, MatchOption, Ok, ⊤};
+ghost use Rattle.std.specs.Prelude.{◌≡◌, ◌<◌, ◌^◌, ◌++◌, false, length, true, IsErr, MatchOption, Ok};
 ghost use Rattle.fuse_flags.specs.Flags.{fs_options_bits};
 ghost use Rattle.fuse_segments.specs.Written.{Written};
 ghost use Rattle.fuse_grammar.specs.Forms.{tail_of};
 ghost use Rattle.fuse_grammar.specs.Limits.{AreLimits};
 ghost use Rattle.fuse_grammar.specs.Records.{record_of};
 ghost use Rattle.door_calls.specs.Shapes.{nothing};
-ghost use Rattle.door_ask.specs.AtOnce.{IsToldAtOnce, TellsAtOnce};
+ghost use Rattle.door_ask.specs.AtOnce.{AsksAfterHeader, AsksAtOnce, AsksForCall, IsAskedMost, IsToldAtOnce, TellsAtOnce};
 ghost use Rattle.door_ask.specs.Cleared.{cleared_numbers};
 ghost use Rattle.door_ask.specs.Asked.{IsAsked};
 ghost use Rattle.door_ask.specs.declared.asked.Asked.TheVariants.{Call as IsCall};
@@ -55,7 +55,8 @@ fn clear(call: &mut CallData)
 // The tail of a request without a record, where it is whole.
 #[inline(always)]
 fn tail_in<'a>(header: &InHeader, rest: &'a [u8]) -> Option<&'a [u8]>
-    ensures { MatchOption result ⊤ (λ tail. tail_of header.now 0 rest.now ≡ Ok tail.now) }
+    ensures { MatchOption result (IsErr (tail_of header.now 0 rest.now))
+        (λ tail. tail_of header.now 0 rest.now ≡ Ok tail.now) }
 {
     let len = header.len as usize;
     if len < InHeader::SIZE || rest.len() < len - InHeader::SIZE {
@@ -69,6 +70,7 @@ fn tail_in<'a>(header: &InHeader, rest: &'a [u8]) -> Option<&'a [u8]>
 fn tell_lookup(terms: Terms, header: &InHeader, rest: &[u8], call: &mut CallData) -> bool
     ensures told { result ≡ true →
         IsToldAtOnce terms Opcode.Lookup header.now rest.now call.new }
+    ensures all { AsksForCall terms Opcode.Lookup header.now rest.now → result ≡ true }
     ensures same { result ≡ false → call.new ≡ call.old }
 {
     let Some(tail) = tail_in(header, rest) else {
@@ -88,6 +90,7 @@ fn tell_lookup(terms: Terms, header: &InHeader, rest: &[u8], call: &mut CallData
 fn tell_getattr(terms: Terms, header: &InHeader, rest: &[u8], call: &mut CallData) -> bool
     ensures told { result ≡ true →
         IsToldAtOnce terms Opcode.Getattr header.now rest.now call.new }
+    ensures all { AsksForCall terms Opcode.Getattr header.now rest.now → result ≡ true }
     ensures same { result ≡ false → call.new ≡ call.old }
 {
     let Ok(getattr_in) = record_in::<GetattrIn>(rest) else {
@@ -103,6 +106,7 @@ fn tell_getattr(terms: Terms, header: &InHeader, rest: &[u8], call: &mut CallDat
 #[inline(always)]
 fn tell_read(terms: Terms, header: &InHeader, rest: &[u8], call: &mut CallData) -> bool
     ensures told { result ≡ true → IsToldAtOnce terms Opcode.Read header.now rest.now call.new }
+    ensures all { AsksForCall terms Opcode.Read header.now rest.now → result ≡ true }
     ensures same { result ≡ false → call.new ≡ call.old }
 {
     if terms.room < OutHeader::SIZE {
@@ -121,6 +125,7 @@ fn tell_read(terms: Terms, header: &InHeader, rest: &[u8], call: &mut CallData) 
 #[inline(always)]
 fn tell_write(terms: Terms, header: &InHeader, rest: &[u8], call: &mut CallData) -> bool
     ensures told { result ≡ true → IsToldAtOnce terms Opcode.Write header.now rest.now call.new }
+    ensures all { AsksForCall terms Opcode.Write header.now rest.now → result ≡ true }
     ensures same { result ≡ false → call.new ≡ call.old }
 {
     let Ok(write_in) = record_in::<WriteIn>(rest) else {
@@ -138,6 +143,8 @@ fn tell_at_once(terms: Terms, header: &InHeader, rest: &[u8], call: &mut CallDat
     requires limits { AreLimits terms.limits }
     requires fits { terms.len < 2 ^ 64 }
     ensures told { result ≡ true → TellsAtOnce terms header.now rest.now call.new }
+    ensures all { IsAskedMost header.now.opcode → AsksAfterHeader terms header.now rest.now →
+        result ≡ true }
     ensures same { result ≡ false → call.new ≡ call.old }
 {
     if header.len > terms.limits.max_len() {
@@ -159,8 +166,8 @@ fn tell_at_once(terms: Terms, header: &InHeader, rest: &[u8], call: &mut CallDat
 }
 
 /// Tells the call of a request that has these bytes as its header, and then these, with the options that are
-/// agreed on and `room` bytes of room for the reply: of a LOOKUP, a GETATTR, a READ or a WRITE that asks for
-/// one, as [`ask`](crate::ask) does. False of any other request: then nothing is told, and `call` is as it was.
+/// agreed on and `room` bytes of room for the reply: of each LOOKUP, GETATTR, READ and WRITE that asks for one, as
+/// [`ask`](crate::ask) does. False of any other request: then nothing is told, and `call` is as it was.
 ///
 /// It takes no memory.
 #[inline(always)]
@@ -176,6 +183,8 @@ pub fn ask_at_once(
     requires head { length head.now ≡ 40 }
     ensures told { result ≡ true → (w after : Written) → length w.left ≡ room →
         IsAsked limits (fs_options_bits options) (head.now ++ rest.now) w IsCall after call.new }
+    ensures all { AsksAtOnce limits (fs_options_bits options) room (head.now ++ rest.now) →
+        result ≡ true }
     ensures same { result ≡ false → call.new ≡ call.old }
 {
     let Ok(header) = record_in::<InHeader>(head) else {

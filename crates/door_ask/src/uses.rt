@@ -1,6 +1,6 @@
 //! Small callers.
 
-ghost use Rattle.std.specs.Prelude.{◌≡◌, ◌⊎◌, ◌++◌, [], ◌∷◌, length};
+ghost use Rattle.std.specs.Prelude.{◌≡◌, ◌≤◌, ◌⊎◌, ◌++◌, [], ◌∷◌, length, true};
 ghost use Rattle.fuse_flags.specs.Flags.{fs_options_bits, security_ctx};
 ghost use Rattle.fuse_grammar.specs.Memory.{header_of};
 ghost use Rattle.fuse_grammar.specs.Reply.{Refusal};
@@ -13,6 +13,7 @@ ghost use Rattle.door_ask.specs.Memory.{LacksNoMemory};
 ghost use Rattle.door_ask.specs.Uses.{ForgetsTwo, HasContext, LooksUpA, later_init, mkdir_with_context, ReadsThree, RenamesAToB, rename_of_a_to_b};
 
 use crate::asked::{Asked, ask};
+use crate::at_once::ask_at_once;
 use crate::checked::{Checked, check, check_as};
 use crate::rest::ask_rest;
 use crate::with_opcode::ask_as;
@@ -123,6 +124,21 @@ fn getattr_of_a_head(
 {
     let room = w.available_bytes();
     ask_rest(alloc, LIMITS, options, head, r, room, w, call)
+}
+
+/// A GETATTR with a whole record is told at once.
+fn getattr_at_once(
+    options: FsOptions,
+    head: &[u8],
+    rest: &[u8],
+    room: usize,
+    call: &mut CallData,
+) -> bool
+    requires head { head.now ≡ header_9 56 3 }
+    requires rest { 16 ≤ length rest.now }
+    ensures { result ≡ true }
+{
+    ask_at_once(LIMITS, options, head, rest, room, call)
 }
 
 /// A LOOKUP of `a` that lies in one segment is told: there is memory for its name.

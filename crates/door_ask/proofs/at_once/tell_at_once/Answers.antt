@@ -1,7 +1,7 @@
 use Rattle.std.proofs.Common.{◌≡◌, ◌∙◌, ap, arith, refl, Some}
 use Rattle.fuse_flags.specs.Numbers.{opcode_of}
 use Rattle.fuse_flags.specs.declared.opcode.Opcode.TheVariants as opcode
-use Rattle.door_ask.proofs.AtOnce.{tells_at_once}
+use Rattle.door_ask.proofs.AtOnce.{asks_by_opcode, tells_at_once}
 use Rattle.door_ask.proofs.at_once.tell_at_once.Goals as goal
 
 lookup : opcode_of 1 ≡ Some opcode.Lookup
@@ -47,3 +47,23 @@ returns-then-header-4-clause-told c = λ said.
     (omega (arith, c.max_len.ensures, c.if-header-max_len.false)) (λ e. omega (arith, e, c.if-header-4.true))
     (ap opcode_of c.if-header-4.true ∙ write) (λ e. let a = e in cc) (λ e. let a = e in cc) (λ e. let a = e in cc) refl
     (c.tell_write.ensures.told said)
+
+pub returns-then-header-clause-all : goal.returns-then-header-clause-all
+returns-then-header-clause-all c = λ most asks.
+    c.tell_lookup.ensures.all (asks_by_opcode c.args.terms c.args.header.now c.args.rest.now opcode.Lookup
+    (omega (arith, c.max_len.ensures, c.if-header-max_len.false)) (ap opcode_of c.if-header.true ∙ lookup) asks)
+
+pub returns-then-header-2-clause-all : goal.returns-then-header-2-clause-all
+returns-then-header-2-clause-all c = λ most asks.
+    c.tell_getattr.ensures.all (asks_by_opcode c.args.terms c.args.header.now c.args.rest.now opcode.Getattr
+    (omega (arith, c.max_len.ensures, c.if-header-max_len.false)) (ap opcode_of c.if-header-2.true ∙ getattr) asks)
+
+pub returns-then-header-3-clause-all : goal.returns-then-header-3-clause-all
+returns-then-header-3-clause-all c = λ most asks.
+    c.tell_read.ensures.all (asks_by_opcode c.args.terms c.args.header.now c.args.rest.now opcode.Read
+    (omega (arith, c.max_len.ensures, c.if-header-max_len.false)) (ap opcode_of c.if-header-3.true ∙ read) asks)
+
+pub returns-then-header-4-clause-all : goal.returns-then-header-4-clause-all
+returns-then-header-4-clause-all c = λ most asks.
+    c.tell_write.ensures.all (asks_by_opcode c.args.terms c.args.header.now c.args.rest.now opcode.Write
+    (omega (arith, c.max_len.ensures, c.if-header-max_len.false)) (ap opcode_of c.if-header-4.true ∙ write) asks)
