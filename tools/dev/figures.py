@@ -42,7 +42,8 @@ ALL = ["crates/", "include/", "programs/", "bindings/", "examples/c/", "tests/be
 COMMIT = re.compile(r"\b(?=[0-9]*[a-f])(?=[a-f]*[0-9])[0-9a-f]{7,12}\b")
 COMMAND = re.compile(r"\b(?:tools|tests)/[\w./-]+\.(?:sh|py)\b")
 # Lines that change nothing: comments of C, Rust, Rattle and scripts, and imports.
-NOTHING = r"^[ \t]*((//|/\*|\*|--|#)([ /!].*)?|((pub|ghost) )?use .*)$"
+# (with a tab itself: to git, whose expressions are POSIX's, `\t` in brackets is a stroke and a letter)
+NOTHING = "^[ \t]*" + r"((//|/\*|\*|--|#)([ /!].*)?|((pub|ghost) )?use .*)$"
 
 
 def git(*words):
