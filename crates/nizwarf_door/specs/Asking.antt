@@ -1,5 +1,5 @@
 -- What C is told of a request that was asked for its call.
-use Rattle.std.specs.Prelude.{◌≡◌, ◌≤◌, ◌^◌, ◌⊎◌, ℕ, ℤ, List, [], length, Result}
+use Rattle.std.specs.Prelude.{◌≡◌, ◌≤◌, ◌^◌, ◌⊎◌, ℕ, ℤ, List, [], ◌∷◌, length, Result}
 use Rattle.fuse_segments.specs.Lengths.{lengths_from}
 use Rattle.fuse_segments.specs.Segments.{flat_bytes, lengths_of}
 use Rattle.fuse_segments.specs.Unread.{Unread}
@@ -67,3 +67,11 @@ AsksOrNot limits options request room code call_after told told_after shown =
 abbrev pub unread_in : List (List ℕ) → Unread
 unread_in segments =
     record { left = flat_bytes segments; taken = 0; pieces = lengths_from 0 (lengths_of segments) }
+
+-- a request whose header lies in one piece, and in one all that follows it: it is in one segment, or in two of which
+-- the first is the header
+abbrev pub LiesInTwo : (segments : List (List ℕ)) → Type 0
+LiesInTwo [] = ⊥
+LiesInTwo (all ∷ []) = 40 ≤ length all
+LiesInTwo (header ∷ rest ∷ []) = length header ≡ 40
+LiesInTwo _ = ⊥

@@ -1,6 +1,6 @@
 //! Asking a request for its call.
 
-ghost use Rattle.std.specs.Prelude.{◌≡◌, ◌≢◌, ◌≤◌, ◌++◌, ◌∷◌, [], ℕ, ⊤, false, length, min, true, MatchOption};
+ghost use Rattle.std.specs.Prelude.{◌≡◌, ◌≢◌, ◌≤◌, ◌++◌, ◌∷◌, [], ℕ, false, length, min, true, MatchOption};
 ghost use Rattle.fuse_flags.specs.Flags.{fs_options_bits};
 ghost use Rattle.fuse_segments.specs.Lengths.{lengths_from};
 ghost use Rattle.fuse_segments.specs.Segments.{segments_of, flat_bytes, lengths_of};
@@ -9,10 +9,11 @@ ghost use Rattle.fuse_grammar.specs.Ask.{ask as ask_of};
 ghost use Rattle.fuse_grammar.specs.Limits.{AreLimits};
 ghost use Rattle.door_calls.specs.Shapes.{nothing};
 ghost use Rattle.door_ask.specs.Asked.{IsAsked};
+ghost use Rattle.door_ask.specs.AtOnce.{AsksAtOnce};
 ghost use Rattle.door_ask.specs.Memory.{MayWant};
 ghost use Rattle.door_ask.specs.declared.asked.Asked.TheVariants.{Call as IsCall};
 ghost use Rattle.c_rooms.specs.Codes.{is_asked, length_of, no_memory, outcome_code};
-ghost use Rattle.nizwarf_door.specs.Asking.{AsksOrNot, unread_in};
+ghost use Rattle.nizwarf_door.specs.Asking.{AsksOrNot, LiesInTwo, unread_in};
 ghost use Rattle.nizwarf_door.specs.Kept.{HasFor, TellsOrNot, put_of};
 ghost use Rattle.nizwarf_door.specs.Rooms.{HasRoomFor};
 ghost use Rattle.nizwarf_door.specs.Session.{limits_of, options_of};
@@ -178,7 +179,7 @@ pub fn is_asked_most(request: &[&[u8]]) -> bool {
 // The header of a request and all that follows it, where each lies in one piece.
 #[inline(always)]
 fn header_and_rest<'a>(request: &[&'a [u8]]) -> Option<(&'a [u8], &'a [u8])>
-    ensures { MatchOption result ⊤ (λ parts. (length parts.0.now ≡ 40)
+    ensures { MatchOption result (LiesInTwo (segments_of request.now) → ⊥) (λ parts. (length parts.0.now ≡ 40)
         × (flat_bytes (segments_of request.now) ≡ parts.0.now ++ parts.1.now)
         × (lengths_from 40 (lengths_from 0 (lengths_of (segments_of request.now)))
         ≡ lengths_from 0 (length parts.1.now ∷ []))) }
@@ -193,8 +194,8 @@ fn header_and_rest<'a>(request: &[&'a [u8]]) -> Option<(&'a [u8], &'a [u8])>
     None
 }
 
-/// Asks at once a request in one segment, or in two of which the first is the header, where it is one of those
-/// that are asked for most. False where it is to be asked by a reader: then nothing is told.
+/// Asks at once a request in one segment, or in two of which the first is the header: each LOOKUP, GETATTR, READ and
+/// WRITE that asks for a call is told. False of any other, which is to be asked by a reader: then nothing is told.
 #[inline(always)]
 pub fn ask_in_two(
     session: &SessionData,
@@ -206,6 +207,9 @@ pub fn ask_in_two(
     ensures told { result ≡ true → (w after : Written) → length w.left ≡ room →
         IsAsked (limits_of session.now) (options_of session.now)
         (flat_bytes (segments_of request.now)) w IsCall after call.new }
+    ensures all { AreLimits (limits_of session.now) → LiesInTwo (segments_of request.now) →
+        AsksAtOnce (limits_of session.now) (options_of session.now) room
+        (flat_bytes (segments_of request.now)) → result ≡ true }
     ensures same { result ≡ false → call.new ≡ call.old }
 {
     let Some((head, rest)) = header_and_rest(request) else {
