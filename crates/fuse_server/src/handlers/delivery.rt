@@ -48,7 +48,6 @@ pub fn deliver_entry<F: FileSystem>(
 ) -> Result<usize>
     ensures replied { Replies (reply_to header.now.unique Entries (entry_answer answer))
         w.old result w.new }
-    ensures kind { IsAnswer Entries (entry_answer answer) }
     ensures gives_back { (old : F) (call : Call) →
         F.allows old call (Plain (entry_answer answer)) fs.old →
         CallsAndGivesBack F.allows call (entry_answer answer) (context_of header.now)
