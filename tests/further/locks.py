@@ -161,9 +161,9 @@ class Locks:
         return ended(process)
 
     def given_up(self, lock):
-        """What a lock comes to whose holder has ended, or closed the file. (Linux waits for no RELEASE of a FUSE server's,
-        which on the same mount comes before the next request, and on another one may come after it)"""
-        until = time.time() + (LONG if self.others != self.path else 0)
+        """What a lock comes to whose holder has ended, or closed the file. (Linux waits for no RELEASE of a FUSE server's. What
+        is asked next may come before it, on another mount, and on the ring of another processor.)"""
+        until = time.time() + LONG
         while (said := lock()) != "got" and time.time() < until:
             time.sleep(0.05)
         return said

@@ -191,6 +191,14 @@ def full(news):
     os.close(fd)
 
 
+def left(news):
+    """The locks that are left once each RELEASE has come, which Linux waits for nowhere."""
+    until = time.time() + 5
+    while (said := [line for line in news.say("show") if line.startswith(("held", "waits"))]) and time.time() < until:
+        time.sleep(0.05)
+    return said
+
+
 def notices(news):
     """Of notices that Linux 6.18 may not have, that nothing breaks."""
     for line in ("epoch", "resend", "prune"):
@@ -211,7 +219,7 @@ def main():
         # (the file has no write: a lock wants a descriptor that may)
         ran = subprocess.run([os.path.join(HERE, "locks.py"), "--no-ofd-close", news.file], check=False, timeout=120)
         step("locks", ran.returncode, 0)
-        step("none is left", [line for line in news.say("show") if line.startswith(("held", "waits"))], [])
+        step("none is left", left(news), [])
     finally:
         step("end", news.end(), 0)
     print(f"{faults} faults")
