@@ -85,13 +85,25 @@ def written(path):
 
 
 def names_of(items):
-    """The names in the records of a directory."""
-    found, at = set(), 0
+    """The names in the records of a directory, and the offset after the last."""
+    found, at, offset = set(), 0, 0
     while at + 24 <= len(items):
-        length = struct.unpack_from("<I", items, at + 16)[0]
+        offset, length = struct.unpack_from("<QI", items, at + 8)
         found.add(items[at + 24:at + 24 + length])
         at += 24 + (length + 7 & ~7)
-    return found
+    return found, offset
+
+
+def listed(target, node, handle):
+    """The error and the names of a directory that is read to its end: it may have more than one reply has room for."""
+    found, offset = set(), 0
+    while True:
+        body = requests.transfer(Op.READDIR, 4000, b"", offset, handle=handle)[40:]
+        error, items = target.ask(Op.READDIR, body, node=node)
+        more, offset = names_of(items)
+        if error or not more:
+            return error, found
+        found |= more
 
 
 def begin(source, folder):
@@ -135,8 +147,8 @@ def go_on(target, had, folder, is_here, mode):
     hold("what was made", written(folder + "/d/made"), b"made")
     hold("GETATTR", struct.unpack_from("<Q", target.ask(Op.GETATTR, record(Op.GETATTR), node=had["file"])[1], 24)[0], 16)
     hold("LOOKUP", target.number(Op.LOOKUP, name.encode() + b"\0", node=had["d"]), had["file"])
-    error, items = transfer(Op.READDIR, "d", 4000)
-    hold("READDIR", (error, names_of(items) >= {b".", b"..", name.encode(), b"made", b"other"}), (0, True))
+    error, names = listed(target, had["d"], had["d opened"])
+    hold("READDIR", (error, names >= {b".", b"..", name.encode(), b"made", b"other"}), (0, True))
     other = target.number(Op.LOOKUP, b"other\0", node=had["d"])
     hold("a new node has a number of its own", other in had.values(), False)
     # A user whose group alone may write there, as the extension says.
