@@ -23,6 +23,7 @@ import errno
 import os
 import pathlib
 import re
+import shutil
 import struct
 import subprocess
 import sys
@@ -259,7 +260,10 @@ def of_today():
     """The day and the commit that a run is of."""
     today = datetime.datetime.now(datetime.timezone.utc)
     words = ["git", "-C", str(PAGE.parent), "describe", "--always", "--dirty", "--exclude", "*"]
-    commit = subprocess.run(words, stdout=subprocess.PIPE, stderr=subprocess.DEVNULL, text=True, check=False).stdout.strip()
+    commit = ""
+    # (a page can be printed where git is not installed)
+    if shutil.which("git"):
+        commit = subprocess.run(words, stdout=subprocess.PIPE, stderr=subprocess.DEVNULL, text=True, check=False).stdout.strip()
     return f"Of {today.day} {today:%B %Y}, {f'commit {commit}' if commit else 'of no commit'}"
 
 
