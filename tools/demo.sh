@@ -1,6 +1,6 @@
 #!/usr/bin/env bash
-# Runs the program text_demo on its stored session, and shows each request and its answer: the line that the
-# program reads or writes, and below it what the message says, by the program text_decode.
+# Runs the program vfs_demo on its stored session, and shows each request and its answer: the line that the
+# program reads or writes, and below it what the message says, by the program vfs_decode.
 #
 # Usage: tools/demo.sh
 # It runs the proved programs if they are built and no source is newer, and otherwise builds them without
@@ -11,14 +11,14 @@ set -euo pipefail
 take_none "$@"
 . "$(dirname "$0")/lib/messages.sh"
 
-build_programs text_demo text_decode
+build_programs vfs_demo vfs_decode
 
 answers=$(mktemp)
 trap 'rm -f "$answers"' EXIT
 # (told after what it wrote)
 status=0
 # shellcheck disable=SC2154
-"$(path_of text_demo)" < "$crate/stdin" > "$answers" || status=$?
+"$(path_of vfs_demo)" < "$crate/stdin" > "$answers" || status=$?
 show "$crate/stdin" "$answers"
 echo
 

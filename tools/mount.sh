@@ -10,7 +10,7 @@
 # memory size=BYTES, nr_inodes=N (k, m, g), mode=OCTAL, uid=N, gid=N, writeback, by which the kernel keeps what
 # is written and writes it later, and no_io_uring, by which requests come by read(2) even where Linux offers
 # io_uring. With --trace each request and each reply is printed, or their bytes go to a new
-# FILE for text_decode, which a package has as nizwarf-decode.
+# FILE for vfs_decode, which a package has as nizwarf-decode.
 #
 # --check tests it by tests/mount/check.sh.
 #

@@ -73,7 +73,7 @@ trap 'rm -rf "$work"' EXIT
 # Finds what is packed, as `packed`, and sets `proved` by whether all of it is.
 find_parts() {
     local name parts=(nizwarf_door nizwarf_tree nizwarf_border)
-    [ -z "$demo" ] || parts+=(text_demo text_decode)
+    [ -z "$demo" ] || parts+=(vfs_demo vfs_decode)
     [ -n "$unproved" ] || prove_crates "${parts[@]}"
     proved=yes
     for name in "${parts[@]}"; do
@@ -85,7 +85,7 @@ find_parts() {
     done
     heap=${library[1]}
     find_border
-    [ -z "$demo" ] || build_programs text_demo text_decode
+    [ -z "$demo" ] || build_programs vfs_demo vfs_decode
     set_source nizwarf "$release"
     note=", proved"
     [ -n "$proved" ] || note=" (NOT PROVED: this build stands on no proof)"
@@ -192,7 +192,7 @@ put_demo() {
     [ -n "$demo" ] || return 0
     mkdir -p "$1"/{bin,libexec/nizwarf,share/nizwarf}
     install -m 755 "$packaging"/nizwarf-{demo,decode} "$1/bin/"
-    for name in text_demo text_decode; do
+    for name in vfs_demo vfs_decode; do
         install -m 755 "$(path_of "$name")" "$1/libexec/nizwarf/"
         strip --remove-section=.comment --remove-section=.note "$1/libexec/nizwarf/$name"
     done

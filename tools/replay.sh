@@ -1,9 +1,9 @@
 #!/usr/bin/env bash
-# Runs lines of requests through the program text_demo.
+# Runs lines of requests through the program vfs_demo.
 #
 # Usage: tools/replay.sh [--bytes] LINES [EXPECTED]
 # Prints the lines of the file LINES and their answers, and below each what the message says, by the
-# program text_decode; with --bytes the answers alone, as text_demo writes them; with EXPECTED, a file of
+# program vfs_decode; with --bytes the answers alone, as vfs_demo writes them; with EXPECTED, a file of
 # answers, only the first that differs, with its request. A bad line ends a session with status 2, here
 # too. The first line may be `limit N`, which has no answer.
 #
@@ -32,17 +32,17 @@ done
 lines=$(realpath "$1")
 expected=${2:+$(realpath "$2")}
 
-# (only what shows messages needs text_decode)
-programs=(text_demo)
+# (only what shows messages needs vfs_decode)
+programs=(vfs_demo)
 if [ -z "$expected" ] && [ -z "$bytes" ]; then
-    programs+=(text_decode)
+    programs+=(vfs_decode)
 fi
 build_programs "${programs[@]}"
 
 answers=$(mktemp)
 trap 'rm -f "$answers"' EXIT
 status=0
-"$(path_of text_demo)" < "$lines" > "$answers" || status=$?
+"$(path_of vfs_demo)" < "$lines" > "$answers" || status=$?
 
 if [ -z "$expected" ]; then
     if [ -n "$bytes" ]; then

@@ -1,5 +1,5 @@
 #!/usr/bin/env bash
-# Refuses each request for memory of the built programs test_sessions and text_demo, one a run, and
+# Refuses each request for memory of the built programs test_sessions and vfs_demo, one a run, and
 # looks at how that run ends: until one meets no refusal.
 #
 # After its line `refusals` test_sessions makes calls one after another, each in a part of its own
@@ -13,12 +13,12 @@
 # - the file system: an ENOMEM reply, the room after it and the options as before; the call is the
 #   same, and its answer ENOMEM.
 #
-# The lines of text_demo's stored session are parts too, by one server over files in memory. What is
+# The lines of vfs_demo's stored session are parts too, by one server over files in memory. What is
 # answered after a refused one is what a session without that line answers: nothing was moved.
 # After them comes a LOOKUP of `a` twice, cut after its header, which wants no memory, and inside
 # its name, which wants it once.
 #
-# text_demo answers its stored session. Any of its allocations is refused, and a run ends as above, or
+# vfs_demo answers its stored session. Any of its allocations is refused, and a run ends as above, or
 # the program itself wants memory: status 4, and `out of memory` after some of the answers.
 #
 # Usage: tests/allocations/check.sh

@@ -1,4 +1,4 @@
-"""Refuses allocations of test_sessions and text_demo, for check.sh, which says how: refuse.py FOLDER, where that has
+"""Refuses allocations of test_sessions and vfs_demo, for check.sh, which says how: refuse.py FOLDER, where that has
 refuse_allocation.so."""
 import collections, glob, os, re, subprocess, sys, threading
 from concurrent.futures import ThreadPoolExecutor
@@ -164,7 +164,7 @@ def is_stopped(output, stored):
 
 
 def demo_ending(program, lines, stored, it):
-    """How a run of text_demo ended, by who wanted memory, or None."""
+    """How a run of vfs_demo ended, by who wanted memory, or None."""
     answers = it.output.splitlines()
     if it.status == 4 and is_stopped(it.output, stored):
         return "the program"
@@ -182,20 +182,20 @@ def demo_ending(program, lines, stored, it):
 
 
 def try_demo(program, lines, stored):
-    """How text_demo ends by each of its allocations, once it gave its stored answers with none refused."""
+    """How vfs_demo ends by each of its allocations, once it gave its stored answers with none refused."""
     stdin = b"".join(lines)
     clean = run(program, stdin)
     if clean.status or clean.output.splitlines() != stored:
-        raise ValueError("text_demo, refused nothing, does not give its stored answers")
+        raise ValueError("vfs_demo, refused nothing, does not give its stored answers")
     with ThreadPoolExecutor(os.cpu_count()) as pool:
         numbers = range(1, clean.counts[0] + 2)
         runs = list(pool.map(lambda number: run(program, stdin, 0, number), numbers))
     if runs.pop() != clean:
-        raise ValueError("text_demo wants more memory than it wanted")
+        raise ValueError("vfs_demo wants more memory than it wanted")
     endings = [demo_ending(program, lines, stored, it) for it in runs]
     for number, (ending, it) in enumerate(zip(endings, runs), 1):
         if ending is None:
-            wrong(f"text_demo, allocation {number}", it)
+            wrong(f"vfs_demo, allocation {number}", it)
     return endings
 
 
@@ -206,10 +206,10 @@ def tell(what, endings):
     print(f"{what}: {len(endings)} allocations refused in turn; answered by {told}", flush=True)
 
 
-script, demo = built("test_sessions"), built("text_demo")
-with open("crates/text_demo/stdin", "rb") as file:
+script, demo = built("test_sessions"), built("vfs_demo")
+with open("crates/vfs_demo/stdin", "rb") as file:
     lines = file.readlines()
-with open("crates/text_demo/stdout") as file:
+with open("crates/vfs_demo/stdout") as file:
     stored = file.read().splitlines()
 # The LOOKUP of the stored session: a room of 144 bytes, 42 (0x2a) of opcode 1, of which the last two are `a` and a nul.
 header = next(it[1] for it in (re.match(rb"(144 2a00000001[0-9a-f]*)61\+00\n", it) for it in lines) if it)
@@ -226,6 +226,6 @@ if endings[-2:] != [[], ["the server"]]:
 wanting = sum(len(it) > 0 for it in endings)
 print(f"test_sessions: {len(endings)} calls, of which {wanting} want memory")
 tell("test_sessions", sum(endings, []))
-print("2 of 2: a whole session of text_demo ..", flush=True)
-tell("text_demo", try_demo(demo, lines, stored))
+print("2 of 2: a whole session of vfs_demo ..", flush=True)
+tell("vfs_demo", try_demo(demo, lines, stored))
 sys.exit(1 if faults else 0)

@@ -38,7 +38,7 @@ def compiled(words, text):
         sys.exit(2)
 
 
-FLAGS, NUMBERS = read("crates/fuse_flags/src/*.rt"), read("crates/fuse_flags/specs/Numbers.antt")
+FLAGS, NUMBERS = read("crates/vfs_flags/src/*.rt"), read("crates/vfs_flags/specs/Numbers.antt")
 INCLUDED = "#define _GNU_SOURCE\n" + "".join(f"#include <{it}.h>\n" for it in ("errno", "dirent", "sys/stat", "linux/fs", "linux/fuse"))
 HEADER = compiled(["-E", "-dD"], INCLUDED)
 if HEADER.returncode:
@@ -156,18 +156,18 @@ for comment, flag in re.findall(r"((?:^    ///.*\n)+)    pub const \w+: (?:\w+) 
     else:
         faults.append(f"a flag of {flag}: its comment names none of the kernel's")
 # Options and flags that virtiofsd lacks; in the file they have the kernel's names without FUSE_, or with FOPEN_.
-for name, flag in re.findall(r"^ *pub const (\w+): u\d+ = (1 << \d+);", read("crates/fuse_notices/src/*.rt"), re.M):
+for name, flag in re.findall(r"^ *pub const (\w+): u\d+ = (1 << \d+);", read("crates/vfs_notices/src/*.rt"), re.M):
     hold_number([f"FUSE_{name}", name], flag)
 # Error numbers of definitions, and options of theirs that are one bit.
 for name, number in re.findall(r"^abbrev pub (e\w+) : ℕ\n\1 = (\d+)$", NUMBERS, re.M):
     hold_number([name.upper()], number)
-for name, bit in re.findall(r"^abbrev pub (\w+) : ℕ\n\1 = 2 \^ (\d+)$", read("crates/fuse_flags/specs/Flags.antt"), re.M):
+for name, bit in re.findall(r"^abbrev pub (\w+) : ℕ\n\1 = 2 \^ (\d+)$", read("crates/vfs_flags/specs/Flags.antt"), re.M):
     hold_number([f"FUSE_{name.upper()}"], f"1 << {bit}")
 # (the minor version is the header's own)
 for name, value in re.findall(r"^pub const (?!\w*MINOR_VERSION)(\w+): u\d+ = ([\d_ <]+);", FLAGS, re.M):
     hold_number([f"FUSE_{name}", name], value, False)
 # What modes, items of directories and renames have is stated by laws, whatever it is made of.
-for name, value in re.findall(r"^ *ensures \w+ \{ ((?:S_IF|DT_|RENAME_)\w+) ≡ (\w+) \}", read("crates/fuse_flags/src/laws.rt"), re.M):
+for name, value in re.findall(r"^ *ensures \w+ \{ ((?:S_IF|DT_|RENAME_)\w+) ≡ (\w+) \}", read("crates/vfs_flags/src/laws.rt"), re.M):
     hold_number([name], str(int(value, 0)), name != "RENAME_FLAGS")
 
 if words[len(FOLDER):]:

@@ -1,6 +1,6 @@
 #!/usr/bin/env bash
 # Tries wrong bodies that the gate leaves out, and wrong definitions: the prover must refuse each. The gate tries the
-# telling ones, which are in the must-fail of their crates, at least one of each with contracts but fuse_wire_more and
+# telling ones, which are in the must-fail of their crates, at least one of each with contracts but vfs_wire_more and
 # test_*. The rest are here: the files CRATE/NAME.edit beside this script, in the form of must-fail's. With both most
 # public functions have a wrong body, of their own or of what they call; of many that are alike, as records, some have.
 #

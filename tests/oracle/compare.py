@@ -5,7 +5,7 @@ Usage: compare.py SEED COUNT JOBS ORACLE PROGRAM ..
 Each session goes to a program as it is cut, and with each request in one segment and one room:
 
     script sessions   to test_sessions: answers and calls
-    memory sessions   to text_demo: answers; and, where they are of a form that it reads, to test_sessions after
+    memory sessions   to vfs_demo: answers; and, where they are of a form that it reads, to test_sessions after
                       its line `refusals`: outcomes, whole rooms and the options that are agreed after each
                       request
 
@@ -27,7 +27,7 @@ sys.path.append(str(TOP / "tools/lib"))
 import opcodes
 
 # For each way of asking: the program, the sessions that it gets, and how the oracle is asked.
-WAYS = {"test_sessions": ("test_sessions", "script", "script"), "text_demo": ("text_demo", "memory", "memory"),
+WAYS = {"test_sessions": ("test_sessions", "script", "script"), "vfs_demo": ("vfs_demo", "memory", "memory"),
         "refusals": ("test_sessions", "memory", "rooms")}
 # Kinds with lines that are not read after the line `refusals`, or more calls than are noted there.
 NO_ROOMS = ("badline", "limits", "full")

@@ -3,7 +3,7 @@
 #
 # Usage: tests/oracle/run.sh [--source FOLDER] [--jobs N] [SEED [COUNT]]
 # COUNT requests (a million, if it isn't said) in sessions by SEED (1), half of them over the scripted file
-# system of test_sessions and half over the files in memory of text_demo, and the sessions that kernels were
+# system of test_sessions and half over the files in memory of vfs_demo, and the sessions that kernels were
 # recorded to ask. Each session is asked as it is cut, and with each request in one segment and one room.
 # Compared are answers, calls with every argument, statuses, and over the files in memory whole rooms and
 # the options agreed on, which test_sessions shows after its line `refusals`. It prints how many requests of each opcode came to each
@@ -49,7 +49,7 @@ done
 
 # A program that isn't proved is built below, side by side.
 programs=()
-for program in test_sessions text_demo; do
+for program in test_sessions vfs_demo; do
     if is_built "$program"; then
         echo "$program: proved"
         programs+=("$here/crates/$program/out/$program")

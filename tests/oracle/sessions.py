@@ -1,9 +1,9 @@
 #!/usr/bin/env python3
-"""Makes sessions of requests, as text_demo and test_sessions read them: the same for the same seed.
+"""Makes sessions of requests, as vfs_demo and test_sessions read them: the same for the same seed.
 
 Usage: sessions.py SEED COUNT FOLDER script|memory
 Writes sessions of COUNT requests in all, a file each, named by its number and its kind. `script` ones
-are for the scripted file system of test_sessions, `memory` ones for the files in memory of text_demo. The
+are for the scripted file system of test_sessions, `memory` ones for the files in memory of vfs_demo. The
 kinds take turns:
 
     valid        each opcode several times, as a kernel asks

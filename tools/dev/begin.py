@@ -19,10 +19,10 @@ sys.dont_write_bytecode = True
 from records import laid_out, struct_of  # noqa: E402
 
 BEGIN, PROTOCOL = "docs/BEGIN.md", "docs/generated/protocol.md"
-SESSION, TURN, BOOKS = "fuse_server/specs/Session.antt", "fuse_grammar/specs/Turn.antt", "fuse_grammar/specs/Books.antt"
-ASK, REPLY = "fuse_grammar/specs/Ask.antt", "fuse_grammar/specs/Reply.antt"
-CALLS, ANSWERS = "fs_trait/specs/Calls.antt", "fs_trait/specs/Answers.antt"
-NUMBERS, EXAMPLES = "fuse_flags/specs/Numbers.antt", "laws_turns/proofs/Examples.antt"
+SESSION, TURN, BOOKS = "vfs_server/specs/Session.antt", "vfs_grammar/specs/Turn.antt", "vfs_grammar/specs/Books.antt"
+ASK, REPLY = "vfs_grammar/specs/Ask.antt", "vfs_grammar/specs/Reply.antt"
+CALLS, ANSWERS = "vfs_files/specs/Calls.antt", "vfs_files/specs/Answers.antt"
+NUMBERS, EXAMPLES = "vfs_flags/specs/Numbers.antt", "laws_turns/proofs/Examples.antt"
 
 
 def read(path):

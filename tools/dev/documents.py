@@ -11,7 +11,7 @@ DOCUMENTS = [*COUNTED, "tools/README.md", "tests/README.md", "tests/oracle/READM
 # Pages whose links alone are looked at.
 LINKED = [*sorted(glob.glob("docs/generated/*.md")), *sorted(glob.glob("bindings/*/README.md"))]
 # Where no crate is named in PROTOCOL.md, it is this one, as that page says.
-CRATES = {"docs/PROTOCOL.md": ["fuse_grammar"]}
+CRATES = {"docs/PROTOCOL.md": ["vfs_grammar"]}
 CODE = re.compile(r"`([^`]+)`")
 # `NAME`, .. `FILE`: names, and the file that defines them.
 NAMED = re.compile(r"((?:`[\w:]+`, )+)`([\w./]+\.(?:rt|antt))`")
@@ -74,11 +74,11 @@ def number_of(said):
     return NUMBERS.index(said) if said in NUMBERS else int(said.replace(",", ""))
 
 
-OPCODES, HANDLED = (count(pattern, "crates/fuse_grammar/specs/Ask.antt")
+OPCODES, HANDLED = (count(pattern, "crates/vfs_grammar/specs/Ask.antt")
                     for pattern in ("^ *form_of ", "^ *form_of (?!.* = NotServed)"))
-CALLS = count(r"^    fn ", "crates/fs_trait/src/filesystem.rt")
+CALLS = count(r"^    fn ", "crates/vfs_files/src/filesystem.rt")
 RECORDS, MORE_RECORDS = (count(r"impl ByteValued for [A-Z]", f"crates/{crate}/src/")
-                         for crate in ("fuse_wire", "fuse_wire_more"))
+                         for crate in ("vfs_wire", "vfs_wire_more"))
 # The stored requests: worked, generated, and what kernels asked, of which each session begins with one of the first
 # kind, which says what INIT wants.
 WORKED, GENERATED, KERNELS = (len(re.findall(r"^\d", part, re.M)) for part in re.split(
@@ -157,7 +157,7 @@ def check_below(fault, line):
     for match in BELOW.finditer(line):
         said, crate = match.groups()
         named = [it for it in CODE.findall(line[:match.start()]) if it in below]
-        crate = {"it": (named or [""])[-1], "the program": "text_demo"}.get(crate, crate.strip("`"))
+        crate = {"it": (named or [""])[-1], "the program": "vfs_demo"}.get(crate, crate.strip("`"))
         if crate not in below:
             fault(f"no crate is named that {said} crates are below")
         elif number_of(said) != len(below[crate]):
@@ -283,20 +283,20 @@ COUNTS = re.compile(r"(\d+) definitions,? (?:of )?([\d,]+) lines")
 # What is told by how much more it is than the session, or than these other definitions too, and begins with these.
 DOOR = ["nizwarf_door/Turns.IsAskedOrNot", "nizwarf_door/Turns.IsAnsweredOrNot", "nizwarf_door/Kept.HoldsAnswer",
         "nizwarf_door/Kept.HoldsFor"]
-BESIDE = [("the clause `memory`", [], ["fuse_server/Sparing.IsSparing"]),
-          ("one message", [], ["fuse_server/Step.IsStep", "fuse_server/Step.ReadsDirectories"]),
+BESIDE = [("the clause `memory`", [], ["vfs_server/Sparing.IsSparing"]),
+          ("one message", [], ["vfs_server/Step.IsStep", "vfs_server/Step.ReadsDirectories"]),
           ("the door", [], DOOR),
           ("its clauses", DOOR, ["nizwarf_door/Session.limits_of", "nizwarf_door/Session.options_of",
-                                 "nizwarf_door/Shown.shown_in", "fuse_grammar/Limits.AreLimits"]),
+                                 "nizwarf_door/Shown.shown_in", "vfs_grammar/Limits.AreLimits"]),
           ("flights", DOOR, ["laws_flight/Flight.turns_answered", "laws_flight/Flight.AreInFlight",
-                             "laws_flight/Flight.AreAskedInTime", "fuse_grammar/Turn.AreTurns",
+                             "laws_flight/Flight.AreAskedInTime", "vfs_grammar/Turn.AreTurns",
                              "laws_flight/Made.NoCountIsBelow", "laws_flight/Running.FlightsRun",
                              "laws_flight/Running.AloneRun", "laws_flight/ToldCall.TableIsCall"])]
 
 
 def counted_with(starts):
     """What is reached from IsSession and these, a line for each file, and how many definitions and lines."""
-    *files, ends = subprocess.run(["tools/measure/statement.sh", "--files", "fuse_server/Session.IsSession", *starts],
+    *files, ends = subprocess.run(["tools/measure/statement.sh", "--files", "vfs_server/Session.IsSession", *starts],
                                   capture_output=True, text=True, check=True).stdout.splitlines()[:-1]
     return files, [int(it) for it in COUNTS.search(ends).groups()]
 
@@ -314,8 +314,8 @@ for path in sorted({line.split(":")[0] for line in reached + further}):
         faults.append(f"docs/PROMISE.md: the reading order lacks {path}")
 # In these files what is of the promise ends at a line, or the first comment says what it is.
 specs = Specs()
-SESSION = specs.reach([start_of(specs, "fuse_server/Session.IsSession")])
-PROMISED = specs.reach([start_of(specs, it) for it in ["fuse_server/Session.IsSession", *sum((starts for _, _, starts in BESIDE), [])]])
+SESSION = specs.reach([start_of(specs, "vfs_server/Session.IsSession")])
+PROMISED = specs.reach([start_of(specs, it) for it in ["vfs_server/Session.IsSession", *sum((starts for _, _, starts in BESIDE), [])]])
 # The files of the types of the code that these name are there too.
 for _, it in sorted(it for it in PROMISED if it[0] == "declared"):
     crate, *module = it.split(".specs.declared.")[0], *it.split(".specs.declared.")[1].split(".")[:-1]
@@ -335,12 +335,12 @@ for path in sorted({f"crates/{line.split(':')[0]}" for line in reached + further
             faults.append(f"{path}: no line, and no first comment, says that {name} is not of the promise")
 # The signs of the definitions' language, and those that some file of the reading order has and the key does not say.
 SIGNS = r"[^\w\s(){}\[\],;.:λ=\"]+|λ|==|\b(?:abbrev|unfoldable|opaque|record|data|module|where|elim|let|suc|zero|pos|tt)\b"
-WORDS = sources["crates/fuse_server/specs/Session.antt"].split("\nuse ")[0]
+WORDS = sources["crates/vfs_server/specs/Session.antt"].split("\nuse ")[0]
 # Those lines of them that are read first.
 last = WORDS.count("\n") + 1
 first = WORDS[:WORDS.index("-- `declared` in an import")].count("\n") + 1
-if f"Read first lines {first} to {last} of `fuse_server/specs/Session.antt`" not in order.split("\n1. ")[0]:
-    faults.append(f"docs/PROMISE.md: what is read first of fuse_server/specs/Session.antt are lines {first} to {last}")
+if f"Read first lines {first} to {last} of `vfs_server/specs/Session.antt`" not in order.split("\n1. ")[0]:
+    faults.append(f"docs/PROMISE.md: what is read first of vfs_server/specs/Session.antt are lines {first} to {last}")
 key = " ".join(CODE.findall(read("docs/PROMISE.md").split("## Key")[1].split("\n## ")[0] + WORDS))
 unsaid = {}
 for path in sorted({f"crates/{it.split(':')[0]}" for it in reached + further} | {f"crates/{it}" for it in CODE.findall(order)}):

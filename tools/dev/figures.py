@@ -19,7 +19,7 @@ HERE = os.path.dirname(os.path.dirname(os.path.dirname(os.path.abspath(__file__)
 # What a page measures: a crate, which is its code and that of all below it, or what a path begins with. A page or a
 # section that is not here measures all of it.
 DOOR, SHARE = ["nizwarf_door", "include/nizwarf"], ["programs/share/", "programs/transport/"]
-TREE, VIRTIOFSD = ["nizwarf_tree", "include/nizwarf_tree.h", "programs/mount/"], ["fuse_server", "bindings/virtiofsd/"]
+TREE, VIRTIOFSD = ["nizwarf_tree", "include/nizwarf_tree.h", "programs/mount/"], ["vfs_server", "bindings/virtiofsd/"]
 MEASURED = {
     "docs/SPEED.md, Small requests": ["test_speed"],
     "docs/SPEED.md, The server": ["test_speed"],

@@ -3,9 +3,9 @@
 
 Usage: tools/dev/numbers.py
 
-The tables are in crates: opcodes in fuse_flags/src/opcode.rt, with their names where fuse_print has opcode_name; calls,
+The tables are in crates: opcodes in vfs_flags/src/opcode.rt, with their names where vfs_print has opcode_name; calls,
 kinds of answers, bits of `has` and the records of a call in door_calls/src/call.rt; the rows that a file system offers
-in door_further/src/offers.rt, with opcodes that virtiofsd lacks in fuse_print/src/further.rt; the records of an answer
+in door_further/src/offers.rt, with opcodes that virtiofsd lacks in vfs_print/src/further.rt; the records of an answer
 in door_calls/src/data.rt; what is told in nizwarf_door/src/data.rt; codes in c_rooms/specs/Codes.antt.
 
 It prints a line for each difference, with the file and the name, and ends with their count. Status 0: there is none;
@@ -20,7 +20,7 @@ os.chdir(os.path.join(os.path.dirname(os.path.abspath(__file__)), "../.."))
 if len(sys.argv) > 1:
     print(__doc__.strip())
     sys.exit(0 if sys.argv[1:] == ["--help"] else 2)
-OPCODES = "crates/fuse_flags/src/opcode.rt"
+OPCODES = "crates/vfs_flags/src/opcode.rt"
 CALLS, DATA = "crates/door_calls/src/call.rt", "crates/door_calls/src/data.rt"
 DOOR, CODES = "crates/nizwarf_door/src/data.rt", "crates/c_rooms/specs/Codes.antt"
 HEADER, RUST, RUST_CALLS = "include/nizwarf.h", "bindings/rust/src/numbers.rs", "bindings/rust/src/call.rs"
@@ -32,7 +32,7 @@ def read(path):
         return file.read()
 
 
-NAMES = next(it for it in sorted(glob.glob("crates/fuse_print/src/*.rt")) if "fn opcode_name" in read(it))
+NAMES = next(it for it in sorted(glob.glob("crates/vfs_print/src/*.rt")) if "fn opcode_name" in read(it))
 
 
 def part(path, begin, end):
@@ -73,7 +73,7 @@ NAME = dict(re.findall(r'Opcode::(\w+) => "(\w+)"', read(NAMES)))
 hold(NAMES, dict.fromkeys(NAME, "named"), OPCODES, dict.fromkeys(OPCODE, "named"), "opcode")
 hold(OPCODES, {name: int(n) for n, name in re.findall(r"(\d+) => Ok\(Opcode::(\w+)\)", read(OPCODES))}, OPCODES, OPCODE,
      "in try_from")
-SPEC = "crates/fuse_flags/specs/Numbers.antt"
+SPEC = "crates/vfs_flags/specs/Numbers.antt"
 hold(SPEC, numbers(r"^number_of (\w+) = (\d+)", read(SPEC)), OPCODES, OPCODE, "number_of")
 hold(SPEC, {name: int(n) for n, name in re.findall(r"n == (\d+) then Some (\w+)", part(SPEC, "opcode_of n =", "\n\n"))},
      OPCODES, OPCODE, "in opcode_of")
@@ -85,7 +85,7 @@ if os.path.exists(LINUX):
          {name: n for name, n in kernel.items() if name in NUMBER}, "opcode")
 
 # Those that a file system may offer and virtiofsd's opcodes lack.
-BEYOND_NAMES = "crates/fuse_print/src/further.rt"
+BEYOND_NAMES = "crates/vfs_print/src/further.rt"
 BEYOND = numbers(r"^const (\w+): u32 = (\d+);", read(BEYOND_NAMES))
 PAGE = "docs/PROTOCOL.md"
 rows = re.findall(r"^\| ([\d, ]+) ([A-Z][A-Z_0-9, ]+) \|", read(PAGE), re.M)

@@ -25,10 +25,10 @@ SPELLED = {"LSEEK": "lseek", "FALLOCATE": "fallocate", "SYNCFS": "syncfs",
 ROWS = {"COPY_64": r"copy_?64|copy_?file_?range_?64|copy_told|(?m:^  copy = λ h r)"}
 PAGE = "CONTRIBUTING.md"
 # Written by tools or recorded, and what tells of the past or of this list.
-APART = ["docs/generated/*", "crates/test_sessions/std*", "crates/text_decode/std*", "crates/text_demo/std*",
+APART = ["docs/generated/*", "crates/test_sessions/std*", "crates/vfs_decode/std*", "crates/vfs_demo/std*",
          "tests/oracle/recorded/*", "tests/c/version-0.2/*", "tests/weaken/noticed.tsv", "CHANGELOG.md", PAGE, "tools/dev/opcode.py", "tools/dev/numbers.py"]
 # Where the word is a call of the system or of a client, or begins that of another opcode (COPY_FILE_RANGE_64).
-ELSEWHERE = ["crates/door_further/*", "crates/fuse_print/src/further.rt", "programs/share/passthrough_list.c", "tests/beside/get.sh",
+ELSEWHERE = ["crates/door_further/*", "crates/vfs_print/src/further.rt", "programs/share/passthrough_list.c", "tests/beside/get.sh",
              "tests/suites/get.sh",
              "tests/mirror/calls.py", "tests/mount/session.sh", "tests/share/apart.py", "tests/share/calls.py", "tests/share/load.py",
              "bindings/rust/fuser/session.py",

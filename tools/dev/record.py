@@ -1,5 +1,5 @@
 #!/usr/bin/env python3
-"""Writes out what the proofs want of a record of the protocol, from its struct in crates/fuse_wire or fuse_wire_more.
+"""Writes out what the proofs want of a record of the protocol, from its struct in crates/vfs_wire or vfs_wire_more.
 
 Usage: tools/dev/record.py NAME | --check
 
@@ -24,7 +24,7 @@ def read(path):
         return file.read()
 
 
-SOURCES = {path: read(path) for path in sorted(glob.glob("crates/fuse_wire*/src/*.rt"))}
+SOURCES = {path: read(path) for path in sorted(glob.glob("crates/vfs_wire*/src/*.rt"))}
 
 
 def fields_of(name):
@@ -95,7 +95,7 @@ def plain(text):
 
 def check():
     """Derives all records, and prints how many stand so."""
-    stands = plain("".join(SOURCES.values()) + "".join(map(read, glob.glob("crates/fuse_wire*/specs/*.antt"))))
+    stands = plain("".join(SOURCES.values()) + "".join(map(read, glob.glob("crates/vfs_wire*/specs/*.antt"))))
     names = [it for text in SOURCES.values() for it in re.findall(r"impl ByteValued for ([A-Z]\w+)", text)]
     same = 0
     for name in names:
@@ -145,7 +145,7 @@ use Rattle.{crate}.specs.{declared}.{{{name}}}
 -- the same file, in one of the records `..Lie`, of which src/layouts.rt has the laws:
   pub {table_of(name)} : {name}Lies
 
-// then crates/fuse_print/src/opcodes.rt has what is printed of it: impl Fields for {name}""")
+// then crates/vfs_print/src/opcodes.rt has what is printed of it: impl Fields for {name}""")
 
 
 def main(words):

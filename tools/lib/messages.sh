@@ -1,4 +1,4 @@
-# For the scripts beside it that run text_demo and decode what it reads and writes; they source usage.sh
+# For the scripts beside it that run vfs_demo and decode what it reads and writes; they source usage.sh
 # first.
 # shellcheck shell=bash
 . "$(dirname "${BASH_SOURCE[0]}")/program.sh"
@@ -41,9 +41,9 @@ in_turn() {
     ' "$1"
 }
 
-# Prints the same with what each message says below it, by the program text_decode: show LINES ANSWERS. An
-# empty line is before each request, and what text_demo wrote after its last answer ends it.
+# Prints the same with what each message says below it, by the program vfs_decode: show LINES ANSWERS. An
+# empty line is before each request, and what vfs_demo wrote after its last answer ends it.
 show() {
-    in_turn "$1" "$2" | "$(path_of text_decode)" | sed 's/^[0-9]/\n&/'
+    in_turn "$1" "$2" | "$(path_of vfs_decode)" | sed 's/^[0-9]/\n&/'
     tail -n 1 "$2" | grep -Ev '^(ok|err) ' || true
 }

@@ -1,9 +1,9 @@
-"""Opcodes by name, as Linux spells them: those of virtiofsd, of crates/fuse_flags/src/opcode.rt."""
+"""Opcodes by name, as Linux spells them: those of virtiofsd, of crates/vfs_flags/src/opcode.rt."""
 import enum
 import pathlib
 import re
 
-SOURCE = pathlib.Path(__file__).resolve().parents[2] / "crates/fuse_flags/src/opcode.rt"
+SOURCE = pathlib.Path(__file__).resolve().parents[2] / "crates/vfs_flags/src/opcode.rt"
 # Linux has these in one word.
 ONE_WORD = {"TMP_FILE": "TMPFILE", "SETUP_MAPPING": "SETUPMAPPING", "REMOVE_MAPPING": "REMOVEMAPPING"}
 

@@ -1,11 +1,11 @@
-# For the scripts beside it: where the programs are, text_demo where none is named.
+# For the scripts beside it: where the programs are, vfs_demo where none is named.
 # shellcheck shell=bash
 
 here=$(cd "$(dirname "${BASH_SOURCE[0]}")/../.." && pwd)
 # shellcheck disable=SC2034
-crate=$here/crates/text_demo
+crate=$here/crates/vfs_demo
 # shellcheck disable=SC2034
-program=$here/crates/text_demo/out/text_demo
+program=$here/crates/vfs_demo/out/vfs_demo
 
 # Whether a file is as new as all that programs are built from.
 is_newest() {
@@ -14,7 +14,7 @@ is_newest() {
 
 # Whether a proved program is there, and as new as all that it is built from.
 is_built() {
-    local built=$here/crates/${1:-text_demo}/out/${1:-text_demo}
+    local built=$here/crates/${1:-vfs_demo}/out/${1:-vfs_demo}
     [ -x "$built" ] && is_newest "$built"
 }
 
@@ -23,7 +23,7 @@ need_toolchain() {
     if ! command -v rt > /dev/null; then
         echo "Missing: the command \`rt\` of the Rattle toolchain, which builds the program." >&2
         echo "Put the toolchain's folder bin on the PATH. There is no built program of" >&2
-        echo "today's sources at $here/crates/${1:-text_demo}/out/${1:-text_demo}." >&2
+        echo "today's sources at $here/crates/${1:-vfs_demo}/out/${1:-vfs_demo}." >&2
         exit 2
     fi
 }

@@ -15,7 +15,7 @@ def read(pattern):
     return text
 
 
-WIRE, SPECS = read("crates/fuse_wire*/src/*.rt"), read("crates/fuse_wire*/specs/*.antt")
+WIRE, SPECS = read("crates/vfs_wire*/src/*.rt"), read("crates/vfs_wire*/specs/*.antt")
 # Of each table the record, the widths and the fields, as they are written.
 TABLES = {name: (record, widths, fields) for name, record, widths, fields in re.findall(
     r"^abbrev pub (\w+) : Table (\w+)\n\1 =\s+table \(([^λ]*)\)\s+\(λ r\. (.*?)\)\s+made_\1$", SPECS, re.M | re.S)}

@@ -108,13 +108,13 @@ def start_of(specs, word):
     found = re.fullmatch(r"(\w+)/(\w+)\.(\w+)", word)
     at = found and (f"{found[1]}.specs.{found[2]}", found[3])
     if not at or at[1] not in specs.of.get(at[0], {}):
-        sys.exit(f"statement.sh: there is no definition {word}: write CRATE/FILE.NAME, as fuse_server/Session.IsSession")
+        sys.exit(f"statement.sh: there is no definition {word}: write CRATE/FILE.NAME, as vfs_server/Session.IsSession")
     return at
 
 
 def is_decoder(it):
     """Whether a definition makes a record of its fields."""
-    return it[0].startswith("fuse_wire") and it[1].startswith("made_")
+    return it[0].startswith("vfs_wire") and it[1].startswith("made_")
 
 
 def is_held(specs, it):
@@ -126,11 +126,11 @@ def is_held(specs, it):
         return it[1] == "outcome_code" or bool(re.match(r"abbrev pub \w+ : ℤ\n\w+ = pos \d+$", text.strip()))
     if it[0].startswith("door_calls"):
         return bool(re.match(COPIED, text.strip()) or re.match(ZEROS, text.strip()))
-    if it[0].startswith("fuse_wire"):
+    if it[0].startswith("vfs_wire"):
         return bool(re.match(r"abbrev pub \w+ : Table \w+\n", text))
-    if it[0] == "fuse_flags.specs.Flags":
+    if it[0] == "vfs_flags.specs.Flags":
         return bool(re.search(r"^\w+ = 2 \^ \d+$", text, re.M)) and it[1] != "create_supp_group"
-    return it[0] == "fuse_flags.specs.Numbers" and (it[1] in ("opcode_of", "number_of")
+    return it[0] == "vfs_flags.specs.Numbers" and (it[1] in ("opcode_of", "number_of")
                                                    or bool(re.match(r"abbrev pub e\w+ : ℕ\ne\w+ = \d+$", text.strip())))
 
 
@@ -141,7 +141,7 @@ def main():
     if show not in ("", "--files", "--once", "--beside"):
         sys.exit(f"statement.sh: {show} is no option: see tools/measure/statement.sh --help")
     specs = Specs()
-    by = specs.reach([start_of(specs, it) for it in words or ["fuse_server/Session.IsSession"]])
+    by = specs.reach([start_of(specs, it) for it in words or ["vfs_server/Session.IsSession"]])
     all_reached = [it for it in by if it[0] != "declared"]
     followed = [it for it in all_reached if is_decoder(it)]
     held = [it for it in all_reached if is_held(specs, it)]

@@ -3,7 +3,7 @@
 # so on.
 #
 # Usage: tools/measure/statement.sh [--files | --once | --beside] [CRATE/FILE.NAME ..]
-# A definition to begin with is written fuse_server/Session.IsSession, which is also what is counted without one.
+# A definition to begin with is written vfs_server/Session.IsSession, which is also what is counted without one.
 #
 #   --files    each file, with how many of its definitions and lines are reached
 #   --once     the definitions that one other names, with that one
@@ -14,7 +14,7 @@
 # gate compiles them against the kernel's headers (tests/c/kernel.py); of the door the numbers of codes, copies of
 # records by the names of their fields, and records of zeros, which it compiles against nizwarf.h too (tests/c/data.py);
 # and the decoders of records, made_..: how a record is made of its fields follows of how it is split into them, by
-# the law decoding_is_the_inverse of fuse_wire.
+# the law decoding_is_the_inverse of vfs_wire.
 # It stops at an import that it can't read or follow, since what is imported would not be counted.
 set -eu
 . "$(dirname "$0")/../lib/usage.sh"

@@ -3,7 +3,7 @@ use Rattle.std.proofs.Common.{◌≡◌, ◌≤◌, ◌+◌, ◌-◌, ℕ, List,
 use Rattle.std.proofs.lemmas.List.{length-append, length-map, nil_from_length}
 use Rattle.std.specs.declared.vec.Vec.{Vec}
 use Rattle.std.specs.declared.alloc.Global.{Global}
-use Rattle.fuse_segments.specs.Segments.{contents, flat_bytes, lengths_of}
+use Rattle.vfs_segments.specs.Segments.{contents, flat_bytes, lengths_of}
 
 -- the last room of a list of one has all of its bytes
 pub only_room : (rest : List (Vec ℕ Global)) (room : Vec ℕ Global)

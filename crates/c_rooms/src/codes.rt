@@ -3,7 +3,7 @@
 ghost use Rattle.std.specs.Prelude.{◌≡◌, Err};
 ghost use Rattle.c_rooms.specs.Codes.{outcome_code, shown_of};
 
-use fuse_grammar::Error;
+use vfs_grammar::Error;
 
 /// All is well.
 pub const OK: i32 = 0;

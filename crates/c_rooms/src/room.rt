@@ -2,14 +2,14 @@
 //! costs nothing: the last room is its end.
 
 ghost use Rattle.std.specs.Prelude.{◌≡◌, ◌≤◌, ◌++◌, [], None, false, true, length, take, drop, min, vec_len, IfSome, IsSome};
-ghost use Rattle.fuse_segments.specs.Segments.{contents, flat_bytes, lengths_of};
-ghost use Rattle.fuse_segments.specs.Written.{whole};
+ghost use Rattle.vfs_segments.specs.Segments.{contents, flat_bytes, lengths_of};
+ghost use Rattle.vfs_segments.specs.Written.{whole};
 ghost use Rattle.c_rooms.specs.Parts.{part_from};
 ghost use Rattle.c_rooms.specs.Places.{HasPlace, Lends};
 
-use fuse_segments::Writer;
 use std::alloc::Global;
 use std::mem;
+use vfs_segments::Writer;
 
 // Makes the room longer where it has less than `total` bytes. False where there is no memory: then it is as it was.
 fn grow(room: &mut Vec<u8>, total: usize) -> bool

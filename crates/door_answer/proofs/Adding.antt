@@ -1,10 +1,10 @@
 -- An item is added with what it gets.
 use Rattle.std.proofs.Common.{◌≡◌, ◌≢◌, ℕ, List, pos, Bool, true, false, Option, Some, None, Result, Ok, Err, length, ap, refl, subst, ◌∙◌}
-use Rattle.fuse_segments.specs.Written.{Written}
-use Rattle.fs_trait.specs.Values.{entry_out_of, Item, name_of}
-use Rattle.fs_trait.specs.declared.entry.Entry.{Entry}
-use Rattle.fuse_grammar.specs.Listing.{Got, Gets, is_dot, dot_out, verdict}
-use Rattle.fuse_listings.specs.Reading.{Adds, AddsGot}
+use Rattle.vfs_segments.specs.Written.{Written}
+use Rattle.vfs_files.specs.Values.{entry_out_of, Item, name_of}
+use Rattle.vfs_files.specs.declared.entry.Entry.{Entry}
+use Rattle.vfs_grammar.specs.Listing.{Got, Gets, is_dot, dot_out, verdict}
+use Rattle.vfs_listings.specs.Reading.{Adds, AddsGot}
 use Rattle.door_calls.specs.Values.{IsFaultOf, entry_out_for}
 use Rattle.door_calls.specs.declared.data.ItemData.{ItemData}
 use Rattle.door_answer.specs.Offered.{item_told, AddsItem, IsFound}

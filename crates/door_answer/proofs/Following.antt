@@ -2,14 +2,14 @@
 -- after.
 use Rattle.std.proofs.Common.{◌≡◌, ◌≤◌, ◌+◌, ◌∙◌, ℕ, List, ◌++◌, length, take, drop, Option, Result, Ok, refl, ap, sym, arith, append_assoc, length-append, length-take, length-drop}
 use Rattle.std.proofs.lemmas.List.{take_at, drop-append-le, take-append-drop}
-use Rattle.fuse_wire.specs.Fields.{bytes_of}
-use Rattle.fuse_wire.specs.Records.{out_header}
-use Rattle.fuse_segments.specs.Written.{Written, whole, wrote}
-use Rattle.fuse_messages.specs.Rooms.{data_header, Replies, with_after}
-use Rattle.fuse_messages.proofs.Rooms.{whole_after}
-use Rattle.fuse_grammar.specs.Reply.{Bytes, OpenAfter, body_reply, fault_reply}
-use Rattle.fuse_grammar.specs.declared.error.Error.{Error}
-use Rattle.fuse_grammar.proofs.Rooms.{length-header, length-body_reply, length-fault_reply, put_outcome-fits, put_room-fits}
+use Rattle.vfs_wire.specs.Fields.{bytes_of}
+use Rattle.vfs_wire.specs.Records.{out_header}
+use Rattle.vfs_segments.specs.Written.{Written, whole, wrote}
+use Rattle.vfs_messages.specs.Rooms.{data_header, Replies, with_after}
+use Rattle.vfs_messages.proofs.Rooms.{whole_after}
+use Rattle.vfs_grammar.specs.Reply.{Bytes, OpenAfter, body_reply, fault_reply}
+use Rattle.vfs_grammar.specs.declared.error.Error.{Error}
+use Rattle.vfs_grammar.proofs.Rooms.{length-header, length-body_reply, length-fault_reply, put_outcome-fits, put_room-fits}
 
 abbrev header : (count unique : ℕ) → List ℕ
 header count unique = bytes_of out_header (data_header (Ok count) unique)

@@ -2,15 +2,15 @@
 use Rattle.std.proofs.Common.{◌≡◌, ◌≤◌, ◌<◌, ◌-◌, ◌^◌, ℕ, pos, Bool, true, false, ◌&&◌, ◌==◌, nat_le, nat_lt, List, [], ◌∷◌, ◌++◌, length, Option, Result, Ok, Err, IfOk, inl, inr, refl, sym, ap, subst, ◌∙◌, arith, append-nil, length-drop, sum_by}
 use Rattle.std.proofs.lemmas.Bool.Decides.{nat_tests}
 use Rattle.std.specs.List.{flat_map}
-use Rattle.fuse_segments.specs.Written.{Written, Moves, held_over}
-use Rattle.fs_trait.specs.declared.entry.Context.{Context}
-use Rattle.fs_trait.specs.Calls.{Readdir, Failed, Data, Counts, IsAnswer, read_answer}
-use Rattle.fs_trait.specs.Runs.{Event, Called, OpenedDirectory}
-use Rattle.fuse_messages.specs.Rooms.{PutsAfterHeader, Replies}
-use Rattle.fuse_grammar.specs.Listing.{Line, Stop, IsListing, AreWritten, Stops, answer_of, line_events, stop_events, line_bytes, line_len}
-use Rattle.fuse_grammar.specs.Words.{reply_to}
-use Rattle.fuse_listings.specs.Reading.{Puts}
-use Rattle.fuse_listings.proofs.Filling.{moves_of, counts_of_listing}
+use Rattle.vfs_segments.specs.Written.{Written, Moves, held_over}
+use Rattle.vfs_files.specs.declared.entry.Context.{Context}
+use Rattle.vfs_files.specs.Calls.{Readdir, Failed, Data, Counts, IsAnswer, read_answer}
+use Rattle.vfs_files.specs.Runs.{Event, Called, OpenedDirectory}
+use Rattle.vfs_messages.specs.Rooms.{PutsAfterHeader, Replies}
+use Rattle.vfs_grammar.specs.Listing.{Line, Stop, IsListing, AreWritten, Stops, answer_of, line_events, stop_events, line_bytes, line_len}
+use Rattle.vfs_grammar.specs.Words.{reply_to}
+use Rattle.vfs_listings.specs.Reading.{Puts}
+use Rattle.vfs_listings.proofs.Filling.{moves_of, counts_of_listing}
 use Rattle.door_calls.specs.declared.call.CallData.{CallData}
 use Rattle.door_calls.specs.declared.data.AnswerData.{AnswerData}
 use Rattle.door_calls.specs.declared.data.ItemData.{ItemData}

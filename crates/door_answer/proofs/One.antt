@@ -2,17 +2,17 @@
 use Rattle.std.proofs.Common.{◌≡◌, ◌<◌, ◌≤◌, ◌+◌, ◌-◌, ◌^◌, ℕ, pos, false, nat_lt, List, [], ◌∷◌, length, Option, Some, None, MatchOption, Result, Ok, inl, inr, refl, sym, ap, subst, ◌∙◌, arith, sum_by}
 use Rattle.std.proofs.lemmas.Bool.Decides.{nat_tests}
 use Rattle.std.proofs.lemmas.List.Sums.{sum_by-cons}
-use Rattle.fuse_segments.specs.Written.{Written}
-use Rattle.fs_trait.specs.Calls.{Data, read_answer}
-use Rattle.fs_trait.specs.Values.{Item, name_of}
-use Rattle.fs_trait.specs.Runs.{Event}
-use Rattle.fuse_messages.specs.Rooms.{Replies}
-use Rattle.fuse_grammar.specs.Listing.{Fits, Line, Stop, End, At, Got, len_of, line_len, answer_of, AreWritten, Stops, verdict, Listing}
-use Rattle.fuse_grammar.specs.Reply.{Echo, reply_of}
-use Rattle.fuse_grammar.specs.Words.{IsRead}
-use Rattle.fuse_grammar.specs.declared.limits.Limits.{Limits}
-use Rattle.fuse_grammar.proofs.Listings.{length-listing}
-use Rattle.fuse_grammar.proofs.Rooms.{length-body_reply}
+use Rattle.vfs_segments.specs.Written.{Written}
+use Rattle.vfs_files.specs.Calls.{Data, read_answer}
+use Rattle.vfs_files.specs.Values.{Item, name_of}
+use Rattle.vfs_files.specs.Runs.{Event}
+use Rattle.vfs_messages.specs.Rooms.{Replies}
+use Rattle.vfs_grammar.specs.Listing.{Fits, Line, Stop, End, At, Got, len_of, line_len, answer_of, AreWritten, Stops, verdict, Listing}
+use Rattle.vfs_grammar.specs.Reply.{Echo, reply_of}
+use Rattle.vfs_grammar.specs.Words.{IsRead}
+use Rattle.vfs_grammar.specs.declared.limits.Limits.{Limits}
+use Rattle.vfs_grammar.proofs.Listings.{length-listing}
+use Rattle.vfs_grammar.proofs.Rooms.{length-body_reply}
 use Rattle.door_calls.specs.declared.data.AnswerData.{AnswerData}
 use Rattle.door_calls.specs.declared.data.ItemData.{ItemData}
 use Rattle.door_answer.specs.Offered.{AreOffered, IsLine, taken_by}

@@ -4,13 +4,13 @@ use Rattle.std.proofs.Math.Seq.{drop-cons}
 use Rattle.std.proofs.lemmas.List.{length_push, take_more, take_all, take-append-drop}
 use Rattle.std.proofs.lemmas.List.Sums.{sum_by_push}
 use Rattle.std.specs.List.{flat_map}
-use Rattle.fuse_segments.specs.Written.{Written}
-use Rattle.fs_trait.specs.Values.{name_of}
-use Rattle.fuse_grammar.specs.Listing.{Verdict, Fits, Full, Fails, Line, End, At, line_len, line_bytes, bytes_got, len_of, AreWritten, answer_at, verdict}
-use Rattle.fuse_grammar.proofs.Listings.{fits_within, length-bytes_got}
-use Rattle.fuse_listings.specs.Reading.{Puts, cut_by}
-use Rattle.fuse_listings.specs.ReadingLaws.{puts_nothing}
-use Rattle.fuse_listings.proofs.Filling.{length-puts, puts_on, was_put, was_full, has_failed, cut_put, written_more, flat_map-push}
+use Rattle.vfs_segments.specs.Written.{Written}
+use Rattle.vfs_files.specs.Values.{name_of}
+use Rattle.vfs_grammar.specs.Listing.{Verdict, Fits, Full, Fails, Line, End, At, line_len, line_bytes, bytes_got, len_of, AreWritten, answer_at, verdict}
+use Rattle.vfs_grammar.proofs.Listings.{fits_within, length-bytes_got}
+use Rattle.vfs_listings.specs.Reading.{Puts, cut_by}
+use Rattle.vfs_listings.specs.ReadingLaws.{puts_nothing}
+use Rattle.vfs_listings.proofs.Filling.{length-puts, puts_on, was_put, was_full, has_failed, cut_put, written_more, flat_map-push}
 use Rattle.door_calls.specs.declared.data.ItemData.{ItemData}
 use Rattle.door_answer.specs.Offered.{IsLine, AreTaken, AreOffered, taken_by, AddsItem, ReadsOffered}
 

@@ -2,17 +2,17 @@
 use Rattle.std.proofs.Common.{◌≡◌, ◌≢◌, ◌==◌, ◌&&◌, ◌⊎◌, ◌<◌, ◌≤◌, ◌+◌, ◌-◌, ◌^◌, ℕ, List, ◌++◌, length, Bool, true, false, nat_le, nat_lt, inl, inr, Option, Some, None, MatchOption, refl, ap, subst, ◌∙◌, arith}
 use Rattle.std.specs.Prelude.{if◌then◌else◌, unwrap_or}
 use Rattle.std.proofs.lemmas.Bool.Decides.{nat_tests}
-use Rattle.fuse_segments.specs.Written.{Written}
-use Rattle.fs_trait.specs.Calls.{Call, kind_of, Answer, Options, Kind, Data, Agreements, Iterators}
-use Rattle.fs_trait.specs.Calls as call
-use Rattle.fuse_messages.specs.Rooms.{Replies, with_after}
-use Rattle.fuse_grammar.specs.Listing.{Listing}
-use Rattle.fuse_grammar.specs.Options.{agreed, options_after}
-use Rattle.fuse_grammar.specs.Reply.{Reply, Echo, reply_of}
-use Rattle.fuse_grammar.specs.Words.{reply_to}
-use Rattle.fuse_grammar.specs.Room.{unseen}
-use Rattle.fuse_grammar.specs.Turn.{node_answered}
-use Rattle.fuse_grammar.specs.declared.limits.Limits.{Limits}
+use Rattle.vfs_segments.specs.Written.{Written}
+use Rattle.vfs_files.specs.Calls.{Call, kind_of, Answer, Options, Kind, Data, Agreements, Iterators}
+use Rattle.vfs_files.specs.Calls as call
+use Rattle.vfs_messages.specs.Rooms.{Replies, with_after}
+use Rattle.vfs_grammar.specs.Listing.{Listing}
+use Rattle.vfs_grammar.specs.Options.{agreed, options_after}
+use Rattle.vfs_grammar.specs.Reply.{Reply, Echo, reply_of}
+use Rattle.vfs_grammar.specs.Words.{reply_to}
+use Rattle.vfs_grammar.specs.Room.{unseen}
+use Rattle.vfs_grammar.specs.Turn.{node_answered}
+use Rattle.vfs_grammar.specs.declared.limits.Limits.{Limits}
 use Rattle.door_calls.specs.Shapes.{shape_of}
 use Rattle.door_calls.specs.declared.call.CallData.{CallData}
 use Rattle.door_calls.specs.declared.data.AnswerData.{AnswerData}

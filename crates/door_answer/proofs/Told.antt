@@ -1,19 +1,19 @@
 -- What came of an answer, in the room that was told at the call.
 use Rattle.std.proofs.Common.{◌≡◌, ◌≤◌, ◌+◌, ◌∙◌, ℕ, List, ◌++◌, true, length, take, drop, Option, Some, Result, Ok, Err, IfOk, MatchResult, ap, sym, subst, arith, length-append, length-take, length-drop}
-use Rattle.fuse_wire.specs.Fields.{bytes_of}
-use Rattle.fuse_wire.specs.Records.{out_header}
-use Rattle.fuse_segments.specs.Written.{Written, wrote}
-use Rattle.fs_trait.specs.Calls.{Kind, Data, Answer, IsFault, read_answer}
-use Rattle.fuse_messages.specs.Rooms.{data_header, Replies, with_after}
-use Rattle.fuse_grammar.specs.Reply.{Bytes, fault_reply}
-use Rattle.fuse_grammar.specs.declared.limits.Limits.{Limits}
+use Rattle.vfs_wire.specs.Fields.{bytes_of}
+use Rattle.vfs_wire.specs.Records.{out_header}
+use Rattle.vfs_segments.specs.Written.{Written, wrote}
+use Rattle.vfs_files.specs.Calls.{Kind, Data, Answer, IsFault, read_answer}
+use Rattle.vfs_messages.specs.Rooms.{data_header, Replies, with_after}
+use Rattle.vfs_grammar.specs.Reply.{Bytes, fault_reply}
+use Rattle.vfs_grammar.specs.declared.limits.Limits.{Limits}
 use Rattle.door_calls.specs.declared.call.CallData.{CallData}
 use Rattle.door_calls.specs.declared.data.AnswerData.{AnswerData}
 use Rattle.door_answer.specs.Said.{CanBeRead, IsSaid}
 use Rattle.door_answer.specs.Kinds.{kind_told}
 use Rattle.door_answer.specs.Answering.{can_answer, AnswersCall, Comes, KeepsData, IsAnswered}
 use Rattle.door_answer.specs.declared.answered.Answered.{Answered}
-use Rattle.fuse_messages.proofs.Rooms.{with_none_after}
+use Rattle.vfs_messages.proofs.Rooms.{with_none_after}
 use Rattle.door_answer.proofs.Following.{data_replied, data_kept, fault_replied, fault_kept}
 
 -- in all the room that was told, nothing comes after

@@ -3,32 +3,32 @@ use Rattle.std.proofs.Common.{◌≡◌, ◌≢◌, ◌==◌, ◌<◌, ℕ, pos,
 use Rattle.std.specs.Prelude.{bit_and, unwrap_or, if◌then◌else◌}
 use Rattle.std.proofs.lemmas.Bool.Decides.{nat_tests}
 use Rattle.std.proofs.lemmas.Int.{ints}
-use Rattle.fuse_flags.specs.Flags.{known_fs_options}
-use Rattle.fuse_wire.specs.Fields.{bytes_of}
-use Rattle.fuse_wire.specs.FieldLaws.{length-bytes_of}
-use Rattle.fuse_wire.specs.Records.{entry_out}
-use Rattle.fuse_wire.specs.declared.entries.EntryOut.{EntryOut}
-use Rattle.fuse_segments.specs.Written.{Written}
-use Rattle.fs_trait.specs.Calls.{Call, kind_of, Getattr, Lookup, Init, Answer, Failed, Found, Options, FitsEntry, IsAnswer, TimedAttributes, Entries, Agreements, Iterators}
-use Rattle.fs_trait.specs.Values.{entry_out_of}
-use Rattle.fs_trait.specs.declared.entry.Context.{Context}
-use Rattle.fs_trait.specs.declared.entry.Entry.{Entry}
-use Rattle.fuse_messages.specs.Rooms.{Replies, with_after}
-use Rattle.fuse_grammar.specs.Options.{agreed, options_after}
-use Rattle.fuse_grammar.specs.Reply.{Bytes, Echo, reply_of, fault_reply, body_reply}
-use Rattle.fuse_grammar.specs.Room.{unseen}
-use Rattle.fuse_grammar.specs.Turn.{node_answered}
-use Rattle.fuse_grammar.specs.Words.{counted}
-use Rattle.fuse_grammar.specs.declared.limits.Limits.{Limits}
-use Rattle.fuse_grammar.specs.declared.error.Error.TheVariants.{EncodeMessage}
-use Rattle.fuse_grammar.proofs.Rooms.{length-body_reply, put_outcome-full}
+use Rattle.vfs_flags.specs.Flags.{known_fs_options}
+use Rattle.vfs_wire.specs.Fields.{bytes_of}
+use Rattle.vfs_wire.specs.FieldLaws.{length-bytes_of}
+use Rattle.vfs_wire.specs.Records.{entry_out}
+use Rattle.vfs_wire.specs.declared.entries.EntryOut.{EntryOut}
+use Rattle.vfs_segments.specs.Written.{Written}
+use Rattle.vfs_files.specs.Calls.{Call, kind_of, Getattr, Lookup, Init, Answer, Failed, Found, Options, FitsEntry, IsAnswer, TimedAttributes, Entries, Agreements, Iterators}
+use Rattle.vfs_files.specs.Values.{entry_out_of}
+use Rattle.vfs_files.specs.declared.entry.Context.{Context}
+use Rattle.vfs_files.specs.declared.entry.Entry.{Entry}
+use Rattle.vfs_messages.specs.Rooms.{Replies, with_after}
+use Rattle.vfs_grammar.specs.Options.{agreed, options_after}
+use Rattle.vfs_grammar.specs.Reply.{Bytes, Echo, reply_of, fault_reply, body_reply}
+use Rattle.vfs_grammar.specs.Room.{unseen}
+use Rattle.vfs_grammar.specs.Turn.{node_answered}
+use Rattle.vfs_grammar.specs.Words.{counted}
+use Rattle.vfs_grammar.specs.declared.limits.Limits.{Limits}
+use Rattle.vfs_grammar.specs.declared.error.Error.TheVariants.{EncodeMessage}
+use Rattle.vfs_grammar.proofs.Rooms.{length-body_reply, put_outcome-full}
 use Rattle.door_calls.specs.Values.{entry_out_for}
 use Rattle.door_calls.specs.declared.call.CallData.{CallData}
 use Rattle.door_calls.specs.declared.data.AnswerData.{AnswerData}
 use Rattle.door_answer.specs.Said.{IsSaid}
 use Rattle.door_answer.specs.Told.{IsShort, TellsEcho, TellsCall, CallIsAnswered, AnswersEachCall}
 use Rattle.door_answer.specs.declared.answered.Answered.{Answered}
-use Rattle.fuse_messages.proofs.Rooms.{with_none_after}
+use Rattle.vfs_messages.proofs.Rooms.{with_none_after}
 
 module _ (limits : Limits) (told : CallData) (a : AnswerData) (text : List ℕ) (old new : Written) (echo : Echo) (c : Call) where
   at_end : (came : Answered) → CallIsAnswered limits echo c told.options a text (with_after old []) came (with_after new [])

@@ -1,14 +1,14 @@
 -- What comes of the answer to a READDIR or READDIRPLUS, beside Listing of the grammar.
 use Rattle.std.specs.Prelude.{◌≡◌, ◌==◌, ◌-◌, ℕ, pos, bit_and, length, not, List, Option, Result}
 use Rattle.std.proofs.Common.{inl, inr}
-use Rattle.fuse_segments.specs.Written.{Written}
-use Rattle.fuse_wire.specs.Records.{out_header}
-use Rattle.fs_trait.specs.Calls.{Data, IsAnswer, read_answer}
-use Rattle.fs_trait.specs.Runs.{Event}
-use Rattle.fuse_messages.specs.Rooms.{Replies}
-use Rattle.fuse_grammar.specs.Listing.{Listing, IsDirectory}
-use Rattle.fuse_grammar.specs.Records.{size_of}
-use Rattle.fuse_grammar.specs.Words.{reply_to, IsRead}
+use Rattle.vfs_segments.specs.Written.{Written}
+use Rattle.vfs_wire.specs.Records.{out_header}
+use Rattle.vfs_files.specs.Calls.{Data, IsAnswer, read_answer}
+use Rattle.vfs_files.specs.Runs.{Event}
+use Rattle.vfs_messages.specs.Rooms.{Replies}
+use Rattle.vfs_grammar.specs.Listing.{Listing, IsDirectory}
+use Rattle.vfs_grammar.specs.Records.{size_of}
+use Rattle.vfs_grammar.specs.Words.{reply_to, IsRead}
 use Rattle.door_calls.specs.declared.call.CallData.{CallData}
 use Rattle.door_calls.specs.declared.call.has.TheConstants as has
 use Rattle.door_calls.specs.declared.data.AnswerData.{AnswerData}

@@ -1,10 +1,10 @@
 -- The items of a directory that are offered to a reply, and those that are taken. Begin with `AreOffered`.
 use Rattle.std.specs.Prelude.{◌≡◌, ◌≢◌, ◌⊎◌, ⊤, ℕ, pos, length, List, [], ◌∷◌, ◌++◌, Bool, true, false, Option, None, Some, Result, Ok, Err, sum_by}
 use Rattle.std.specs.List.{flat_map}
-use Rattle.fuse_segments.specs.Written.{Written}
-use Rattle.fs_trait.specs.Values.{entry_out_of, Item, name_of}
-use Rattle.fuse_grammar.specs.Listing.{Got, Line, Stop, End, At, is_dot, IsGot, AreWritten, Stops, answer_of, line_len, line_bytes}
-use Rattle.fuse_listings.specs.Reading.{AddsGot, Puts, cut_short}
+use Rattle.vfs_segments.specs.Written.{Written}
+use Rattle.vfs_files.specs.Values.{entry_out_of, Item, name_of}
+use Rattle.vfs_grammar.specs.Listing.{Got, Line, Stop, End, At, is_dot, IsGot, AreWritten, Stops, answer_of, line_len, line_bytes}
+use Rattle.vfs_listings.specs.Reading.{AddsGot, Puts, cut_short}
 use Rattle.door_calls.specs.Values.{IsFaultOf, entry_out_for}
 use Rattle.door_calls.specs.declared.data.AnswerData.{AnswerData}
 use Rattle.door_calls.specs.declared.data.ItemData.{ItemData}

@@ -1,13 +1,13 @@
 -- What an answer as data says: the answer of the call, by its kind. Begin with `IsSaid`.
 use Rattle.std.specs.Prelude.{◌≡◌, ◌≢◌, ◌⊎◌, ◌<◌, ◌≤◌, ◌+◌, ◌-◌, ◌^◌, ⊤, ℕ, pos, length, min, take, drop, bit_and, List, Option, Some, None, Result, Ok, Err}
-use Rattle.fuse_flags.specs.Numbers.{eio, erange}
-use Rattle.fuse_flags.specs.Flags.{known_fs_options, known_open_options}
-use Rattle.fuse_wire.specs.Records.{out_header}
-use Rattle.fs_trait.specs.Values.{entry_out_of, whole_seconds, nanoseconds_beyond}
-use Rattle.fs_trait.specs.Calls.{Kind, Quiet, Told, Untold, Data, Agreements, Entries, TimedAttributes, Openings, Creations, Capacities, Texts, TextsOrCounts, Offsets, Writes, Faults, Answer, Done, Failed, Options, Found, Attributes, Put, Opened, Created, Statistics, Text, Count, Offset, Wrote}
+use Rattle.vfs_flags.specs.Numbers.{eio, erange}
+use Rattle.vfs_flags.specs.Flags.{known_fs_options, known_open_options}
+use Rattle.vfs_wire.specs.Records.{out_header}
+use Rattle.vfs_files.specs.Values.{entry_out_of, whole_seconds, nanoseconds_beyond}
+use Rattle.vfs_files.specs.Calls.{Kind, Quiet, Told, Untold, Data, Agreements, Entries, TimedAttributes, Openings, Creations, Capacities, Texts, TextsOrCounts, Offsets, Writes, Faults, Answer, Done, Failed, Options, Found, Attributes, Put, Opened, Created, Statistics, Text, Count, Offset, Wrote}
 use Rattle.door_calls.specs.Values.{IsFaultOf, attr_of, entry_out_for, statistics_of, handle_of, most_nanoseconds}
 use Rattle.door_calls.specs.declared.data.AnswerData.{AnswerData}
-use Rattle.fuse_grammar.specs.Records.{size_of}
+use Rattle.vfs_grammar.specs.Records.{size_of}
 
 -- that many bytes of data can be in the reply to a READ of this size, in a room of this length, which has the
 -- reply's header too

@@ -1,18 +1,18 @@
 -- Which calls the data of a call tell, and what comes of the answer to each.
 use Rattle.std.specs.Prelude.{◌≡◌, ◌≢◌, ◌⊎◌, ◌<◌, ◌≤◌, ◌+◌, ◌-◌, ◌^◌, ⊤, ℕ, List, length, unwrap_or, Option, MatchOption, Result}
-use Rattle.fuse_wire.specs.Records.{out_header}
-use Rattle.fuse_segments.specs.Written.{Written}
-use Rattle.fs_trait.specs.Calls.{Call, Init, Kind, kind_of, Answer, IsAnswer, Data, Iterators, read_answer}
-use Rattle.fs_trait.specs.Runs.{Event}
-use Rattle.fuse_messages.specs.Rooms.{Replies, with_after}
-use Rattle.fuse_grammar.specs.Listing.{Listing}
-use Rattle.fuse_grammar.specs.Options.{options_after}
-use Rattle.fuse_grammar.specs.Records.{size_of}
-use Rattle.fuse_grammar.specs.Reply.{Echo, reply_of}
-use Rattle.fuse_grammar.specs.Room.{unseen}
-use Rattle.fuse_grammar.specs.Turn.{node_answered}
-use Rattle.fuse_grammar.specs.Words.{IsRead}
-use Rattle.fuse_grammar.specs.declared.limits.Limits.{Limits}
+use Rattle.vfs_wire.specs.Records.{out_header}
+use Rattle.vfs_segments.specs.Written.{Written}
+use Rattle.vfs_files.specs.Calls.{Call, Init, Kind, kind_of, Answer, IsAnswer, Data, Iterators, read_answer}
+use Rattle.vfs_files.specs.Runs.{Event}
+use Rattle.vfs_messages.specs.Rooms.{Replies, with_after}
+use Rattle.vfs_grammar.specs.Listing.{Listing}
+use Rattle.vfs_grammar.specs.Options.{options_after}
+use Rattle.vfs_grammar.specs.Records.{size_of}
+use Rattle.vfs_grammar.specs.Reply.{Echo, reply_of}
+use Rattle.vfs_grammar.specs.Room.{unseen}
+use Rattle.vfs_grammar.specs.Turn.{node_answered}
+use Rattle.vfs_grammar.specs.Words.{IsRead}
+use Rattle.vfs_grammar.specs.declared.limits.Limits.{Limits}
 use Rattle.door_calls.specs.Shapes.{shape_of}
 use Rattle.door_calls.specs.declared.call.CallData.{CallData}
 use Rattle.door_calls.specs.declared.call.kind.TheConstants.{DIRECTORY}

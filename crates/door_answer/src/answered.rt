@@ -3,7 +3,7 @@
 ghost use Rattle.std.specs.Prelude.{◌≡◌};
 
 use door_calls::CallData;
-use fuse_grammar::Result;
+use vfs_grammar::Result;
 
 /// What came of an answer.
 #[derive(Drop)]

@@ -1,12 +1,12 @@
 //! The answer to a call, by its kind.
 
 ghost use Rattle.std.specs.Prelude.{◌≡◌, ◌≢◌, ◌==◌, ◌<◌, ◌≤◌, ◌-◌, ◌^◌, ℕ, List, length, IfOk, IfSome, Some};
-ghost use Rattle.fuse_segments.specs.Written.{Written};
-ghost use Rattle.fs_trait.specs.Answers.{Counts, Data, Entries, IsAnswer, Iterators, TimedAttributes, read_answer};
-ghost use Rattle.fuse_messages.specs.Rooms.{PutsAfterHeader, Replies};
-ghost use Rattle.fuse_grammar.specs.Words.{reply_to};
-ghost use Rattle.fuse_grammar.specs.Limits.{AreLimits};
-ghost use Rattle.fuse_grammar.specs.declared.limits.Limits.{Limits};
+ghost use Rattle.vfs_segments.specs.Written.{Written};
+ghost use Rattle.vfs_files.specs.Answers.{Counts, Data, Entries, IsAnswer, Iterators, TimedAttributes, read_answer};
+ghost use Rattle.vfs_messages.specs.Rooms.{PutsAfterHeader, Replies};
+ghost use Rattle.vfs_grammar.specs.Words.{reply_to};
+ghost use Rattle.vfs_grammar.specs.Limits.{AreLimits};
+ghost use Rattle.vfs_grammar.specs.declared.limits.Limits.{Limits};
 ghost use Rattle.door_answer.specs.Kinds.{kind_told};
 ghost use Rattle.door_answer.specs.Answering.{can_answer, Answers, AnswersCall, AnswersDirectory, IsAnswered};
 ghost use Rattle.door_answer.specs.Listing.{listing_told};
@@ -22,11 +22,11 @@ use crate::reply::{
 };
 use crate::value;
 use door_calls::{AnswerData, CallData, ItemData, has, kind};
-use fuse_flags::MAX_REPLY_DATA;
-use fuse_grammar::Limits;
-use fuse_messages::{hold_header, reply_data};
-use fuse_segments::Writer;
-use fuse_wire::{AttrOut, ByteValued, EntryOut, OutHeader};
+use vfs_flags::MAX_REPLY_DATA;
+use vfs_grammar::Limits;
+use vfs_messages::{hold_header, reply_data};
+use vfs_segments::Writer;
+use vfs_wire::{AttrOut, ByteValued, EntryOut, OutHeader};
 
 /// Whether that many bytes are left, and the first segment has them all. No promise rests on it: what is put is
 /// the same.

@@ -1,15 +1,15 @@
 //! The records of a directory, from the items that were offered.
 
 ghost use Rattle.std.specs.Prelude.{◌≡◌, ◌≤◌, length, Ok, Err, Some};
-ghost use Rattle.fs_trait.specs.Values.{item, name_of, name_text};
-ghost use Rattle.fuse_grammar.specs.Listing.{answer_at, Fails};
+ghost use Rattle.vfs_files.specs.Values.{item, name_of, name_text};
+ghost use Rattle.vfs_grammar.specs.Listing.{answer_at, Fails};
 ghost use Rattle.door_answer.specs.Offered.{item_told, taken_by, AddsItem, ReadsOffered};
 
 use door_calls::{ItemData, fault_of};
-use fs_trait::{CStr, DirEntry};
-use fuse_flags::Fault;
-use fuse_listings::{add_dirent, dot_entry, is_dot, record_len};
-use fuse_segments::Writer;
+use vfs_files::{CStr, DirEntry};
+use vfs_flags::Fault;
+use vfs_listings::{add_dirent, dot_entry, is_dot, record_len};
+use vfs_segments::Writer;
 
 /// What was put of a directory.
 #[derive(Drop)]

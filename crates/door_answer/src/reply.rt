@@ -1,33 +1,33 @@
 //! The reply to each kind of answer.
 
 ghost use Rattle.std.specs.Prelude.{◌≡◌, ◌≤◌, ◌<◌, ◌-◌, ◌^◌, ◌+◌, length, if◌then◌else◌, is_err, IfOk, MatchResult, Ok};
-ghost use Rattle.fuse_wire.specs.Fields.{bytes_of};
-ghost use Rattle.fuse_wire.specs.Records.{out_header};
-ghost use Rattle.fuse_segments.specs.Written.{wrote};
-ghost use Rattle.fs_trait.specs.Answers.{IsFault, KeepsTextShort, Quiet, Told, Untold, Agreements, Entries, TimedAttributes, Openings, Creations, Capacities, Texts, TextsOrCounts, Offsets, Writes, Faults, Done, Failed, Text, Count, init_answer, done_answer, entry_answer, attr_answer, opened_answer, created_answer, statistics_answer, offset_answer, written_answer};
-ghost use Rattle.fuse_grammar.specs.Limits.{AreLimits};
-ghost use Rattle.fuse_grammar.specs.Reply.{Bytes, fault_reply};
-ghost use Rattle.fuse_grammar.specs.Words.{reply_to};
-ghost use Rattle.fuse_grammar.specs.declared.limits.Limits.{Limits};
-ghost use Rattle.fuse_messages.specs.Rooms.{Replies, data_header};
+ghost use Rattle.vfs_wire.specs.Fields.{bytes_of};
+ghost use Rattle.vfs_wire.specs.Records.{out_header};
+ghost use Rattle.vfs_segments.specs.Written.{wrote};
+ghost use Rattle.vfs_files.specs.Answers.{IsFault, KeepsTextShort, Quiet, Told, Untold, Agreements, Entries, TimedAttributes, Openings, Creations, Capacities, Texts, TextsOrCounts, Offsets, Writes, Faults, Done, Failed, Text, Count, init_answer, done_answer, entry_answer, attr_answer, opened_answer, created_answer, statistics_answer, offset_answer, written_answer};
+ghost use Rattle.vfs_grammar.specs.Limits.{AreLimits};
+ghost use Rattle.vfs_grammar.specs.Reply.{Bytes, fault_reply};
+ghost use Rattle.vfs_grammar.specs.Words.{reply_to};
+ghost use Rattle.vfs_grammar.specs.declared.limits.Limits.{Limits};
+ghost use Rattle.vfs_messages.specs.Rooms.{Replies, data_header};
 ghost use Rattle.door_answer.specs.Said.{text_said, value_said};
 ghost use Rattle.door_answer.specs.Answering.{Comes};
 
 use crate::answered::Answered;
 use bitflags::Flags;
 use door_calls::{CallData, number};
-use fs_trait::Entry;
-use fuse_flags::{Fault, FsOptions, OpenOptions};
-use fuse_grammar::{Limits, Result};
-use fuse_messages::{
+use std::time::Duration;
+use vfs_files::Entry;
+use vfs_flags::{Fault, FsOptions, OpenOptions};
+use vfs_grammar::{Limits, Result};
+use vfs_messages::{
     agreed_options, reply_attr, reply_created, reply_done, reply_entry, reply_failed, reply_fault,
     reply_fault_alone, reply_init, reply_offset, reply_ok, reply_opened, reply_record,
     reply_statistics, reply_written,
 };
-use fuse_segments::Writer;
-use fuse_wire::{Attr, ByteValued, OutHeader, Statvfs64};
-use fuse_wire_more::GetxattrOut;
-use std::time::Duration;
+use vfs_segments::Writer;
+use vfs_wire::{Attr, ByteValued, OutHeader, Statvfs64};
+use vfs_wire_more::GetxattrOut;
 
 type Said<T> = std::result::Result<T, Fault>;
 

@@ -1,23 +1,23 @@
 //! Answers of calls.
 
 ghost use Rattle.std.specs.Prelude.{◌≡◌, ◌<◌, ◌≤◌, ◌-◌, ◌^◌, ◌++◌, ℕ, List, Option, length, drop, bit_and, false, Some, Ok, Err, MatchOption};
-ghost use Rattle.fuse_flags.specs.Flags.{known_fs_options};
-ghost use Rattle.fs_trait.specs.Calls.{Getattr, Init, Lookup, Read};
-ghost use Rattle.fs_trait.specs.declared.entry.Context.{Context};
-ghost use Rattle.fuse_grammar.specs.Listing.{Listing};
-ghost use Rattle.fuse_grammar.specs.Limits.{AreLimits};
-ghost use Rattle.fuse_grammar.specs.Options.{agreed};
-ghost use Rattle.fuse_grammar.specs.Reply.{Bytes, Echo, fault_reply};
-ghost use Rattle.fuse_messages.specs.Rooms.{Replies};
-ghost use Rattle.fuse_segments.specs.Written.{whole};
+ghost use Rattle.vfs_flags.specs.Flags.{known_fs_options};
+ghost use Rattle.vfs_files.specs.Calls.{Getattr, Init, Lookup, Read};
+ghost use Rattle.vfs_files.specs.declared.entry.Context.{Context};
+ghost use Rattle.vfs_grammar.specs.Listing.{Listing};
+ghost use Rattle.vfs_grammar.specs.Limits.{AreLimits};
+ghost use Rattle.vfs_grammar.specs.Options.{agreed};
+ghost use Rattle.vfs_grammar.specs.Reply.{Bytes, Echo, fault_reply};
+ghost use Rattle.vfs_messages.specs.Rooms.{Replies};
+ghost use Rattle.vfs_segments.specs.Written.{whole};
 ghost use Rattle.door_calls.specs.declared.data.AnswerData.{AnswerData};
 ghost use Rattle.door_answer.specs.Told.{ListingIsAnswered, TellsCall, TellsEcho, TellsListing};
 
 use crate::answered::Answered;
 use crate::call::answer;
 use door_calls::{AnswerData, CallData, EntryData, ItemData};
-use fuse_grammar::{Error, Limits};
-use fuse_segments::Writer;
+use vfs_grammar::{Error, Limits};
+use vfs_segments::Writer;
 
 /// Answers a GETATTR by the fault EIO, which is 5.
 fn refuse_getattr(limits: Limits, call: &CallData, w: &mut Writer) -> Option<Answered>

@@ -1,18 +1,18 @@
 //! The answer of a call, as its kind has it, from an answer as data.
 
 ghost use Rattle.std.specs.Prelude.{◌≡◌, ◌<◌, ◌-◌, ◌^◌, ◌+◌, ℕ, List, pos, length, take, drop, bit_and, IfOk, MatchResult};
-ghost use Rattle.fuse_flags.specs.Numbers.{eio};
-ghost use Rattle.fuse_flags.specs.Flags.{fs_options_bits, open_options_bits, known_fs_options, known_open_options};
-ghost use Rattle.fs_trait.specs.Answers.{Told, Untold, Entries, TimedAttributes, Openings, Creations, Capacities, Offsets, Writes, Agreements, Texts, TextsOrCounts, Data, Faults, Failed, KeepsTextShort, read_answer, init_answer, done_answer, entry_answer, attr_answer, opened_answer, created_answer, statistics_answer, offset_answer, written_answer};
+ghost use Rattle.vfs_flags.specs.Numbers.{eio};
+ghost use Rattle.vfs_flags.specs.Flags.{fs_options_bits, open_options_bits, known_fs_options, known_open_options};
+ghost use Rattle.vfs_files.specs.Answers.{Told, Untold, Entries, TimedAttributes, Openings, Creations, Capacities, Offsets, Writes, Agreements, Texts, TextsOrCounts, Data, Faults, Failed, KeepsTextShort, read_answer, init_answer, done_answer, entry_answer, attr_answer, opened_answer, created_answer, statistics_answer, offset_answer, written_answer};
 ghost use Rattle.door_calls.specs.Values.{handle_of};
 ghost use Rattle.door_answer.specs.Said.{CanBeRead, IsFailed, IsSaid, IsTooLong, IsTooMuch, IsUncounted, text_said, value_said};
 
 use bitflags::Flags;
 use door_calls::{AnswerData, CallData, fault_of};
-use fs_trait::Entry;
-use fuse_flags::{Errno, Fault, FsOptions, MAX_REPLY_DATA, OpenOptions};
-use fuse_wire::{Attr, ByteValued, OutHeader, Statvfs64};
 use std::time::Duration;
+use vfs_files::Entry;
+use vfs_flags::{Errno, Fault, FsOptions, MAX_REPLY_DATA, OpenOptions};
+use vfs_wire::{Attr, ByteValued, OutHeader, Statvfs64};
 
 /// The fault that was answered, if one was.
 pub(crate) fn done(answer: &AnswerData) -> Result<(), Fault>

@@ -2,22 +2,22 @@
 use Rattle.std.proofs.Common.{◌≡◌, ◌≢◌, ◌∙◌, ◌+◌, ◌-◌, ◌==◌, ◌||◌, ◌≤◌, ◌<◌, ℕ, zero, suc, Bool, true, false, not, if◌then◌else◌, is_some, nat_lt, List, [], ◌∷◌, length, take, drop, position, Option, None, Some, Result, Ok, Err, refl, ap, sym, arith, length-take, length-drop}
 use Rattle.std.proofs.lemmas.Bool.Decides.{nat_tests}
 use Rattle.std.proofs.lemmas.List.{drop-drop}
-use Rattle.fuse_flags.specs.Numbers.{ext_type_of}
-use Rattle.fuse_flags.specs.Flags.{security_ctx, create_supp_group, has_flag}
-use Rattle.fuse_flags.specs.declared.ext_type.ExtType.{ExtType}
-use Rattle.fuse_flags.specs.declared.ext_type.ExtType.TheVariants.{SecCtx, SupGroups}
-use Rattle.fuse_wire.specs.Records.{ext_header, secctx}
-use Rattle.fuse_wire.specs.Fields.{value_of}
-use Rattle.fuse_wire.specs.declared.extensions.ExtHeader.{ExtHeader}
-use Rattle.fs_trait.specs.Values.{ExtensionValues}
-use Rattle.fs_trait.specs.Places.{cut_at}
-use Rattle.fuse_grammar.specs.Extensions.{error_or, name_and_value, context_in, security_context_in, group_in, Block, block_in, cut_on, cut_of_most, cut_of, no_extensions, Received, receive_kind, receive_all, received_at_end, extensions_in}
-use Rattle.fuse_grammar.specs.Words.{block_size, reads_extensions, nothing_received, with_context, with_group, receive, extensions_of}
-use Rattle.fuse_grammar.specs.FormParts.{value_after}
-use Rattle.fuse_grammar.proofs.Blocks.{extensions_in-cut}
-use Rattle.fuse_grammar.specs.Records.{record_of}
-use Rattle.fuse_grammar.specs.declared.error.Error.{Error}
-use Rattle.fuse_grammar.specs.declared.error.Error.TheVariants.{DecodeMessage, InvalidHeaderLength}
+use Rattle.vfs_flags.specs.Numbers.{ext_type_of}
+use Rattle.vfs_flags.specs.Flags.{security_ctx, create_supp_group, has_flag}
+use Rattle.vfs_flags.specs.declared.ext_type.ExtType.{ExtType}
+use Rattle.vfs_flags.specs.declared.ext_type.ExtType.TheVariants.{SecCtx, SupGroups}
+use Rattle.vfs_wire.specs.Records.{ext_header, secctx}
+use Rattle.vfs_wire.specs.Fields.{value_of}
+use Rattle.vfs_wire.specs.declared.extensions.ExtHeader.{ExtHeader}
+use Rattle.vfs_files.specs.Values.{ExtensionValues}
+use Rattle.vfs_files.specs.Places.{cut_at}
+use Rattle.vfs_grammar.specs.Extensions.{error_or, name_and_value, context_in, security_context_in, group_in, Block, block_in, cut_on, cut_of_most, cut_of, no_extensions, Received, receive_kind, receive_all, received_at_end, extensions_in}
+use Rattle.vfs_grammar.specs.Words.{block_size, reads_extensions, nothing_received, with_context, with_group, receive, extensions_of}
+use Rattle.vfs_grammar.specs.FormParts.{value_after}
+use Rattle.vfs_grammar.proofs.Blocks.{extensions_in-cut}
+use Rattle.vfs_grammar.specs.Records.{record_of}
+use Rattle.vfs_grammar.specs.declared.error.Error.{Error}
+use Rattle.vfs_grammar.specs.declared.error.Error.TheVariants.{DecodeMessage, InvalidHeaderLength}
 use Rattle.door_ask.specs.Contexts.{ContextAt}
 use Rattle.door_ask.proofs.Cutting.{is_nul, stands_in, dropped, first_nul_in, else_ok, or_ok, same_ok, Both, both}
 

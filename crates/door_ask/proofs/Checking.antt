@@ -1,28 +1,28 @@
 -- What is told of a request without room for a reply says what it is.
 use Rattle.std.proofs.Common.{◌≡◌, ◌<◌, ◌≤◌, ◌==◌, ◌+◌, ◌∙◌, ℕ, Bool, true, false, List, length, drop, nat_lt, nat_le, if◌then◌else◌, Option, Some, None, Result, Ok, Err, refl, ap, sym, subst, inl, inr, arith}
 use Rattle.std.proofs.lemmas.Bool.Decides.{nat_tests}
-use Rattle.fuse_flags.specs.declared.opcode.Opcode.{Opcode}
-use Rattle.fuse_flags.specs.Numbers.{enomem, enosys, eproto, opcode_of}
-use Rattle.fuse_flags.specs.declared.constants.TheConstants.{KERNEL_VERSION, MIN_KERNEL_MINOR_VERSION}
-use Rattle.fuse_flags.specs.declared.opcode.Opcode.TheVariants.{Init, Interrupt, Read, Readdir, Readdirplus, RemoveMapping, SetupMapping}
-use Rattle.fuse_wire.specs.Fields.{bytes_of, little}
-use Rattle.fuse_wire.specs.Records.{in_header, out_header, init_out}
-use Rattle.fuse_wire.specs.declared.headers.InHeader.{InHeader}
-use Rattle.fuse_wire.specs.declared.init.InitInCompat.{InitInCompat}
-use Rattle.fuse_segments.specs.Written.{Written}
-use Rattle.fuse_grammar.specs.Ask.{ask, ask_number, form_of}
-use Rattle.fuse_grammar.specs.Words.{ask_header}
-use Rattle.fuse_grammar.specs.Memory.{header_of}
-use Rattle.fuse_grammar.specs.Forms.{Ask, Ends, Asks, Lists, WithMemory, Form, ask_form, ask_version, faulted, within}
-use Rattle.fuse_grammar.specs.Limits.{max_len}
-use Rattle.fuse_grammar.specs.Records.{record_of, size_of}
-use Rattle.fuse_grammar.specs.Reply.{Refusal, NoReply, Bytes, fault_reply, body_reply, version_out}
-use Rattle.fuse_grammar.specs.declared.limits.Limits.{Limits}
-use Rattle.fuse_grammar.specs.declared.error.Error.{Error}
-use Rattle.fuse_grammar.specs.declared.error.Error.TheVariants.{DecodeMessage, EncodeMessage, FlushMessage, MissingParameter, InvalidCString, InvalidCString2, InvalidHeaderLength, InvalidXattrSize, MissingExtension, OutOfMemory}
-use Rattle.fuse_grammar.proofs.Refusing.{MayRefuse, either}
-use Rattle.fuse_grammar.proofs.Rooms.{length-fault_reply, length-body_reply}
-use Rattle.fuse_grammar.specs.Books.{opcode_in}
+use Rattle.vfs_flags.specs.declared.opcode.Opcode.{Opcode}
+use Rattle.vfs_flags.specs.Numbers.{enomem, enosys, eproto, opcode_of}
+use Rattle.vfs_flags.specs.declared.constants.TheConstants.{KERNEL_VERSION, MIN_KERNEL_MINOR_VERSION}
+use Rattle.vfs_flags.specs.declared.opcode.Opcode.TheVariants.{Init, Interrupt, Read, Readdir, Readdirplus, RemoveMapping, SetupMapping}
+use Rattle.vfs_wire.specs.Fields.{bytes_of, little}
+use Rattle.vfs_wire.specs.Records.{in_header, out_header, init_out}
+use Rattle.vfs_wire.specs.declared.headers.InHeader.{InHeader}
+use Rattle.vfs_wire.specs.declared.init.InitInCompat.{InitInCompat}
+use Rattle.vfs_segments.specs.Written.{Written}
+use Rattle.vfs_grammar.specs.Ask.{ask, ask_number, form_of}
+use Rattle.vfs_grammar.specs.Words.{ask_header}
+use Rattle.vfs_grammar.specs.Memory.{header_of}
+use Rattle.vfs_grammar.specs.Forms.{Ask, Ends, Asks, Lists, WithMemory, Form, ask_form, ask_version, faulted, within}
+use Rattle.vfs_grammar.specs.Limits.{max_len}
+use Rattle.vfs_grammar.specs.Records.{record_of, size_of}
+use Rattle.vfs_grammar.specs.Reply.{Refusal, NoReply, Bytes, fault_reply, body_reply, version_out}
+use Rattle.vfs_grammar.specs.declared.limits.Limits.{Limits}
+use Rattle.vfs_grammar.specs.declared.error.Error.{Error}
+use Rattle.vfs_grammar.specs.declared.error.Error.TheVariants.{DecodeMessage, EncodeMessage, FlushMessage, MissingParameter, InvalidCString, InvalidCString2, InvalidHeaderLength, InvalidXattrSize, MissingExtension, OutOfMemory}
+use Rattle.vfs_grammar.proofs.Refusing.{MayRefuse, either}
+use Rattle.vfs_grammar.proofs.Rooms.{length-fault_reply, length-body_reply}
+use Rattle.vfs_grammar.specs.Books.{opcode_in}
 use Rattle.laws_turns.specs.Turns.{unique_of}
 use Rattle.laws_turns.proofs.Asking.{IsCramped, IsCrampedBy, ask_cases}
 use Rattle.laws_turns.proofs.Table.{Shows, form_shown}

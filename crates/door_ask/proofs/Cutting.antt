@@ -5,16 +5,16 @@ use Rattle.std.proofs.lemmas.List.{get_or-take, take_all}
 use Rattle.std.proofs.lemmas.List.Quantifiers.{position-Some}
 use Rattle.std.proofs.lemmas.List.Sums.{position_or_len_is}
 use Rattle.std.specs.List.{position_or_len}
-use Rattle.fuse_wire.specs.Records.{in_header}
-use Rattle.fuse_wire.specs.declared.headers.InHeader.{InHeader}
-use Rattle.fs_trait.specs.Values.{name_of, first_name, ExtensionValues}
-use Rattle.fs_trait.specs.Places.{name_to, cut_at}
-use Rattle.fuse_grammar.specs.Extensions.{error_or, extensions_in}
-use Rattle.fuse_grammar.specs.Forms.{tail_of, two_names_in, value_in, extended_in, link_in_tail}
-use Rattle.fuse_grammar.specs.Words.{name_in}
-use Rattle.fuse_grammar.specs.FormParts.{name_or_refusal, both_or_refusal, second_or_refusal, sized_or_refusal, extended_or_refusal, after_name, link_or_refusal}
-use Rattle.fuse_grammar.specs.Records.{size_of}
-use Rattle.fuse_grammar.specs.declared.error.Error.{Error}
+use Rattle.vfs_wire.specs.Records.{in_header}
+use Rattle.vfs_wire.specs.declared.headers.InHeader.{InHeader}
+use Rattle.vfs_files.specs.Values.{name_of, first_name, ExtensionValues}
+use Rattle.vfs_files.specs.Places.{name_to, cut_at}
+use Rattle.vfs_grammar.specs.Extensions.{error_or, extensions_in}
+use Rattle.vfs_grammar.specs.Forms.{tail_of, two_names_in, value_in, extended_in, link_in_tail}
+use Rattle.vfs_grammar.specs.Words.{name_in}
+use Rattle.vfs_grammar.specs.FormParts.{name_or_refusal, both_or_refusal, second_or_refusal, sized_or_refusal, extended_or_refusal, after_name, link_or_refusal}
+use Rattle.vfs_grammar.specs.Records.{size_of}
+use Rattle.vfs_grammar.specs.declared.error.Error.{Error}
 
 abbrev pub is_nul : ℕ → Bool
 is_nul = λ b. b == 0

@@ -2,32 +2,32 @@
 use Rattle.std.proofs.Common.{◌≡◌, ◌∙◌, ◌+◌, ◌-◌, ◌^◌, ◌<◌, ◌≤◌, ◌==◌, ℕ, true, false, List, length, position, take, drop, Option, None, Some, Result, Ok, Err, refl, ap, sym, subst, inl, inr, arith, length-drop, length-take}
 use Rattle.std.proofs.lemmas.Bool.Decides.{nat_tests}
 use Rattle.std.proofs.lemmas.List.{drop-drop}
-use Rattle.fuse_flags.specs.Flags.{has_flag}
-use Rattle.fuse_flags.specs.declared.constants.TheConstants.{OPEN_KILL_SUIDGID}
-use Rattle.fuse_flags.specs.declared.opcode.Opcode.{Opcode}
-use Rattle.fuse_flags.specs.declared.opcode.Opcode.TheVariants as opcode
-use Rattle.fuse_segments.specs.Written.{Written}
-use Rattle.fuse_wire.specs.Records.{in_header}
-use Rattle.fuse_wire.specs.declared.headers.InHeader.{InHeader}
-use Rattle.fuse_wire_more.specs.Records.{create_in, mkdir_in, mknod_in}
-use Rattle.fuse_wire_more.specs.declared.names.CreateIn.{CreateIn}
-use Rattle.fuse_wire_more.specs.declared.names.MkdirIn.{MkdirIn}
-use Rattle.fuse_wire_more.specs.declared.names.MknodIn.{MknodIn}
-use Rattle.fs_trait.specs.Calls.{Call}
-use Rattle.fs_trait.specs.Calls as call
-use Rattle.fs_trait.specs.Values.{context_of, ExtensionValues}
-use Rattle.fuse_grammar.specs.Ask.{form_of}
-use Rattle.fuse_grammar.specs.Words.{ask_opcode}
-use Rattle.fuse_grammar.specs.Extensions.{error_or, extensions_in}
-use Rattle.fuse_grammar.specs.Forms.{Ask, Ends, Asks, Lists, WithMemory, refused_or, tail_of}
-use Rattle.fuse_grammar.specs.Listing.{Listing}
-use Rattle.fuse_grammar.specs.Records.{record_of, size_of}
-use Rattle.fuse_grammar.specs.Reply.{Echo, echo_of}
-use Rattle.fuse_grammar.specs.declared.error.Error.{Error}
-use Rattle.fuse_grammar.specs.declared.limits.Limits.{Limits}
+use Rattle.vfs_flags.specs.Flags.{has_flag}
+use Rattle.vfs_flags.specs.declared.constants.TheConstants.{OPEN_KILL_SUIDGID}
+use Rattle.vfs_flags.specs.declared.opcode.Opcode.{Opcode}
+use Rattle.vfs_flags.specs.declared.opcode.Opcode.TheVariants as opcode
+use Rattle.vfs_segments.specs.Written.{Written}
+use Rattle.vfs_wire.specs.Records.{in_header}
+use Rattle.vfs_wire.specs.declared.headers.InHeader.{InHeader}
+use Rattle.vfs_wire_more.specs.Records.{create_in, mkdir_in, mknod_in}
+use Rattle.vfs_wire_more.specs.declared.names.CreateIn.{CreateIn}
+use Rattle.vfs_wire_more.specs.declared.names.MkdirIn.{MkdirIn}
+use Rattle.vfs_wire_more.specs.declared.names.MknodIn.{MknodIn}
+use Rattle.vfs_files.specs.Calls.{Call}
+use Rattle.vfs_files.specs.Calls as call
+use Rattle.vfs_files.specs.Values.{context_of, ExtensionValues}
+use Rattle.vfs_grammar.specs.Ask.{form_of}
+use Rattle.vfs_grammar.specs.Words.{ask_opcode}
+use Rattle.vfs_grammar.specs.Extensions.{error_or, extensions_in}
+use Rattle.vfs_grammar.specs.Forms.{Ask, Ends, Asks, Lists, WithMemory, refused_or, tail_of}
+use Rattle.vfs_grammar.specs.Listing.{Listing}
+use Rattle.vfs_grammar.specs.Records.{record_of, size_of}
+use Rattle.vfs_grammar.specs.Reply.{Echo, echo_of}
+use Rattle.vfs_grammar.specs.declared.error.Error.{Error}
+use Rattle.vfs_grammar.specs.declared.limits.Limits.{Limits}
 use Rattle.door_calls.specs.Shapes.{nothing, shape_of, unplaced}
 use Rattle.door_calls.specs.declared.call.CallData.{CallData}
-use Rattle.fuse_server.specs.MemoryByPieces.{MayWantAfter}
+use Rattle.vfs_server.specs.MemoryByPieces.{MayWantAfter}
 use Rattle.door_ask.specs.Asked.{IsNameIn, IsTold, Stand, Tells}
 use Rattle.door_ask.specs.Contexts.{ContextAt, GivesTailOf, PlacesContext, StandsInBlocks, blocks_of, blocks_place, may_have_context, sum_or_most, tail_after, with_context_at}
 use Rattle.door_ask.specs.Noting.{IsNoted, NotedAndTold}

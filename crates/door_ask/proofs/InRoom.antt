@@ -1,14 +1,14 @@
 -- What is noted of a request doesn't hang on the room, but for a READ and a directory that is to be read.
 use Rattle.std.proofs.Common.{◌≢◌, ℕ, List, Some, Result, refl}
-use Rattle.fuse_flags.specs.declared.opcode.Opcode.{Opcode}
-use Rattle.fuse_flags.specs.declared.opcode.Opcode.TheVariants as opcode
-use Rattle.fuse_segments.specs.Written.{Written}
-use Rattle.fuse_wire.specs.declared.headers.InHeader.{InHeader}
-use Rattle.fuse_grammar.specs.Words.{ask_opcode}
-use Rattle.fuse_grammar.specs.declared.limits.Limits.{Limits}
-use Rattle.fuse_grammar.specs.declared.error.Error.{Error}
+use Rattle.vfs_flags.specs.declared.opcode.Opcode.{Opcode}
+use Rattle.vfs_flags.specs.declared.opcode.Opcode.TheVariants as opcode
+use Rattle.vfs_segments.specs.Written.{Written}
+use Rattle.vfs_wire.specs.declared.headers.InHeader.{InHeader}
+use Rattle.vfs_grammar.specs.Words.{ask_opcode}
+use Rattle.vfs_grammar.specs.declared.limits.Limits.{Limits}
+use Rattle.vfs_grammar.specs.declared.error.Error.{Error}
 use Rattle.door_calls.specs.declared.call.CallData.{CallData}
-use Rattle.fuse_server.specs.MemoryByPieces.{MayWantAfter}
+use Rattle.vfs_server.specs.MemoryByPieces.{MayWantAfter}
 use Rattle.door_ask.specs.Noting.{IsNoted}
 
 module _ (limits : Limits) (options left room : ℕ) (h : InHeader) (rest pieces : List ℕ)

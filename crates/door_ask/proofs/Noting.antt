@@ -1,30 +1,30 @@
 -- A file system that notes its call is asked for what the grammar says.
 use Rattle.std.proofs.Common.{◌≡◌, ◌∙◌, ◌+◌, ℕ, List, [], ◌∷◌, Option, None, Some, Result, length, length-append, refl, ap, sym, subst, inl, inr}
-use Rattle.fuse_segments.specs.Written.{Written, Leaves, whole}
-use Rattle.fuse_messages.specs.Rooms.{Replies}
-use Rattle.fs_trait.specs.Values.{Item}
-use Rattle.fs_trait.specs.Calls.{Call, Readdir, Answer, Failed, Handed, Plain, kind_of, read_answer}
-use Rattle.fs_trait.specs.Answers.{Kind, Quiet, Told, Untold, Data, Agreements, Entries, TimedAttributes, Openings, Creations, Capacities, Texts, TextsOrCounts, Offsets, Writes, Iterators, Faults}
-use Rattle.fs_trait.specs.Runs.{Event, Called, OpenedDirectory, IsRun}
-use Rattle.fs_trait.specs.declared.entry.Context.{Context}
-use Rattle.fuse_grammar.specs.Forms.{Ask, Ends, Asks, Lists, WithMemory}
-use Rattle.fuse_grammar.specs.Listing.{Listing}
-use Rattle.fuse_grammar.specs.Reply.{Reply, Refusal, NoReply, Bytes, OpenAfter, reply_of}
-use Rattle.fuse_grammar.specs.Room.{unseen}
-use Rattle.fuse_grammar.specs.Turn.{node_answered}
-use Rattle.fuse_grammar.specs.Words.{IsRead}
-use Rattle.fuse_grammar.specs.Witnesses.{FollowsFor}
-use Rattle.fuse_grammar.specs.declared.limits.Limits.{Limits}
-use Rattle.fuse_grammar.specs.declared.error.Error.{Error}
-use Rattle.fuse_grammar.specs.declared.error.Error.TheVariants.{OutOfMemory}
-use Rattle.fuse_server.specs.Delivery.{CallsAndGivesBack}
+use Rattle.vfs_segments.specs.Written.{Written, Leaves, whole}
+use Rattle.vfs_messages.specs.Rooms.{Replies}
+use Rattle.vfs_files.specs.Values.{Item}
+use Rattle.vfs_files.specs.Calls.{Call, Readdir, Answer, Failed, Handed, Plain, kind_of, read_answer}
+use Rattle.vfs_files.specs.Answers.{Kind, Quiet, Told, Untold, Data, Agreements, Entries, TimedAttributes, Openings, Creations, Capacities, Texts, TextsOrCounts, Offsets, Writes, Iterators, Faults}
+use Rattle.vfs_files.specs.Runs.{Event, Called, OpenedDirectory, IsRun}
+use Rattle.vfs_files.specs.declared.entry.Context.{Context}
+use Rattle.vfs_grammar.specs.Forms.{Ask, Ends, Asks, Lists, WithMemory}
+use Rattle.vfs_grammar.specs.Listing.{Listing}
+use Rattle.vfs_grammar.specs.Reply.{Reply, Refusal, NoReply, Bytes, OpenAfter, reply_of}
+use Rattle.vfs_grammar.specs.Room.{unseen}
+use Rattle.vfs_grammar.specs.Turn.{node_answered}
+use Rattle.vfs_grammar.specs.Words.{IsRead}
+use Rattle.vfs_grammar.specs.Witnesses.{FollowsFor}
+use Rattle.vfs_grammar.specs.declared.limits.Limits.{Limits}
+use Rattle.vfs_grammar.specs.declared.error.Error.{Error}
+use Rattle.vfs_grammar.specs.declared.error.Error.TheVariants.{OutOfMemory}
+use Rattle.vfs_server.specs.Delivery.{CallsAndGivesBack}
 use Rattle.door_calls.specs.Asked.{Notes}
 use Rattle.door_calls.specs.Shapes.{shape_of, shape_over, nothing, held_back, held_back_kind}
 use Rattle.door_calls.specs.declared.asking.Asking.{Asking}
 use Rattle.door_calls.specs.declared.asking.NoEntries.{NoEntries}
 use Rattle.door_calls.specs.declared.call.CallData.{CallData}
-use Rattle.fuse_server.specs.Handling.{server_tells}
-use Rattle.fuse_server.specs.State.{ServerState}
+use Rattle.vfs_server.specs.Handling.{server_tells}
+use Rattle.vfs_server.specs.State.{ServerState}
 use Rattle.door_ask.specs.Noting.{IsNoted}
 use Rattle.door_ask.specs.Room.{KeepsRoom}
 

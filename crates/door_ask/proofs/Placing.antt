@@ -4,32 +4,32 @@ use Rattle.std.proofs.Common.{◌≡◌, ◌≢◌, ◌∙◌, ◌+◌, ◌-◌,
 use Rattle.std.proofs.lemmas.Bool.Decides.{nat_tests}
 use Rattle.std.proofs.lemmas.List.{drop-drop, drop-take, take_all}
 use Rattle.std.proofs.lemmas.List.Quantifiers.{position-Some}
-use Rattle.fuse_flags.specs.Flags.{has_flag}
-use Rattle.fuse_flags.specs.declared.constants.TheConstants.{OPEN_KILL_SUIDGID, WRITE_CACHE, WRITE_KILL_PRIV, WRITE_LOCKOWNER}
-use Rattle.fuse_flags.specs.declared.opcode.Opcode.{Opcode}
-use Rattle.fuse_flags.specs.declared.opcode.Opcode.TheVariants as opcode
-use Rattle.fuse_wire.specs.Records.{forget_one, in_header, out_header}
-use Rattle.fuse_wire.specs.FieldLaws.{value_of-take}
-use Rattle.fuse_wire.specs.Fields.{value_of}
-use Rattle.fuse_wire.specs.declared.entries.ForgetOne.{ForgetOne}
-use Rattle.fuse_wire.specs.declared.headers.InHeader.{InHeader}
-use Rattle.fuse_wire_more.specs.declared.files.WriteIn.{WriteIn}
-use Rattle.fuse_wire_more.specs.declared.names.CreateIn.{CreateIn}
-use Rattle.fuse_wire_more.specs.declared.names.MkdirIn.{MkdirIn}
-use Rattle.fuse_wire_more.specs.declared.names.MknodIn.{MknodIn}
-use Rattle.fs_trait.specs.Calls.{Call, Readdir}
-use Rattle.fs_trait.specs.Calls as call
-use Rattle.fs_trait.specs.Values.{context_of, ExtensionValues}
-use Rattle.fuse_grammar.specs.Ask.{form_of, if_set}
-use Rattle.fuse_grammar.specs.Words.{ask_opcode, name_in, following}
-use Rattle.fuse_grammar.specs.Extensions.{extensions_in}
-use Rattle.fuse_grammar.specs.Forms.{Ask, Ends, Asks, Lists, WithMemory, Without, Record, refused_or, within, tail_of, two_names_in, value_in, extended_in, link_in_tail, pairs_in, pairs_of, space_after_header, Layout, layout_size, layout_record, Form, NoTail, NameTail, TwoNames, NameAndValue, NameAndExtensions, LinkAndExtensions, Pairs, WithRest, IntoRoom, Directories, Versions, Silent, NotServed, ask_form}
-use Rattle.fuse_grammar.specs.Listing.{Listing}
-use Rattle.fuse_grammar.specs.Reply.{Echo, echo_of}
-use Rattle.fuse_grammar.specs.Records.{record_of, size_of}
-use Rattle.fuse_grammar.specs.declared.limits.Limits.{Limits}
-use Rattle.fuse_grammar.specs.declared.error.Error.{Error}
-use Rattle.fuse_grammar.specs.declared.error.Error.TheVariants.{DecodeMessage, EncodeMessage}
+use Rattle.vfs_flags.specs.Flags.{has_flag}
+use Rattle.vfs_flags.specs.declared.constants.TheConstants.{OPEN_KILL_SUIDGID, WRITE_CACHE, WRITE_KILL_PRIV, WRITE_LOCKOWNER}
+use Rattle.vfs_flags.specs.declared.opcode.Opcode.{Opcode}
+use Rattle.vfs_flags.specs.declared.opcode.Opcode.TheVariants as opcode
+use Rattle.vfs_wire.specs.Records.{forget_one, in_header, out_header}
+use Rattle.vfs_wire.specs.FieldLaws.{value_of-take}
+use Rattle.vfs_wire.specs.Fields.{value_of}
+use Rattle.vfs_wire.specs.declared.entries.ForgetOne.{ForgetOne}
+use Rattle.vfs_wire.specs.declared.headers.InHeader.{InHeader}
+use Rattle.vfs_wire_more.specs.declared.files.WriteIn.{WriteIn}
+use Rattle.vfs_wire_more.specs.declared.names.CreateIn.{CreateIn}
+use Rattle.vfs_wire_more.specs.declared.names.MkdirIn.{MkdirIn}
+use Rattle.vfs_wire_more.specs.declared.names.MknodIn.{MknodIn}
+use Rattle.vfs_files.specs.Calls.{Call, Readdir}
+use Rattle.vfs_files.specs.Calls as call
+use Rattle.vfs_files.specs.Values.{context_of, ExtensionValues}
+use Rattle.vfs_grammar.specs.Ask.{form_of, if_set}
+use Rattle.vfs_grammar.specs.Words.{ask_opcode, name_in, following}
+use Rattle.vfs_grammar.specs.Extensions.{extensions_in}
+use Rattle.vfs_grammar.specs.Forms.{Ask, Ends, Asks, Lists, WithMemory, Without, Record, refused_or, within, tail_of, two_names_in, value_in, extended_in, link_in_tail, pairs_in, pairs_of, space_after_header, Layout, layout_size, layout_record, Form, NoTail, NameTail, TwoNames, NameAndValue, NameAndExtensions, LinkAndExtensions, Pairs, WithRest, IntoRoom, Directories, Versions, Silent, NotServed, ask_form}
+use Rattle.vfs_grammar.specs.Listing.{Listing}
+use Rattle.vfs_grammar.specs.Reply.{Echo, echo_of}
+use Rattle.vfs_grammar.specs.Records.{record_of, size_of}
+use Rattle.vfs_grammar.specs.declared.limits.Limits.{Limits}
+use Rattle.vfs_grammar.specs.declared.error.Error.{Error}
+use Rattle.vfs_grammar.specs.declared.error.Error.TheVariants.{DecodeMessage, EncodeMessage}
 use Rattle.door_calls.specs.Shapes.{context_name_of, context_value_of, shape_of, unplaced}
 use Rattle.door_calls.specs.declared.call.CallData.{CallData}
 use Rattle.door_ask.specs.Asked.{IsContextPlaced, IsNameIn, IsTold, Stand, long_range, of_context, told_of, told_of_listing, without_places}

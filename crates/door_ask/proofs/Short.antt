@@ -1,26 +1,26 @@
 -- A reply to a request that asks for no call is short.
 use Rattle.std.proofs.Common.{◌≡◌, ◌⊎◌, ◌≤◌, ◌+◌, ℕ, Bool, true, false, List, [], length, drop, nat_lt, nat_le, IfOk, if◌then◌else◌, Option, Some, None, Result, Ok, Err, refl, subst, inl, inr, arith}
 use Rattle.std.proofs.lemmas.Bool.Decides.{nat_tests}
-use Rattle.fuse_flags.specs.Numbers.{enosys, opcode_of}
-use Rattle.fuse_flags.specs.declared.opcode.Opcode.{Opcode}
-use Rattle.fuse_flags.specs.declared.opcode.Opcode.TheVariants as opcode
-use Rattle.fuse_wire.specs.Fields.{value_of, bytes_of, little}
-use Rattle.fuse_wire.specs.Records.{in_header, init_out}
-use Rattle.fuse_wire.specs.declared.headers.InHeader.{InHeader}
-use Rattle.fuse_segments.specs.Written.{Written}
-use Rattle.fuse_grammar.specs.Ask.{ask, ask_number, form_of}
-use Rattle.fuse_grammar.specs.Words.{ask_header}
-use Rattle.fuse_grammar.specs.Forms.{Ask, Ends, Asks, Lists, WithMemory, Form, ask_form, refused_or, faulted}
-use Rattle.fuse_grammar.specs.Limits.{max_len}
-use Rattle.fuse_grammar.specs.Records.{size_of}
-use Rattle.fuse_grammar.specs.Reply.{Reply, Refusal, NoReply, Bytes, OpenAfter, body_reply, version_out}
-use Rattle.fuse_grammar.specs.declared.limits.Limits.{Limits}
-use Rattle.fuse_grammar.specs.declared.error.Error.{Error}
-use Rattle.fuse_grammar.specs.declared.error.Error.TheVariants.{DecodeMessage, EncodeMessage, OutOfMemory}
-use Rattle.fuse_grammar.proofs.Rooms.{length-fault_reply, length-body_reply}
+use Rattle.vfs_flags.specs.Numbers.{enosys, opcode_of}
+use Rattle.vfs_flags.specs.declared.opcode.Opcode.{Opcode}
+use Rattle.vfs_flags.specs.declared.opcode.Opcode.TheVariants as opcode
+use Rattle.vfs_wire.specs.Fields.{value_of, bytes_of, little}
+use Rattle.vfs_wire.specs.Records.{in_header, init_out}
+use Rattle.vfs_wire.specs.declared.headers.InHeader.{InHeader}
+use Rattle.vfs_segments.specs.Written.{Written}
+use Rattle.vfs_grammar.specs.Ask.{ask, ask_number, form_of}
+use Rattle.vfs_grammar.specs.Words.{ask_header}
+use Rattle.vfs_grammar.specs.Forms.{Ask, Ends, Asks, Lists, WithMemory, Form, ask_form, refused_or, faulted}
+use Rattle.vfs_grammar.specs.Limits.{max_len}
+use Rattle.vfs_grammar.specs.Records.{size_of}
+use Rattle.vfs_grammar.specs.Reply.{Reply, Refusal, NoReply, Bytes, OpenAfter, body_reply, version_out}
+use Rattle.vfs_grammar.specs.declared.limits.Limits.{Limits}
+use Rattle.vfs_grammar.specs.declared.error.Error.{Error}
+use Rattle.vfs_grammar.specs.declared.error.Error.TheVariants.{DecodeMessage, EncodeMessage, OutOfMemory}
+use Rattle.vfs_grammar.proofs.Rooms.{length-fault_reply, length-body_reply}
 use Rattle.laws_turns.proofs.Table.{Shows, form_shown, limit_shown}
-use Rattle.fuse_messages.specs.Rooms.{Replies, IsShortReply, with_after}
-use Rattle.fuse_messages.proofs.Rooms.{replies_after, with_none_after}
+use Rattle.vfs_messages.specs.Rooms.{Replies, IsShortReply, with_after}
+use Rattle.vfs_messages.proofs.Rooms.{replies_after, with_none_after}
 use Rattle.door_calls.specs.declared.call.CallData.{CallData}
 use Rattle.door_ask.specs.Asked.{IsAsked, IsEnough, IsFinished, LiesWithin, Tells, longest_reply}
 use Rattle.door_ask.specs.declared.asked.Asked.{Asked}

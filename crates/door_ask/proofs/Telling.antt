@@ -1,12 +1,12 @@
 -- From the call that was noted to the call that is told.
 use Rattle.std.proofs.Common.{◌≡◌, ◌==◌, ◌∙◌, ℕ, true, false, List, Result, refl, ap, subst, sym, inl, inr}
-use Rattle.fuse_flags.specs.declared.opcode.Opcode.{Opcode}
-use Rattle.fuse_segments.specs.Written.{Written}
-use Rattle.fuse_wire.specs.declared.headers.InHeader.{InHeader}
-use Rattle.fs_trait.specs.Calls.{Call}
-use Rattle.fs_trait.specs.Calls as call
-use Rattle.fuse_grammar.specs.Forms.{Ask, Ends, Asks, Lists, WithMemory}
-use Rattle.fuse_grammar.specs.declared.error.Error.{Error}
+use Rattle.vfs_flags.specs.declared.opcode.Opcode.{Opcode}
+use Rattle.vfs_segments.specs.Written.{Written}
+use Rattle.vfs_wire.specs.declared.headers.InHeader.{InHeader}
+use Rattle.vfs_files.specs.Calls.{Call}
+use Rattle.vfs_files.specs.Calls as call
+use Rattle.vfs_grammar.specs.Forms.{Ask, Ends, Asks, Lists, WithMemory}
+use Rattle.vfs_grammar.specs.declared.error.Error.{Error}
 use Rattle.door_calls.specs.Shapes.{nothing, shape_of}
 use Rattle.door_calls.specs.declared.call.CallData.{CallData}
 use Rattle.door_ask.specs.Asked.{IsTold, Tells}

@@ -2,13 +2,13 @@
 use Rattle.std.proofs.Common.{◌≡◌, ◌≤◌, ◌<◌, ◌^◌, ◌∙◌, ℕ, Bool, true, false, List, ◌∷◌, ◌+◌, ◌-◌, ◌++◌, length, take, drop, min, nat_lt, if◌then◌else◌, Result, Ok, Err, refl, ap, sym, arith, length-append, length-drop}
 use Rattle.std.proofs.lemmas.List.{length-take}
 use Rattle.std.proofs.lemmas.Bool.Decides.{nat_tests}
-use Rattle.fuse_wire.specs.Fields.{value_of, little, number}
-use Rattle.fuse_wire.specs.FieldLaws.{length-little, number-little}
-use Rattle.fuse_wire.specs.Records.{in_header}
-use Rattle.fuse_wire.specs.declared.headers.InHeader.{InHeader}
-use Rattle.fuse_grammar.specs.Records.{record_of}
-use Rattle.fuse_grammar.specs.declared.error.Error.{Error}
-use Rattle.fuse_grammar.specs.declared.error.Error.TheVariants.{DecodeMessage}
+use Rattle.vfs_wire.specs.Fields.{value_of, little, number}
+use Rattle.vfs_wire.specs.FieldLaws.{length-little, number-little}
+use Rattle.vfs_wire.specs.Records.{in_header}
+use Rattle.vfs_wire.specs.declared.headers.InHeader.{InHeader}
+use Rattle.vfs_grammar.specs.Records.{record_of}
+use Rattle.vfs_grammar.specs.declared.error.Error.{Error}
+use Rattle.vfs_grammar.specs.declared.error.Error.TheVariants.{DecodeMessage}
 use Rattle.door_ask.specs.WithOpcode.{with_opcode}
 use Rattle.door_ask.proofs.Memory.{read_header_is}
 

@@ -1,26 +1,26 @@
 -- What is told of a request: its call as data, or that it is finished.
 use Rattle.std.specs.Prelude.{◌≡◌, ◌≤◌, ◌<◌, ◌⊎◌, ⊤, ◌==◌, ◌+◌, ◌*◌, ℕ, List, length, take, drop, position, nat_lt, if◌then◌else◌, Option, None, Some, Result, Ok, Err, IfOk}
-use Rattle.fuse_flags.specs.Numbers.{number_of}
-use Rattle.fuse_flags.specs.declared.opcode.Opcode.TheVariants.{Interrupt}
-use Rattle.fuse_segments.specs.Written.{Written}
-use Rattle.fuse_wire.specs.Records.{in_header, out_header, init_out}
-use Rattle.fuse_wire.specs.declared.headers.InHeader.{InHeader}
-use Rattle.fuse_wire.specs.declared.init.InitInCompat.{InitInCompat}
-use Rattle.fuse_wire_more.specs.Locks.{interrupt_in}
-use Rattle.fuse_wire_more.specs.declared.locks.InterruptIn.{InterruptIn}
-use Rattle.fs_trait.specs.Calls.{Call, Init, Lookup, Symlink, Mknod, Mkdir, Unlink, Rmdir, Rename, Link, Read, Write, Setxattr, Getxattr, Removexattr, Readdir, Create, BatchForget}
-use Rattle.fuse_messages.specs.Rooms.{Replies}
-use Rattle.fuse_grammar.specs.Ask.{ask}
-use Rattle.fuse_grammar.specs.Forms.{Ask, Ends, Asks, Lists, WithMemory, pairs_of}
-use Rattle.fuse_grammar.specs.Listing.{Listing}
-use Rattle.fuse_grammar.specs.Limits.{max_len}
-use Rattle.fuse_grammar.specs.Records.{size_of, record_of}
-use Rattle.fuse_grammar.specs.Words.{pair_size}
-use Rattle.fuse_grammar.specs.Options.{options_offered}
-use Rattle.fuse_grammar.specs.Reply.{Reply, Refusal, Echo, echo_of}
-use Rattle.fuse_grammar.specs.declared.limits.Limits.{Limits}
-use Rattle.fuse_grammar.specs.declared.error.Error.{Error}
-use Rattle.fuse_grammar.specs.declared.error.Error.TheVariants.{OutOfMemory}
+use Rattle.vfs_flags.specs.Numbers.{number_of}
+use Rattle.vfs_flags.specs.declared.opcode.Opcode.TheVariants.{Interrupt}
+use Rattle.vfs_segments.specs.Written.{Written}
+use Rattle.vfs_wire.specs.Records.{in_header, out_header, init_out}
+use Rattle.vfs_wire.specs.declared.headers.InHeader.{InHeader}
+use Rattle.vfs_wire.specs.declared.init.InitInCompat.{InitInCompat}
+use Rattle.vfs_wire_more.specs.Locks.{interrupt_in}
+use Rattle.vfs_wire_more.specs.declared.locks.InterruptIn.{InterruptIn}
+use Rattle.vfs_files.specs.Calls.{Call, Init, Lookup, Symlink, Mknod, Mkdir, Unlink, Rmdir, Rename, Link, Read, Write, Setxattr, Getxattr, Removexattr, Readdir, Create, BatchForget}
+use Rattle.vfs_messages.specs.Rooms.{Replies}
+use Rattle.vfs_grammar.specs.Ask.{ask}
+use Rattle.vfs_grammar.specs.Forms.{Ask, Ends, Asks, Lists, WithMemory, pairs_of}
+use Rattle.vfs_grammar.specs.Listing.{Listing}
+use Rattle.vfs_grammar.specs.Limits.{max_len}
+use Rattle.vfs_grammar.specs.Records.{size_of, record_of}
+use Rattle.vfs_grammar.specs.Words.{pair_size}
+use Rattle.vfs_grammar.specs.Options.{options_offered}
+use Rattle.vfs_grammar.specs.Reply.{Reply, Refusal, Echo, echo_of}
+use Rattle.vfs_grammar.specs.declared.limits.Limits.{Limits}
+use Rattle.vfs_grammar.specs.declared.error.Error.{Error}
+use Rattle.vfs_grammar.specs.declared.error.Error.TheVariants.{OutOfMemory}
 use Rattle.door_calls.specs.Shapes.{bit, no_range, nothing, shape_of, unplaced}
 use Rattle.door_calls.specs.declared.call.CallData.{CallData}
 use Rattle.door_calls.specs.declared.call.has.TheConstants as has

@@ -1,16 +1,16 @@
 -- Where a security context is.
 use Rattle.std.specs.Prelude.{◌≡◌, ◌⊎◌, ◌<◌, ◌+◌, ◌-◌, ◌==◌, ◌^◌, min, ℕ, Bool, false, if◌then◌else◌, List, drop, length, Some, Ok, Err, Result}
-use Rattle.fuse_flags.specs.Flags.{security_ctx, has_flag}
-use Rattle.fuse_flags.specs.declared.opcode.Opcode.{Opcode}
-use Rattle.fuse_flags.specs.declared.opcode.Opcode.TheVariants as opcode
-use Rattle.fs_trait.specs.Values.{ExtensionValues}
-use Rattle.fuse_wire.specs.declared.headers.InHeader.{InHeader}
-use Rattle.fuse_wire_more.specs.Records.{create_in, mkdir_in, mknod_in}
-use Rattle.fuse_grammar.specs.Extensions.{error_or, extensions_in}
-use Rattle.fuse_grammar.specs.Forms.{tail_of}
-use Rattle.fuse_grammar.specs.Records.{record_of, size_of}
-use Rattle.fuse_grammar.specs.declared.error.Error.{Error}
-use Rattle.fuse_grammar.specs.declared.error.Error.TheVariants.{OutOfMemory}
+use Rattle.vfs_flags.specs.Flags.{security_ctx, has_flag}
+use Rattle.vfs_flags.specs.declared.opcode.Opcode.{Opcode}
+use Rattle.vfs_flags.specs.declared.opcode.Opcode.TheVariants as opcode
+use Rattle.vfs_files.specs.Values.{ExtensionValues}
+use Rattle.vfs_wire.specs.declared.headers.InHeader.{InHeader}
+use Rattle.vfs_wire_more.specs.Records.{create_in, mkdir_in, mknod_in}
+use Rattle.vfs_grammar.specs.Extensions.{error_or, extensions_in}
+use Rattle.vfs_grammar.specs.Forms.{tail_of}
+use Rattle.vfs_grammar.specs.Records.{record_of, size_of}
+use Rattle.vfs_grammar.specs.declared.error.Error.{Error}
+use Rattle.vfs_grammar.specs.declared.error.Error.TheVariants.{OutOfMemory}
 use Rattle.door_calls.specs.declared.call.CallData.{CallData}
 use Rattle.door_calls.specs.declared.call.Range.{Range}
 use Rattle.door_ask.specs.Parts.{place_after, placed_at}

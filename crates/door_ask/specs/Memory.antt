@@ -1,14 +1,14 @@
 -- Which requests are refused for want of memory.
 use Rattle.std.specs.Prelude.{◌≢◌, ⊤, ℕ, List, Err}
-use Rattle.fuse_flags.specs.Numbers.{opcode_of}
-use Rattle.fuse_wire.specs.Records.{in_header}
-use Rattle.fuse_segments.specs.Lengths.{lengths_from}
-use Rattle.fuse_segments.specs.Unread.{Unread}
-use Rattle.fuse_grammar.specs.Memory.{header_of}
-use Rattle.fuse_grammar.specs.Records.{size_of}
-use Rattle.fuse_grammar.specs.declared.error.Error.TheVariants.{OutOfMemory}
-use Rattle.fuse_grammar.specs.declared.limits.Limits.{Limits}
-use Rattle.fuse_server.specs.MemoryByPieces.{MayWantAfter}
+use Rattle.vfs_flags.specs.Numbers.{opcode_of}
+use Rattle.vfs_wire.specs.Records.{in_header}
+use Rattle.vfs_segments.specs.Lengths.{lengths_from}
+use Rattle.vfs_segments.specs.Unread.{Unread}
+use Rattle.vfs_grammar.specs.Memory.{header_of}
+use Rattle.vfs_grammar.specs.Records.{size_of}
+use Rattle.vfs_grammar.specs.declared.error.Error.TheVariants.{OutOfMemory}
+use Rattle.vfs_grammar.specs.declared.limits.Limits.{Limits}
+use Rattle.vfs_server.specs.MemoryByPieces.{MayWantAfter}
 use Rattle.door_ask.specs.declared.asked.Asked.{Asked}
 use Rattle.door_ask.specs.declared.asked.Asked.TheVariants as asked
 

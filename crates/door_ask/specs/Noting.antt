@@ -1,12 +1,12 @@
 -- What is told of a request that was handled over a file system that notes its call.
 use Rattle.std.specs.Prelude.{◌≡◌, ◌⊎◌, Result, ℕ}
-use Rattle.fuse_segments.specs.Written.{Written}
-use Rattle.fs_trait.specs.Calls.{Readdir}
-use Rattle.fuse_messages.specs.Rooms.{Replies}
-use Rattle.fuse_grammar.specs.Forms.{Ask, Ends, Asks, Lists, WithMemory}
-use Rattle.fuse_grammar.specs.Reply.{Refusal}
-use Rattle.fuse_grammar.specs.declared.error.Error.{Error}
-use Rattle.fuse_grammar.specs.declared.error.Error.TheVariants.{OutOfMemory}
+use Rattle.vfs_segments.specs.Written.{Written}
+use Rattle.vfs_files.specs.Calls.{Readdir}
+use Rattle.vfs_messages.specs.Rooms.{Replies}
+use Rattle.vfs_grammar.specs.Forms.{Ask, Ends, Asks, Lists, WithMemory}
+use Rattle.vfs_grammar.specs.Reply.{Refusal}
+use Rattle.vfs_grammar.specs.declared.error.Error.{Error}
+use Rattle.vfs_grammar.specs.declared.error.Error.TheVariants.{OutOfMemory}
 use Rattle.door_calls.specs.Shapes.{shape_of, nothing}
 use Rattle.door_calls.specs.declared.call.CallData.{CallData}
 use Rattle.door_ask.specs.declared.asked.Asked.{Asked}

@@ -1,13 +1,13 @@
 -- Where the names and values of a request are, by its opcode.
 use Rattle.std.specs.Prelude.{◌+◌, ◌-◌, ◌*◌, ◌^◌, ℕ, min}
-use Rattle.fuse_flags.specs.declared.opcode.Opcode.{Opcode}
-use Rattle.fuse_flags.specs.declared.opcode.Opcode.TheVariants as opcode
-use Rattle.fuse_wire.specs.Records.{batch_forget_in, in_header, out_header}
-use Rattle.fuse_wire_more.specs.Records.{write_in, create_in, link_in, mkdir_in, mknod_in, rename_in, rename2_in, getxattr_in}
-use Rattle.fuse_grammar.specs.Ask.{setxattr_layout}
-use Rattle.fuse_grammar.specs.Forms.{layout_size}
-use Rattle.fuse_grammar.specs.Records.{size_of}
-use Rattle.fuse_grammar.specs.Words.{pair_size}
+use Rattle.vfs_flags.specs.declared.opcode.Opcode.{Opcode}
+use Rattle.vfs_flags.specs.declared.opcode.Opcode.TheVariants as opcode
+use Rattle.vfs_wire.specs.Records.{batch_forget_in, in_header, out_header}
+use Rattle.vfs_wire_more.specs.Records.{write_in, create_in, link_in, mkdir_in, mknod_in, rename_in, rename2_in, getxattr_in}
+use Rattle.vfs_grammar.specs.Ask.{setxattr_layout}
+use Rattle.vfs_grammar.specs.Forms.{layout_size}
+use Rattle.vfs_grammar.specs.Records.{size_of}
+use Rattle.vfs_grammar.specs.Words.{pair_size}
 use Rattle.door_calls.specs.declared.call.CallData.{CallData}
 use Rattle.door_calls.specs.declared.call.Range.{Range}
 use Rattle.door_ask.specs.declared.parts.Parts.{Parts}

@@ -1,16 +1,16 @@
 -- What is told of a request, of which the header was read.
 use Rattle.std.specs.Prelude.{◌≡◌, ℕ, List, length, drop, Ok, Some}
-use Rattle.fuse_flags.specs.Flags.{fs_options_bits}
-use Rattle.fuse_flags.specs.Numbers.{opcode_of}
-use Rattle.fuse_flags.specs.declared.opcode.Opcode.{Opcode}
-use Rattle.fuse_wire.specs.Records.{in_header}
-use Rattle.fuse_wire.specs.declared.headers.InHeader.{InHeader}
-use Rattle.fuse_segments.specs.Unread.{Unread}
-use Rattle.fuse_segments.specs.Written.{Written}
-use Rattle.fuse_grammar.specs.Words.{ask_header, ask_opcode}
-use Rattle.fuse_grammar.specs.Forms.{Ask}
-use Rattle.fuse_grammar.specs.Records.{record_of, size_of}
-use Rattle.fuse_server.specs.MemoryByPieces.{MayWantAfter}
+use Rattle.vfs_flags.specs.Flags.{fs_options_bits}
+use Rattle.vfs_flags.specs.Numbers.{opcode_of}
+use Rattle.vfs_flags.specs.declared.opcode.Opcode.{Opcode}
+use Rattle.vfs_wire.specs.Records.{in_header}
+use Rattle.vfs_wire.specs.declared.headers.InHeader.{InHeader}
+use Rattle.vfs_segments.specs.Unread.{Unread}
+use Rattle.vfs_segments.specs.Written.{Written}
+use Rattle.vfs_grammar.specs.Words.{ask_header, ask_opcode}
+use Rattle.vfs_grammar.specs.Forms.{Ask}
+use Rattle.vfs_grammar.specs.Records.{record_of, size_of}
+use Rattle.vfs_server.specs.MemoryByPieces.{MayWantAfter}
 use Rattle.door_calls.specs.declared.call.CallData.{CallData}
 use Rattle.door_ask.specs.declared.asked.Asked.{Asked}
 use Rattle.door_ask.specs.declared.asked.Terms.{Terms}

@@ -1,7 +1,7 @@
 -- What is told of some requests.
 use Rattle.std.specs.Prelude.{◌≡◌, ◌≤◌, ◌+◌, ◌++◌, ℕ, List, [], ◌∷◌}
-use Rattle.fuse_grammar.specs.Samples.{batch_of_two, eight, four, header_9, lookup_of_a, zeros}
-use Rattle.fuse_grammar.specs.Forms.{pairs_of}
+use Rattle.vfs_grammar.specs.Samples.{batch_of_two, eight, four, header_9, lookup_of_a, zeros}
+use Rattle.vfs_grammar.specs.Forms.{pairs_of}
 use Rattle.door_calls.specs.Shapes.{nothing}
 use Rattle.door_calls.specs.declared.call.CallData.{CallData}
 use Rattle.door_calls.specs.declared.call.number.TheConstants as number

@@ -1,7 +1,7 @@
 -- A request with another opcode.
 use Rattle.std.specs.Prelude.{ℕ, List, ◌++◌, take, drop}
-use Rattle.fuse_wire.specs.Fields.{little}
-use Rattle.fuse_segments.specs.Unread.{Unread}
+use Rattle.vfs_wire.specs.Fields.{little}
+use Rattle.vfs_segments.specs.Unread.{Unread}
 
 -- the bytes of a request with this number in place of its opcode, which is in place 4
 abbrev pub with_opcode : (opcode : ℕ) → (request : List ℕ) → List ℕ

@@ -1,16 +1,16 @@
 //! What a request asks.
 
 ghost use Rattle.std.specs.Prelude.{◌≡◌, ◌≢◌, ◌<◌, ◌≤◌, ◌^◌, ◌+◌, ℕ, List, Ok, Some, false, length, true};
-ghost use Rattle.fuse_flags.specs.Flags.{fs_options_bits};
-ghost use Rattle.fuse_flags.specs.Numbers.{opcode_of};
-ghost use Rattle.fuse_flags.specs.declared.opcode.Opcode.{Opcode};
-ghost use Rattle.fuse_wire_more.specs.Locks.{interrupt_in};
-ghost use Rattle.fuse_messages.specs.Rooms.{with_after};
-ghost use Rattle.fuse_grammar.specs.Ask.{ask};
-ghost use Rattle.fuse_grammar.specs.Words.{ask_opcode};
-ghost use Rattle.fuse_grammar.specs.Limits.{AreLimits, max_len};
-ghost use Rattle.fuse_grammar.specs.Records.{record_of};
-ghost use Rattle.fuse_server.specs.MemoryByPieces.{MayWantAfter};
+ghost use Rattle.vfs_flags.specs.Flags.{fs_options_bits};
+ghost use Rattle.vfs_flags.specs.Numbers.{opcode_of};
+ghost use Rattle.vfs_flags.specs.declared.opcode.Opcode.{Opcode};
+ghost use Rattle.vfs_wire_more.specs.Locks.{interrupt_in};
+ghost use Rattle.vfs_messages.specs.Rooms.{with_after};
+ghost use Rattle.vfs_grammar.specs.Ask.{ask};
+ghost use Rattle.vfs_grammar.specs.Words.{ask_opcode};
+ghost use Rattle.vfs_grammar.specs.Limits.{AreLimits, max_len};
+ghost use Rattle.vfs_grammar.specs.Records.{record_of};
+ghost use Rattle.vfs_server.specs.MemoryByPieces.{MayWantAfter};
 ghost use Rattle.door_calls.specs.Shapes.{nothing};
 ghost use Rattle.door_ask.specs.declared.asked.Asked.TheVariants.{Finished, Call as IsCall};
 ghost use Rattle.door_ask.specs.Contexts.{may_have_context};
@@ -30,13 +30,13 @@ use crate::note::note;
 use crate::parts::Parts;
 use bitflags::Flags;
 use door_calls::CallData;
-use fuse_flags::{Errno, FsOptions, Opcode};
-use fuse_grammar::{Limits, Result};
-use fuse_messages::{Request, read_record, reply_failed};
-use fuse_segments::{Reader, Writer};
-use fuse_wire::InHeader;
-use fuse_wire_more::InterruptIn;
 use std::alloc::Global;
+use vfs_flags::{Errno, FsOptions, Opcode};
+use vfs_grammar::{Limits, Result};
+use vfs_messages::{Request, read_record, reply_failed};
+use vfs_segments::{Reader, Writer};
+use vfs_wire::InHeader;
+use vfs_wire_more::InterruptIn;
 
 /// What a request asks.
 #[derive(Drop)]

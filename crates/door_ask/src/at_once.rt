@@ -2,11 +2,11 @@
 //! piece, and in one all that follows it. No reader is made, and no writer.
 
 ghost use Rattle.std.specs.Prelude.{◌≡◌, ◌<◌, ◌^◌, ◌++◌, false, length, true, IsErr, MatchOption, Ok};
-ghost use Rattle.fuse_flags.specs.Flags.{fs_options_bits};
-ghost use Rattle.fuse_segments.specs.Written.{Written};
-ghost use Rattle.fuse_grammar.specs.Forms.{tail_of};
-ghost use Rattle.fuse_grammar.specs.Limits.{AreLimits};
-ghost use Rattle.fuse_grammar.specs.Records.{record_of};
+ghost use Rattle.vfs_flags.specs.Flags.{fs_options_bits};
+ghost use Rattle.vfs_segments.specs.Written.{Written};
+ghost use Rattle.vfs_grammar.specs.Forms.{tail_of};
+ghost use Rattle.vfs_grammar.specs.Limits.{AreLimits};
+ghost use Rattle.vfs_grammar.specs.Records.{record_of};
 ghost use Rattle.door_calls.specs.Shapes.{nothing};
 ghost use Rattle.door_ask.specs.AtOnce.{AsksAfterHeader, AsksAtOnce, AsksForCall, IsAskedMost, IsToldAtOnce, TellsAtOnce};
 ghost use Rattle.door_ask.specs.Cleared.{cleared_numbers};
@@ -17,12 +17,12 @@ use crate::asked::{Terms, complete};
 use crate::clear::{clear_numbers, clear_places};
 use crate::direct::{put_getattr, put_lookup, put_read, put_write};
 use door_calls::CallData;
-use fs_trait::CStr;
-use fuse_flags::{FsOptions, Opcode};
-use fuse_grammar::{Error, Limits, Result};
-use fuse_wire::parts::part_at;
-use fuse_wire::{ByteValued, GetattrIn, InHeader, OutHeader};
-use fuse_wire_more::{ReadIn, WriteIn};
+use vfs_files::CStr;
+use vfs_flags::{FsOptions, Opcode};
+use vfs_grammar::{Error, Limits, Result};
+use vfs_wire::parts::part_at;
+use vfs_wire::{ByteValued, GetattrIn, InHeader, OutHeader};
+use vfs_wire_more::{ReadIn, WriteIn};
 
 /// The record that bytes begin with. `DecodeMessage` where it isn't whole.
 #[inline(always)]

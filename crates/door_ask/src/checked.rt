@@ -1,11 +1,11 @@
 //! What a request is, and what it asks, without a reply.
 
 ghost use Rattle.std.specs.Prelude.{◌≡◌, ◌<◌, ◌≤◌, ◌^◌, ℕ, List, Some, false, true};
-ghost use Rattle.fuse_flags.specs.Flags.{fs_options_bits};
-ghost use Rattle.fuse_flags.specs.Numbers.{opcode_of};
-ghost use Rattle.fuse_flags.specs.declared.opcode.Opcode.{Opcode};
-ghost use Rattle.fuse_grammar.specs.Forms.{Versions, ask_form, ask_version};
-ghost use Rattle.fuse_grammar.specs.Limits.{AreLimits, max_len};
+ghost use Rattle.vfs_flags.specs.Flags.{fs_options_bits};
+ghost use Rattle.vfs_flags.specs.Numbers.{opcode_of};
+ghost use Rattle.vfs_flags.specs.declared.opcode.Opcode.{Opcode};
+ghost use Rattle.vfs_grammar.specs.Forms.{Versions, ask_form, ask_version};
+ghost use Rattle.vfs_grammar.specs.Limits.{AreLimits, max_len};
 ghost use Rattle.door_calls.specs.Shapes.{nothing};
 ghost use Rattle.door_ask.specs.Checked.{IsChecked, Judges, JudgesHeader, answered as answered_in, checked_of};
 ghost use Rattle.door_ask.specs.WithOpcode.{unread_with_opcode};
@@ -14,12 +14,12 @@ use crate::asked::{Asked, LONGEST_REPLY, Terms, ask_after};
 use crate::clear::{clear_numbers, clear_places};
 use crate::init::ask_of_version;
 use door_calls::CallData;
-use fuse_flags::{FsOptions, KERNEL_VERSION, Opcode};
-use fuse_grammar::{Error, Limits};
-use fuse_messages::{Request, read_record, read_second_flags};
-use fuse_segments::{Reader, Writer};
-use fuse_wire::{ByteValued, InHeader, InitInCompat, OutHeader};
 use std::alloc::Global;
+use vfs_flags::{FsOptions, KERNEL_VERSION, Opcode};
+use vfs_grammar::{Error, Limits};
+use vfs_messages::{Request, read_record, read_second_flags};
+use vfs_segments::{Reader, Writer};
+use vfs_wire::{ByteValued, InHeader, InitInCompat, OutHeader};
 
 /// What a request is.
 #[derive(Clone, Copy)]

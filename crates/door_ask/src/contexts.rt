@@ -1,20 +1,20 @@
 //! Where a security context is among the extensions of a request.
 
 ghost use Rattle.std.specs.Prelude.{◌≡◌, Err, drop};
-ghost use Rattle.fuse_flags.specs.Flags.{fs_options_bits};
+ghost use Rattle.vfs_flags.specs.Flags.{fs_options_bits};
 ghost use Rattle.door_ask.specs.Contexts.{GivesTailOf, PlacesContext, StandsInBlocks, last_name, may_have_context, tail_after};
 
 use crate::parts::place_after;
 use bitflags::Flags;
 use door_calls::{CallData, Range};
-use fuse_flags::{FsOptions, Opcode};
-use fuse_grammar::{Error, Result};
-use fuse_messages::{Tail, read_record, read_tail};
-use fuse_segments::Reader;
-use fuse_wire::parts::part_at;
-use fuse_wire::{ByteValued, ExtHeader, InHeader, Secctx};
-use fuse_wire_more::{CreateIn, MkdirIn, MknodIn};
 use std::alloc::Global;
+use vfs_flags::{FsOptions, Opcode};
+use vfs_grammar::{Error, Result};
+use vfs_messages::{Tail, read_record, read_tail};
+use vfs_segments::Reader;
+use vfs_wire::parts::part_at;
+use vfs_wire::{ByteValued, ExtHeader, InHeader, Secctx};
+use vfs_wire_more::{CreateIn, MkdirIn, MknodIn};
 
 /// The type of a block of one context.
 const ONE_CONTEXT: u32 = 1;

@@ -2,27 +2,27 @@
 //! nobody sees.
 
 ghost use Rattle.std.specs.Prelude.{◌≡◌, [], ℕ};
-ghost use Rattle.fuse_flags.specs.Flags.{has_flag};
-ghost use Rattle.fuse_flags.specs.declared.constants.TheConstants as flag;
-ghost use Rattle.fuse_segments.specs.Written.{Written};
-ghost use Rattle.fs_trait.specs.Calls as any;
-ghost use Rattle.fs_trait.specs.Values.{context_of, name_text};
-ghost use Rattle.fuse_messages.specs.Parts.{TailIsCut};
+ghost use Rattle.vfs_flags.specs.Flags.{has_flag};
+ghost use Rattle.vfs_flags.specs.declared.constants.TheConstants as flag;
+ghost use Rattle.vfs_segments.specs.Written.{Written};
+ghost use Rattle.vfs_files.specs.Calls as any;
+ghost use Rattle.vfs_files.specs.Values.{context_of, name_text};
+ghost use Rattle.vfs_messages.specs.Parts.{TailIsCut};
 ghost use Rattle.door_calls.specs.Shapes.{nothing, shape_of};
-ghost use Rattle.fuse_grammar.specs.Ask.{if_set};
-ghost use Rattle.fuse_grammar.specs.Words.{ask_opcode};
-ghost use Rattle.fuse_grammar.specs.declared.limits.Limits.{Limits as AnyLimits};
+ghost use Rattle.vfs_grammar.specs.Ask.{if_set};
+ghost use Rattle.vfs_grammar.specs.Words.{ask_opcode};
+ghost use Rattle.vfs_grammar.specs.declared.limits.Limits.{Limits as AnyLimits};
 ghost use Rattle.door_ask.specs.Noting.{IsNoted};
 
 use door_calls::{Asking, CallData};
-use fs_trait::{CStr, Context, FileSystem};
-use fuse_flags::{
+use vfs_files::{CStr, Context, FileSystem};
+use vfs_flags::{
     GETATTR_FH, Opcode, READ_LOCKOWNER, WRITE_CACHE, WRITE_KILL_PRIV, WRITE_LOCKOWNER,
 };
-use fuse_grammar::{Error, Result};
-use fuse_messages::{Request, handle_if, is_set, number_if};
-use fuse_wire::{ByteValued, GetattrIn, InHeader, OutHeader};
-use fuse_wire_more::{ReadIn, WriteIn};
+use vfs_grammar::{Error, Result};
+use vfs_messages::{Request, handle_if, is_set, number_if};
+use vfs_wire::{ByteValued, GetattrIn, InHeader, OutHeader};
+use vfs_wire_more::{ReadIn, WriteIn};
 
 /// Notes the LOOKUP of this name.
 #[inline(always)]

@@ -1,8 +1,8 @@
 //! What an INIT asks.
 
 ghost use Rattle.std.specs.Prelude.{◌≡◌, ℕ, List};
-ghost use Rattle.fuse_flags.specs.Flags.{fs_options_bits};
-ghost use Rattle.fuse_grammar.specs.Forms.{Versions, ask_form, ask_version};
+ghost use Rattle.vfs_flags.specs.Flags.{fs_options_bits};
+ghost use Rattle.vfs_grammar.specs.Forms.{Versions, ask_form, ask_version};
 ghost use Rattle.door_calls.specs.Shapes.{nothing};
 ghost use Rattle.door_ask.specs.Room.{KeepsRoom};
 ghost use Rattle.door_ask.specs.Asked.{Tells, init_told};
@@ -11,10 +11,10 @@ ghost use Rattle.door_ask.specs.declared.asked.Asked.TheVariants.{Call as IsCall
 use crate::asked::Asked;
 use bitflags::Flags;
 use door_calls::{CallData, kind, number};
-use fuse_flags::FsOptions;
-use fuse_messages::{offered_options, read_record, read_second_flags, reply_unserved};
-use fuse_segments::{Reader, Writer};
-use fuse_wire::{InHeader, InitInCompat};
+use vfs_flags::FsOptions;
+use vfs_messages::{offered_options, read_record, read_second_flags, reply_unserved};
+use vfs_segments::{Reader, Writer};
+use vfs_wire::{InHeader, InitInCompat};
 
 /// What an INIT with this header asks, after which `r` is: its one or two records.
 #[inline(never)]

@@ -1,11 +1,11 @@
 //! What a READDIR or a READDIRPLUS asks.
 
 ghost use Rattle.std.specs.Prelude.{◌≡◌, ℕ, List};
-ghost use Rattle.fuse_flags.specs.Flags.{fs_options_bits};
-ghost use Rattle.fuse_wire_more.specs.Records.{read_in};
+ghost use Rattle.vfs_flags.specs.Flags.{fs_options_bits};
+ghost use Rattle.vfs_wire_more.specs.Records.{read_in};
 ghost use Rattle.door_calls.specs.Shapes.{nothing};
-ghost use Rattle.fuse_grammar.specs.Ask.{listing_of, lists_too_much};
-ghost use Rattle.fuse_grammar.specs.Forms.{Directories, Record, ask_form};
+ghost use Rattle.vfs_grammar.specs.Ask.{listing_of, lists_too_much};
+ghost use Rattle.vfs_grammar.specs.Forms.{Directories, Record, ask_form};
 ghost use Rattle.door_ask.specs.declared.asked.Asked.TheVariants.{Call as IsCall};
 ghost use Rattle.door_ask.specs.Room.{KeepsRoom};
 ghost use Rattle.door_ask.specs.Asked.{Tells};
@@ -13,12 +13,12 @@ ghost use Rattle.door_ask.specs.Asked.{Tells};
 use crate::asked::Asked;
 use bitflags::Flags;
 use door_calls::{CallData, has};
-use fuse_flags::{Errno, FsOptions};
-use fuse_grammar::{Error, Limits};
-use fuse_messages::{Request, reply_failed};
-use fuse_segments::Writer;
-use fuse_wire::{ByteValued, OutHeader};
-use fuse_wire_more::ReadIn;
+use vfs_flags::{Errno, FsOptions};
+use vfs_grammar::{Error, Limits};
+use vfs_messages::{Request, reply_failed};
+use vfs_segments::Writer;
+use vfs_wire::{ByteValued, OutHeader};
+use vfs_wire_more::ReadIn;
 
 /// What a READDIR asks, or with `plus` a READDIRPLUS: the directory is to be read.
 #[inline(never)]

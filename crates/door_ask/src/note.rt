@@ -1,21 +1,21 @@
 //! Noting the call of a request, with names and values by their lengths.
 
 ghost use Rattle.std.specs.Prelude.{◌≡◌, length};
-ghost use Rattle.fuse_flags.specs.Flags.{fs_options_bits};
-ghost use Rattle.fuse_flags.specs.Numbers.{opcode_of};
-ghost use Rattle.fuse_grammar.specs.Words.{ask_header};
-ghost use Rattle.fuse_grammar.specs.Limits.{AreLimits};
-ghost use Rattle.fuse_server.specs.MemoryByPieces.{MayWantAfter};
+ghost use Rattle.vfs_flags.specs.Flags.{fs_options_bits};
+ghost use Rattle.vfs_flags.specs.Numbers.{opcode_of};
+ghost use Rattle.vfs_grammar.specs.Words.{ask_header};
+ghost use Rattle.vfs_grammar.specs.Limits.{AreLimits};
+ghost use Rattle.vfs_server.specs.MemoryByPieces.{MayWantAfter};
 ghost use Rattle.door_calls.specs.Shapes.{nothing};
 ghost use Rattle.door_ask.specs.Noting.{IsNoted};
 ghost use Rattle.door_ask.specs.Room.{KeepsRoom};
 
 use door_calls::{Asking, CallData};
-use fuse_flags::FsOptions;
-use fuse_grammar::{Limits, Result};
-use fuse_messages::Request;
-use fuse_segments::Writer;
-use fuse_server::handlers::Session;
+use vfs_flags::FsOptions;
+use vfs_grammar::{Limits, Result};
+use vfs_messages::Request;
+use vfs_segments::Writer;
+use vfs_server::handlers::Session;
 
 // Has a request handled over a file system that notes its call.
 fn handle(session: &mut Session<Asking<'_>>, q: Request<'_, '_>, w: &mut Writer) -> Result<usize>

@@ -1,20 +1,18 @@
 //! Where the names and values of a call are in its request.
 
 ghost use Rattle.std.specs.Prelude.{◌≡◌, ◌+◌, ◌≤◌};
-ghost use Rattle.fuse_flags.specs.Flags.{fs_options_bits};
-ghost use Rattle.fuse_segments.specs.declared.record.TheConstants.{LARGEST_RECORD};
-ghost use Rattle.fuse_wire.specs.Records.{in_header};
-ghost use Rattle.fuse_grammar.specs.Records.{size_of};
+ghost use Rattle.vfs_flags.specs.Flags.{fs_options_bits};
+ghost use Rattle.vfs_segments.specs.declared.record.TheConstants.{LARGEST_RECORD};
+ghost use Rattle.vfs_wire.specs.Records.{in_header};
+ghost use Rattle.vfs_grammar.specs.Records.{size_of};
 ghost use Rattle.door_ask.specs.Parts.{parts_of, place_after, with_parts};
 
 use bitflags::Flags;
 use door_calls::{CallData, Range};
-use fuse_flags::{FsOptions, Opcode};
-use fuse_messages::setxattr_size;
-use fuse_wire::{BatchForgetIn, ByteValued, ForgetOne, InHeader, OutHeader};
-use fuse_wire_more::{
-    CreateIn, GetxattrIn, LinkIn, MkdirIn, MknodIn, Rename2In, RenameIn, WriteIn,
-};
+use vfs_flags::{FsOptions, Opcode};
+use vfs_messages::setxattr_size;
+use vfs_wire::{BatchForgetIn, ByteValued, ForgetOne, InHeader, OutHeader};
+use vfs_wire_more::{CreateIn, GetxattrIn, LinkIn, MkdirIn, MknodIn, Rename2In, RenameIn, WriteIn};
 
 /// The parts of a request that a call takes as they are, each from a place of the request on.
 #[derive(Clone, Copy)]

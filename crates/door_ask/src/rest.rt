@@ -2,10 +2,10 @@
 //! passes over none.
 
 ghost use Rattle.std.specs.Prelude.{◌≡◌, ◌<◌, ◌^◌, ◌+◌, ◌++◌, ℕ, List, length};
-ghost use Rattle.fuse_flags.specs.Flags.{fs_options_bits};
-ghost use Rattle.fuse_messages.specs.Rooms.{with_after};
-ghost use Rattle.fuse_grammar.specs.Ask.{ask};
-ghost use Rattle.fuse_grammar.specs.Limits.{AreLimits};
+ghost use Rattle.vfs_flags.specs.Flags.{fs_options_bits};
+ghost use Rattle.vfs_messages.specs.Rooms.{with_after};
+ghost use Rattle.vfs_grammar.specs.Ask.{ask};
+ghost use Rattle.vfs_grammar.specs.Limits.{AreLimits};
 ghost use Rattle.door_ask.specs.declared.asked.Asked.TheVariants.{Call as IsCall};
 ghost use Rattle.door_ask.specs.Room.{KeepsRoom};
 ghost use Rattle.door_ask.specs.Asked.{IsAsked, IsEnough, LiesWithin, Tells, interrupted_by};
@@ -15,12 +15,12 @@ use crate::asked::{Asked, Terms, ask_after};
 use crate::at_once::record_in;
 use crate::clear::{clear_numbers, clear_places};
 use door_calls::CallData;
-use fuse_flags::FsOptions;
-use fuse_grammar::Limits;
-use fuse_messages::Request;
-use fuse_segments::{Reader, Writer};
-use fuse_wire::{ByteValued, InHeader};
 use std::alloc::Global;
+use vfs_flags::FsOptions;
+use vfs_grammar::Limits;
+use vfs_messages::Request;
+use vfs_segments::{Reader, Writer};
+use vfs_wire::{ByteValued, InHeader};
 
 /// What the request asks that has these bytes as its header, and after it those that `r` has left:
 /// [`ask`](crate::ask) of all of them.

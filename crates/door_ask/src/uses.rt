@@ -1,11 +1,11 @@
 //! Small callers.
 
 ghost use Rattle.std.specs.Prelude.{◌≡◌, ◌≤◌, ◌⊎◌, ◌++◌, [], ◌∷◌, length, true};
-ghost use Rattle.fuse_flags.specs.Flags.{fs_options_bits, security_ctx};
-ghost use Rattle.fuse_grammar.specs.Memory.{header_of};
-ghost use Rattle.fuse_grammar.specs.Reply.{Refusal};
-ghost use Rattle.fuse_grammar.specs.Samples.{batch_of_two, eight, header_9, lookup_of_a, request_for_data};
-ghost use Rattle.fuse_grammar.specs.declared.error.Error.{Error};
+ghost use Rattle.vfs_flags.specs.Flags.{fs_options_bits, security_ctx};
+ghost use Rattle.vfs_grammar.specs.Memory.{header_of};
+ghost use Rattle.vfs_grammar.specs.Reply.{Refusal};
+ghost use Rattle.vfs_grammar.specs.Samples.{batch_of_two, eight, header_9, lookup_of_a, request_for_data};
+ghost use Rattle.vfs_grammar.specs.declared.error.Error.{Error};
 ghost use Rattle.door_calls.specs.Shapes.{nothing};
 ghost use Rattle.door_ask.specs.Asked.{IsFinished};
 ghost use Rattle.door_ask.specs.declared.checked.Checked.TheVariants.{Finished, Refused};
@@ -18,10 +18,10 @@ use crate::checked::{Checked, check, check_as};
 use crate::rest::ask_rest;
 use crate::with_opcode::ask_as;
 use door_calls::{CallData, number};
-use fuse_flags::{DEFAULT_MAX_BUFFER, FsOptions};
-use fuse_grammar::Limits;
-use fuse_segments::{Reader, Writer};
 use std::alloc::Global;
+use vfs_flags::{DEFAULT_MAX_BUFFER, FsOptions};
+use vfs_grammar::Limits;
+use vfs_segments::{Reader, Writer};
 
 const LIMITS: Limits = Limits {
     page_size: 4096,

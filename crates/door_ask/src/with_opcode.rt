@@ -1,10 +1,10 @@
 //! What a request asks with another opcode: that of a TMPFILE, with CREATE's, asks for a file.
 
 ghost use Rattle.std.specs.Prelude.{◌≡◌, ◌+◌, ℕ, List, length};
-ghost use Rattle.fuse_flags.specs.Flags.{fs_options_bits};
-ghost use Rattle.fuse_messages.specs.Rooms.{with_after};
-ghost use Rattle.fuse_grammar.specs.Ask.{ask};
-ghost use Rattle.fuse_grammar.specs.Limits.{AreLimits};
+ghost use Rattle.vfs_flags.specs.Flags.{fs_options_bits};
+ghost use Rattle.vfs_messages.specs.Rooms.{with_after};
+ghost use Rattle.vfs_grammar.specs.Ask.{ask};
+ghost use Rattle.vfs_grammar.specs.Limits.{AreLimits};
 ghost use Rattle.door_ask.specs.declared.asked.Asked.TheVariants.{Call as IsCall};
 ghost use Rattle.door_ask.specs.Room.{KeepsRoom};
 ghost use Rattle.door_ask.specs.Asked.{IsAsked, IsEnough, LiesWithin, Tells, interrupted_by};
@@ -14,12 +14,12 @@ ghost use Rattle.door_ask.specs.WithOpcode.{unread_with_opcode, with_opcode as w
 use crate::asked::{Asked, Terms, ask_after};
 use crate::clear::{clear_numbers, clear_places};
 use door_calls::CallData;
-use fuse_flags::FsOptions;
-use fuse_grammar::Limits;
-use fuse_messages::{Request, read_record};
-use fuse_segments::{Reader, Writer};
-use fuse_wire::InHeader;
 use std::alloc::Global;
+use vfs_flags::FsOptions;
+use vfs_grammar::Limits;
+use vfs_messages::{Request, read_record};
+use vfs_segments::{Reader, Writer};
+use vfs_wire::InHeader;
 
 /// What the request asks that `r` has left with this number in place of its opcode: [`ask`](crate::ask) of those bytes.
 pub fn ask_as(

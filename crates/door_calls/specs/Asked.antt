@@ -1,6 +1,6 @@
 -- A file system that notes its call.
 use Rattle.std.specs.Prelude.{◌≡◌}
-use Rattle.fs_trait.specs.Calls.{Call, Handed, Plain}
+use Rattle.vfs_files.specs.Calls.{Call, Handed, Plain}
 use Rattle.door_calls.specs.Shapes.{shape_over, held_back}
 use Rattle.door_calls.specs.declared.asking.Asking.{Asking}
 use Rattle.door_calls.specs.declared.asking.NoEntries.{NoEntries}

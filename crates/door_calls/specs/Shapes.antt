@@ -2,12 +2,12 @@
 -- are in the request is told by the request's form. `tests/c/data.py` compiles `nothing` and `setattr_of` against
 -- `nizwarf.h`.
 use Rattle.std.specs.Prelude.{ℕ, pos, ◌+◌, List, Bool, true, false, length, Option, Some, None, unwrap_or}
-use Rattle.fuse_flags.specs.Numbers.{eio}
-use Rattle.fuse_wire.specs.declared.attributes.SetattrIn.{SetattrIn}
-use Rattle.fs_trait.specs.Calls.{Call, Kind, Quiet, kind_of, Answer, Done, Failed}
-use Rattle.fs_trait.specs.Calls as call
-use Rattle.fs_trait.specs.Values.{ExtensionValues}
-use Rattle.fs_trait.specs.declared.entry.Context.{Context}
+use Rattle.vfs_flags.specs.Numbers.{eio}
+use Rattle.vfs_wire.specs.declared.attributes.SetattrIn.{SetattrIn}
+use Rattle.vfs_files.specs.Calls.{Call, Kind, Quiet, kind_of, Answer, Done, Failed}
+use Rattle.vfs_files.specs.Calls as call
+use Rattle.vfs_files.specs.Values.{ExtensionValues}
+use Rattle.vfs_files.specs.declared.entry.Context.{Context}
 use Rattle.door_calls.specs.declared.call.Range.{Range}
 use Rattle.door_calls.specs.declared.call.SetattrData.{SetattrData}
 use Rattle.door_calls.specs.declared.call.CallData.{CallData}

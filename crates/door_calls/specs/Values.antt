@@ -1,8 +1,8 @@
 -- An answer as data: what its numbers stand for. `tests/c/data.py` compiles `attr_of` against `nizwarf.h`.
 use Rattle.std.specs.Prelude.{◌≡◌, ◌==◌, ℕ, ℤ, pos, ◌≤ℤ◌, min, Option, None, Some, MatchOption, if◌then◌else◌}
-use Rattle.fuse_wire.specs.declared.attributes.Attr.{Attr}
-use Rattle.fuse_wire.specs.declared.entries.EntryOut.{EntryOut}
-use Rattle.fuse_wire.specs.declared.stat.Statvfs64.{Statvfs64}
+use Rattle.vfs_wire.specs.declared.attributes.Attr.{Attr}
+use Rattle.vfs_wire.specs.declared.entries.EntryOut.{EntryOut}
+use Rattle.vfs_wire.specs.declared.stat.Statvfs64.{Statvfs64}
 use Rattle.door_calls.specs.declared.data.AnswerData.{AnswerData}
 use Rattle.door_calls.specs.declared.data.AttrData.{AttrData}
 use Rattle.door_calls.specs.declared.data.EntryData.{EntryData}

@@ -1,22 +1,22 @@
 //! A file system that notes the call that it is asked for, and holds the answer back.
 
 ghost use Rattle.std.specs.Prelude.{◌≡◌, ◌+◌, ◌<◌, ◌^◌, [], None};
-ghost use Rattle.fuse_flags.specs.Flags.{setattr_valid_bits};
-ghost use Rattle.fs_trait.specs.Calls.{Getattr, Setattr, Read, Write, Readdir, BatchForget, Plain, Done};
-ghost use Rattle.fs_trait.specs.Answers.{attr_answer};
-ghost use Rattle.fs_trait.specs.Values.{extension_values_of};
+ghost use Rattle.vfs_flags.specs.Flags.{setattr_valid_bits};
+ghost use Rattle.vfs_files.specs.Calls.{Getattr, Setattr, Read, Write, Readdir, BatchForget, Plain, Done};
+ghost use Rattle.vfs_files.specs.Answers.{attr_answer};
+ghost use Rattle.vfs_files.specs.Values.{extension_values_of};
 ghost use Rattle.door_calls.specs.Asked.{Notes};
 ghost use Rattle.door_calls.specs.Shapes.{asks, bit, bit_of, extended, made_by, setattr_of, shape_over};
 
 use crate::call::{CallData, Range, SetattrData, has, kind, number};
 use bitflags::Flags;
-use fs_trait::{
+use std::time::Duration;
+use vfs_files::{
     CStr, Context, DirEntry, DirectoryIterator, Entry, Extensions, FileSystem, GetxattrReply,
     ListxattrReply, ZeroCopyReader, ZeroCopyWriter,
 };
-use fuse_flags::{Errno, Fault, FsOptions, OpenOptions, SetattrValid, SetxattrFlags};
-use fuse_wire::{Attr, SetattrIn, Statvfs64};
-use std::time::Duration;
+use vfs_flags::{Errno, Fault, FsOptions, OpenOptions, SetattrValid, SetxattrFlags};
+use vfs_wire::{Attr, SetattrIn, Statvfs64};
 
 /// A directory that is not read.
 #[derive(Drop)]

@@ -1,13 +1,13 @@
 //! An answer as data, and what it is to a server.
 
 ghost use Rattle.std.specs.Prelude.{◌≡◌, min};
-ghost use Rattle.fs_trait.specs.Values.{entry_out_of, whole_seconds, nanoseconds_beyond};
+ghost use Rattle.vfs_files.specs.Values.{entry_out_of, whole_seconds, nanoseconds_beyond};
 ghost use Rattle.door_calls.specs.Values.{IsFaultOf, attr_of, entry_out_for, statistics_of, most_nanoseconds};
 
-use fs_trait::Entry;
-use fuse_flags::{Errno, Fault, GuestGid, GuestUid};
-use fuse_wire::{Attr, Statvfs64};
 use std::time::Duration;
+use vfs_files::Entry;
+use vfs_flags::{Errno, Fault, GuestGid, GuestUid};
+use vfs_wire::{Attr, Statvfs64};
 
 /// Attributes of a file, laid out as `struct fuse_attr`.
 #[repr(C)]

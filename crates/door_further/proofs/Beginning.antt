@@ -3,18 +3,18 @@ use Rattle.std.proofs.Common.{◌≡◌, ◌≤◌, ◌<◌, ◌+◌, ◌++◌, 
 use Rattle.std.proofs.lemmas.Bool.Decides.{nat_tests}
 use Rattle.std.proofs.lemmas.List.{length-take-le, take_all, take_at}
 use Rattle.std.specs.Prelude.{min}
-use Rattle.fuse_wire.specs.Fields.{Table, numbers}
-use Rattle.fuse_wire.specs.FieldLaws.{numbers_at-take}
-use Rattle.fuse_wire.specs.Records.{in_header}
-use Rattle.fuse_wire.specs.declared.headers.InHeader.{InHeader}
-use Rattle.fuse_wire.proofs.Placed.{numbers-drop}
-use Rattle.fuse_wire_more.specs.Records.{copyfilerange_in}
-use Rattle.fuse_wire_more.specs.Locks.{lk_in}
-use Rattle.fuse_wire_more.specs.Devices.{bmap_in, ioctl_in, poll_in, statx_in}
-use Rattle.fuse_wire_more.specs.Notifications.{notify_retrieve_in}
-use Rattle.fuse_grammar.specs.Records.{record_of, size_of}
-use Rattle.fuse_grammar.specs.declared.error.Error.{Error}
-use Rattle.fuse_grammar.specs.declared.limits.Limits.{Limits}
+use Rattle.vfs_wire.specs.Fields.{Table, numbers}
+use Rattle.vfs_wire.specs.FieldLaws.{numbers_at-take}
+use Rattle.vfs_wire.specs.Records.{in_header}
+use Rattle.vfs_wire.specs.declared.headers.InHeader.{InHeader}
+use Rattle.vfs_wire.proofs.Placed.{numbers-drop}
+use Rattle.vfs_wire_more.specs.Records.{copyfilerange_in}
+use Rattle.vfs_wire_more.specs.Locks.{lk_in}
+use Rattle.vfs_wire_more.specs.Devices.{bmap_in, ioctl_in, poll_in, statx_in}
+use Rattle.vfs_wire_more.specs.Notifications.{notify_retrieve_in}
+use Rattle.vfs_grammar.specs.Records.{record_of, size_of}
+use Rattle.vfs_grammar.specs.declared.error.Error.{Error}
+use Rattle.vfs_grammar.specs.declared.limits.Limits.{Limits}
 use Rattle.door_calls.specs.declared.call.CallData.{CallData}
 use Rattle.door_further.specs.Further.{What, Ordinary, Short, Row, Unnamed, Tells, row_of, what_after, what_of}
 use Rattle.door_further.specs.declared.row.Further.{Further}

@@ -1,8 +1,8 @@
 -- What the books see of turns by both tables are turns of virtiofsd's table.
 use Rattle.std.proofs.Common.{ℕ, List, [], ◌∷◌, ◌++◌}
-use Rattle.fuse_grammar.specs.Books.{KeepsBooks}
-use Rattle.fuse_grammar.specs.Turn.{Turn}
-use Rattle.fuse_grammar.specs.declared.limits.Limits.{Limits}
+use Rattle.vfs_grammar.specs.Books.{KeepsBooks}
+use Rattle.vfs_grammar.specs.Turn.{Turn}
+use Rattle.vfs_grammar.specs.declared.limits.Limits.{Limits}
 use Rattle.laws_turns.proofs.InOrder.{AreEachTurns, keeps_books}
 use Rattle.door_further.specs.Further.{What, Ordinary, Short, Row, Unnamed, what_of}
 use Rattle.door_further.specs.Turns.{AreOffered, AreOfferedInOrder, FollowsOffered, OfferedTurn, all_seen, seen_of}

@@ -7,7 +7,7 @@ use Rattle.std.proofs.Math.Seq.{take-add}
 use Rattle.std.specs.List.{concat}
 use Rattle.std.specs.Prelude.{min}
 use borrow.Rule.Slice.PartMut.{put_mid, post_of}
-use Rattle.fuse_segments.proofs.Flat.{concat-split, length-concat-split, length-concat-take_more}
+use Rattle.vfs_segments.proofs.Flat.{concat-split, length-concat-split, length-concat-take_more}
 
 module _ (segments : List (List ℕ)) (i : ℕ) where
   -- the bytes of the segments so far

@@ -1,13 +1,13 @@
 -- The reply to a GETLK that was answered a lock.
 use Rattle.std.proofs.Common.{◌≡◌, ◌∙◌, ◌+◌, ◌++◌, ℕ, pos, List, [], length, Option, None, Some, Ok, MatchOption, refl, ap, subst, arith, inl, inr, false}
 use Rattle.std.proofs.lemmas.List.{append-nil}
-use Rattle.fuse_segments.specs.Written.{Written}
-use Rattle.fs_trait.specs.Calls.{Answer, Failed, Text, Texts}
-use Rattle.fuse_messages.specs.Rooms.{with_after}
-use Rattle.fuse_grammar.specs.Reply.{body_reply}
-use Rattle.fuse_grammar.specs.Words.{put_outcome}
-use Rattle.fuse_grammar.specs.declared.limits.Limits.{Limits}
-use Rattle.fuse_grammar.proofs.Rooms.{length-body_reply}
+use Rattle.vfs_segments.specs.Written.{Written}
+use Rattle.vfs_files.specs.Calls.{Answer, Failed, Text, Texts}
+use Rattle.vfs_messages.specs.Rooms.{with_after}
+use Rattle.vfs_grammar.specs.Reply.{body_reply}
+use Rattle.vfs_grammar.specs.Words.{put_outcome}
+use Rattle.vfs_grammar.specs.declared.limits.Limits.{Limits}
+use Rattle.vfs_grammar.proofs.Rooms.{length-body_reply}
 use Rattle.door_calls.specs.declared.data.AnswerData.{AnswerData}
 use Rattle.door_answer.specs.Answering.{Answers, Comes}
 use Rattle.door_answer.specs.Said.{IsSaid}

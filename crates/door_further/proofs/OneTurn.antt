@@ -1,14 +1,14 @@
 -- From what ask and answer tell, by both tables, to the turn that both are.
 use Rattle.std.proofs.Common.{◌≡◌, ◌+◌, ◌++◌, ◌∙◌, ℕ, List, [], length, Option, Some, None, refl, ap, sym, subst, length-append}
-use Rattle.fuse_segments.specs.Written.{Written, Leaves}
-use Rattle.fs_trait.specs.Calls.{Answer, Kind, Told, Texts, Offsets, Writes, Quiet, IsAnswer}
-use Rattle.fs_trait.specs.Runs.{Event}
-use Rattle.fuse_messages.specs.Rooms.{Replies, with_after}
-use Rattle.fuse_wire.specs.Records.{in_header}
-use Rattle.fuse_grammar.specs.Reply.{reply_of}
-use Rattle.fuse_grammar.specs.Records.{record_of}
-use Rattle.fuse_grammar.specs.Turn.{node_answered}
-use Rattle.fuse_grammar.specs.declared.limits.Limits.{Limits}
+use Rattle.vfs_segments.specs.Written.{Written, Leaves}
+use Rattle.vfs_files.specs.Calls.{Answer, Kind, Told, Texts, Offsets, Writes, Quiet, IsAnswer}
+use Rattle.vfs_files.specs.Runs.{Event}
+use Rattle.vfs_messages.specs.Rooms.{Replies, with_after}
+use Rattle.vfs_wire.specs.Records.{in_header}
+use Rattle.vfs_grammar.specs.Reply.{reply_of}
+use Rattle.vfs_grammar.specs.Records.{record_of}
+use Rattle.vfs_grammar.specs.Turn.{node_answered}
+use Rattle.vfs_grammar.specs.declared.limits.Limits.{Limits}
 use Rattle.door_calls.specs.declared.call.CallData.{CallData}
 use Rattle.door_calls.specs.declared.call.kind.TheConstants as kind
 use Rattle.door_calls.specs.declared.call.number.TheConstants as number

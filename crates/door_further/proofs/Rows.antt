@@ -1,21 +1,21 @@
 -- What holds of the call of each row.
 use Rattle.std.proofs.Common.{◌+◌, ℕ, Bool, true, false, List, nat_le, nat_lt, if◌then◌else◌, Result, Ok, Err}
-use Rattle.fuse_wire.specs.declared.headers.InHeader.{InHeader}
-use Rattle.fuse_wire_more.specs.declared.locks.LkIn.{LkIn}
-use Rattle.fuse_wire_more.specs.declared.devices.BmapIn.{BmapIn}
-use Rattle.fuse_wire_more.specs.declared.devices.IoctlIn.{IoctlIn}
-use Rattle.fuse_wire_more.specs.declared.devices.PollIn.{PollIn}
-use Rattle.fuse_wire_more.specs.declared.devices.StatxIn.{StatxIn}
-use Rattle.fuse_wire_more.specs.declared.notifications.NotifyRetrieveIn.{NotifyRetrieveIn}
-use Rattle.fuse_wire_more.specs.declared.CopyfilerangeIn.{CopyfilerangeIn}
-use Rattle.fuse_wire_more.specs.Records.{copyfilerange_in}
-use Rattle.fuse_wire_more.specs.Locks.{lk_in}
-use Rattle.fuse_wire_more.specs.Devices.{bmap_in, ioctl_in, poll_in, statx_in}
-use Rattle.fuse_wire_more.specs.Notifications.{notify_retrieve_in}
-use Rattle.fuse_grammar.specs.Limits.{max_len}
-use Rattle.fuse_grammar.specs.Records.{record_of}
-use Rattle.fuse_grammar.specs.declared.error.Error.{Error}
-use Rattle.fuse_grammar.specs.declared.limits.Limits.{Limits}
+use Rattle.vfs_wire.specs.declared.headers.InHeader.{InHeader}
+use Rattle.vfs_wire_more.specs.declared.locks.LkIn.{LkIn}
+use Rattle.vfs_wire_more.specs.declared.devices.BmapIn.{BmapIn}
+use Rattle.vfs_wire_more.specs.declared.devices.IoctlIn.{IoctlIn}
+use Rattle.vfs_wire_more.specs.declared.devices.PollIn.{PollIn}
+use Rattle.vfs_wire_more.specs.declared.devices.StatxIn.{StatxIn}
+use Rattle.vfs_wire_more.specs.declared.notifications.NotifyRetrieveIn.{NotifyRetrieveIn}
+use Rattle.vfs_wire_more.specs.declared.CopyfilerangeIn.{CopyfilerangeIn}
+use Rattle.vfs_wire_more.specs.Records.{copyfilerange_in}
+use Rattle.vfs_wire_more.specs.Locks.{lk_in}
+use Rattle.vfs_wire_more.specs.Devices.{bmap_in, ioctl_in, poll_in, statx_in}
+use Rattle.vfs_wire_more.specs.Notifications.{notify_retrieve_in}
+use Rattle.vfs_grammar.specs.Limits.{max_len}
+use Rattle.vfs_grammar.specs.Records.{record_of}
+use Rattle.vfs_grammar.specs.declared.error.Error.{Error}
+use Rattle.vfs_grammar.specs.declared.limits.Limits.{Limits}
 use Rattle.door_calls.specs.declared.call.CallData.{CallData}
 use Rattle.door_calls.specs.declared.call.kind.TheConstants as kind
 use Rattle.door_calls.specs.declared.call.number.TheConstants as number

@@ -1,7 +1,7 @@
 -- An answer that a text is said to be fits.
 use Rattle.std.proofs.Common.{◌≡◌, ◌==◌, ◌&&◌, ℕ, ℤ, pos, Bool, true, false, not, List, refl, sym, subst}
 use Rattle.std.specs.Ordering.{int_eq}
-use Rattle.fs_trait.specs.Calls.{Answer, Text, Texts}
+use Rattle.vfs_files.specs.Calls.{Answer, Text, Texts}
 use Rattle.door_calls.specs.declared.call.CallData.{CallData}
 use Rattle.door_calls.specs.declared.call.kind.TheConstants as kind
 use Rattle.door_calls.specs.declared.data.AnswerData.{AnswerData}

@@ -1,14 +1,14 @@
 -- Which texts are answers of a row. Others are answered by EIO in their place.
 use Rattle.std.specs.Prelude.{◌≡◌, ◌==◌, ◌&&◌, ◌+◌, ◌*◌, if◌then◌else◌, nat_le, not, true, false, Bool, ⊤, pos, ℕ, List, length, Result, Ok, Err}
 use Rattle.std.specs.Ordering.{int_eq}
-use Rattle.fuse_flags.specs.Flags.{has_flag}
-use Rattle.fuse_flags.specs.Numbers.{eio}
-use Rattle.fuse_wire_more.specs.Locks.{lk_out}
-use Rattle.fuse_wire_more.specs.Devices.{ioctl_iovec, ioctl_out}
-use Rattle.fuse_wire_more.specs.declared.devices.IoctlOut.{IoctlOut}
-use Rattle.fs_trait.specs.Calls.{Kind, Texts, Answer, Text}
-use Rattle.fuse_grammar.specs.Records.{record_of, size_of}
-use Rattle.fuse_grammar.specs.declared.error.Error.{Error}
+use Rattle.vfs_flags.specs.Flags.{has_flag}
+use Rattle.vfs_flags.specs.Numbers.{eio}
+use Rattle.vfs_wire_more.specs.Locks.{lk_out}
+use Rattle.vfs_wire_more.specs.Devices.{ioctl_iovec, ioctl_out}
+use Rattle.vfs_wire_more.specs.declared.devices.IoctlOut.{IoctlOut}
+use Rattle.vfs_files.specs.Calls.{Kind, Texts, Answer, Text}
+use Rattle.vfs_grammar.specs.Records.{record_of, size_of}
+use Rattle.vfs_grammar.specs.declared.error.Error.{Error}
 use Rattle.door_calls.specs.declared.call.CallData.{CallData}
 use Rattle.door_calls.specs.declared.call.kind.TheConstants as kind
 use Rattle.door_calls.specs.declared.call.number.TheConstants as number

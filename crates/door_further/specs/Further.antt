@@ -1,26 +1,26 @@
 -- The calls that virtiofsd has not: a further table of the protocol, of which a file system offers rows. A
--- request of no row that is offered asks what the table of virtiofsd says (fuse_grammar).
+-- request of no row that is offered asks what the table of virtiofsd says (vfs_grammar).
 use Rattle.std.specs.Prelude.{◌≡◌, ◌==◌, ◌&&◌, ◌+◌, if◌then◌else◌, nat_le, nat_lt, bit_and, Bool, ℕ, List, length, drop, Result, Ok, Err}
 use Rattle.std.specs.Int.{w32, cast_signed}
-use Rattle.fuse_flags.specs.Flags.{has_flag}
-use Rattle.fuse_flags.specs.declared.constants.TheConstants.{GETATTR_FH, LK_FLOCK}
-use Rattle.fuse_wire.specs.Records.{in_header}
-use Rattle.fuse_wire.specs.declared.headers.InHeader.{InHeader}
-use Rattle.fuse_wire_more.specs.Records.{copyfilerange_in}
-use Rattle.fuse_wire_more.specs.Locks.{lk_in}
-use Rattle.fuse_wire_more.specs.Devices.{bmap_in, ioctl_in, poll_in, statx_in}
-use Rattle.fuse_wire_more.specs.Notifications.{notify_retrieve_in}
-use Rattle.fuse_wire_more.specs.declared.locks.LkIn.{LkIn}
-use Rattle.fuse_wire_more.specs.declared.devices.BmapIn.{BmapIn}
-use Rattle.fuse_wire_more.specs.declared.devices.IoctlIn.{IoctlIn}
-use Rattle.fuse_wire_more.specs.declared.devices.PollIn.{PollIn}
-use Rattle.fuse_wire_more.specs.declared.devices.StatxIn.{StatxIn}
-use Rattle.fuse_wire_more.specs.declared.notifications.NotifyRetrieveIn.{NotifyRetrieveIn}
-use Rattle.fuse_wire_more.specs.declared.CopyfilerangeIn.{CopyfilerangeIn}
-use Rattle.fuse_grammar.specs.Limits.{max_len}
-use Rattle.fuse_grammar.specs.Records.{record_of, size_of}
-use Rattle.fuse_grammar.specs.declared.error.Error.{Error}
-use Rattle.fuse_grammar.specs.declared.limits.Limits.{Limits}
+use Rattle.vfs_flags.specs.Flags.{has_flag}
+use Rattle.vfs_flags.specs.declared.constants.TheConstants.{GETATTR_FH, LK_FLOCK}
+use Rattle.vfs_wire.specs.Records.{in_header}
+use Rattle.vfs_wire.specs.declared.headers.InHeader.{InHeader}
+use Rattle.vfs_wire_more.specs.Records.{copyfilerange_in}
+use Rattle.vfs_wire_more.specs.Locks.{lk_in}
+use Rattle.vfs_wire_more.specs.Devices.{bmap_in, ioctl_in, poll_in, statx_in}
+use Rattle.vfs_wire_more.specs.Notifications.{notify_retrieve_in}
+use Rattle.vfs_wire_more.specs.declared.locks.LkIn.{LkIn}
+use Rattle.vfs_wire_more.specs.declared.devices.BmapIn.{BmapIn}
+use Rattle.vfs_wire_more.specs.declared.devices.IoctlIn.{IoctlIn}
+use Rattle.vfs_wire_more.specs.declared.devices.PollIn.{PollIn}
+use Rattle.vfs_wire_more.specs.declared.devices.StatxIn.{StatxIn}
+use Rattle.vfs_wire_more.specs.declared.notifications.NotifyRetrieveIn.{NotifyRetrieveIn}
+use Rattle.vfs_wire_more.specs.declared.CopyfilerangeIn.{CopyfilerangeIn}
+use Rattle.vfs_grammar.specs.Limits.{max_len}
+use Rattle.vfs_grammar.specs.Records.{record_of, size_of}
+use Rattle.vfs_grammar.specs.declared.error.Error.{Error}
+use Rattle.vfs_grammar.specs.declared.limits.Limits.{Limits}
 use Rattle.door_calls.specs.Shapes.{nothing}
 use Rattle.door_calls.specs.declared.call.CallData.{CallData}
 use Rattle.door_calls.specs.declared.call.has.TheConstants as has

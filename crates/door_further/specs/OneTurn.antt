@@ -1,11 +1,11 @@
 -- A request that was asked for its call, by both tables, and whose call was answered, as one turn.
 use Rattle.std.specs.Prelude.{◌≡◌, ◌++◌, ℕ, List, [], length, Option, Some, None}
-use Rattle.fuse_segments.specs.Written.{Written, Leaves}
-use Rattle.fs_trait.specs.Calls.{Answer}
-use Rattle.fs_trait.specs.Runs.{Event}
-use Rattle.fuse_messages.specs.Rooms.{with_after}
-use Rattle.fuse_grammar.specs.Ask.{ask}
-use Rattle.fuse_grammar.specs.declared.limits.Limits.{Limits}
+use Rattle.vfs_segments.specs.Written.{Written, Leaves}
+use Rattle.vfs_files.specs.Calls.{Answer}
+use Rattle.vfs_files.specs.Runs.{Event}
+use Rattle.vfs_messages.specs.Rooms.{with_after}
+use Rattle.vfs_grammar.specs.Ask.{ask}
+use Rattle.vfs_grammar.specs.declared.limits.Limits.{Limits}
 use Rattle.door_calls.specs.declared.call.CallData.{CallData}
 use Rattle.door_calls.specs.declared.call.number.TheConstants as number
 use Rattle.door_calls.specs.declared.data.AnswerData.{AnswerData}

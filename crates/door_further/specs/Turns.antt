@@ -1,11 +1,11 @@
 -- A turn by both tables: what follows from a request where a file system offers rows of the further one.
 use Rattle.std.specs.Prelude.{◌≡◌, ◌==◌, if◌then◌else◌, ℕ, List, [], ◌∷◌, ◌++◌, length, Option, Some, None}
-use Rattle.fs_trait.specs.Calls.{Answer, Kind, Told, Texts, Offsets, Writes, Quiet, IsAnswer}
-use Rattle.fuse_grammar.specs.Reply.{Refusal, reply_of}
-use Rattle.fuse_grammar.specs.Room.{IsReplied}
-use Rattle.fuse_grammar.specs.Turn.{Turn, IsTurn}
-use Rattle.fuse_grammar.specs.declared.error.Error.TheVariants.{DecodeMessage}
-use Rattle.fuse_grammar.specs.declared.limits.Limits.{Limits}
+use Rattle.vfs_files.specs.Calls.{Answer, Kind, Told, Texts, Offsets, Writes, Quiet, IsAnswer}
+use Rattle.vfs_grammar.specs.Reply.{Refusal, reply_of}
+use Rattle.vfs_grammar.specs.Room.{IsReplied}
+use Rattle.vfs_grammar.specs.Turn.{Turn, IsTurn}
+use Rattle.vfs_grammar.specs.declared.error.Error.TheVariants.{DecodeMessage}
+use Rattle.vfs_grammar.specs.declared.limits.Limits.{Limits}
 use Rattle.door_calls.specs.declared.call.CallData.{CallData}
 use Rattle.door_calls.specs.declared.call.kind.TheConstants as kind
 use Rattle.door_calls.specs.declared.call.number.TheConstants as number

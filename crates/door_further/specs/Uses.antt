@@ -1,9 +1,9 @@
 -- What is told of some requests of rows.
 use Rattle.std.specs.Prelude.{◌≡◌, ◌+◌, ◌++◌, ℕ, List, [], ◌∷◌, Ok}
-use Rattle.fuse_wire_more.specs.Devices.{ioctl_out}
-use Rattle.fuse_wire_more.specs.declared.devices.IoctlOut.{IoctlOut}
-use Rattle.fuse_grammar.specs.Records.{record_of}
-use Rattle.fuse_grammar.specs.Samples.{eight, four, header_9, zeros}
+use Rattle.vfs_wire_more.specs.Devices.{ioctl_out}
+use Rattle.vfs_wire_more.specs.declared.devices.IoctlOut.{IoctlOut}
+use Rattle.vfs_grammar.specs.Records.{record_of}
+use Rattle.vfs_grammar.specs.Samples.{eight, four, header_9, zeros}
 use Rattle.door_calls.specs.Shapes.{nothing}
 use Rattle.door_calls.specs.declared.call.CallData.{CallData}
 use Rattle.door_calls.specs.declared.call.has.TheConstants as has

@@ -1,7 +1,7 @@
 //! The answers of rows.
 
 ghost use Rattle.std.specs.Prelude.{◌≡◌, ◌≤◌, length, IfSome};
-ghost use Rattle.fuse_grammar.specs.Limits.{AreLimits};
+ghost use Rattle.vfs_grammar.specs.Limits.{AreLimits};
 ghost use Rattle.door_answer.specs.Answering.{Answers};
 ghost use Rattle.door_answer.specs.Kinds.{kind_told};
 ghost use Rattle.door_answer.specs.Told.{AnswersEachCall, AnswersEachListing};
@@ -9,11 +9,11 @@ ghost use Rattle.door_further.specs.Fitting.{answer_offered as as_offered, fits 
 
 use door_answer::{Answered, answer};
 use door_calls::{AnswerData, CallData, ItemData, kind, number};
-use fuse_grammar::Limits;
-use fuse_segments::Writer;
-use fuse_wire::ByteValued;
-use fuse_wire::parts::part_at;
-use fuse_wire_more::{IoctlIovec, IoctlOut, LkOut};
+use vfs_grammar::Limits;
+use vfs_segments::Writer;
+use vfs_wire::ByteValued;
+use vfs_wire::parts::part_at;
+use vfs_wire_more::{IoctlIovec, IoctlOut, LkOut};
 
 /// How many bytes the record of the reply to STATX has (`struct fuse_statx_out`).
 pub const STATX_OUT_SIZE: usize = 288;

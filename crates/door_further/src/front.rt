@@ -1,7 +1,7 @@
 //! The first bytes of a request that lies in segments, and how long it is.
 
 ghost use Rattle.std.specs.Prelude.{◌≡◌, ◌++◌, length, take, drop, min, nat_le};
-ghost use Rattle.fuse_segments.specs.Segments.{segments_of, flat_bytes};
+ghost use Rattle.vfs_segments.specs.Segments.{segments_of, flat_bytes};
 
 // Copies as many bytes as both have, and answers how many.
 fn copy_first(from: &[u8], to: &mut [u8]) -> usize

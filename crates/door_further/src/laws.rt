@@ -1,10 +1,10 @@
 //! What holds of turns by both tables.
 
 ghost use Rattle.std.specs.Prelude.{◌≡◌, ℕ, List, [], None, Err};
-ghost use Rattle.fuse_grammar.specs.Books.{KeepsBooks, answered};
-ghost use Rattle.fuse_grammar.specs.Turn.{IsTurn, Turn, events_in};
-ghost use Rattle.fuse_grammar.specs.declared.error.Error.TheVariants.{DecodeMessage};
-ghost use Rattle.fuse_grammar.specs.declared.limits.Limits.{Limits};
+ghost use Rattle.vfs_grammar.specs.Books.{KeepsBooks, answered};
+ghost use Rattle.vfs_grammar.specs.Turn.{IsTurn, Turn, events_in};
+ghost use Rattle.vfs_grammar.specs.declared.error.Error.TheVariants.{DecodeMessage};
+ghost use Rattle.vfs_grammar.specs.declared.limits.Limits.{Limits};
 ghost use Rattle.door_further.specs.Further.{Ordinary, Short, Unnamed, what_of};
 ghost use Rattle.door_further.specs.Turns.{AreOffered, AreOfferedInOrder, IsOfferedTurn, OfferedTurn, all_seen, plain, seen};
 ghost use Rattle.door_further.specs.OneTurn.{AreOneOfferedTurn};

@@ -1,15 +1,15 @@
 //! What a request asks by the further table.
 
 ghost use Rattle.std.specs.Prelude.{◌≡◌, ◌+◌, length, drop};
-ghost use Rattle.fuse_flags.specs.Flags.{fs_options_bits};
-ghost use Rattle.fuse_wire.specs.Records.{in_header};
-ghost use Rattle.fuse_wire_more.specs.Records.{copyfilerange_in};
-ghost use Rattle.fuse_wire_more.specs.Locks.{lk_in};
-ghost use Rattle.fuse_wire_more.specs.Devices.{bmap_in, ioctl_in, poll_in, statx_in};
-ghost use Rattle.fuse_wire_more.specs.Notifications.{notify_retrieve_in};
-ghost use Rattle.fuse_segments.specs.Segments.{segments_of, flat_bytes};
-ghost use Rattle.fuse_grammar.specs.Limits.{AreLimits};
-ghost use Rattle.fuse_grammar.specs.Records.{record_of, size_of};
+ghost use Rattle.vfs_flags.specs.Flags.{fs_options_bits};
+ghost use Rattle.vfs_wire.specs.Records.{in_header};
+ghost use Rattle.vfs_wire_more.specs.Records.{copyfilerange_in};
+ghost use Rattle.vfs_wire_more.specs.Locks.{lk_in};
+ghost use Rattle.vfs_wire_more.specs.Devices.{bmap_in, ioctl_in, poll_in, statx_in};
+ghost use Rattle.vfs_wire_more.specs.Notifications.{notify_retrieve_in};
+ghost use Rattle.vfs_segments.specs.Segments.{segments_of, flat_bytes};
+ghost use Rattle.vfs_grammar.specs.Limits.{AreLimits};
+ghost use Rattle.vfs_grammar.specs.Records.{record_of, size_of};
 ghost use Rattle.door_further.specs.declared.row.Further.TheVariants.{Row as IsRow};
 ghost use Rattle.door_further.specs.Further.{Row, Tells, bmap_told, copy_told, if_whole, ioctl_place, ioctl_told, lock_told, notify_place, notify_told, or_short, poll_told, row_of, statx_told, told_of, told_under, what_after, what_of};
 
@@ -18,11 +18,11 @@ use crate::offers;
 use bitflags::Flags;
 use door_ask::record_in;
 use door_calls::{CallData, Range, has, kind, number};
-use fuse_flags::{FsOptions, GETATTR_FH, LK_FLOCK};
-use fuse_grammar::Limits;
-use fuse_wire::parts::part_at;
-use fuse_wire::{ByteValued, InHeader};
-use fuse_wire_more::{BmapIn, CopyfilerangeIn, IoctlIn, LkIn, NotifyRetrieveIn, PollIn, StatxIn};
+use vfs_flags::{FsOptions, GETATTR_FH, LK_FLOCK};
+use vfs_grammar::Limits;
+use vfs_wire::parts::part_at;
+use vfs_wire::{ByteValued, InHeader};
+use vfs_wire_more::{BmapIn, CopyfilerangeIn, IoctlIn, LkIn, NotifyRetrieveIn, PollIn, StatxIn};
 
 /// The bytes of a header and the longest record of a row: that of COPY_FILE_RANGE_64.
 const FRONT: usize = 96;

@@ -1,16 +1,16 @@
 //! Small callers.
 
 ghost use Rattle.std.specs.Prelude.{◌≡◌, ◌∷◌, ℕ, Bool, List, [], length, pos, true, MatchOption, Ok, Option};
-ghost use Rattle.fuse_flags.specs.Flags.{fs_options_bits};
-ghost use Rattle.fuse_segments.specs.Segments.{segments_of, flat_bytes};
-ghost use Rattle.fs_trait.specs.Calls.{Create, Created};
-ghost use Rattle.fs_trait.specs.Runs.{Called};
-ghost use Rattle.fs_trait.specs.Values.{ExtensionValues};
-ghost use Rattle.fs_trait.specs.declared.entry.Context.{Context};
-ghost use Rattle.fs_trait.specs.declared.entry.Entry.{Entry};
-ghost use Rattle.fuse_grammar.specs.Books.{KeepsBooks, answered};
-ghost use Rattle.fuse_grammar.specs.Turn.{IsTurn, Turn, events_in};
-ghost use Rattle.fuse_grammar.specs.declared.limits.Limits.{Limits};
+ghost use Rattle.vfs_flags.specs.Flags.{fs_options_bits};
+ghost use Rattle.vfs_segments.specs.Segments.{segments_of, flat_bytes};
+ghost use Rattle.vfs_files.specs.Calls.{Create, Created};
+ghost use Rattle.vfs_files.specs.Runs.{Called};
+ghost use Rattle.vfs_files.specs.Values.{ExtensionValues};
+ghost use Rattle.vfs_files.specs.declared.entry.Context.{Context};
+ghost use Rattle.vfs_files.specs.declared.entry.Entry.{Entry};
+ghost use Rattle.vfs_grammar.specs.Books.{KeepsBooks, answered};
+ghost use Rattle.vfs_grammar.specs.Turn.{IsTurn, Turn, events_in};
+ghost use Rattle.vfs_grammar.specs.declared.limits.Limits.{Limits};
 ghost use Rattle.door_further.specs.Further.{Ordinary as IsOrdinary, Unnamed, what_of};
 ghost use Rattle.door_further.specs.declared.row.Further.TheVariants.{Ordinary, Row, Short, Unnamed as IsUnnamed};
 ghost use Rattle.door_further.specs.Turns.{IsOfferedTurn, OfferedTurn, created_turn, plain, seen};
@@ -22,9 +22,9 @@ use crate::offers;
 use crate::row::{Further, what};
 use door_answer::Answered;
 use door_calls::{AnswerData, CallData};
-use fuse_flags::{DEFAULT_MAX_BUFFER, FsOptions};
-use fuse_grammar::Limits;
-use fuse_segments::Writer;
+use vfs_flags::{DEFAULT_MAX_BUFFER, FsOptions};
+use vfs_grammar::Limits;
+use vfs_segments::Writer;
 
 const LIMITS: Limits = Limits {
     page_size: 4096,

@@ -1,13 +1,13 @@
 //! Small callers, of what happens by both tables, and of turns in order.
 
 ghost use Rattle.std.specs.Prelude.{◌≡◌, ◌≤◌, ◌∷◌, ℕ, List, [], IfSome, length, Option, None};
-ghost use Rattle.fs_trait.specs.Calls.{Answer, Text, Texts};
-ghost use Rattle.fs_trait.specs.Runs.{Event};
-ghost use Rattle.fuse_grammar.specs.Ask.{ask};
-ghost use Rattle.fuse_grammar.specs.Books.{KeepsBooks};
-ghost use Rattle.fuse_grammar.specs.Forms.{Ends};
-ghost use Rattle.fuse_grammar.specs.Reply.{Reply};
-ghost use Rattle.fuse_grammar.specs.declared.limits.Limits.{Limits};
+ghost use Rattle.vfs_files.specs.Calls.{Answer, Text, Texts};
+ghost use Rattle.vfs_files.specs.Runs.{Event};
+ghost use Rattle.vfs_grammar.specs.Ask.{ask};
+ghost use Rattle.vfs_grammar.specs.Books.{KeepsBooks};
+ghost use Rattle.vfs_grammar.specs.Forms.{Ends};
+ghost use Rattle.vfs_grammar.specs.Reply.{Reply};
+ghost use Rattle.vfs_grammar.specs.declared.limits.Limits.{Limits};
 ghost use Rattle.door_answer.specs.declared.answered.Answered.{Answered as Came};
 ghost use Rattle.door_calls.specs.declared.call.CallData.{CallData as Told};
 ghost use Rattle.door_calls.specs.declared.data.AnswerData.{AnswerData as Data};
@@ -22,9 +22,9 @@ use crate::answer::answer_offered;
 use crate::laws::{offered_turns_keep_books, what_offers_nothing_is_virtiofsds};
 use door_answer::Answered;
 use door_calls::{AnswerData, CallData, ItemData};
-use fuse_flags::DEFAULT_MAX_BUFFER;
-use fuse_grammar::Limits;
-use fuse_segments::Writer;
+use vfs_flags::DEFAULT_MAX_BUFFER;
+use vfs_grammar::Limits;
+use vfs_segments::Writer;
 
 const LIMITS: Limits = Limits {
     page_size: 4096,

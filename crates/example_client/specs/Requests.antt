@@ -1,9 +1,9 @@
 -- The bytes of two requests, by the field tables of their records.
 use Rattle.std.specs.Prelude.{ℕ, ◌+◌, List, [], ◌∷◌, ◌++◌, length}
-use Rattle.fuse_flags.specs.declared.opcode.Opcode.TheVariants.{Lookup, Read}
-use Rattle.fuse_wire.specs.Fields.{bytes_of}
-use Rattle.fuse_wire.specs.Records.{in_header, request_header}
-use Rattle.fuse_wire_more.specs.Records.{read_in}
+use Rattle.vfs_flags.specs.declared.opcode.Opcode.TheVariants.{Lookup, Read}
+use Rattle.vfs_wire.specs.Fields.{bytes_of}
+use Rattle.vfs_wire.specs.Records.{in_header, request_header}
+use Rattle.vfs_wire_more.specs.Records.{read_in}
 
 -- a LOOKUP of this name: its header, the name, and a nul
 abbrev pub lookup_request : (unique parent : ℕ) → (name : List ℕ) → List ℕ

@@ -6,17 +6,17 @@
 #![tactic(auto)]
 
 ghost use Rattle.std.specs.Prelude.{◌≡◌, ◌≢◌, ◌+◌, ◌<◌, ◌≤◌, ◌^◌, pos, length, drop, IfOk, IfSome, IsNone, IsOk, IsSomeAnd};
-ghost use Rattle.fuse_wire.specs.Fields.{numbers_at, value_of};
-ghost use Rattle.fuse_wire.specs.Records.{out_header};
+ghost use Rattle.vfs_wire.specs.Fields.{numbers_at, value_of};
+ghost use Rattle.vfs_wire.specs.Records.{out_header};
 ghost use Rattle.example_client.specs.Requests.{lookup_request, read_request};
 
 mod uses;
 
-use fuse_flags::Opcode;
-use fuse_wire::parts::part_at;
-use fuse_wire::{ByteValued, InHeader, OutHeader};
-use fuse_wire_more::ReadIn;
 use std::alloc::{AllocError, Global};
+use vfs_flags::Opcode;
+use vfs_wire::parts::part_at;
+use vfs_wire::{ByteValued, InHeader, OutHeader};
+use vfs_wire_more::ReadIn;
 
 /// A LOOKUP of a name, which has no nul in it, in the directory `parent`.
 pub fn lookup(alloc: Global, unique: u64, parent: u64, name: &[u8]) -> Result<Vec<u8>, AllocError>

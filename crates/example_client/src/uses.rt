@@ -1,15 +1,15 @@
 //! Small callers: what the clauses of the client say of two requests and of a reply.
 
 ghost use Rattle.std.specs.Prelude.{◌≡◌, ◌+◌, ◌≤◌, [], ◌∷◌, ◌++◌, drop, replicate, length, negsuc, pos, IfOk, IsNone};
-ghost use Rattle.fuse_wire.specs.Fields.{number, value_of};
-ghost use Rattle.fuse_wire.specs.Records.{out_header};
+ghost use Rattle.vfs_wire.specs.Fields.{number, value_of};
+ghost use Rattle.vfs_wire.specs.Records.{out_header};
 
 use crate::{data, lookup, read, said};
-use fuse_wire::EntryOut;
 use std::alloc::{AllocError, Global};
+use vfs_wire::EntryOut;
 
 /// Request 3, a LOOKUP of `a` in node 1: 42 bytes.
-#[tactic(auto, unfolding(fuse_wire::specs::Fields::little))]
+#[tactic(auto, unfolding(vfs_wire::specs::Fields::little))]
 fn lookup_of_a(alloc: Global) -> Result<Vec<u8>, AllocError>
     ensures { IfOk result (λ bytes. bytes.items ≡
         (42 ∷ 0 ∷ 0 ∷ 0 ∷ 1 ∷ 0 ∷ 0 ∷ 0 ∷ 3 ∷ []) ++ (replicate 7 0 ++ (1 ∷ []))
@@ -19,7 +19,7 @@ fn lookup_of_a(alloc: Global) -> Result<Vec<u8>, AllocError>
 }
 
 /// Request 9, a READ of 3 bytes of node 2: 80 bytes.
-#[tactic(auto, unfolding(fuse_wire::specs::Fields::little))]
+#[tactic(auto, unfolding(vfs_wire::specs::Fields::little))]
 fn read_of_three_bytes() -> [u8; 80]
     ensures { result ≡
         (80 ∷ 0 ∷ 0 ∷ 0 ∷ 15 ∷ 0 ∷ 0 ∷ 0 ∷ 9 ∷ []) ++ (replicate 7 0 ++ (2 ∷ []))
@@ -29,7 +29,7 @@ fn read_of_three_bytes() -> [u8; 80]
 }
 
 /// What a LOOKUP is told of a name that is not there: ENOENT, 2, negated.
-#[tactic(auto, unfolding(fuse_wire::specs::Fields::number))]
+#[tactic(auto, unfolding(vfs_wire::specs::Fields::number))]
 fn no_entry() -> Option<Result<EntryOut, i32>>
     ensures { result ≡ Some (Err (negsuc 1)) }
 {

@@ -1,7 +1,7 @@
 -- The tree: hello.txt, readme.txt and the directory docs with a.txt.
 use Rattle.std.specs.Prelude.{ℕ, ◌==◌, List, [], ◌∷◌, codes, Option, Some, None, if◌then◌else◌}
 use Rattle.std.specs.Str.{bytes_eq}
-use Rattle.fuse_wire.specs.declared.attributes.Attr.{Attr}
+use Rattle.vfs_wire.specs.declared.attributes.Attr.{Attr}
 use Rattle.fs_small.specs.Tables.{Named, Tables}
 use Rattle.fs_small.specs.Makers.{directory_attr, file_attr, directory_item, file_item}
 

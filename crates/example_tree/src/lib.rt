@@ -7,7 +7,7 @@ ghost use Rattle.example_tree.specs.Docs.{docs};
 mod uses;
 
 use fs_small::{ReadTree, TreeItem, directory_attr, directory_item, file_attr, file_item};
-use fuse_wire::Attr;
+use vfs_wire::Attr;
 
 /// The tree. `ReadOnly { tree: Docs }` is its file system.
 #[derive(Clone, Copy)]

@@ -2,17 +2,17 @@
 
 ghost use Rattle.std.specs.Prelude.{◌≡◌, ◌≤◌, [], ◌∷◌, codes, replicate, Ok, Err, Some, None, MatchResult, option_map};
 ghost use Rattle.std.specs.Duration.{as_nanos};
-ghost use Rattle.fs_trait.specs.Values.{item_of};
+ghost use Rattle.vfs_files.specs.Values.{item_of};
 
 use crate::Docs;
 use fs_small::{ReadOnly, name_in, name_position};
-use fs_trait::{
+use std::time::Duration;
+use vfs_files::{
     CStr, Context, DirEntry, DirectoryIterator, Entry, Extensions, FileSystem, ZeroCopyReader,
     ZeroCopyWriter,
 };
-use fuse_flags::{Fault, OpenOptions, SetattrValid, SetxattrFlags};
-use fuse_wire::{Attr, SetattrIn};
-use std::time::Duration;
+use vfs_flags::{Fault, OpenOptions, SetattrValid, SetxattrFlags};
+use vfs_wire::{Attr, SetattrIn};
 
 /// A LOOKUP: `hello.txt` of the root is node 2.
 fn node_of_hello(ctx: Context) -> u64

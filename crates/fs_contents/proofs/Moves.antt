@@ -2,8 +2,8 @@
 use Rattle.std.proofs.Common.{◌≡◌, ◌≤◌, ◌<◌, ◌+◌, ◌-◌, ◌^◌, ℕ, List, [], ◌∷◌, ◌++◌, length, get_or, min, Option, Result, Ok, refl, sym, ap, ◌∙◌, ⊎_elim, arith, append-nil, length-append}
 use Rattle.std.proofs.lemmas.Bool.{cases_lt}
 use Rattle.std.proofs.lemmas.List.{get_or_append_left, get_or-append_right}
-use Rattle.fs_trait.specs.Transfers.{Ending, Finished, Stuck, Broken, Past, last_bytes, outcome, bytes_moved, count_moved, reads_of, Goes, EndsBy, Transfers}
-use Rattle.fs_trait.specs.TransferLaws.{goes_within}
+use Rattle.vfs_files.specs.Transfers.{Ending, Finished, Stuck, Broken, Past, last_bytes, outcome, bytes_moved, count_moved, reads_of, Goes, EndsBy, Transfers}
+use Rattle.vfs_files.specs.TransferLaws.{goes_within}
 use Rattle.fs_contents.specs.Pages.{Pages, byte_at}
 use Rattle.fs_contents.specs.Reading.{ReadsSome}
 

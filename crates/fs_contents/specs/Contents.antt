@@ -3,9 +3,9 @@ use Rattle.std.specs.Prelude.{◌≡◌, ◌≤◌, ◌<◌, ◌+◌, ◌-◌, �
 use Rattle.std.specs.List.{filter, range_with_len}
 use Rattle.std.specs.Int.{div_ceil}
 use Rattle.std.specs.Map.{keys_of}
-use Rattle.fuse_flags.specs.Numbers.{enomem}
-use Rattle.fs_trait.specs.Bytes.{fitting}
-use Rattle.fs_trait.specs.Bytes as flat
+use Rattle.vfs_flags.specs.Numbers.{enomem}
+use Rattle.vfs_files.specs.Bytes.{fitting}
+use Rattle.vfs_files.specs.Bytes as flat
 use Rattle.fs_contents.specs.Pages.{Pages, byte_at, first_from, is_outside, with_pages, missing, reach}
 
 -- the bytes, whatever holds them, and the numbers of the pages that are held, in order. A page has 4096

@@ -3,17 +3,17 @@
 ghost use Rattle.std.specs.Prelude.{◌≡◌, ◌≢◌, ◌<◌, ◌^◌, ◌≤◌, ◌+◌, ◌-◌, ◌*◌, ◌/◌, nat_eq, ℕ, List, [], ◌∷◌, Some, OnOk, IfErr, length, take};
 ghost use Rattle.std.specs.Int.{div_ceil};
 ghost use Rattle.std.specs.List.{list_any};
-ghost use Rattle.fs_trait.specs.Bytes.{PutsPart};
-ghost use Rattle.fuse_flags.specs.Numbers.{enomem};
+ghost use Rattle.vfs_files.specs.Bytes.{PutsPart};
+ghost use Rattle.vfs_flags.specs.Numbers.{enomem};
 ghost use Rattle.fs_contents.specs.Contents.{no_contents, resized, allocated, fallocated, data_from, hole_from, lacking, pages_over, punched, zeroed, Writes};
 ghost use Rattle.fs_contents.specs.Pages.{reach};
 
 use crate::pages::{PAGE, Pages};
 use crate::transfer::{Reading, count_left, fill};
-use fs_trait::{ZeroCopyReader, ZeroCopyWriter};
-use fuse_flags::{Fault, MAX_REPLY_DATA};
 use std::alloc::Global;
 use std::marker::Model;
+use vfs_files::{ZeroCopyReader, ZeroCopyWriter};
+use vfs_flags::{Fault, MAX_REPLY_DATA};
 
 /// The bit of the mode of FALLOCATE by which a file stays as long as it is.
 pub const KEEP_SIZE: u32 = 1;

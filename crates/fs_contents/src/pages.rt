@@ -6,15 +6,15 @@ ghost use Rattle.std.specs.Ordering.{nat_cmp};
 ghost use Rattle.std.specs.Map.{keys_of, remove_entry};
 ghost use Rattle.std.specs.BTreeMap.{is_at};
 ghost use Rattle.std.specs.BTreeSet.{insert_key};
-ghost use Rattle.fuse_flags.specs.Numbers.{enomem};
+ghost use Rattle.vfs_flags.specs.Numbers.{enomem};
 ghost use Rattle.std.specs.declared.alloc.Global.{Global};
 ghost use Rattle.fs_contents.specs.Pages.{Pages, byte_at, byte_over, first_from, holds, is_outside, with_pages, missing, undone};
 
-use fuse_flags::{Errno, Fault};
 use std::alloc::Global;
 use std::collections::BTreeMap;
 use std::collections::btree_map::Range;
 use std::marker::Model;
+use vfs_flags::{Errno, Fault};
 
 /// How many bytes a page has.
 pub(crate) const PAGE: usize = 4096;

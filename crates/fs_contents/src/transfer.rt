@@ -3,15 +3,15 @@
 ghost use Rattle.std.specs.Prelude.{◌≡◌, ◌≤◌, ◌+◌, ◌<◌, ◌^◌, ◌/◌, ℕ, List, [], true, take, length, min, Ok, Err, Some};
 ghost use Rattle.std.specs.Map.{keys_of};
 ghost use Rattle.std.specs.List.{concat};
-ghost use Rattle.fuse_flags.specs.Numbers.{ebadf};
+ghost use Rattle.vfs_flags.specs.Numbers.{ebadf};
 ghost use Rattle.fs_contents.specs.Pages.{byte_at, byte_over, holds};
 ghost use Rattle.fs_contents.specs.Filling.{Fills};
 
 use crate::pages::Pages;
-use fs_trait::{Bytes, ZeroCopyReader};
-use fuse_flags::{Errno, Fault};
-use fuse_views::{PositionedFile, Slices, SlicesMut, WritevFlags};
 use std::marker::Model;
+use vfs_files::{Bytes, ZeroCopyReader};
+use vfs_flags::{Errno, Fault};
+use vfs_views::{PositionedFile, Slices, SlicesMut, WritevFlags};
 
 /// Pages that are read.
 #[derive(Drop)]

@@ -8,7 +8,7 @@ use Rattle.std.specs.BTreeMap.{insert_entry, is_at}
 use Rattle.std.specs.List.{AllByRecursion}
 use Rattle.std.proofs.lemmas.Bool.{cases_Bool, cond-true, cond-false, not_from_true, not_from_false}
 use Rattle.std.proofs.lemmas.Option.{none-some, same_Some}
-use Rattle.fs_trait.proofs.Indexes.{same_name}
+use Rattle.vfs_files.proofs.Indexes.{same_name}
 use Rattle.fs_nodes.specs.Children.{Link, is_named, is_directory, directories_of, relinked}
 use Rattle.fs_nodes.specs.Index.{IsAfter, AreInOrder}
 use Rattle.fs_nodes.specs.declared.children.Child.{Child}

@@ -4,7 +4,7 @@ use Rattle.std.specs.Cmp.Lexicographic.{slice_cmp}
 use Rattle.std.specs.Map.{lookup, remove_entry, set_value}
 use Rattle.std.specs.BTreeMap.{UpdatesBy, insert_entry, is_at}
 use Rattle.std.proofs.lemmas.Option.{none-some, same_Some}
-use Rattle.fs_trait.proofs.Indexes.{mapped_some, mapped_none, index_same, index_changed}
+use Rattle.vfs_files.proofs.Indexes.{mapped_some, mapped_none, index_same, index_changed}
 use Rattle.fs_nodes.specs.Children.{Link, is_named, directories_of, relinked}
 use Rattle.fs_nodes.specs.Index.{AreIndexed, place_of, place_named}
 use Rattle.fs_nodes.specs.declared.children.Child.{Child}

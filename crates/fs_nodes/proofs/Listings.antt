@@ -4,7 +4,7 @@ use Rattle.std.specs.declared.ops.Bound.TheVariants.{Excluded, Unbounded}
 use Rattle.std.specs.BTreeMap.Range.{entries_between}
 use Rattle.std.proofs.lemmas.Bool.{cases_Bool, cond-true, cond-false}
 use Rattle.std.proofs.lemmas.List.Elements.{filter-append, filter_agree}
-use Rattle.fs_trait.specs.Values.{Item}
+use Rattle.vfs_files.specs.Values.{Item}
 use Rattle.fs_nodes.specs.Children.{Link}
 use Rattle.fs_nodes.specs.Listing.{dot_items, link_item}
 use Rattle.fs_nodes.specs.declared.node.Node.{Node}

@@ -2,7 +2,7 @@
 use Rattle.std.proofs.Common.{◌≡◌, ℕ, true, false, cond, not, List, ◌∷◌, map, find, filter, Some, None, option_map, bytes_eq, refl, ap}
 use Rattle.std.specs.Cmp.Lexicographic.{nat_list_eq_equiv}
 use Rattle.std.proofs.lemmas.Bool.{cond-true, cond-false}
-use Rattle.fs_trait.proofs.Indexes.{other_name, turned_name}
+use Rattle.vfs_files.proofs.Indexes.{other_name, turned_name}
 use Rattle.fs_nodes.specs.Children.{Link, is_named, relinked}
 use Rattle.fs_nodes.specs.Index.{place_named}
 use Rattle.fs_nodes.specs.declared.children.Child.{Child}

@@ -1,7 +1,7 @@
 -- How much a node weighs after a change.
 use Rattle.std.proofs.Common.{◌≡◌, ◌≤◌, ◌+◌, ◌*◌, ◌/◌, ◌==◌, ◌||◌, ℕ, Bool, true, false, not, List, [], ◌∷◌, length, filter, nat_lt, bit_and, ◌⊎◌, ⊎_elim, if◌then◌else◌, codes, refl, arith}
 use Rattle.std.specs.Int.{div_ceil}
-use Rattle.fuse_wire.specs.declared.attributes.SetattrIn.{SetattrIn}
+use Rattle.vfs_wire.specs.declared.attributes.SetattrIn.{SetattrIn}
 use Rattle.fs_contents.specs.Contents.{Contents, resized, allocated, punched, zeroed, fallocated, pages_over}
 use Rattle.fs_contents.specs.Pages.{is_outside, reach}
 use Rattle.fs_contents.proofs.Counts.{held_within}

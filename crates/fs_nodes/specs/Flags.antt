@@ -1,6 +1,6 @@
 -- The commands of IOCTL by which the flags of chattr(1) are asked for and set. No node has a flag.
 use Rattle.std.specs.Prelude.{ℕ, ◌==◌, ◌||◌, not, nat_lt, [], ◌∷◌, Option, if◌then◌else◌}
-use Rattle.fuse_flags.specs.Numbers.{einval, eopnotsupp}
+use Rattle.vfs_flags.specs.Numbers.{einval, eopnotsupp}
 use Rattle.fs_nodes.specs.Children.{is_directory, is_file}
 use Rattle.fs_nodes.specs.Refusals.{enotty, first_of}
 use Rattle.fs_nodes.specs.declared.node.Node.{Node}

@@ -1,7 +1,7 @@
 -- What a reading of a directory gives.
 use Rattle.std.specs.Prelude.{ℕ, ◌+◌, ◌/◌, nat_lt, List, [], ◌∷◌, ◌++◌, map, take, codes}
 use Rattle.std.specs.List.{filter}
-use Rattle.fs_trait.specs.Values.{Item}
+use Rattle.vfs_files.specs.Values.{Item}
 use Rattle.fs_nodes.specs.Children.{Link, kind_bits}
 use Rattle.fs_nodes.specs.declared.node.Node.{Node}
 

@@ -1,9 +1,9 @@
 -- What a node shows of itself, and what becomes of it.
 use Rattle.std.specs.Prelude.{ℕ, ◌+◌, ◌-◌, ◌*◌, ◌^◌, ◌==◌, ◌&&◌, ◌||◌, not, Bool, true, false, List, [], ◌∷◌, Option, find, length, min, codes, bit_or, bit_and, if◌then◌else◌, ◌%◌, nat_lt, nat_le}
 use Rattle.std.specs.declared.time.Duration.{Duration}
-use Rattle.fuse_wire.specs.declared.attributes.Attr.{Attr}
-use Rattle.fuse_wire.specs.declared.attributes.SetattrIn.{SetattrIn}
-use Rattle.fs_trait.specs.declared.entry.Entry.{Entry}
+use Rattle.vfs_wire.specs.declared.attributes.Attr.{Attr}
+use Rattle.vfs_wire.specs.declared.attributes.SetattrIn.{SetattrIn}
+use Rattle.vfs_files.specs.declared.entry.Entry.{Entry}
 use Rattle.fs_contents.specs.Contents.{Contents, no_contents, resized, written}
 use Rattle.fs_nodes.specs.Children.{kind_bits, is_directory, is_file, is_link, no_children, directories_of}
 use Rattle.fs_nodes.specs.Xattrs.{xattr_bytes, without_xattr}

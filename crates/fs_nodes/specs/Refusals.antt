@@ -3,7 +3,7 @@ use Rattle.std.specs.Prelude.{ℕ, nat_eq, nat_lt, ◌==◌, ◌||◌, not, Bool
 use Rattle.std.specs.List.{list_any, starts_with}
 use Rattle.std.specs.Option.{option_map_or}
 use Rattle.std.specs.Str.{bytes_eq}
-use Rattle.fuse_flags.specs.Numbers.{enoent, enotdir, eisdir, einval, enametoolong, eopnotsupp}
+use Rattle.vfs_flags.specs.Numbers.{enoent, enotdir, eisdir, einval, enametoolong, eopnotsupp}
 use Rattle.fs_nodes.specs.Children.{is_directory, is_file}
 use Rattle.fs_nodes.specs.declared.node.Node.{Node}
 

@@ -1,9 +1,9 @@
 -- What STATX tells of a node: the reply's record, `struct fuse_statx_out` of Linux.
 use Rattle.std.specs.Prelude.{ℕ, ◌+◌, ◌*◌, ◌/◌, ◌%◌, ◌^◌, bit_and, List, [], ◌∷◌}
-use Rattle.fuse_wire.specs.Fields.{spelled}
-use Rattle.fuse_wire.specs.declared.attributes.Attr.{Attr}
-use Rattle.fuse_wire.specs.declared.bytes.Field.{Field}
-use Rattle.fuse_wire.specs.declared.bytes.Field.TheVariants.{Two, Four, Eight}
+use Rattle.vfs_wire.specs.Fields.{spelled}
+use Rattle.vfs_wire.specs.declared.attributes.Attr.{Attr}
+use Rattle.vfs_wire.specs.declared.bytes.Field.{Field}
+use Rattle.vfs_wire.specs.declared.bytes.Field.TheVariants.{Two, Four, Eight}
 use Rattle.fs_nodes.specs.Node.{attr_of, lasting}
 use Rattle.fs_nodes.specs.declared.node.Node.{Node}
 use Rattle.fs_nodes.specs.declared.node.Time.{Time}

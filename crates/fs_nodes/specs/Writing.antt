@@ -1,7 +1,7 @@
 -- A write into a node.
 use Rattle.std.specs.Prelude.{◌≡◌, ℕ, Bool, List, length, Option, Some, Result, Ok, Err}
-use Rattle.fuse_flags.specs.Numbers.{enomem}
-use Rattle.fs_trait.specs.Bytes.{fitting}
+use Rattle.vfs_flags.specs.Numbers.{enomem}
+use Rattle.vfs_files.specs.Bytes.{fitting}
 use Rattle.fs_contents.specs.Contents.{Lacks}
 use Rattle.fs_nodes.specs.Node.{overwritten}
 use Rattle.fs_nodes.specs.declared.node.Node.{Node}

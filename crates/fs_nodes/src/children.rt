@@ -1,16 +1,16 @@
 //! The names of a directory.
 
 ghost use Rattle.std.specs.Prelude.{◌≡◌, nat_lt, ◌==◌, ◌<◌, length, true, false, Some, None, OnOk, IfErr};
-ghost use Rattle.fuse_flags.specs.Numbers.{enomem};
-ghost use Rattle.fs_trait.specs.Values.{name_text};
+ghost use Rattle.vfs_flags.specs.Numbers.{enomem};
+ghost use Rattle.vfs_files.specs.Values.{name_text};
 ghost use Rattle.fs_nodes.specs.Children.{no_children, child_named, directories_of, leading};
 
 use crate::kind::Kind;
-use fs_trait::{CStr, CString, copy_of};
-use fuse_flags::{Errno, Fault};
 use std::alloc::Global;
 use std::collections::BTreeMap;
 use std::marker::Model;
+use vfs_files::{CStr, CString, copy_of};
+use vfs_flags::{Errno, Fault};
 
 /// Where a name leads.
 #[derive(Clone, Copy)]

@@ -5,7 +5,7 @@ ghost use Rattle.fs_nodes.specs.Flags.{ioctl_refusal, output_of};
 
 use crate::node::Node;
 use crate::refusals::no_command;
-use fuse_flags::Errno;
+use vfs_flags::Errno;
 
 /// The commands that get and set the flags of a node.
 const GET_FLAGS: u32 = 0x8008_6601;

@@ -4,7 +4,7 @@ ghost use Rattle.std.specs.Prelude.{◌≡◌, ◌/◌};
 ghost use Rattle.fs_nodes.specs.Children.{is_directory, is_file, is_link, kind_bits};
 ghost use Rattle.fs_nodes.specs.Node.{device_of, kind_by_mode};
 
-use fuse_flags::{S_IFBLK, S_IFCHR, S_IFDIR, S_IFIFO, S_IFLNK, S_IFMT, S_IFREG, S_IFSOCK};
+use vfs_flags::{S_IFBLK, S_IFCHR, S_IFDIR, S_IFIFO, S_IFLNK, S_IFMT, S_IFREG, S_IFSOCK};
 
 /// What a node is.
 #[derive(Clone, Copy)]

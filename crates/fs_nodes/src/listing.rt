@@ -2,16 +2,16 @@
 
 ghost use Rattle.std.specs.Prelude.{◌≡◌, ◌<◌, IfOk, IfErr, Some, nat_lt, take};
 ghost use Rattle.std.specs.List.{filter};
-ghost use Rattle.fuse_flags.specs.Numbers.{enomem};
-ghost use Rattle.fs_trait.specs.Values.{item, name_text};
+ghost use Rattle.vfs_flags.specs.Numbers.{enomem};
+ghost use Rattle.vfs_files.specs.Values.{item, name_text};
 ghost use Rattle.fs_nodes.specs.Listing.{dot_items, items_after};
 
 use crate::children::Child;
 use crate::node::Node;
-use fs_trait::{CStr, DirEntry, EntryList};
-use fuse_flags::Fault;
 use std::alloc::Global;
 use std::ops::Bound;
+use vfs_files::{CStr, DirEntry, EntryList};
+use vfs_flags::Fault;
 
 /// What `readdir(3)` calls a directory.
 const DIRECTORY: u32 = 4;

@@ -4,8 +4,8 @@ ghost use Rattle.std.specs.Prelude.{◌≡◌, ℕ, List, length, take, if◌the
 ghost use Rattle.std.specs.Ordering.{nat_cmp};
 ghost use Rattle.std.specs.BTreeMap.{Updates, insert_entry, is_at};
 ghost use Rattle.std.specs.Map.{remove_entry};
-ghost use Rattle.fuse_flags.specs.Numbers.{enomem};
-ghost use Rattle.fuse_flags.specs.Flags.{setattr_valid_bits};
+ghost use Rattle.vfs_flags.specs.Numbers.{enomem};
+ghost use Rattle.vfs_flags.specs.Flags.{setattr_valid_bits};
 ghost use Rattle.fs_nodes.specs.Children.{is_link};
 ghost use Rattle.fs_nodes.specs.Node.{attr_of, nlink_of, entry_of, weight, new_node, opened, set_attr, stripped, rewritten, lasting, is_chown, is_other, takes_ids, truncates, without_set_ids, accessed, is_no_later, ordered_seconds};
 ghost use Rattle.fs_nodes.specs.Writing.{Overwrites};
@@ -16,12 +16,12 @@ use crate::text::Text;
 use crate::xattrs::Xattrs;
 use bitflags::Flags;
 use fs_contents::Contents;
-use fs_trait::{Entry, ZeroCopyReader};
-use fuse_flags::{Errno, Fault, GuestGid, GuestUid, SetattrValid};
-use fuse_wire::{Attr, SetattrIn};
 use std::alloc::Global;
 use std::collections::BTreeMap;
 use std::time::Duration;
+use vfs_files::{Entry, ZeroCopyReader};
+use vfs_flags::{Errno, Fault, GuestGid, GuestUid, SetattrValid};
+use vfs_wire::{Attr, SetattrIn};
 
 /// How long a client may rely on an answer: a day, since nobody else changes what it was told.
 const TIMEOUT_SECONDS: u64 = 86_400;

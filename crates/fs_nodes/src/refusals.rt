@@ -7,8 +7,8 @@ ghost use Rattle.std.specs.Ordering.{nat_cmp};
 ghost use Rattle.fs_nodes.specs.Refusals.{contents_refusal, directory_refusal, is_directory_at, is_improper, namespace_refusal};
 
 use crate::node::Node;
-use fuse_flags::Errno;
 use std::collections::BTreeMap;
+use vfs_flags::Errno;
 
 /// The most bytes of a name.
 const MOST_NAME: usize = 255;

@@ -4,7 +4,7 @@ ghost use Rattle.std.specs.Prelude.{◌≡◌, ◌==◌, ◌||◌, nat_le, None,
 ghost use Rattle.fs_nodes.specs.Renames.{is_served, same_node};
 
 use crate::children::Child;
-use fuse_flags::{RENAME_EXCHANGE, RENAME_NOREPLACE, RENAME_WHITEOUT};
+use vfs_flags::{RENAME_EXCHANGE, RENAME_NOREPLACE, RENAME_WHITEOUT};
 
 /// Whether RENAME has these flags: `RENAME_WHITEOUT` goes with `RENAME_NOREPLACE` alone.
 pub fn is_served(flags: u32) -> bool

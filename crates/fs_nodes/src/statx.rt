@@ -4,9 +4,9 @@ ghost use Rattle.std.specs.Prelude.{◌≡◌, length};
 ghost use Rattle.fs_nodes.specs.Statx.{device_major, device_minor, statx_fields, statx_of};
 
 use crate::node::{Node, Time};
-use fuse_wire::Attr;
-use fuse_wire::bytes::Field::{self, Eight, Four, Two};
-use fuse_wire::bytes::put_fields;
+use vfs_wire::Attr;
+use vfs_wire::bytes::Field::{self, Eight, Four, Two};
+use vfs_wire::bytes::put_fields;
 
 /// How many bytes it has (`struct fuse_statx_out`).
 pub const STATX_LEN: usize = 288;

@@ -1,12 +1,12 @@
 //! The text of a symbolic link.
 
 ghost use Rattle.std.specs.Prelude.{◌≡◌, ◌<◌, ◌^◌, Some, MatchResult, length};
-ghost use Rattle.fuse_flags.specs.Numbers.{enomem};
+ghost use Rattle.vfs_flags.specs.Numbers.{enomem};
 
-use fs_trait::copy_of;
-use fuse_flags::Fault;
 use std::alloc::Global;
 use std::marker::Model;
+use vfs_files::copy_of;
+use vfs_flags::Fault;
 
 /// The text of a symbolic link.
 #[derive(Drop)]

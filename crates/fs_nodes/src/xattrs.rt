@@ -1,15 +1,15 @@
 //! The extended attributes of a node.
 
 ghost use Rattle.std.specs.Prelude.{◌≡◌, ◌≤◌, ◌<◌, ◌++◌, ◌∷◌, [], List, length, Some, None, MatchOption, MatchResult, OnOk, IfErr, IfSome, if◌then◌else◌};
-ghost use Rattle.fuse_flags.specs.Numbers.{enomem};
-ghost use Rattle.fs_trait.specs.Values.{name_text};
+ghost use Rattle.vfs_flags.specs.Numbers.{enomem};
+ghost use Rattle.vfs_files.specs.Values.{name_text};
 ghost use Rattle.fs_nodes.specs.Xattrs.{AreInOrder, attribute_bytes, xattr_bytes, xattr_named, with_xattr, without_xattr, listed, name_list};
 
-use fs_trait::{CStr, copy_of};
-use fuse_flags::{Errno, Fault};
 use std::alloc::Global;
 use std::collections::BTreeMap;
 use std::marker::Model;
+use vfs_files::{CStr, copy_of};
+use vfs_flags::{Errno, Fault};
 
 /// The most bytes that the extended attributes of a node take.
 pub const MOST_BYTES: u64 = 65_536;

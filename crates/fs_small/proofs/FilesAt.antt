@@ -1,8 +1,8 @@
 -- The file at a place of the files in memory.
 use Rattle.std.proofs.Common.{◌≡◌, ◌<◌, ℕ, zero, suc, List, [], ◌∷◌, length, get_or, set, Some, Result, Ok, Err, Option, refl, sym, ap, ◌∙◌, arith, length-take}
 use Rattle.std.proofs.lemmas.List.{get_or-map, set-get_or}
-use Rattle.fs_trait.specs.Calls.{Counts, Put, read_answer, written_answer}
-use Rattle.fs_trait.specs.Bytes.{part_of, most_put, PutsPart}
+use Rattle.vfs_files.specs.Calls.{Counts, Put, read_answer, written_answer}
+use Rattle.vfs_files.specs.Bytes.{part_of, most_put, PutsPart}
 use Rattle.fs_small.specs.MemFile.{Writes}
 use Rattle.fs_small.specs.MemFs.{Stored, Stock, contents_at, with_contents, AnswersRead, WritesInto}
 

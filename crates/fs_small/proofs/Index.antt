@@ -3,7 +3,7 @@ use Rattle.std.proofs.Common.{◌≡◌, ◌<◌, ◌≤◌, ◌+◌, ℕ, true,
 use Rattle.std.specs.List.{AllPairs}
 use Rattle.std.proofs.lemmas.Bool.{ltb-true, ltb-false, ne_eqb, cases_Bool}
 use Rattle.std.proofs.lemmas.List.{get_or_read}
-use Rattle.fs_trait.proofs.Indexes.{mapped_some, mapped_none}
+use Rattle.vfs_files.proofs.Indexes.{mapped_some, mapped_none}
 use Rattle.fs_small.specs.MemFs.{Stored}
 use Rattle.fs_small.specs.Index.{ComesBefore, is_named, node_named}
 use Rattle.fs_small.proofs.Searches.{position_is, position_none, position_missing, place_of_found}

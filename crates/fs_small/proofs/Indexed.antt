@@ -8,7 +8,7 @@ use Rattle.std.proofs.lemmas.List.{get_or_default, get_or_read, get_or-set_same,
 use Rattle.std.proofs.lemmas.List.Edits.{get_or-remove_below, get_or-remove_above, length-remove}
 use Rattle.std.proofs.lemmas.List.Elements.{All-append, All-take, All-drop, All-push, All-weaker}
 use Rattle.std.proofs.lemmas.List.Quantifiers.{position-Some, all_pairs_push, all_pairs_remove}
-use Rattle.fs_trait.proofs.Indexes.{other_name, same_name, turned_name, index_same, index_changed}
+use Rattle.vfs_files.proofs.Indexes.{other_name, same_name, turned_name, index_same, index_changed}
 use Rattle.fs_small.specs.MemFs.{Stored}
 use Rattle.fs_small.specs.Index.{ComesBefore, AreIndexed, is_named, node_named}
 use Rattle.fs_small.proofs.Searches.{position_none, find_none, fails_at, find_pushed, find_push_other, find_removed_other}

@@ -3,7 +3,7 @@ use Rattle.std.proofs.Common.{◌≡◌, ◌≤◌, ℕ, zero, suc, ◌+◌, ◌
 use Rattle.std.specs.List.{slice_get}
 use Rattle.std.proofs.lemmas.List.{append_cancel_left, take-append-drop, take_all, take_more}
 use Rattle.std.proofs.lemmas.Option.{slice_get_within, get_or_from_slice_get}
-use Rattle.fs_trait.specs.Values.{Item}
+use Rattle.vfs_files.specs.Values.{Item}
 use Rattle.fs_small.specs.MemFs.{Stored, file_item, file_items, root_items}
 
 -- the item of a file in its place

@@ -6,8 +6,8 @@ use Rattle.std.specs.Str.{bytes_eq}
 use Rattle.std.specs.Cmp.Lexicographic.{slice_cmp}
 use Rattle.std.specs.BTreeMap.{BTreeMap, get_by}
 use Rattle.std.specs.declared.alloc.Global.{Global}
-use Rattle.fuse_flags.specs.Numbers.{enomem}
-use Rattle.fs_trait.specs.declared.entry.Entry.{Entry}
+use Rattle.vfs_flags.specs.Numbers.{enomem}
+use Rattle.vfs_files.specs.declared.entry.Entry.{Entry}
 use Rattle.fs_small.specs.MemFs.{Stored, Stock, IsEntryOf, with_file}
 
 abbrev pub is_named : (name : List ℕ) → Stored → Bool

@@ -2,8 +2,8 @@
 use Rattle.std.specs.Prelude.{◌≡◌, ℕ, List}
 use Rattle.std.specs.Duration.{as_nanos}
 use Rattle.std.specs.declared.time.Duration.{Duration}
-use Rattle.fuse_wire.specs.declared.attributes.Attr.{Attr}
-use Rattle.fs_trait.specs.declared.entry.Entry.{Entry}
+use Rattle.vfs_wire.specs.declared.attributes.Attr.{Attr}
+use Rattle.vfs_files.specs.declared.entry.Entry.{Entry}
 use Rattle.fs_small.specs.Tables.{Named}
 
 -- the attributes of a node of this kind and permissions, with that many names and bytes

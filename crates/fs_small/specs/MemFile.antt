@@ -1,7 +1,7 @@
 -- A file in memory, seen as its bytes. What is read of bytes, and what a write of them leaves,
--- `fs_trait` says.
+-- `vfs_files` says.
 use Rattle.std.specs.Prelude.{ℕ, List, Option, Result}
-use Rattle.fs_trait.specs.Bytes as bytes
+use Rattle.vfs_files.specs.Bytes as bytes
 
 -- how many bytes a file has at most
 abbrev pub most_bytes : ℕ

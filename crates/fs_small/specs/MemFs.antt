@@ -1,12 +1,12 @@
 -- The file system in memory: its files in order of creation, and what its calls answer of them.
 use Rattle.std.specs.Prelude.{◌≡◌, ℕ, zero, suc, ◌==◌, ◌+◌, ◌-◌, ◌^◌, ◌||◌, nat_le, not, List, [], ◌∷◌, ◌++◌, length, map, take, drop, slice_index_or, find, position, remove, codes, Option, Some, None, is_some, Result, Ok, Err, if◌then◌else◌}
 use Rattle.std.specs.Str.{bytes_eq}
-use Rattle.fuse_flags.specs.Numbers.{enoent, enomem, eexist, enotdir, enospc}
-use Rattle.fuse_wire.specs.declared.attributes.Attr.{Attr}
-use Rattle.fs_trait.specs.declared.entry.Entry.{Entry}
-use Rattle.fs_trait.specs.Values.{Item}
-use Rattle.fs_trait.specs.Calls.{Call, Init, Lookup, Getattr, Unlink, Read, Write, Readdir, Create, Answer, Done, Failed, Options, Found, Attributes, Put, Created, Wrote, Handed, Plain, Iterator, default_answer}
-use Rattle.fs_trait.specs.Bytes.{part_of, most_put}
+use Rattle.vfs_flags.specs.Numbers.{enoent, enomem, eexist, enotdir, enospc}
+use Rattle.vfs_wire.specs.declared.attributes.Attr.{Attr}
+use Rattle.vfs_files.specs.declared.entry.Entry.{Entry}
+use Rattle.vfs_files.specs.Values.{Item}
+use Rattle.vfs_files.specs.Calls.{Call, Init, Lookup, Getattr, Unlink, Read, Write, Readdir, Create, Answer, Done, Failed, Options, Found, Attributes, Put, Created, Wrote, Handed, Plain, Iterator, default_answer}
+use Rattle.vfs_files.specs.Bytes.{part_of, most_put}
 use Rattle.fs_small.specs.Makers.{attr_of, IsSecond}
 use Rattle.fs_small.specs.Makers as makers
 use Rattle.fs_small.specs.MemFile.{Writes}

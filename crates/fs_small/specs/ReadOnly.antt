@@ -1,10 +1,10 @@
 -- The file system that is made of a tree which is only read: what its calls answer.
 use Rattle.std.specs.Prelude.{◌≡◌, ℕ, ◌+◌, ◌==◌, bit_and, Bool, true, false, List, [], ◌∷◌, drop, Option, Some, None, is_some, if◌then◌else◌}
-use Rattle.fuse_flags.specs.Numbers.{enoent, enotdir, eisdir, erofs}
-use Rattle.fuse_wire.specs.declared.attributes.Attr.{Attr}
-use Rattle.fs_trait.specs.Values.{Item}
-use Rattle.fs_trait.specs.Calls.{Call, Lookup, Getattr, Setattr, Symlink, Mknod, Mkdir, Unlink, Rmdir, Rename, Link, Open, Read, Write, Setxattr, Removexattr, Readdir, Access, Create, Fallocate, Copyfilerange, Tmpfile, Answer, Done, Failed, Found, Attributes, Put, Handed, Plain, Iterator, default_opening, default_answer}
-use Rattle.fs_trait.specs.Bytes.{part_of, most_put}
+use Rattle.vfs_flags.specs.Numbers.{enoent, enotdir, eisdir, erofs}
+use Rattle.vfs_wire.specs.declared.attributes.Attr.{Attr}
+use Rattle.vfs_files.specs.Values.{Item}
+use Rattle.vfs_files.specs.Calls.{Call, Lookup, Getattr, Setattr, Symlink, Mknod, Mkdir, Unlink, Rmdir, Rename, Link, Open, Read, Write, Setxattr, Removexattr, Readdir, Access, Create, Fallocate, Copyfilerange, Tmpfile, Answer, Done, Failed, Found, Attributes, Put, Handed, Plain, Iterator, default_opening, default_answer}
+use Rattle.vfs_files.specs.Bytes.{part_of, most_put}
 use Rattle.fs_small.specs.Tables.{Named, Tables}
 use Rattle.fs_small.specs.Makers.{IsSecond, IsEntryOf}
 

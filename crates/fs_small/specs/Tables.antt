@@ -1,7 +1,7 @@
 -- What a tree that is only read holds.
 use Rattle.std.specs.Prelude.{ℕ, List, [], Option, Some, None}
-use Rattle.fuse_wire.specs.declared.attributes.Attr.{Attr}
-use Rattle.fs_trait.specs.Values.{name_text}
+use Rattle.vfs_wire.specs.declared.attributes.Attr.{Attr}
+use Rattle.vfs_files.specs.Values.{name_text}
 use Rattle.fs_small.specs.declared.tree.TreeItem.{TreeItem}
 
 -- an item of a directory: its node, its kind as `d_type` of readdir(3), and its name

@@ -1,10 +1,10 @@
 //! A reading of a directory.
 
-ghost use Rattle.fs_trait.specs.Listing.{GivesFirst};
+ghost use Rattle.vfs_files.specs.Listing.{GivesFirst};
 
 use crate::tree::ReadTree;
-use fs_trait::{DirEntry, DirectoryIterator};
 use std::marker::Model;
+use vfs_files::{DirEntry, DirectoryIterator};
 
 /// The items of a directory of a tree from an offset on. The offset of each is its place, counted
 /// from 1.
@@ -17,7 +17,7 @@ pub struct TreeEntries<T: ReadTree> {
 
 impl<T: ReadTree> Model for TreeEntries<T> {
     ghost use Rattle.std.specs.Prelude.{List};
-    ghost use Rattle.fs_trait.specs.Values.{Item};
+    ghost use Rattle.vfs_files.specs.Values.{Item};
     ghost use Rattle.fs_small.specs.Tables.{items_of};
     ghost use Rattle.fs_small.specs.ReadOnly.{items_after};
 

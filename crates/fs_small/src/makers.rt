@@ -2,14 +2,14 @@
 
 ghost use Rattle.std.specs.Prelude.{◌≡◌, ◌<◌, Some, IsSome, IfSome, length, position};
 ghost use Rattle.std.specs.Str.{bytes_eq};
-ghost use Rattle.fs_trait.specs.Values.{name_of, name_text};
+ghost use Rattle.vfs_files.specs.Values.{name_of, name_text};
 ghost use Rattle.fs_small.specs.Makers as makers;
 
 use crate::tree::TreeItem;
-use fs_trait::{CStr, Entry};
-use fuse_flags::{DT_DIR, DT_REG, GuestGid, GuestUid, S_IFDIR, S_IFREG};
-use fuse_wire::Attr;
 use std::time::Duration;
+use vfs_files::{CStr, Entry};
+use vfs_flags::{DT_DIR, DT_REG, GuestGid, GuestUid, S_IFDIR, S_IFREG};
+use vfs_wire::Attr;
 
 /// How long a client may rely on an answer.
 pub(crate) const TIMEOUT_SECONDS: u64 = 1;

@@ -3,10 +3,10 @@
 ghost use Rattle.std.specs.Prelude.{◌≡◌, ◌≤◌, ℕ, List, length, take, vec_len};
 ghost use Rattle.fs_small.specs.MemFile.{Writes};
 
-use fs_trait::{Bytes, BytesMut, ZeroCopyReader, write_bytes};
-use fuse_flags::Fault;
-use fuse_views::{PositionedFile, Slices, SlicesMut, WritevFlags};
 use std::marker::Model;
+use vfs_files::{Bytes, BytesMut, ZeroCopyReader, write_bytes};
+use vfs_flags::Fault;
+use vfs_views::{PositionedFile, Slices, SlicesMut, WritevFlags};
 
 /// How many bytes a file has at most.
 const MOST_BYTES: usize = 65_536;
@@ -70,7 +70,7 @@ impl MemFile {
 }
 
 impl PositionedFile for MemFile {
-    ghost use Rattle.fs_trait.specs.Bytes.{Reads};
+    ghost use Rattle.vfs_files.specs.Bytes.{Reads};
     ghost use Rattle.fs_small.specs.MemFile.{Writes};
 
     ghost write_gives = { λ old bytes off flags answer new. Writes old bytes off answer new };

@@ -2,19 +2,19 @@
 ghost use Rattle.std.specs.Prelude.{◌≡◌, ◌==◌, ◌<◌, ◌^◌, ◌-◌, position, remove, length, Some, None, IfSome, MatchResult};
 ghost use Rattle.std.specs.List.{AllPairs};
 ghost use Rattle.std.specs.Option.{option_copied};
-ghost use Rattle.fuse_flags.specs.Numbers.{enoent, enomem};
-ghost use Rattle.fs_trait.specs.Values.{name_text};
+ghost use Rattle.vfs_flags.specs.Numbers.{enoent, enomem};
+ghost use Rattle.vfs_files.specs.Values.{name_text};
 ghost use Rattle.fs_small.specs.MemFs.{file_attr, first_stock, IsEntryOf, file_named, file_at, node_place};
 ghost use Rattle.fs_small.specs.Index.{file_place, AddsWith, ComesBefore};
 
 use crate::memfile::MemFile;
 use crate::{node_attr, node_entry};
-use fs_trait::{CStr, CString, Entry, copy_of};
-use fuse_flags::{Errno, Fault, ROOT_ID, S_IFDIR, S_IFREG};
-use fuse_wire::Attr;
 use std::alloc::Global;
 use std::collections::BTreeMap;
 use std::marker::Model;
+use vfs_files::{CStr, CString, Entry, copy_of};
+use vfs_flags::{Errno, Fault, ROOT_ID, S_IFDIR, S_IFREG};
+use vfs_wire::Attr;
 
 /// How long a client may rely on an answer.
 const TIMEOUT_SECONDS: u64 = 1;

@@ -1,20 +1,20 @@
 //! The calls of a tree's file system.
 
 ghost use Rattle.std.specs.Prelude.{◌≡◌, ◌==◌, Some};
-ghost use Rattle.fs_trait.specs.Values.{name_text};
-ghost use Rattle.fs_trait.specs.Calls.{Plain, kind_of};
-ghost use Rattle.fs_trait.specs.CallValue.{call_of, answer_of, IsEntry, IsAttributes, IsOfKind};
+ghost use Rattle.vfs_files.specs.Values.{name_text};
+ghost use Rattle.vfs_files.specs.Calls.{Plain, kind_of};
+ghost use Rattle.vfs_files.specs.CallValue.{call_of, answer_of, IsEntry, IsAttributes, IsOfKind};
 ghost use Rattle.fs_small.specs.ReadOnly.{AnswersLookup, AnswersAttr, TreeHands, refusal_of, lookup_refusal};
 
 use crate::listing::TreeEntries;
 use crate::makers::{TIMEOUT_SECONDS, node_entry};
 use crate::tree::ReadTree;
-use fs_trait::{
+use std::time::Duration;
+use vfs_files::{
     CStr, CallValue, Context, Given, PartialFileSystem, ZeroCopyReader, ZeroCopyWriter, read_bytes,
     unserved,
 };
-use fuse_flags::{Errno, Fault};
-use std::time::Duration;
+use vfs_flags::{Errno, Fault};
 
 /// In `flags` of an open: that it is for writing (`O_WRONLY` or `O_RDWR`).
 const FOR_WRITING: u32 = 3;

@@ -4,16 +4,16 @@ ghost use Rattle.std.specs.Prelude.{◌≡◌, ◌↔◌, ◌-◌, ◌<◌, ◌^
 ghost use Rattle.std.specs.Option.{option_copied};
 ghost use Rattle.fs_small.specs.Tables.{Tables, items_of, found_item};
 
-use fs_trait::CStr;
-use fuse_wire::Attr;
+use vfs_files::CStr;
+use vfs_wire::Attr;
 
 /// What a directory has: `.`, `..`, a directory or a file in it.
 #[derive(Clone, Copy)]
 pub struct TreeItem<'a> {
     /// The number of the node.
     pub node: u64,
-    /// The kind of node, as `d_type` of `readdir(3)`: [`DT_DIR`](fuse_flags::DT_DIR) or
-    /// [`DT_REG`](fuse_flags::DT_REG).
+    /// The kind of node, as `d_type` of `readdir(3)`: [`DT_DIR`](vfs_flags::DT_DIR) or
+    /// [`DT_REG`](vfs_flags::DT_REG).
     pub kind: u32,
     /// The name in the directory.
     pub name: CStr<'a>,

@@ -1,12 +1,12 @@
 //! A file system that serves nothing: each call has its default answer. It is what a file system of
 //! your own may begin with.
 
-use fs_trait::{
+use std::io;
+use vfs_files::{
     CallValue, Context, DirEntry, DirectoryIterator, Given, MigrateError, PartialFileSystem,
     SerializableFileSystem, ZeroCopyReader, ZeroCopyWriter, defaults, unserved,
 };
-use fuse_flags::Fault;
-use std::io;
+use vfs_flags::Fault;
 
 /// A directory without entries.
 #[derive(Drop)]
@@ -28,7 +28,7 @@ pub struct Unserved {}
 
 impl PartialFileSystem for Unserved {
     ghost use Rattle.std.specs.Prelude.{◌≡◌};
-    ghost use Rattle.fs_trait.specs.Calls.{Plain, default_answer};
+    ghost use Rattle.vfs_files.specs.Calls.{Plain, default_answer};
 
     type Entries = NoEntries;
 
@@ -82,7 +82,7 @@ impl PartialFileSystem for Unserved {
 
 impl SerializableFileSystem for Unserved {
     ghost use Rattle.std.specs.Prelude.{◌≡◌};
-    ghost use Rattle.fs_trait.specs.Migrations.{default_migration};
+    ghost use Rattle.vfs_files.specs.Migrations.{default_migration};
 
     ghost migrates = { λ old call answer new.
         (answer ≡ default_migration call) × (new ≡ old) };

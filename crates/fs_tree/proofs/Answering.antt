@@ -3,13 +3,13 @@ use Rattle.std.proofs.Common.{◌≡◌, ◌+◌, ◌==◌, ◌&&◌, ◌||◌, 
 use Rattle.std.specs.Option.{option_or}
 use Rattle.std.proofs.lemmas.Bool.{not-false}
 use Rattle.std.proofs.lemmas.Option.{same_Some}
-use Rattle.fuse_flags.specs.Numbers.{enoent, einval, eexist, eperm, eoverflow, enospc, enotdir, enametoolong, efbig, emlink}
-use Rattle.fs_trait.specs.Values.{Item}
-use Rattle.fs_trait.specs.Calls.{Failed, Found, Created, Wrote, Handed, Plain}
-use Rattle.fs_trait.specs.declared.entry.Entry.{Entry}
+use Rattle.vfs_flags.specs.Numbers.{enoent, einval, eexist, eperm, eoverflow, enospc, enotdir, enametoolong, efbig, emlink}
+use Rattle.vfs_files.specs.Values.{Item}
+use Rattle.vfs_files.specs.Calls.{Failed, Found, Created, Wrote, Handed, Plain}
+use Rattle.vfs_files.specs.declared.entry.Entry.{Entry}
 use Rattle.fs_nodes.specs.Children.{leading, is_directory}
 use Rattle.fs_nodes.specs.Node.{entry_of, overwritten}
-use Rattle.fs_trait.specs.Bytes.{fitting}
+use Rattle.vfs_files.specs.Bytes.{fitting}
 use Rattle.fs_contents.specs.Contents.{lacking}
 use Rattle.fs_nodes.specs.declared.children.Child.{Child}
 use Rattle.fs_nodes.specs.declared.node.Node.{Node}

@@ -3,9 +3,9 @@ use Rattle.std.proofs.Common.{◌≡◌, ◌==◌, ℕ, Bool, true, false, List,
 use Rattle.std.proofs.lemmas.Option.{same_Some}
 use Rattle.std.specs.List.{AllByRecursion}
 use Rattle.std.specs.Option.{option_map_or, option_or}
-use Rattle.fuse_flags.specs.Numbers.{enomem}
-use Rattle.fs_trait.specs.Calls.{Done, Plain, done_answer}
-use Rattle.fs_trait.specs.declared.entry.Context.{Context}
+use Rattle.vfs_flags.specs.Numbers.{enomem}
+use Rattle.vfs_files.specs.Calls.{Done, Plain, done_answer}
+use Rattle.vfs_files.specs.declared.entry.Context.{Context}
 use Rattle.fs_nodes.specs.declared.children.Child.{Child}
 use Rattle.fs_nodes.specs.declared.node.Node.{Node}
 use Rattle.fs_tree.specs.Outcome.{Tried, HandsBack, done, first_of, unless, with_it}

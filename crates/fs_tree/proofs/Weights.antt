@@ -2,8 +2,8 @@
 use Rattle.std.proofs.Common.{◌≡◌, Ok, ◌≤◌, ◌-◌, ◌+◌, ◌*◌, ◌/◌, ◌==◌, ◌&&◌, not, nat_eq, nat_lt, ℕ, Bool, true, false, zero, suc, ◌⊎◌, inl, inr, ⊎_elim, List, [], ◌∷◌, None, length, take, refl, sym, ap, ◌∙◌, arith, length-take}
 use Rattle.std.specs.List.{list_any}
 use Rattle.std.proofs.lemmas.Bool.{ltb-false}
-use Rattle.fuse_flags.specs.Numbers.{einval, enospc, eopnotsupp, efbig, enodev}
-use Rattle.fs_trait.specs.Bytes.{fitting}
+use Rattle.vfs_flags.specs.Numbers.{einval, enospc, eopnotsupp, efbig, enodev}
+use Rattle.vfs_files.specs.Bytes.{fitting}
 use Rattle.fs_contents.specs.Contents.{fallocated, pages_over}
 use Rattle.fs_contents.specs.Pages.{reach}
 use Rattle.fs_nodes.specs.Children.{is_file}

@@ -2,8 +2,8 @@
 use Rattle.std.specs.Prelude.{ℕ, ◌==◌, ◌&&◌, ◌||◌, ◌-◌, ◌^◌, nat_le, nat_lt, not, Bool, true, false, List, [], ◌∷◌, codes, bit_and, bit_or, Option, Some, None, is_some, unwrap_or, option_and_then, if◌then◌else◌}
 use Rattle.std.specs.Option.{option_map_or, option_or}
 use Rattle.std.specs.Str.{bytes_eq}
-use Rattle.fuse_flags.specs.Numbers.{enoent, eexist, einval, enospc}
-use Rattle.fs_trait.specs.declared.entry.Context.{Context}
+use Rattle.vfs_flags.specs.Numbers.{enoent, eexist, einval, enospc}
+use Rattle.vfs_files.specs.declared.entry.Context.{Context}
 use Rattle.fs_nodes.specs.Children.{is_directory}
 use Rattle.fs_nodes.specs.Node.{new_node}
 pub use Rattle.fs_nodes.specs.Refusals.{is_directory_at, directory_refusal, is_improper}

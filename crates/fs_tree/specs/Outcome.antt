@@ -1,9 +1,9 @@
 -- How a call ends: what it hands back, and which state it leaves.
 use Rattle.std.specs.Prelude.{◌≡◌, ℕ, Bool, List, IsTrue, Option, Some}
 use Rattle.std.specs.Option.{option_map_or}
-use Rattle.fuse_flags.specs.Numbers.{enoent, enomem}
-use Rattle.fs_trait.specs.Values.{Item}
-use Rattle.fs_trait.specs.Calls.{Done, Failed, Handed, Plain}
+use Rattle.vfs_flags.specs.Numbers.{enoent, enomem}
+use Rattle.vfs_files.specs.Values.{Item}
+use Rattle.vfs_files.specs.Calls.{Done, Failed, Handed, Plain}
 pub use Rattle.fs_nodes.specs.Refusals.{first_of}
 use Rattle.fs_nodes.specs.declared.node.Node.{Node}
 use Rattle.fs_tree.specs.State.{State}

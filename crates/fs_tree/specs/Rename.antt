@@ -2,9 +2,9 @@
 -- be one.
 use Rattle.std.specs.Prelude.{ℕ, zero, suc, ◌==◌, ◌&&◌, ◌||◌, nat_le, not, Bool, true, false, List, [], ◌∷◌, length, bit_and, Option, Some, None, is_some, is_none, option_map, if◌then◌else◌}
 use Rattle.std.specs.Option.{option_map_or, option_or}
-use Rattle.fuse_flags.specs.Numbers.{enoent, eexist, enotdir, eisdir, enospc, enotempty, einval}
-use Rattle.fs_trait.specs.Calls.{Done, Plain}
-use Rattle.fs_trait.specs.declared.entry.Context.{Context}
+use Rattle.vfs_flags.specs.Numbers.{enoent, eexist, enotdir, eisdir, enospc, enotempty, einval}
+use Rattle.vfs_files.specs.Calls.{Done, Plain}
+use Rattle.vfs_files.specs.declared.entry.Context.{Context}
 pub use Rattle.fs_nodes.specs.Renames.{is_served, same_node}
 use Rattle.fs_nodes.specs.declared.children.Child.{Child}
 use Rattle.fs_nodes.specs.declared.kind.Kind.TheVariants as kind

@@ -1,8 +1,8 @@
 -- How the calls end that virtiofsd has not. They change nothing.
 use Rattle.std.specs.Prelude.{ℕ, ◌+◌, replicate, Some}
 use Rattle.std.specs.Option.{option_map_or}
-use Rattle.fuse_flags.specs.Numbers.{enoent}
-use Rattle.fs_trait.specs.Calls.{Answer, Failed, Text}
+use Rattle.vfs_flags.specs.Numbers.{enoent}
+use Rattle.vfs_files.specs.Calls.{Answer, Failed, Text}
 use Rattle.fs_nodes.specs.Flags.{ioctl_refusal, output_of}
 use Rattle.fs_nodes.specs.Statx.{statx_of}
 use Rattle.fs_tree.specs.State.{State, node_at}

@@ -2,12 +2,12 @@
 use Rattle.std.specs.Prelude.{ℕ, ◌==◌, ◌+◌, ◌-◌, ◌*◌, ◌/◌, ◌^◌, ◌||◌, ◌&&◌, nat_eq, nat_le, nat_lt, not, min, Bool, true, false, List, [], ◌∷◌, length, map, fold, take, bit_and, Option, Some, None, is_some, is_none, if◌then◌else◌}
 use Rattle.std.specs.List.{list_any}
 use Rattle.std.specs.Option.{option_map_or, option_or, unwrap_or}
-use Rattle.fuse_flags.specs.Numbers.{eperm, enoent, eexist, enotdir, eisdir, einval, enospc, erange, enotempty, enodata, enosys, eoverflow, eopnotsupp, efbig, emlink, enodev, enxio}
-use Rattle.fs_trait.specs.declared.entry.Context.{Context}
-use Rattle.fs_trait.specs.declared.entry.Entry.{Entry}
-use Rattle.fs_trait.specs.Values.{Item}
-use Rattle.fs_trait.specs.Bytes.{part_of, most_put, fitting}
-use Rattle.fs_trait.specs.Calls.{Call, Init, Lookup, Forget, BatchForget, Getattr, Setattr, Symlink, Readlink, Open, Unlink, Rmdir, Rename, Link, Mknod, Mkdir, Create, Read, Write, Fallocate, Lseek, Statfs, Readdir, Setxattr, Getxattr, Listxattr, Removexattr, Opendir, Fsync, Release, Fsyncdir, Releasedir, Destroy, Answer, Options, Found, Created, Attributes, Opened, Text, Count, Put, Wrote, Done, Offset, Statistics, Handed, Plain, Iterator, default_answer}
+use Rattle.vfs_flags.specs.Numbers.{eperm, enoent, eexist, enotdir, eisdir, einval, enospc, erange, enotempty, enodata, enosys, eoverflow, eopnotsupp, efbig, emlink, enodev, enxio}
+use Rattle.vfs_files.specs.declared.entry.Context.{Context}
+use Rattle.vfs_files.specs.declared.entry.Entry.{Entry}
+use Rattle.vfs_files.specs.Values.{Item}
+use Rattle.vfs_files.specs.Bytes.{part_of, most_put, fitting}
+use Rattle.vfs_files.specs.Calls.{Call, Init, Lookup, Forget, BatchForget, Getattr, Setattr, Symlink, Readlink, Open, Unlink, Rmdir, Rename, Link, Mknod, Mkdir, Create, Read, Write, Fallocate, Lseek, Statfs, Readdir, Setxattr, Getxattr, Listxattr, Removexattr, Opendir, Fsync, Release, Fsyncdir, Releasedir, Destroy, Answer, Options, Found, Created, Attributes, Opened, Text, Count, Put, Wrote, Done, Offset, Statistics, Handed, Plain, Iterator, default_answer}
 use Rattle.fs_contents.specs.Pages.{reach}
 use Rattle.fs_contents.specs.Contents.{fallocated, data_from, hole_from, lacking, pages_over}
 use Rattle.fs_nodes.specs.Children.{is_directory, is_file, is_link}

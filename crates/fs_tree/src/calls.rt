@@ -2,8 +2,8 @@
 //! answers.
 
 ghost use Rattle.std.specs.Prelude.{◌≡◌, map};
-ghost use Rattle.fs_trait.specs.Calls.{Plain, Getattr, Setattr, attr_answer};
-ghost use Rattle.fuse_flags.specs.Flags.{fs_options_bits, setattr_valid_bits};
+ghost use Rattle.vfs_files.specs.Calls.{Plain, Getattr, Setattr, attr_answer};
+ghost use Rattle.vfs_flags.specs.Flags.{fs_options_bits, setattr_valid_bits};
 ghost use Rattle.fs_tree.specs.Tree.{TreeAllows, all_forgotten, opens_nothing};
 
 use crate::changes::PAGE;
@@ -13,13 +13,13 @@ use fs_nodes::{
     Kind, check_contents, check_namespace, directory, entries_after, is_other, is_same, no_place,
     too_big,
 };
-use fs_trait::{
+use std::time::Duration;
+use vfs_files::{
     CStr, Context, Entry, EntryList, Extensions, FileSystem, GetxattrReply, ListxattrReply,
     ZeroCopyReader, ZeroCopyWriter, copy_of, defaults,
 };
-use fuse_flags::{Errno, Fault, FsOptions, OpenOptions, SetattrValid, SetxattrFlags};
-use fuse_wire::{Attr, SetattrIn, Statvfs64};
-use std::time::Duration;
+use vfs_flags::{Errno, Fault, FsOptions, OpenOptions, SetattrValid, SetxattrFlags};
+use vfs_wire::{Attr, SetattrIn, Statvfs64};
 
 /// What LSEEK looks for.
 const SEEK_DATA: u32 = 3;

@@ -8,7 +8,7 @@ ghost use Rattle.fs_tree.specs.Tree.{fallocate_refusal, longest, most_size};
 use crate::fs::TreeFs;
 use fs_contents::{PUNCH_HOLE, is_mode};
 use fs_nodes::{Node, no_device, too_big};
-use fuse_flags::Errno;
+use vfs_flags::Errno;
 
 /// How many bytes a page of a file's contents has.
 pub(crate) const PAGE: u64 = 4096;

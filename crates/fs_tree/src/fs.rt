@@ -7,9 +7,9 @@ ghost use Rattle.std.specs.BTreeMap.{is_at};
 ghost use Rattle.std.specs.List.{list_any};
 ghost use Rattle.std.specs.Map.{keys_of, remove_entry};
 ghost use Rattle.std.specs.List.Sorted.{IsStrictlySortedBy};
-ghost use Rattle.fuse_flags.specs.Numbers.{enomem};
-ghost use Rattle.fs_trait.specs.Values.{name_text};
-ghost use Rattle.fs_trait.specs.Calls.{Plain, Found, entry_answer};
+ghost use Rattle.vfs_flags.specs.Numbers.{enomem};
+ghost use Rattle.vfs_files.specs.Values.{name_text};
+ghost use Rattle.vfs_files.specs.Calls.{Plain, Found, entry_answer};
 ghost use Rattle.fs_nodes.specs.Held.{may_hold};
 ghost use Rattle.fs_nodes.specs.Node.{weight};
 ghost use Rattle.fs_tree.specs.Naming.{has_no_number, is_crowded, new_in};
@@ -24,13 +24,13 @@ use bitflags::Flags;
 use fs_nodes::{
     Child, Held, Kind, Node, Time, directory, first_held, is_idle, put_node, remove_node,
 };
-use fs_trait::{CStr, Context, Entry};
-use fuse_flags::{Errno, Fault, FsOptions, GuestGid, GuestUid, ROOT_ID};
 use std::alloc::Global;
 use std::collections::{BTreeMap, HashSet};
 use std::fmt::{self, Debug, Formatter};
 use std::marker::Model;
 use std::ops::Bound;
+use vfs_files::{CStr, Context, Entry};
+use vfs_flags::{Errno, Fault, FsOptions, GuestGid, GuestUid, ROOT_ID};
 
 /// How much a file system holds at most.
 #[derive(Clone, Copy, Debug, PartialEq, Eq)]
@@ -70,7 +70,7 @@ pub struct TreeFs {
 }
 
 impl Model for TreeFs {
-    ghost use Rattle.fuse_flags.specs.Flags.{fs_options_bits};
+    ghost use Rattle.vfs_flags.specs.Flags.{fs_options_bits};
     ghost use Rattle.fs_tree.specs.Holding.{IsSound};
     ghost use Rattle.fs_tree.specs.State.{State};
 

@@ -4,8 +4,8 @@ ghost use Rattle.std.specs.Prelude.{◌≡◌, ℕ, ◌<◌, ◌^◌, ◌+◌, �
 ghost use Rattle.std.specs.Ordering.{nat_cmp};
 ghost use Rattle.std.specs.Map.{set_value};
 ghost use Rattle.std.specs.BTreeMap.{get, is_at};
-ghost use Rattle.fuse_flags.specs.Numbers.{enomem};
-ghost use Rattle.fs_trait.specs.Values.{name_text};
+ghost use Rattle.vfs_flags.specs.Numbers.{enomem};
+ghost use Rattle.vfs_files.specs.Values.{name_text};
 ghost use Rattle.fs_nodes.specs.Children.{child_named, leading};
 ghost use Rattle.fs_nodes.specs.Node.{entry_of};
 ghost use Rattle.fs_tree.specs.Holding.{rests};
@@ -17,10 +17,10 @@ ghost use Rattle.fs_tree.specs.Tree.{link_refusal, linked};
 
 use crate::fs::TreeFs;
 use fs_nodes::{Child, Node, Time, directory, is_improper};
-use fs_trait::{CStr, Entry};
-use fuse_flags::{Errno, Fault};
 use std::alloc::Global;
 use std::collections::BTreeMap;
+use vfs_files::{CStr, Entry};
+use vfs_flags::{Errno, Fault};
 
 /// The most names that lead to a file.
 const MOST_LINKS: u32 = 65_000;

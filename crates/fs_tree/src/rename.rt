@@ -2,8 +2,8 @@
 
 ghost use Rattle.std.specs.Prelude.{◌≡◌, ◌<◌, nat_le, ◌-◌, ◌^◌, ◌&&◌, ◌||◌, ◌==◌, true, false, length, IsTrue, IsSome, Some, None, is_none, is_some, option_map, IfErr, IfOk, OnOk, if◌then◌else◌};
 ghost use Rattle.std.specs.Option.{option_copied, option_map_or};
-ghost use Rattle.fuse_flags.specs.Numbers.{enomem};
-ghost use Rattle.fs_trait.specs.Values.{name_text};
+ghost use Rattle.vfs_flags.specs.Numbers.{enomem};
+ghost use Rattle.vfs_files.specs.Values.{name_text};
 ghost use Rattle.fs_tree.specs.Naming.{is_crowded};
 ghost use Rattle.fs_tree.specs.Rename.{is_below, is_own_child, moved_into, parent_of, rename_refusal, renamed, same_node, whiteout};
 ghost use Rattle.fs_tree.specs.State.{child_at, node_at, node_of, unnamed};
@@ -13,8 +13,8 @@ use fs_nodes::{
     Child, Kind, Node, holds_names, is_directory, is_improper, is_same, is_served, leaves_whiteout,
     replaced,
 };
-use fs_trait::{CStr, Context};
-use fuse_flags::{Errno, Fault, RENAME_EXCHANGE, RENAME_NOREPLACE, ROOT_ID};
+use vfs_files::{CStr, Context};
+use vfs_flags::{Errno, Fault, RENAME_EXCHANGE, RENAME_NOREPLACE, ROOT_ID};
 
 impl TreeFs {
     /// Whether a name that leads to `moved` can give it to one of `into` that leads to `target`.

@@ -1,13 +1,13 @@
 //! The calls that virtiofsd has not: STATX, and the IOCTLs of `chattr(1)`.
 
 ghost use Rattle.std.specs.Prelude.{◌≡◌, ◌≤◌, ◌+◌, Some, length, replicate, IfErr, IfOk, OnOk};
-ghost use Rattle.fs_trait.specs.Calls.{Failed, Text};
+ghost use Rattle.vfs_files.specs.Calls.{Failed, Text};
 ghost use Rattle.fs_nodes.specs.Flags.{output_of};
 ghost use Rattle.fs_tree.specs.Rows.{ioctl_answer, statx_answer};
 
 use crate::fs::TreeFs;
 use fs_nodes::STATX_LEN;
-use fuse_flags::Errno;
+use vfs_flags::Errno;
 
 /// The most bytes of an answer: those of STATX.
 pub const MOST_TEXT: usize = STATX_LEN;

@@ -1,23 +1,23 @@
 -- What the grammar never asks: a directory by a call; and how much room it leaves for records.
 use Rattle.std.proofs.Common.{◌≡◌, ◌≢◌, ◌≤◌, ◌-◌, ℕ, Bool, true, false, List, length, drop, nat_lt, if◌then◌else◌, Option, Some, None, Result, Ok, Err, refl, arith}
 use Rattle.std.proofs.lemmas.Bool.Decides.{nat_tests}
-use Rattle.fuse_flags.specs.Numbers.{opcode_of, enomem}
-use Rattle.fuse_flags.specs.declared.opcode.Opcode.{Opcode}
-use Rattle.fuse_flags.specs.declared.opcode.Opcode.TheVariants as opcode
-use Rattle.fuse_wire.specs.Fields.{value_of}
-use Rattle.fuse_wire.specs.Records.{in_header}
-use Rattle.fuse_wire.specs.declared.headers.InHeader.{InHeader}
-use Rattle.fs_trait.specs.Calls.{Iterators, kind_of}
-use Rattle.fuse_grammar.specs.Ask.{ask, ask_number, form_of}
-use Rattle.fuse_grammar.specs.Words.{ask_header, refused}
-use Rattle.fuse_grammar.specs.Forms.{Ask, Ends, Asks, Lists, WithMemory, Form, Directories, Layout, ask_form, refused_or, faulted, within, space_after_header, layout_record}
-use Rattle.fuse_grammar.specs.Listing.{Listing}
-use Rattle.fuse_grammar.specs.Reply.{echo_of}
-use Rattle.fuse_grammar.specs.Limits.{max_len}
-use Rattle.fuse_grammar.specs.Records.{size_of}
-use Rattle.fuse_grammar.specs.declared.limits.Limits.{Limits}
-use Rattle.fuse_grammar.specs.declared.error.Error.{Error}
-use Rattle.fuse_grammar.specs.declared.error.Error.TheVariants.{DecodeMessage, EncodeMessage}
+use Rattle.vfs_flags.specs.Numbers.{opcode_of, enomem}
+use Rattle.vfs_flags.specs.declared.opcode.Opcode.{Opcode}
+use Rattle.vfs_flags.specs.declared.opcode.Opcode.TheVariants as opcode
+use Rattle.vfs_wire.specs.Fields.{value_of}
+use Rattle.vfs_wire.specs.Records.{in_header}
+use Rattle.vfs_wire.specs.declared.headers.InHeader.{InHeader}
+use Rattle.vfs_files.specs.Calls.{Iterators, kind_of}
+use Rattle.vfs_grammar.specs.Ask.{ask, ask_number, form_of}
+use Rattle.vfs_grammar.specs.Words.{ask_header, refused}
+use Rattle.vfs_grammar.specs.Forms.{Ask, Ends, Asks, Lists, WithMemory, Form, Directories, Layout, ask_form, refused_or, faulted, within, space_after_header, layout_record}
+use Rattle.vfs_grammar.specs.Listing.{Listing}
+use Rattle.vfs_grammar.specs.Reply.{echo_of}
+use Rattle.vfs_grammar.specs.Limits.{max_len}
+use Rattle.vfs_grammar.specs.Records.{size_of}
+use Rattle.vfs_grammar.specs.declared.limits.Limits.{Limits}
+use Rattle.vfs_grammar.specs.declared.error.Error.{Error}
+use Rattle.vfs_grammar.specs.declared.error.Error.TheVariants.{DecodeMessage, EncodeMessage}
 use Rattle.laws_turns.proofs.Table.{Shows, form_shown}
 
 -- a call answers no iterator, and a directory has all the room after a header

@@ -1,8 +1,8 @@
 -- The turns in the order of their answers: each is one under the options that it was asked with.
 use Rattle.std.proofs.Common.{◌≡◌, ℕ, List, [], ◌∷◌, ◌++◌, refl, sym, subst}
-use Rattle.fuse_grammar.specs.Turn.{Turn, IsTurn, AreTurns}
-use Rattle.fuse_grammar.specs.declared.limits.Limits.{Limits}
-use Rattle.fuse_grammar.specs.Books.{KeepsBooks}
+use Rattle.vfs_grammar.specs.Turn.{Turn, IsTurn, AreTurns}
+use Rattle.vfs_grammar.specs.declared.limits.Limits.{Limits}
+use Rattle.vfs_grammar.specs.Books.{KeepsBooks}
 use Rattle.laws_turns.proofs.EachTurn.{kept}
 use Rattle.laws_turns.proofs.InOrder.{AreEachTurns, keeps_books}
 use Rattle.laws_flight.specs.Flight.{Waiting, Move, Begins, Completes, turns_answered, AreInFlight, IsAlone, AreAskedInTime}

@@ -3,13 +3,13 @@
 use Rattle.std.proofs.Common.{◌≡◌, ◌≢◌, ◌≤◌, ◌+◌, ◌==◌, ℕ, zero, suc, Bool, true, false, cond, if◌then◌else◌, List, [], ◌∷◌, ◌++◌, length, take, sum_by, Some, Result, Ok, Err, refl, ap, sym, ◌∙◌, inl, inr, subst, arith, length-append, append-nil, zero-add}
 use Rattle.std.proofs.lemmas.List.{take_all, take-append-le}
 use Rattle.std.proofs.lemmas.List.Sums.{sum_by-cons, sum_by-append, sum_by-take-le, sum_by_push}
-use Rattle.fs_trait.specs.Calls.{Call, Lookup, Forget, Answer}
-use Rattle.fs_trait.specs.Runs.{Event, Called, OpenedDirectory, Taken}
-use Rattle.fuse_grammar.specs.Books.{times, entry_node, opcode_in, forgotten, forgets_in, accepted_by, answered_by, sent_by, answered, sent, delivered, accepted}
-use Rattle.fuse_grammar.specs.Listing.{given_back}
-use Rattle.fuse_grammar.specs.Turn.{Turn}
-use Rattle.fuse_grammar.specs.declared.limits.Limits.{Limits}
-use Rattle.fuse_grammar.specs.declared.error.Error.{Error}
+use Rattle.vfs_files.specs.Calls.{Call, Lookup, Forget, Answer}
+use Rattle.vfs_files.specs.Runs.{Event, Called, OpenedDirectory, Taken}
+use Rattle.vfs_grammar.specs.Books.{times, entry_node, opcode_in, forgotten, forgets_in, accepted_by, answered_by, sent_by, answered, sent, delivered, accepted}
+use Rattle.vfs_grammar.specs.Listing.{given_back}
+use Rattle.vfs_grammar.specs.Turn.{Turn}
+use Rattle.vfs_grammar.specs.declared.limits.Limits.{Limits}
+use Rattle.vfs_grammar.specs.declared.error.Error.{Error}
 use Rattle.laws_turns.proofs.ListedNodes.{no_node}
 use Rattle.laws_turns.proofs.OneTurn.{turn_books, turn_last}
 use Rattle.laws_turns.proofs.Replying.{LastOnly}

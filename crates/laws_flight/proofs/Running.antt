@@ -1,10 +1,10 @@
 -- Calls of requests in flight, as they are made, are a run.
 use Rattle.std.proofs.Common.{◌≡◌, ◌⊎◌, ◌++◌, ◌∙◌, Bool, true, false, List, [], ◌∷◌, map, Option, Some, None, refl, ap, sym, subst, inl, inr}
 use Rattle.std.proofs.lemmas.List.{map-append}
-use Rattle.fs_trait.specs.Calls.{Call, Handed, Plain, Iterator}
-use Rattle.fs_trait.specs.Runs.{Event, Called, OpenedDirectory, Taken, IsRun}
-use Rattle.fs_trait.specs.Values.{Item}
-use Rattle.fuse_grammar.specs.declared.limits.Limits.{Limits}
+use Rattle.vfs_files.specs.Calls.{Call, Handed, Plain, Iterator}
+use Rattle.vfs_files.specs.Runs.{Event, Called, OpenedDirectory, Taken, IsRun}
+use Rattle.vfs_files.specs.Values.{Item}
+use Rattle.vfs_grammar.specs.declared.limits.Limits.{Limits}
 use Rattle.laws_flight.specs.Made.{Going, Point, Began, Seen, Completed, AreSeen, events_seen}
 use Rattle.laws_flight.specs.Running.{Running, AloneRun, AreAlone, AreMade, FlightsRun, Leads, calls_in}
 

@@ -2,15 +2,15 @@
 use Rattle.std.proofs.Common.{◌≡◌, ◌==◌, ◌∙◌, ◌+◌, ℕ, Bool, true, false, List, Option, None, Some, refl, ap, sym, arith}
 use Rattle.std.proofs.lemmas.Bool.Decides.{nat_tests}
 use Rattle.std.specs.Prelude.{bit_and, unwrap_or, if◌then◌else◌}
-use Rattle.fuse_flags.specs.Flags.{has_flag}
-use Rattle.fs_trait.specs.Calls.{Call}
-use Rattle.fs_trait.specs.Calls as call
-use Rattle.fs_trait.specs.Values.{ExtensionValues}
-use Rattle.fs_trait.specs.declared.entry.Context.{Context}
-use Rattle.fuse_wire.specs.declared.attributes.SetattrIn.{SetattrIn}
-use Rattle.fuse_grammar.specs.Ask.{if_set}
-use Rattle.fuse_grammar.specs.Forms.{pairs_of}
-use Rattle.fuse_grammar.specs.Reply.{Echo}
+use Rattle.vfs_flags.specs.Flags.{has_flag}
+use Rattle.vfs_files.specs.Calls.{Call}
+use Rattle.vfs_files.specs.Calls as call
+use Rattle.vfs_files.specs.Values.{ExtensionValues}
+use Rattle.vfs_files.specs.declared.entry.Context.{Context}
+use Rattle.vfs_wire.specs.declared.attributes.SetattrIn.{SetattrIn}
+use Rattle.vfs_grammar.specs.Ask.{if_set}
+use Rattle.vfs_grammar.specs.Forms.{pairs_of}
+use Rattle.vfs_grammar.specs.Reply.{Echo}
 use Rattle.door_calls.specs.Shapes.{bit, bit_of, context_bit}
 use Rattle.door_calls.specs.declared.call.CallData.{CallData}
 use Rattle.door_calls.specs.declared.call.SetattrData.{SetattrData}

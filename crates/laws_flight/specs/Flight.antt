@@ -1,10 +1,10 @@
 -- Requests of one client in flight: a transport asks a request for its call, makes the call, and answers
 -- it, while others are asked and answered.
 use Rattle.std.specs.Prelude.{◌≡◌, ℕ, List, [], ◌∷◌, ◌++◌, length}
-use Rattle.fs_trait.specs.Calls.{Init, Destroy, Answer, Options}
-use Rattle.fs_trait.specs.Runs.{Called}
-use Rattle.fuse_grammar.specs.Turn.{Turn, IsTurn}
-use Rattle.fuse_grammar.specs.declared.limits.Limits.{Limits}
+use Rattle.vfs_files.specs.Calls.{Init, Destroy, Answer, Options}
+use Rattle.vfs_files.specs.Runs.{Called}
+use Rattle.vfs_grammar.specs.Turn.{Turn, IsTurn}
+use Rattle.vfs_grammar.specs.declared.limits.Limits.{Limits}
 
 -- a request that was asked and is not answered yet: its bytes, the options under which it was asked,
 -- and how many bytes of room there are for its reply

@@ -1,12 +1,12 @@
 -- Requests in flight, seen with each call at its place between ask and answer.
 use Rattle.std.specs.Prelude.{◌≡◌, ◌≢◌, ◌≤◌, ◌+◌, ◌++◌, ◌⊎◌, ℕ, List, [], ◌∷◌, take, sum_by, Some}
-use Rattle.fs_trait.specs.Calls.{Call, Lookup, Forget, Answer}
-use Rattle.fs_trait.specs.Runs.{Event, Called, OpenedDirectory, Taken}
-use Rattle.fs_trait.specs.declared.entry.Context.{Context}
-use Rattle.fuse_grammar.specs.Books.{entry_node, opcode_in, forgotten, forgets_in, answered, sent, delivered}
-use Rattle.fuse_grammar.specs.Listing.{given_back}
-use Rattle.fuse_grammar.specs.Turn.{Turn}
-use Rattle.fuse_grammar.specs.declared.limits.Limits.{Limits}
+use Rattle.vfs_files.specs.Calls.{Call, Lookup, Forget, Answer}
+use Rattle.vfs_files.specs.Runs.{Event, Called, OpenedDirectory, Taken}
+use Rattle.vfs_files.specs.declared.entry.Context.{Context}
+use Rattle.vfs_grammar.specs.Books.{entry_node, opcode_in, forgotten, forgets_in, answered, sent, delivered}
+use Rattle.vfs_grammar.specs.Listing.{given_back}
+use Rattle.vfs_grammar.specs.Turn.{Turn}
+use Rattle.vfs_grammar.specs.declared.limits.Limits.{Limits}
 use Rattle.laws_flight.specs.Flight.{Waiting, IsTurnOf}
 
 -- a request that waits, and what was seen of the file system for it so far

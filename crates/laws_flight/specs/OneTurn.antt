@@ -1,19 +1,19 @@
 -- A request that was asked for its call, and whose call was answered, as one turn of the grammar; and one that was
 -- finished when it was asked.
 use Rattle.std.specs.Prelude.{◌≡◌, ◌++◌, ℕ, List, [], ◌∷◌, length, unwrap_or, Option, Some, Result}
-use Rattle.fuse_segments.specs.Written.{Written, Leaves}
-use Rattle.fs_trait.specs.Calls.{Answer, kind_of}
-use Rattle.fs_trait.specs.Runs.{Event, Called}
-use Rattle.fuse_messages.specs.Rooms.{with_after}
-use Rattle.fuse_grammar.specs.Ask.{ask}
-use Rattle.fuse_grammar.specs.Forms.{Ask, Ends, Asks, Lists, WithMemory}
-use Rattle.fuse_grammar.specs.Listing.{Listing, given_back}
-use Rattle.fuse_grammar.specs.Reply.{reply_of}
-use Rattle.fuse_grammar.specs.Room.{unseen}
-use Rattle.fuse_grammar.specs.Turn.{IsTurn, node_answered}
-use Rattle.fuse_grammar.specs.Words.{IsRead}
-use Rattle.fuse_grammar.specs.declared.limits.Limits.{Limits}
-use Rattle.fuse_grammar.specs.declared.error.Error.{Error}
+use Rattle.vfs_segments.specs.Written.{Written, Leaves}
+use Rattle.vfs_files.specs.Calls.{Answer, kind_of}
+use Rattle.vfs_files.specs.Runs.{Event, Called}
+use Rattle.vfs_messages.specs.Rooms.{with_after}
+use Rattle.vfs_grammar.specs.Ask.{ask}
+use Rattle.vfs_grammar.specs.Forms.{Ask, Ends, Asks, Lists, WithMemory}
+use Rattle.vfs_grammar.specs.Listing.{Listing, given_back}
+use Rattle.vfs_grammar.specs.Reply.{reply_of}
+use Rattle.vfs_grammar.specs.Room.{unseen}
+use Rattle.vfs_grammar.specs.Turn.{IsTurn, node_answered}
+use Rattle.vfs_grammar.specs.Words.{IsRead}
+use Rattle.vfs_grammar.specs.declared.limits.Limits.{Limits}
+use Rattle.vfs_grammar.specs.declared.error.Error.{Error}
 use Rattle.door_calls.specs.declared.call.CallData.{CallData}
 use Rattle.door_calls.specs.declared.data.AnswerData.{AnswerData}
 use Rattle.door_calls.specs.declared.data.ItemData.{ItemData}

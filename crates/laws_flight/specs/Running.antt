@@ -1,9 +1,9 @@
 -- Requests in flight over a file system: from which state to which each call leads, as it is made.
 use Rattle.std.specs.Prelude.{◌≡◌, ◌++◌, Bool, true, false, List, [], ◌∷◌, map, Option, Some, None}
-use Rattle.fs_trait.specs.Calls.{Call, Handed, Plain, Iterator}
-use Rattle.fs_trait.specs.Runs.{Event, Called, OpenedDirectory, Taken, IsRun}
-use Rattle.fs_trait.specs.Values.{Item}
-use Rattle.fuse_grammar.specs.declared.limits.Limits.{Limits}
+use Rattle.vfs_files.specs.Calls.{Call, Handed, Plain, Iterator}
+use Rattle.vfs_files.specs.Runs.{Event, Called, OpenedDirectory, Taken, IsRun}
+use Rattle.vfs_files.specs.Values.{Item}
+use Rattle.vfs_grammar.specs.declared.limits.Limits.{Limits}
 use Rattle.laws_flight.specs.Flight.{IsTurnOf}
 use Rattle.laws_flight.specs.Made.{Going, Point, Began, Seen, Completed, AreSeenOf, AreUnderWay, AreSeen, events_seen}
 

@@ -1,20 +1,20 @@
 -- Which data tell which call of a request: a row for each call, as `form_of` has one for each opcode. `q` are the
 -- bytes of the request, and `d` the data. ENTRY is the number of `Entries`, and so on: `kind_told` of door_answer.
 use Rattle.std.specs.Prelude.{◌≡◌, ◌+◌, ◌*◌, ◌==◌, ◌||◌, not, nat_lt, if◌then◌else◌, drop, ℕ, List, Bool, false, length, is_some, Option, Some, None, unwrap_or}
-use Rattle.fs_trait.specs.Calls.{Call}
-use Rattle.fs_trait.specs.Calls as call
-use Rattle.fs_trait.specs.Values.{ExtensionValues}
-use Rattle.fs_trait.specs.declared.entry.Context.{Context}
-use Rattle.fuse_flags.specs.Numbers.{number_of}
-use Rattle.fuse_flags.specs.declared.opcode.Opcode.TheVariants.{Interrupt}
-use Rattle.fuse_wire.specs.Fields.{value_of}
-use Rattle.fuse_wire.specs.Records.{in_header, forget_one}
-use Rattle.fuse_wire_more.specs.Locks.{interrupt_in}
-use Rattle.fuse_grammar.specs.Ask.{ask}
-use Rattle.fuse_grammar.specs.Forms.{Ask, Ends, Asks, Lists, WithMemory}
-use Rattle.fuse_grammar.specs.Records.{size_of}
-use Rattle.fuse_grammar.specs.Reply.{Echo}
-use Rattle.fuse_grammar.specs.declared.limits.Limits.{Limits}
+use Rattle.vfs_files.specs.Calls.{Call}
+use Rattle.vfs_files.specs.Calls as call
+use Rattle.vfs_files.specs.Values.{ExtensionValues}
+use Rattle.vfs_files.specs.declared.entry.Context.{Context}
+use Rattle.vfs_flags.specs.Numbers.{number_of}
+use Rattle.vfs_flags.specs.declared.opcode.Opcode.TheVariants.{Interrupt}
+use Rattle.vfs_wire.specs.Fields.{value_of}
+use Rattle.vfs_wire.specs.Records.{in_header, forget_one}
+use Rattle.vfs_wire_more.specs.Locks.{interrupt_in}
+use Rattle.vfs_grammar.specs.Ask.{ask}
+use Rattle.vfs_grammar.specs.Forms.{Ask, Ends, Asks, Lists, WithMemory}
+use Rattle.vfs_grammar.specs.Records.{size_of}
+use Rattle.vfs_grammar.specs.Reply.{Echo}
+use Rattle.vfs_grammar.specs.declared.limits.Limits.{Limits}
 use Rattle.door_calls.specs.Shapes.{bit, no_range, nothing, setattr_of}
 use Rattle.door_calls.specs.declared.call.CallData.{CallData}
 use Rattle.door_calls.specs.declared.call.number.TheConstants.{LOOKUP, FORGET, GETATTR, SETATTR, READLINK, SYMLINK, MKNOD, MKDIR, UNLINK, RMDIR, RENAME, LINK, OPEN, READ, WRITE, STATFS, RELEASE, FSYNC, SETXATTR, GETXATTR, LISTXATTR, REMOVEXATTR, FLUSH, INIT, OPENDIR, READDIR, RELEASEDIR, FSYNCDIR, GETLK, SETLK, SETLKW, ACCESS, CREATE, BMAP, DESTROY, IOCTL, POLL, NOTIFY_REPLY, BATCH_FORGET, FALLOCATE, LSEEK, COPY, SYNCFS, TMPFILE}

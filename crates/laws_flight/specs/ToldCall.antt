@@ -1,7 +1,7 @@
 -- What is told determines the call, and is what the table says. Of the promise only `TableIsCall` is to be read.
 use Rattle.std.specs.Prelude.{◌≡◌, ◌↔◌, ℕ, List}
-use Rattle.fs_trait.specs.Calls.{Call}
-use Rattle.fuse_grammar.specs.Reply.{Echo}
+use Rattle.vfs_files.specs.Calls.{Call}
+use Rattle.vfs_grammar.specs.Reply.{Echo}
 use Rattle.door_calls.specs.declared.call.CallData.{CallData}
 use Rattle.door_ask.specs.Asked.{IsTold}
 use Rattle.laws_flight.specs.Table.{TellsByTable, of_request}

@@ -4,16 +4,16 @@
 //! answers with what came of it; and it gives back what it is told to, before it completes the request.
 
 ghost use Rattle.std.specs.Prelude.{ℕ, List, []};
-ghost use Rattle.fuse_grammar.specs.Books.{KeepsBooks};
-ghost use Rattle.fuse_grammar.specs.Turn.{AreTurns};
-ghost use Rattle.fuse_grammar.specs.declared.limits.Limits.{Limits};
+ghost use Rattle.vfs_grammar.specs.Books.{KeepsBooks};
+ghost use Rattle.vfs_grammar.specs.Turn.{AreTurns};
+ghost use Rattle.vfs_grammar.specs.declared.limits.Limits.{Limits};
 ghost use Rattle.laws_flight.specs.Flight.{Waiting, Move, turns_answered, AreInFlight, AreAskedInTime};
 ghost use Rattle.laws_flight.specs.Made.{NoCountIsBelow};
 ghost use Rattle.laws_flight.specs.OneTurn.{AreOneTurn, AreFinishedTurns};
 ghost use Rattle.laws_flight.specs.Running.{AloneRun, FlightsRun};
 ghost use Rattle.laws_flight.specs.ToldCall.{TableIsCall, TableSays, ToldIsCall};
 
-use fs_trait::FileSystem;
+use vfs_files::FileSystem;
 
 /// What is told of a call determines it: the numbers, and the bytes of the request in the ranges
 /// that are told. No two calls are told by the same data.

@@ -3,10 +3,10 @@
 ghost use Rattle.std.specs.Prelude.{◌≡◌, ℕ, List, [], ◌∷◌, length};
 ghost use Rattle.door_ask.specs.Asked.{IsTold};
 ghost use Rattle.door_calls.specs.declared.call.CallData.{CallData};
-ghost use Rattle.fs_trait.specs.Calls.{Bmap, Destroy, Getlk, Init, Ioctl, NotifyReply, Poll, Setlk, Setlkw, Tmpfile};
-ghost use Rattle.fuse_grammar.specs.Reply.{Echo};
-ghost use Rattle.fuse_grammar.specs.Turn.{Turn};
-ghost use Rattle.fuse_grammar.specs.declared.limits.Limits.{Limits};
+ghost use Rattle.vfs_files.specs.Calls.{Bmap, Destroy, Getlk, Init, Ioctl, NotifyReply, Poll, Setlk, Setlkw, Tmpfile};
+ghost use Rattle.vfs_grammar.specs.Reply.{Echo};
+ghost use Rattle.vfs_grammar.specs.Turn.{Turn};
+ghost use Rattle.vfs_grammar.specs.declared.limits.Limits.{Limits};
 ghost use Rattle.laws_flight.specs.Flight.{AreInFlight, Completes, IsTurnOf, Waiting};
 
 use crate::laws::the_table_says_what_is_told;

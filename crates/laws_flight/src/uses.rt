@@ -2,18 +2,18 @@
 
 ghost use Rattle.std.specs.declared.option.Option.TheVariants.{None, Some};
 ghost use Rattle.std.specs.Prelude.{◌≡◌, ◌≢◌, ◌≤◌, ◌+◌, ℕ, Bool, List, Option, [], ◌∷◌, length, true, IfSome};
-ghost use Rattle.fuse_flags.specs.Flags.{fs_options_bits};
-ghost use Rattle.fuse_messages.specs.Rooms.{with_after};
-ghost use Rattle.fs_trait.specs.Calls.{Call, Done, Forget, Found, Getattr, Lookup, Mkdir, Read};
-ghost use Rattle.fs_trait.specs.Values.{ExtensionValues, Item};
-ghost use Rattle.fs_trait.specs.declared.entry.Context.{Context};
-ghost use Rattle.fs_trait.specs.declared.entry.Entry.{Entry};
-ghost use Rattle.fuse_grammar.specs.Limits.{AreLimits};
-ghost use Rattle.fs_trait.specs.Runs.{Called, Event, IsRun, OpenedDirectory, Taken};
-ghost use Rattle.fuse_grammar.specs.Books.{KeepsBooks, answered, delivered, sent};
-ghost use Rattle.fuse_grammar.specs.Turn.{AreTurns, Turn};
-ghost use Rattle.fuse_grammar.specs.declared.limits.Limits.{Limits};
-ghost use Rattle.fuse_grammar.specs.Reply.{Echo};
+ghost use Rattle.vfs_flags.specs.Flags.{fs_options_bits};
+ghost use Rattle.vfs_messages.specs.Rooms.{with_after};
+ghost use Rattle.vfs_files.specs.Calls.{Call, Done, Forget, Found, Getattr, Lookup, Mkdir, Read};
+ghost use Rattle.vfs_files.specs.Values.{ExtensionValues, Item};
+ghost use Rattle.vfs_files.specs.declared.entry.Context.{Context};
+ghost use Rattle.vfs_files.specs.declared.entry.Entry.{Entry};
+ghost use Rattle.vfs_grammar.specs.Limits.{AreLimits};
+ghost use Rattle.vfs_files.specs.Runs.{Called, Event, IsRun, OpenedDirectory, Taken};
+ghost use Rattle.vfs_grammar.specs.Books.{KeepsBooks, answered, delivered, sent};
+ghost use Rattle.vfs_grammar.specs.Turn.{AreTurns, Turn};
+ghost use Rattle.vfs_grammar.specs.declared.limits.Limits.{Limits};
+ghost use Rattle.vfs_grammar.specs.Reply.{Echo};
 ghost use Rattle.door_calls.specs.Shapes.{no_range};
 ghost use Rattle.door_calls.specs.declared.call.CallData.{CallData};
 ghost use Rattle.door_ask.specs.Asked.{IsEnough, IsTold};
@@ -31,11 +31,11 @@ use crate::laws::{
 use door_answer::{Answered, answer};
 use door_ask::{Asked, ask};
 use door_calls::{AnswerData, CallData, ItemData};
-use fs_trait::FileSystem;
-use fuse_flags::FsOptions;
-use fuse_grammar::{Limits, Result};
-use fuse_segments::{Reader, Writer};
 use std::alloc::Global;
+use vfs_files::FileSystem;
+use vfs_flags::FsOptions;
+use vfs_grammar::{Limits, Result};
+use vfs_segments::{Reader, Writer};
 
 /// Asks a request for its call, and answers that by these data, whatever they are, in the room that was told. If
 /// both are done, that was one turn of the grammar.

@@ -3,19 +3,19 @@ use Rattle.std.proofs.Common.{◌≡◌, ℕ, List, [], ◌∷◌, ◌++◌, map
 use Rattle.std.proofs.lemmas.List.{map-append}
 use Rattle.std.specs.declared.alloc.Global.{Global}
 use Rattle.std.specs.declared.vec.Vec.{Vec}
-use Rattle.fuse_segments.specs.Unread.{Unread}
-use Rattle.fuse_segments.specs.Written.{Written}
-use Rattle.fs_trait.specs.Values.{Item}
-use Rattle.fs_trait.specs.Calls.{Call, Destroy, Done, Handed, Plain}
-use Rattle.fuse_grammar.specs.Books.{KeepsBooks}
-use Rattle.fuse_grammar.specs.Samples.{lookup_of_a}
-use Rattle.fuse_grammar.specs.Turn.{Turn}
-use Rattle.fuse_grammar.specs.declared.error.Error.{Error}
-use Rattle.fuse_grammar.proofs.Keeping.{never_below_over}
-use Rattle.fuse_server.specs.Served.{Served}
-use Rattle.fuse_server.specs.Step.{ServerState, IsStep}
-use Rattle.fuse_server.specs.declared.transport.error.ServeError.{ServeError}
-use Rattle.fuse_server.specs.declared.transport.error.ServeError.TheVariants.{OutOfMemory, Segments, Server, FileSystem}
+use Rattle.vfs_segments.specs.Unread.{Unread}
+use Rattle.vfs_segments.specs.Written.{Written}
+use Rattle.vfs_files.specs.Values.{Item}
+use Rattle.vfs_files.specs.Calls.{Call, Destroy, Done, Handed, Plain}
+use Rattle.vfs_grammar.specs.Books.{KeepsBooks}
+use Rattle.vfs_grammar.specs.Samples.{lookup_of_a}
+use Rattle.vfs_grammar.specs.Turn.{Turn}
+use Rattle.vfs_grammar.specs.declared.error.Error.{Error}
+use Rattle.vfs_grammar.proofs.Keeping.{never_below_over}
+use Rattle.vfs_server.specs.Served.{Served}
+use Rattle.vfs_server.specs.Step.{ServerState, IsStep}
+use Rattle.vfs_server.specs.declared.transport.error.ServeError.{ServeError}
+use Rattle.vfs_server.specs.declared.transport.error.ServeError.TheVariants.{OutOfMemory, Segments, Server, FileSystem}
 use Rattle.laws_history.specs.Calls.{AreServed, ServedNone, IsSeen, KeepsHistory, HandlesEach, GivesBack, forget_of_5}
 use Rattle.laws_history.specs.History.{Moment, Handled, Changed, turn_of, turn_of_end, IsHistory, GoesOnHandled, GoesOnChanged, GoesOnEnded, HasOneRun, HistoriesKeepBooks}
 use Rattle.laws_history.specs.Serving.{GoesOnServed}

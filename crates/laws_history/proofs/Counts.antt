@@ -4,10 +4,10 @@ use Rattle.std.proofs.Common.{◌≡◌, ◌≢◌, ◌≤◌, ◌<◌, ◌+◌,
 use Rattle.std.proofs.lemmas.Bool.Decides.{nat_tests}
 use Rattle.std.proofs.lemmas.List.{take_all, take-append-le}
 use Rattle.std.proofs.lemmas.List.Sums.{sum_by-cons, sum_by-take-le}
-use Rattle.fs_trait.specs.Runs.{Event}
-use Rattle.fuse_grammar.specs.Turn.{Turn, AreTurns, events_in}
-use Rattle.fuse_grammar.specs.declared.limits.Limits.{Limits}
-use Rattle.fuse_grammar.specs.Books.{sent_by, answered, sent, delivered, accepted}
+use Rattle.vfs_files.specs.Runs.{Event}
+use Rattle.vfs_grammar.specs.Turn.{Turn, AreTurns, events_in}
+use Rattle.vfs_grammar.specs.declared.limits.Limits.{Limits}
+use Rattle.vfs_grammar.specs.Books.{sent_by, answered, sent, delivered, accepted}
 use Rattle.laws_turns.proofs.OneTurn.{turn_books, turn_last}
 use Rattle.laws_turns.proofs.Replying.{LastOnly}
 use Rattle.laws_turns.proofs.Sums.{answered-append, sent-append}

@@ -1,18 +1,18 @@
 -- A server that is ended without a request: a turn of a DESTROY.
 use Rattle.std.proofs.Common.{◌≡◌, ℕ, Bool, false, nat_lt, Option, refl, ap, sym, subst, arith}
 use Rattle.std.proofs.lemmas.Bool.Decides.{nat_tests}
-use Rattle.fuse_flags.specs.Numbers.{opcode_of}
-use Rattle.fuse_wire.specs.Fields.{number, value_of}
-use Rattle.fuse_wire.specs.Records.{in_header}
-use Rattle.fs_trait.specs.Values.{Item}
-use Rattle.fs_trait.specs.Calls.{Call, Destroy, Done, Handed, Plain}
-use Rattle.fuse_grammar.specs.Ask.{ask}
-use Rattle.fuse_grammar.specs.Forms.{Ask, Asks, within}
-use Rattle.fuse_grammar.specs.Limits.{max_len}
-use Rattle.fuse_grammar.specs.Reply.{echo_of}
-use Rattle.fuse_grammar.specs.Turn.{Follows, IsTurn}
-use Rattle.fuse_grammar.specs.declared.limits.Limits.{Limits}
-use Rattle.fuse_server.specs.Step.{ServerState}
+use Rattle.vfs_flags.specs.Numbers.{opcode_of}
+use Rattle.vfs_wire.specs.Fields.{number, value_of}
+use Rattle.vfs_wire.specs.Records.{in_header}
+use Rattle.vfs_files.specs.Values.{Item}
+use Rattle.vfs_files.specs.Calls.{Call, Destroy, Done, Handed, Plain}
+use Rattle.vfs_grammar.specs.Ask.{ask}
+use Rattle.vfs_grammar.specs.Forms.{Ask, Asks, within}
+use Rattle.vfs_grammar.specs.Limits.{max_len}
+use Rattle.vfs_grammar.specs.Reply.{echo_of}
+use Rattle.vfs_grammar.specs.Turn.{Follows, IsTurn}
+use Rattle.vfs_grammar.specs.declared.limits.Limits.{Limits}
+use Rattle.vfs_server.specs.Step.{ServerState}
 use Rattle.laws_history.specs.History.{IsHandled, destroy_request, turn_of_end}
 
 -- a `len` of 40 is within every limit

@@ -2,13 +2,13 @@
 use Rattle.std.proofs.Common.{◌≡◌, ◌≢◌, ℕ, zero, suc, List, [], ◌∷◌, ◌++◌, Result, Ok, take, refl, ap, ◌∙◌, arith}
 use Rattle.std.proofs.lemmas.List.{take_all}
 use Rattle.std.proofs.lemmas.List.Sums.{sum_by-cons}
-use Rattle.fuse_flags.specs.Numbers.{opcode_of}
-use Rattle.fuse_wire.specs.Fields.{number}
-use Rattle.fuse_grammar.specs.Books.{opcode_in, delivered, delivered_by, accepted, accepted_by}
-use Rattle.fuse_grammar.specs.Words.{GivesBackWithin}
-use Rattle.fuse_grammar.specs.Samples.{lookup_of_a, reply_of_node_5}
-use Rattle.fuse_grammar.specs.Turn.{Turn}
-use Rattle.fuse_grammar.specs.declared.error.Error.{Error}
+use Rattle.vfs_flags.specs.Numbers.{opcode_of}
+use Rattle.vfs_wire.specs.Fields.{number}
+use Rattle.vfs_grammar.specs.Books.{opcode_in, delivered, delivered_by, accepted, accepted_by}
+use Rattle.vfs_grammar.specs.Words.{GivesBackWithin}
+use Rattle.vfs_grammar.specs.Samples.{lookup_of_a, reply_of_node_5}
+use Rattle.vfs_grammar.specs.Turn.{Turn}
+use Rattle.vfs_grammar.specs.declared.error.Error.{Error}
 use Rattle.laws_history.specs.Calls.{forget_of_5}
 
 -- a client that was delivered a node once may give it back once in the next turn

@@ -1,14 +1,14 @@
 -- A history, moment by moment.
 use Rattle.std.proofs.Common.{◌≡◌, ℕ, List, [], ◌∷◌, map, Option, None, Result, refl, ap, ◌∙◌, subst}
-use Rattle.fuse_segments.specs.Written.{Written}
-use Rattle.fs_trait.specs.Values.{Item}
-use Rattle.fs_trait.specs.Calls.{Call, Handed}
-use Rattle.fs_trait.specs.RunLaws.{run-join}
-use Rattle.fuse_grammar.specs.Turn.{Turn, AreTurns, events_in}
-use Rattle.fuse_grammar.specs.Books.{KeepsBooks}
-use Rattle.fuse_grammar.specs.declared.limits.Limits.{Limits}
-use Rattle.fuse_grammar.specs.declared.error.Error.{Error}
-use Rattle.fuse_server.specs.Step.{ServerState, IsStep, turn_over}
+use Rattle.vfs_segments.specs.Written.{Written}
+use Rattle.vfs_files.specs.Values.{Item}
+use Rattle.vfs_files.specs.Calls.{Call, Handed}
+use Rattle.vfs_files.specs.RunLaws.{run-join}
+use Rattle.vfs_grammar.specs.Turn.{Turn, AreTurns, events_in}
+use Rattle.vfs_grammar.specs.Books.{KeepsBooks}
+use Rattle.vfs_grammar.specs.declared.limits.Limits.{Limits}
+use Rattle.vfs_grammar.specs.declared.error.Error.{Error}
+use Rattle.vfs_server.specs.Step.{ServerState, IsStep, turn_over}
 use Rattle.laws_history.specs.History.{Handled, Changed, turns_in, turn_of_end, IsHandled, IsHistory, GoesOnHandled, GoesOnChanged, GoesOnEnded, HasOneRun, HasTurns, HeldCountsStay, HistoriesJoin, HistoriesKeepBooks, HistoriesSplit}
 use Rattle.laws_history.proofs.Counts.{never_below_held}
 use Rattle.laws_history.proofs.Ending.{is_end}

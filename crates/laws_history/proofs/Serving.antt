@@ -1,12 +1,12 @@
 -- A request that was served, as a moment of a history.
 use Rattle.std.proofs.Common.{ℕ, List, replicate, take, Option, Result, Ok, Err, refl, ap, sym, subst, ◌∙◌, append-nil}
-use Rattle.fuse_segments.specs.Written.{Written}
-use Rattle.fs_trait.specs.Values.{Item}
-use Rattle.fs_trait.specs.Calls.{Call, Handed}
-use Rattle.fuse_grammar.specs.declared.error.Error.{Error}
-use Rattle.fuse_server.specs.Served.{room_of}
-use Rattle.fuse_server.specs.Step.{ServerState, IsStep}
-use Rattle.fuse_server.specs.declared.transport.error.ServeError.TheVariants.{OutOfMemory, Segments, Server, FileSystem}
+use Rattle.vfs_segments.specs.Written.{Written}
+use Rattle.vfs_files.specs.Values.{Item}
+use Rattle.vfs_files.specs.Calls.{Call, Handed}
+use Rattle.vfs_grammar.specs.declared.error.Error.{Error}
+use Rattle.vfs_server.specs.Served.{room_of}
+use Rattle.vfs_server.specs.Step.{ServerState, IsStep}
+use Rattle.vfs_server.specs.declared.transport.error.ServeError.TheVariants.{OutOfMemory, Segments, Server, FileSystem}
 use Rattle.laws_history.specs.History.{turn_of, IsHistory}
 use Rattle.laws_history.specs.Serving.{IsTurnOf, GoesOnServed}
 use Rattle.laws_history.proofs.Going.{goes_on}

@@ -1,17 +1,17 @@
 -- What small callers say of a server that they call message by message.
 use Rattle.std.specs.Prelude.{◌≡◌, ℕ, List, [], ◌∷◌, ◌++◌, map, replicate, take, Option, None, Result, Ok, Err}
-use Rattle.fuse_segments.specs.Written.{Written, Leaves}
-use Rattle.fs_trait.specs.Values.{Item}
-use Rattle.fs_trait.specs.Calls.{Call, Handed}
-use Rattle.fs_trait.specs.Runs.{IsRun}
-use Rattle.fuse_grammar.specs.Turn.{Turn, events_in}
-use Rattle.fuse_grammar.specs.Books.{KeepsBooks}
-use Rattle.fuse_grammar.specs.Words.{NeverBelow}
-use Rattle.fuse_grammar.specs.declared.error.Error.{Error}
-use Rattle.fuse_grammar.specs.Samples.{four, eight, reply_of_node_5}
-use Rattle.fuse_server.specs.Step.{ServerState}
-use Rattle.fuse_server.specs.declared.transport.error.ServeError.{ServeError}
-use Rattle.fuse_server.specs.declared.transport.error.ServeError.TheVariants.{OutOfMemory, Segments, Server, FileSystem}
+use Rattle.vfs_segments.specs.Written.{Written, Leaves}
+use Rattle.vfs_files.specs.Values.{Item}
+use Rattle.vfs_files.specs.Calls.{Call, Handed}
+use Rattle.vfs_files.specs.Runs.{IsRun}
+use Rattle.vfs_grammar.specs.Turn.{Turn, events_in}
+use Rattle.vfs_grammar.specs.Books.{KeepsBooks}
+use Rattle.vfs_grammar.specs.Words.{NeverBelow}
+use Rattle.vfs_grammar.specs.declared.error.Error.{Error}
+use Rattle.vfs_grammar.specs.Samples.{four, eight, reply_of_node_5}
+use Rattle.vfs_server.specs.Step.{ServerState}
+use Rattle.vfs_server.specs.declared.transport.error.ServeError.{ServeError}
+use Rattle.vfs_server.specs.declared.transport.error.ServeError.TheVariants.{OutOfMemory, Segments, Server, FileSystem}
 use Rattle.laws_history.specs.History.{Moment, Handled, turns_in, IsHistory}
 
 -- The turn of a request as its transport sees it: the bytes that came, the room that there was, the

@@ -1,14 +1,14 @@
 -- The history of a server: the requests that it handled, in however many calls, and the changes of its
 -- file system by its owner between them.
 use Rattle.std.specs.Prelude.{◌≡◌, ◌≢◌, ◌≤◌, ◌+◌, ℕ, List, [], ◌∷◌, ◌++◌, replicate, take, sum_by, Option, None, Result, Ok}
-use Rattle.fuse_segments.specs.Written.{Written}
-use Rattle.fs_trait.specs.Values.{Item}
-use Rattle.fs_trait.specs.Calls.{Call, Destroy, Done, Handed, Plain}
-use Rattle.fs_trait.specs.Runs.{Event, Called, IsRun}
-use Rattle.fuse_grammar.specs.Turn.{Turn, IsTurn, AreTurns, events_in}
-use Rattle.fuse_grammar.specs.Books.{answered, sent, delivered, accepted, KeepsBooks}
-use Rattle.fuse_grammar.specs.declared.error.Error.{Error}
-use Rattle.fuse_server.specs.Step.{ServerState, IsStep, turn_over}
+use Rattle.vfs_segments.specs.Written.{Written}
+use Rattle.vfs_files.specs.Values.{Item}
+use Rattle.vfs_files.specs.Calls.{Call, Destroy, Done, Handed, Plain}
+use Rattle.vfs_files.specs.Runs.{Event, Called, IsRun}
+use Rattle.vfs_grammar.specs.Turn.{Turn, IsTurn, AreTurns, events_in}
+use Rattle.vfs_grammar.specs.Books.{answered, sent, delivered, accepted, KeepsBooks}
+use Rattle.vfs_grammar.specs.declared.error.Error.{Error}
+use Rattle.vfs_server.specs.Step.{ServerState, IsStep, turn_over}
 
 -- A moment of a server: a request was handled, by this turn; or the owner changed the file system from
 -- one state to another, between two requests.

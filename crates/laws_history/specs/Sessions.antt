@@ -1,12 +1,12 @@
 -- A session that was handed over in one call, as a history.
 use Rattle.std.specs.Prelude.{ℕ, List, map, Option, Result}
-use Rattle.fuse_segments.specs.Unread.{Unread}
-use Rattle.fuse_segments.specs.Written.{Written}
-use Rattle.fs_trait.specs.Values.{Item}
-use Rattle.fs_trait.specs.Calls.{Call, Handed}
-use Rattle.fuse_grammar.specs.declared.error.Error.{Error}
-use Rattle.fuse_server.specs.Session.{IsSession}
-use Rattle.fuse_server.specs.Step.{ServerState}
+use Rattle.vfs_segments.specs.Unread.{Unread}
+use Rattle.vfs_segments.specs.Written.{Written}
+use Rattle.vfs_files.specs.Values.{Item}
+use Rattle.vfs_files.specs.Calls.{Call, Handed}
+use Rattle.vfs_grammar.specs.declared.error.Error.{Error}
+use Rattle.vfs_server.specs.Session.{IsSession}
+use Rattle.vfs_server.specs.Step.{ServerState}
 use Rattle.laws_history.specs.History.{Handled, IsHistory}
 
 module _ {S I : Type 0}

@@ -4,8 +4,8 @@ ghost use Rattle.laws_history.specs.History.{GoesOnHandled, GoesOnChanged, GoesO
 ghost use Rattle.laws_history.specs.Serving.{GoesOnServed};
 ghost use Rattle.laws_history.specs.Sessions.{SessionsAreHistories};
 
-use fs_trait::FileSystem;
 use laws_turns::books::turns_keep_books;
+use vfs_files::FileSystem;
 
 /// A history goes on by what a transport calls: by `Server::handle_message`, with the turn of its step;
 /// by `serve`, with the turn of these bytes and this room, unless the request was not handed on; by a

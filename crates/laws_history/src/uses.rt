@@ -1,10 +1,10 @@
 //! Servers that are called message by message.
 
 ghost use Rattle.std.specs.Prelude.{◌≡◌, ◌≤◌, ◌+◌, ◌∷◌, ◌++◌, [], List, map, IfErr, IfOk};
-ghost use Rattle.fuse_grammar.specs.Books.{KeepsBooks, answered, sent};
-ghost use Rattle.fuse_grammar.specs.Samples.{lookup_of_a};
-ghost use Rattle.fuse_grammar.specs.Turn.{Turn, events_in};
-ghost use Rattle.fuse_server.specs.Step.{ServerState};
+ghost use Rattle.vfs_grammar.specs.Books.{KeepsBooks, answered, sent};
+ghost use Rattle.vfs_grammar.specs.Samples.{lookup_of_a};
+ghost use Rattle.vfs_grammar.specs.Turn.{Turn, events_in};
+ghost use Rattle.vfs_server.specs.Step.{ServerState};
 ghost use Rattle.laws_history.specs.Calls.{AreServed, forget_of_5, GivesBack, HandlesEach, IsSeen, KeepsHistory, ServedNone};
 ghost use Rattle.laws_history.specs.History.{GivesBackWithinHeld, Handled, Changed, IsHistory, Moment, turn_of_end, turns_in};
 
@@ -12,13 +12,13 @@ use crate::laws::{
     held_counts_never_fall_below_zero, histories_join, history_goes_on, history_has_turns,
     history_is_cut, history_keeps_books,
 };
-use fs_trait::{FileSystem, SerializableFileSystem};
-use fuse_grammar::Result;
-use fuse_segments::{Reader, Writer};
-use fuse_server::server::Server;
-use fuse_server::transport::{ServeError, serve};
 use std::alloc::Global;
 use std::io;
+use vfs_files::{FileSystem, SerializableFileSystem};
+use vfs_grammar::Result;
+use vfs_segments::{Reader, Writer};
+use vfs_server::server::Server;
+use vfs_server::transport::{ServeError, serve};
 
 /// Has a server over any file system handle three messages, each by a call of its own. The books of the
 /// three turns balance.

@@ -1,7 +1,7 @@
 -- Calls keep the time at which each node was made.
 use Rattle.std.proofs.Common.{◌≡◌, ◌-◌, ◌==◌, ◌&&◌, min, ℕ, inl, inr, Bool, true, false, List, [], ◌∷◌, Option, Some, None, IfSome, is_some, refl, sym, ap, subst, ◌∙◌, if◌then◌else◌, nat_le}
 use Rattle.std.proofs.lemmas.Option.{none-some, same_Some}
-use Rattle.fs_trait.specs.declared.entry.Context.{Context}
+use Rattle.vfs_files.specs.declared.entry.Context.{Context}
 use Rattle.fs_tree.specs.Children.{Children, leading}
 use Rattle.fs_tree.specs.Node.{accessed, new_node}
 use Rattle.fs_tree.specs.Rename.{moved_into, whiteout, renamed}

@@ -1,15 +1,15 @@
 -- What the calls leave: a fact of all states that are left follows from that fact of each change.
 use Rattle.std.proofs.Common.{◌≡◌, ◌≤◌, ◌+◌, ◌-◌, ◌^◌, ◌/◌, ◌==◌, ◌&&◌, ◌||◌, not, nat_lt, nat_le, ℕ, min, max, ◌⊎◌, inl, inr, ⊎_elim, Bool, true, false, List, [], ◌∷◌, ◌++◌, length, take, drop, replicate, Option, Some, None, is_some, is_none, refl, sym, ap, subst, ◌∙◌, arith, if◌then◌else◌, bit_and, length-append, length-take, length-drop}
-use Rattle.fuse_views.specs.Segments.{with_bytes_at}
-use Rattle.fuse_flags.specs.Numbers.{enoent, eperm, eexist, eisdir, einval, enodata, enospc, enosys, enotdir, enotempty, eoverflow, erange, efbig, enxio}
-use Rattle.fs_trait.specs.Bytes.{part_of, most_put, fitting, written, lengthened}
-use Rattle.fs_trait.specs.Values.{Item}
-use Rattle.fs_trait.specs.Calls.{Call, Lookup, Forget, BatchForget, Getattr, Setattr, Symlink, Readlink, Open, Unlink, Rmdir, Rename, Link, Mknod, Mkdir, Create, Read, Write, Fallocate, Setxattr, Getxattr, Listxattr, Removexattr, Statfs, Release, Fsync, Init, Opendir, Readdir, Releasedir, Fsyncdir, Destroy, Lseek, Answer, Done, Failed, Options, Found, Attributes, Created, Text, Count, Put, Wrote, Statistics, Opened, Offset, Handed, Plain, Iterator, default_answer}
-use Rattle.fs_trait.specs.declared.entry.Context.{Context}
-use Rattle.fs_trait.specs.declared.entry.Entry.{Entry}
-use Rattle.fuse_wire.specs.declared.stat.Statvfs64.{Statvfs64}
-use Rattle.fuse_grammar.specs.Books.{entry_node, answered_nodes, forgets_of}
-use Rattle.fuse_wire.specs.declared.attributes.SetattrIn.{SetattrIn}
+use Rattle.vfs_views.specs.Segments.{with_bytes_at}
+use Rattle.vfs_flags.specs.Numbers.{enoent, eperm, eexist, eisdir, einval, enodata, enospc, enosys, enotdir, enotempty, eoverflow, erange, efbig, enxio}
+use Rattle.vfs_files.specs.Bytes.{part_of, most_put, fitting, written, lengthened}
+use Rattle.vfs_files.specs.Values.{Item}
+use Rattle.vfs_files.specs.Calls.{Call, Lookup, Forget, BatchForget, Getattr, Setattr, Symlink, Readlink, Open, Unlink, Rmdir, Rename, Link, Mknod, Mkdir, Create, Read, Write, Fallocate, Setxattr, Getxattr, Listxattr, Removexattr, Statfs, Release, Fsync, Init, Opendir, Readdir, Releasedir, Fsyncdir, Destroy, Lseek, Answer, Done, Failed, Options, Found, Attributes, Created, Text, Count, Put, Wrote, Statistics, Opened, Offset, Handed, Plain, Iterator, default_answer}
+use Rattle.vfs_files.specs.declared.entry.Context.{Context}
+use Rattle.vfs_files.specs.declared.entry.Entry.{Entry}
+use Rattle.vfs_wire.specs.declared.stat.Statvfs64.{Statvfs64}
+use Rattle.vfs_grammar.specs.Books.{entry_node, answered_nodes, forgets_of}
+use Rattle.vfs_wire.specs.declared.attributes.SetattrIn.{SetattrIn}
 use Rattle.std.specs.Option.{unwrap_or}
 use Rattle.std.proofs.lemmas.Bool.{ltb-false, eqb-true, not-false}
 use Rattle.std.proofs.lemmas.List.{length-replicate}

@@ -1,7 +1,7 @@
 -- Changes of a tree, by the node that each finds.
 use Rattle.std.specs.Prelude.{ℕ, ◌-◌, nat_le, min, Bool, true, false, List, [], map, Option, Some, None, is_some, option_map, option_and_then, if◌then◌else◌}
 use Rattle.std.specs.Option.{option_map_or}
-use Rattle.fs_trait.specs.declared.entry.Context.{Context}
+use Rattle.vfs_files.specs.declared.entry.Context.{Context}
 use Rattle.fs_nodes.specs.Children.{child_named}
 use Rattle.fs_nodes.specs.Node.{new_node}
 use Rattle.fs_nodes.specs.declared.children.Child.{Child}

@@ -1,17 +1,17 @@
 -- The turns of the last client: those since an INIT or a DESTROY.
 use Rattle.std.proofs.Common.{◌≡◌, ◌||◌, ⊎_elim, ℕ, Bool, true, false, List, [], ◌∷◌, ◌++◌, length, Option, Some, None, Result, Ok, Err, refl, ap, ◌∙◌, if◌then◌else◌}
 use Rattle.std.specs.List.{AllByRecursion, list_any, flat_map}
-use Rattle.fs_trait.specs.Calls.{Call, Readdir, Answer, kind_of}
-use Rattle.fs_trait.specs.Runs.{Event, Called}
-use Rattle.fs_trait.specs.declared.entry.Context.{Context}
-use Rattle.fuse_grammar.specs.Forms.{Ask, Ends, Asks, Lists, WithMemory}
-use Rattle.fuse_grammar.specs.Listing.{Line, Stop, End, At, Got, given_back, node_got, line_events, stop_events, is_dot}
-use Rattle.fuse_grammar.specs.Words.{lookup_of, lookups, IsUnopened, IsOpened, IsDirectoryOf}
-use Rattle.fuse_grammar.specs.Ask.{ask}
-use Rattle.fuse_grammar.specs.Reply.{Reply, reply_of}
-use Rattle.fuse_grammar.specs.Room.{unseen}
-use Rattle.fuse_grammar.specs.Turn.{Turn, Follows, AreTurns, events_in, node_answered}
-use Rattle.fuse_grammar.specs.declared.limits.Limits.{Limits}
+use Rattle.vfs_files.specs.Calls.{Call, Readdir, Answer, kind_of}
+use Rattle.vfs_files.specs.Runs.{Event, Called}
+use Rattle.vfs_files.specs.declared.entry.Context.{Context}
+use Rattle.vfs_grammar.specs.Forms.{Ask, Ends, Asks, Lists, WithMemory}
+use Rattle.vfs_grammar.specs.Listing.{Line, Stop, End, At, Got, given_back, node_got, line_events, stop_events, is_dot}
+use Rattle.vfs_grammar.specs.Words.{lookup_of, lookups, IsUnopened, IsOpened, IsDirectoryOf}
+use Rattle.vfs_grammar.specs.Ask.{ask}
+use Rattle.vfs_grammar.specs.Reply.{Reply, reply_of}
+use Rattle.vfs_grammar.specs.Room.{unseen}
+use Rattle.vfs_grammar.specs.Turn.{Turn, Follows, AreTurns, events_in, node_answered}
+use Rattle.vfs_grammar.specs.declared.limits.Limits.{Limits}
 use Rattle.fs_tree.specs.State.{State}
 use Rattle.laws_tree.specs.Runs.{takes_all, since, ends_client, last_turns}
 use Rattle.laws_tree.proofs.Endings.{IsOrdinary, IsEnding, which}

@@ -1,15 +1,15 @@
 -- Lookups over runs.
 use Rattle.std.proofs.Common.{◌≡◌, ◌≤◌, ◌<◌, ◌+◌, ◌||◌, ⊎_elim, ℕ, zero, suc, Bool, true, false, List, [], ◌∷◌, take, Option, Some, None, IsSome, IfSome, refl, sym, ap, subst, arith, if◌then◌else◌}
 use Rattle.std.specs.List.{list_any}
-use Rattle.fs_trait.specs.Values.{Item}
-use Rattle.fs_trait.specs.Calls.{Call, Forget, BatchForget, Answer, Plain}
-use Rattle.fs_trait.specs.Runs.{Event, Called, OpenedDirectory, Taken, IsRun}
-use Rattle.fuse_grammar.specs.Books.{answered, sent, answered_by, sent_by, answered_nodes, forgets_of, times, forgotten, KeepsBooks}
-use Rattle.fuse_grammar.specs.Turn.{Turn, events_in}
-use Rattle.fuse_grammar.proofs.Keeping.{never_below_over}
+use Rattle.vfs_files.specs.Values.{Item}
+use Rattle.vfs_files.specs.Calls.{Call, Forget, BatchForget, Answer, Plain}
+use Rattle.vfs_files.specs.Runs.{Event, Called, OpenedDirectory, Taken, IsRun}
+use Rattle.vfs_grammar.specs.Books.{answered, sent, answered_by, sent_by, answered_nodes, forgets_of, times, forgotten, KeepsBooks}
+use Rattle.vfs_grammar.specs.Turn.{Turn, events_in}
+use Rattle.vfs_grammar.proofs.Keeping.{never_below_over}
 use Rattle.laws_history.specs.History.{NeverBelowHeld}
 use Rattle.laws_tree.specs.Laws.{IsTree, IsHeld, lookups_in, lookups_of, names_of, CallsKeepTrees, ReadingsMoveATime}
-use Rattle.fs_trait.specs.Listing.{GivesFirst}
+use Rattle.vfs_files.specs.Listing.{GivesFirst}
 use Rattle.fs_tree.specs.State.{State, node_at}
 use Rattle.fs_nodes.specs.declared.node.Node.{Node}
 use Rattle.fs_tree.specs.Tree.{TreeAllows}

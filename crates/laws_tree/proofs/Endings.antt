@@ -1,9 +1,9 @@
 -- Calls that take back every lookup, and all others.
 use Rattle.std.proofs.Common.{◌≡◌, ◌⊎◌, inl, inr, ℕ, true, false, [], None, refl}
-use Rattle.fs_trait.specs.Calls.{Call, Init, Destroy, Answer, kind_of}
-use Rattle.fs_trait.specs.Runs.{Called}
-use Rattle.fuse_grammar.specs.Books.{forgotten, answered_nodes, forgets_of}
-use Rattle.fuse_grammar.specs.Turn.{node_answered}
+use Rattle.vfs_files.specs.Calls.{Call, Init, Destroy, Answer, kind_of}
+use Rattle.vfs_files.specs.Runs.{Called}
+use Rattle.vfs_grammar.specs.Books.{forgotten, answered_nodes, forgets_of}
+use Rattle.vfs_grammar.specs.Turn.{node_answered}
 use Rattle.fs_tree.specs.State.{State}
 use Rattle.laws_tree.specs.Laws.{lookups_of, taken_back}
 use Rattle.laws_tree.specs.Runs.{takes_all}

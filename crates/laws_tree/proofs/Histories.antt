@@ -5,12 +5,12 @@ use Rattle.std.proofs.lemmas.List.{take-append-le, take_all}
 use Rattle.std.proofs.Math.Seq.{take-append-add}
 use Rattle.std.proofs.lemmas.Bool.Decides.{nat_tests}
 use Rattle.std.proofs.lemmas.List.Sums.{sum_by-append}
-use Rattle.fs_trait.specs.Listing.{GivesFirst}
-use Rattle.fs_trait.specs.Runs.{Event}
-use Rattle.fuse_grammar.specs.Books.{answered, sent, answered_by, sent_by, KeepsBooks}
-use Rattle.fuse_grammar.specs.Turn.{Turn, AreTurns, events_in}
-use Rattle.fuse_grammar.specs.declared.limits.Limits.{Limits}
-use Rattle.fuse_server.specs.Step.{ServerState}
+use Rattle.vfs_files.specs.Listing.{GivesFirst}
+use Rattle.vfs_files.specs.Runs.{Event}
+use Rattle.vfs_grammar.specs.Books.{answered, sent, answered_by, sent_by, KeepsBooks}
+use Rattle.vfs_grammar.specs.Turn.{Turn, AreTurns, events_in}
+use Rattle.vfs_grammar.specs.declared.limits.Limits.{Limits}
+use Rattle.vfs_server.specs.Step.{ServerState}
 use Rattle.laws_history.specs.History.{Moment, Handled, Changed, turns_in, IsHistory, HasTurns, HistoriesKeepBooks, NeverBelowHeld}
 use Rattle.fs_tree.specs.State.{State}
 use Rattle.fs_tree.specs.Tree.{TreeAllows}

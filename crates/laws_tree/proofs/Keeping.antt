@@ -10,7 +10,7 @@ use Rattle.fs_nodes.specs.declared.node.Node.{Node}
 use Rattle.fs_tree.proofs.Nodes.{node_at-with_node, node_at-with_node_other, changed, with_names}
 use Rattle.laws_tree.proofs.Held.{at, lookups_here, lookups_other, none_yet, lookups_new, lookups_new_other, sound_counted, sound-with_node, sound-with_new, settles}
 use Rattle.laws_tree.proofs.Changes.{unnamed_at, white_of, begun, back_of, laid, left_with}
-use Rattle.fs_trait.specs.declared.entry.Context.{Context}
+use Rattle.vfs_files.specs.declared.entry.Context.{Context}
 
 pub record Keeps (old new : State) : Type 0 where
   pub sound : IsSound new

@@ -2,7 +2,7 @@
 use Rattle.std.proofs.Common.{◌≡◌, ◌≢◌, ◌+◌, ◌-◌, ◌==◌, if◌then◌else◌, min, ℕ, Bool, true, false, List, [], ◌∷◌, length, Option, Some, None, refl, sym, ap, ◌∙◌, subst, ⊎_elim, arith, nat_le}
 use Rattle.std.proofs.lemmas.Bool.{both_ways, cases_Bool, eqb-true, eqb-false, false≢true}
 use Rattle.std.proofs.lemmas.Option.{none-some, same_Some}
-use Rattle.fs_trait.specs.declared.entry.Context.{Context}
+use Rattle.vfs_files.specs.declared.entry.Context.{Context}
 use Rattle.fs_tree.proofs.Nodes.{node_at-with_new_other, with_names}
 use Rattle.laws_tree.proofs.NamesIn.{one}
 use Rattle.laws_tree.proofs.Tables.{kind_in, kind_at, free_number}

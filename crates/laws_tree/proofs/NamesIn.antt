@@ -4,7 +4,7 @@ use Rattle.std.specs.List.{AllByRecursion, IsDistinct}
 use Rattle.std.proofs.lemmas.Bool.{cases_Bool, cond-true, cond-false, not_from_true, not_from_false, eq-eqb, ne_eqb}
 use Rattle.std.proofs.lemmas.List.Sums.{sum_by-cons}
 use Rattle.std.proofs.lemmas.Option.{none-some}
-use Rattle.fs_trait.proofs.Indexes.{same_name, turned_name}
+use Rattle.vfs_files.proofs.Indexes.{same_name, turned_name}
 use Rattle.fs_tree.specs.Children.{Link, is_named, relinked}
 use Rattle.laws_tree.specs.Laws.{names_in, AreApart}
 use Rattle.fs_nodes.specs.declared.children.Child.{Child}

@@ -1,7 +1,7 @@
 -- A reading of a directory that begins moves the directory's time of access at most.
 use Rattle.std.proofs.Common.{◌≡◌, ◌∙◌, ℕ, List, [], Some, refl, sym, ap, subst}
-use Rattle.fs_trait.specs.Values.{Item}
-use Rattle.fs_trait.specs.Calls.{Done, Handed, Plain, Iterator}
+use Rattle.vfs_files.specs.Values.{Item}
+use Rattle.vfs_files.specs.Calls.{Done, Handed, Plain, Iterator}
 use Rattle.fs_nodes.specs.declared.node.Node.{Node}
 use Rattle.fs_tree.specs.Node.{accessed}
 use Rattle.fs_tree.specs.State.{State, node_at, with_node, with_resized}

@@ -3,7 +3,7 @@ use Rattle.std.proofs.Common.{◌≡◌, ◌^◌, ◌-◌, ◌==◌, ◌&&◌, �
 use Rattle.std.specs.List.{AllByRecursion}
 use Rattle.std.proofs.lemmas.Bool.{not-false, false≢true, eqb-true, eqb-false, or_parts, or_from}
 use Rattle.std.proofs.lemmas.Option.{none-some}
-use Rattle.fuse_flags.specs.Numbers.{eperm, enoent, eexist, enotdir, eisdir, enospc, enotempty, einval, eoverflow, enametoolong, emlink}
+use Rattle.vfs_flags.specs.Numbers.{eperm, enoent, eexist, enotdir, eisdir, enospc, enotempty, einval, eoverflow, enametoolong, emlink}
 use Rattle.fs_tree.specs.Children.{is_directory, child_named}
 use Rattle.fs_tree.specs.Outcome.{first_of}
 use Rattle.fs_tree.specs.Rename.{is_own_child, is_served, same_node, rename_refusal}

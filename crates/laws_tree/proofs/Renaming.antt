@@ -2,7 +2,7 @@
 use Rattle.std.proofs.Common.{min, ◌≡◌, ◌≢◌, ◌+◌, ◌-◌, ◌<◌, ◌≤◌, ℕ, Bool, true, false, List, [], find, Option, Some, None, is_some, option_map, bytes_eq, refl, sym, ap, ◌∙◌, subst, arith}
 use Rattle.std.proofs.lemmas.Bool.{both_ways}
 use Rattle.std.proofs.lemmas.Option.{same_Some}
-use Rattle.fs_trait.proofs.Indexes.{same_name, mapped_none}
+use Rattle.vfs_files.proofs.Indexes.{same_name, mapped_none}
 use Rattle.fs_nodes.specs.Children.{Link, Children, is_directory, is_named, child_named, leading}
 use Rattle.fs_nodes.specs.declared.children.Child.{Child}
 use Rattle.fs_nodes.specs.declared.node.Node.{Node}

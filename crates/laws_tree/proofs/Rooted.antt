@@ -2,7 +2,7 @@
 use Rattle.std.proofs.Common.{min, ◌≡◌, ◌≢◌, ◌<◌, ◌+◌, ◌-◌, ◌==◌, ◌&&◌, ◌||◌, ◌^◌, nat_le, nat_lt, not, ℕ, zero, suc, Bool, true, false, List, [], ◌∷◌, length, Option, Some, None, IsSome, is_some, is_none, refl, sym, ap, subst, ◌∙◌, arith, if◌then◌else◌, ◌⊎◌, inl, inr, ⊎_elim}
 use Rattle.std.proofs.lemmas.Bool.{both_ways, false≢true, not-false, eqb-false, and_cases}
 use Rattle.std.proofs.lemmas.Option.{none-some, same_Some}
-use Rattle.fuse_flags.specs.Numbers.{eperm, enoent, eexist, enotdir, einval, enospc, eoverflow, enametoolong, emlink}
+use Rattle.vfs_flags.specs.Numbers.{eperm, enoent, eexist, enotdir, einval, enospc, eoverflow, enametoolong, emlink}
 use Rattle.fs_tree.specs.Children.{Children, is_directory, leading}
 use Rattle.fs_tree.specs.Node.{accessed, new_node}
 use Rattle.laws_tree.specs.Laws.{IsSound, IsLinked, IsRooted, CallsKeepTheWayUp, above}
@@ -22,7 +22,7 @@ use Rattle.laws_tree.proofs.WayUp.{IsPlaced, Goes, Avoids, rooted_from, goes_fro
 use Rattle.laws_tree.proofs.Refused.{all_false, or_none, Renames}
 use Rattle.fs_tree.specs.Naming.{is_improper, directory_refusal, is_directory_at, is_nameless, is_crowded, name_refusal, has_no_number}
 use Rattle.laws_tree.proofs.Changes.{unnamed_at, forgotten_at, made, nameless, white_of, begun, back_of, laid, left_with}
-use Rattle.fs_trait.specs.declared.entry.Context.{Context}
+use Rattle.vfs_files.specs.declared.entry.Context.{Context}
 use Rattle.laws_tree.proofs.Telling.{told_rooted}
 
 -- ---- directories that lie where they lay

@@ -5,9 +5,9 @@ use Rattle.std.specs.Map.{lookup}
 use Rattle.std.proofs.lemmas.Bool.{cond-true, cond-false}
 use Rattle.std.proofs.lemmas.Cmp.{nat_cmp_total, tied_itself}
 use Rattle.std.proofs.lemmas.List.Sums.{sum_by-append}
-use Rattle.fs_trait.specs.Values.{Item}
-use Rattle.fs_trait.specs.Calls.{Call, Answer, Handed, Plain, Iterator}
-use Rattle.fuse_grammar.specs.Books.{times, forgotten}
+use Rattle.vfs_files.specs.Values.{Item}
+use Rattle.vfs_files.specs.Calls.{Call, Answer, Handed, Plain, Iterator}
+use Rattle.vfs_grammar.specs.Books.{times, forgotten}
 use Rattle.fs_tree.specs.Children.{leading}
 use Rattle.fs_tree.specs.Node.{accessed, new_node}
 use Rattle.fs_tree.specs.State.{State, node_at, child_at, with_node, with_resized, with_new}

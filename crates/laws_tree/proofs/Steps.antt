@@ -3,7 +3,7 @@ use Rattle.std.proofs.Common.{◌≡◌, ◌≢◌, ◌+◌, ◌-◌, ◌≤◌,
 use Rattle.std.specs.Option.{option_map_or}
 use Rattle.std.proofs.lemmas.Bool.{both_ways, false≢true, and_parts, eqb-true}
 use Rattle.std.proofs.lemmas.Option.{none-some, same_Some}
-use Rattle.fs_trait.proofs.Indexes.{mapped_none}
+use Rattle.vfs_files.proofs.Indexes.{mapped_none}
 use Rattle.fs_tree.specs.Children.{Link, Children, is_directory, is_named, child_named, leading, relinked}
 use Rattle.laws_tree.specs.Laws.{names_in, names_to, names_of, IsSound, IsLinked}
 use Rattle.fs_tree.specs.Rename.{parent_of, moved_into}

@@ -10,8 +10,8 @@ use Rattle.std.proofs.lemmas.Bool.{ltb-false, leb-false, eqb-true, and_parts, or
 use Rattle.std.proofs.lemmas.List.Sums.{sum_by-cons}
 use Rattle.std.proofs.lemmas.Map.Entries.{sum_by-set_value, sum_by-remove_entry}
 use Rattle.std.proofs.lemmas.Option.{same_Some}
-use Rattle.fuse_flags.specs.Numbers.{enoent, enospc, eperm, eoverflow, emlink}
-use Rattle.fs_trait.specs.declared.entry.Context.{Context}
+use Rattle.vfs_flags.specs.Numbers.{enoent, enospc, eperm, eoverflow, emlink}
+use Rattle.vfs_files.specs.declared.entry.Context.{Context}
 use Rattle.fs_tree.specs.Children.{Children, leading, is_directory}
 use Rattle.laws_tree.specs.Laws.{Ascend, IsSound, IsWithin, IsShort, AreShort, inodes_of, CallsStayWithin}
 use Rattle.fs_tree.specs.Node.{weight, new_node}

@@ -1,11 +1,11 @@
 -- A tree over the history of its server: requests, in however many calls, and what the tree's owner did
 -- to it between them.
 use Rattle.std.specs.Prelude.{◌≡◌, ◌≢◌, ◌<◌, ℕ, ◌+◌, Bool, List, [], ◌∷◌, IsSome, sum_by}
-use Rattle.fs_trait.specs.Listing.{GivesFirst}
-use Rattle.fuse_grammar.specs.Books.{accepted, delivered, KeepsBooks}
-use Rattle.fuse_grammar.specs.Words.{GivesBackWithin}
-use Rattle.fuse_grammar.specs.Turn.{Turn}
-use Rattle.fuse_server.specs.Step.{ServerState}
+use Rattle.vfs_files.specs.Listing.{GivesFirst}
+use Rattle.vfs_grammar.specs.Books.{accepted, delivered, KeepsBooks}
+use Rattle.vfs_grammar.specs.Words.{GivesBackWithin}
+use Rattle.vfs_grammar.specs.Turn.{Turn}
+use Rattle.vfs_server.specs.Step.{ServerState}
 use Rattle.laws_history.specs.History.{Moment, Handled, Changed, turns_in, IsHistory}
 use Rattle.fs_tree.specs.State.{State, node_at}
 use Rattle.fs_tree.specs.Tree.{TreeAllows, first_state}

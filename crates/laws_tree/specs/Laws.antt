@@ -4,9 +4,9 @@ use Rattle.std.specs.Prelude.{◌≡◌, ◌≤◌, ◌<◌, ◌⊎◌, ℕ, zer
 use Rattle.std.specs.List.{All, IsDistinct}
 use Rattle.std.specs.Map.{values_of}
 use Rattle.std.specs.Str.{bytes_eq}
-use Rattle.fs_trait.specs.Values.{Item}
-use Rattle.fs_trait.specs.Calls.{Call, Init, Destroy, Answer, Handed, Plain, Iterator}
-use Rattle.fuse_grammar.specs.Books.{times, forgotten, answered_nodes, forgets_of}
+use Rattle.vfs_files.specs.Values.{Item}
+use Rattle.vfs_files.specs.Calls.{Call, Init, Destroy, Answer, Handed, Plain, Iterator}
+use Rattle.vfs_grammar.specs.Books.{times, forgotten, answered_nodes, forgets_of}
 use Rattle.fs_tree.specs.Children.{Link, is_directory, is_file}
 use Rattle.fs_tree.specs.Listing.{items_after}
 use Rattle.fs_tree.specs.Node.{weight, accessed}

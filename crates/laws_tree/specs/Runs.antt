@@ -1,14 +1,14 @@
 -- A tree over runs and sessions.
 use Rattle.std.specs.Prelude.{◌≡◌, ◌≢◌, ◌<◌, ℕ, ◌+◌, Bool, true, false, List, [], ◌∷◌, Option, IsSome, sum_by, if◌then◌else◌}
 use Rattle.std.specs.List.{list_any}
-use Rattle.fs_trait.specs.Values.{Item}
-use Rattle.fs_trait.specs.Calls.{Init, Destroy}
-use Rattle.fs_trait.specs.Runs.{Event, Called, IsRun}
-use Rattle.fuse_grammar.specs.Books.{answered, sent, accepted, delivered}
-use Rattle.fuse_grammar.specs.Words.{GivesBackWithin, NeverBelow}
-use Rattle.fuse_grammar.specs.Turn.{Turn}
+use Rattle.vfs_files.specs.Values.{Item}
+use Rattle.vfs_files.specs.Calls.{Init, Destroy}
+use Rattle.vfs_files.specs.Runs.{Event, Called, IsRun}
+use Rattle.vfs_grammar.specs.Books.{answered, sent, accepted, delivered}
+use Rattle.vfs_grammar.specs.Words.{GivesBackWithin, NeverBelow}
+use Rattle.vfs_grammar.specs.Turn.{Turn}
 use Rattle.laws_tree.specs.Laws.{IsTree, lookups_of, names_of}
-use Rattle.fs_trait.specs.Listing.{GivesFirst}
+use Rattle.vfs_files.specs.Listing.{GivesFirst}
 use Rattle.fs_tree.specs.State.{State, node_at}
 use Rattle.fs_tree.specs.Tree.{TreeAllows}
 

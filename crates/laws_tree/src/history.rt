@@ -4,8 +4,8 @@ ghost use Rattle.laws_tree.specs.Histories.{HistoriesKeepTrees, NewTreesAreKept,
 
 use crate::laws::{calls_keep_trees, new_ones_are_trees, readings_move_a_time};
 use fs_tree::TreeFs;
-use fuse_server::laws::books::turns_keep_books;
 use laws_history::laws::{history_has_turns, history_keeps_books};
+use vfs_server::laws::books::turns_keep_books;
 
 /// Over any history of a server a tree stays one, whatever its clients ask, if its owner does nothing to it
 /// between requests but what leaves it one, with the lookups that are held. An INIT and a DESTROY take

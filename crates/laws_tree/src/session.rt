@@ -1,19 +1,19 @@
 //! A session with a tree, and what its books say of the tree.
 
 ghost use Rattle.std.specs.Prelude.{◌≡◌, length, vec_len};
-ghost use Rattle.fuse_server.specs.Session.{IsSession};
-ghost use Rattle.fs_trait.specs.Listing.{GivesFirst};
+ghost use Rattle.vfs_server.specs.Session.{IsSession};
+ghost use Rattle.vfs_files.specs.Listing.{GivesFirst};
 ghost use Rattle.fs_tree.specs.Tree.{TreeAllows};
 ghost use Rattle.laws_tree.specs.Laws.{IsTree};
 ghost use Rattle.laws_tree.specs.Runs.{KeepsTree, LeavesNone};
 
 use crate::history::histories_keep_trees;
 use fs_tree::TreeFs;
-use fuse_grammar::Result;
-use fuse_segments::{Reader, Writer};
-use fuse_server::server::Server;
 use laws_history::laws::sessions_are_histories;
 use std::alloc::Global;
+use vfs_grammar::Result;
+use vfs_segments::{Reader, Writer};
+use vfs_server::server::Server;
 
 /// Handles requests in order, as [`Server::handle_session`] does, with a tree.
 ///

@@ -1,13 +1,13 @@
 //! What the laws of a tree say to who makes calls of one.
 
 ghost use Rattle.std.specs.Prelude.{◌≡◌, ◌≢◌, ◌≤◌, ◌<◌, ℕ, List, [], ◌∷◌, Option, Some, None, true, false, length, IfSome, IsSome};
-ghost use Rattle.fs_trait.specs.Values.{Item};
-ghost use Rattle.fs_trait.specs.Calls.{Answer, Call, Destroy, Handed, Iterator, Plain};
-ghost use Rattle.fs_trait.specs.Listing.{GivesFirst};
-ghost use Rattle.fs_trait.specs.Runs.{Called, Event, IsRun};
-ghost use Rattle.fuse_grammar.specs.Books.{KeepsBooks};
-ghost use Rattle.fuse_grammar.specs.Turn.{Turn};
-ghost use Rattle.fuse_server.specs.Step.{ServerState};
+ghost use Rattle.vfs_files.specs.Values.{Item};
+ghost use Rattle.vfs_files.specs.Calls.{Answer, Call, Destroy, Handed, Iterator, Plain};
+ghost use Rattle.vfs_files.specs.Listing.{GivesFirst};
+ghost use Rattle.vfs_files.specs.Runs.{Called, Event, IsRun};
+ghost use Rattle.vfs_grammar.specs.Books.{KeepsBooks};
+ghost use Rattle.vfs_grammar.specs.Turn.{Turn};
+ghost use Rattle.vfs_server.specs.Step.{ServerState};
 ghost use Rattle.laws_history.specs.History.{Handled, IsHistory};
 ghost use Rattle.fs_nodes.specs.Children.{is_directory, is_file};
 ghost use Rattle.fs_nodes.specs.declared.node.Node.{Node};

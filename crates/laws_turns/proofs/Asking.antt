@@ -1,31 +1,31 @@
 -- Every case of what a request may ask, by its form.
 use Rattle.std.proofs.Common.{◌≡◌, ◌<◌, ◌+◌, ◌-◌, ◌*◌, ◌==◌, ℕ, Bool, true, false, List, length, take, drop, nat_lt, if◌then◌else◌, Option, Some, None, Result, Ok, Err, refl, arith}
 use Rattle.std.proofs.lemmas.Bool.Decides.{nat_tests}
-use Rattle.fuse_flags.specs.Numbers.{enomem, enosys, eproto, opcode_of}
-use Rattle.fuse_flags.specs.Flags.{init_ext, has_flag}
-use Rattle.fuse_flags.specs.declared.constants.TheConstants.{KERNEL_VERSION, MIN_KERNEL_MINOR_VERSION}
-use Rattle.fuse_flags.specs.declared.opcode.Opcode.{Opcode}
-use Rattle.fuse_wire.specs.Fields.{Table, bytes_of, value_of}
-use Rattle.fuse_wire.specs.Records.{in_header, out_header, init_in_compat, init_in_ext, init_out, forget_one}
-use Rattle.fuse_wire.specs.declared.headers.InHeader.{InHeader}
-use Rattle.fuse_wire.specs.declared.init.InitInCompat.{InitInCompat}
-use Rattle.fs_trait.specs.Calls.{Call}
-use Rattle.fs_trait.specs.Values.{name_of, first_name}
-use Rattle.fuse_grammar.specs.Limits.{max_len}
-use Rattle.fuse_grammar.specs.Records.{size_of, record_of}
-use Rattle.fuse_grammar.specs.Ask.{form_of, ask_number, ask}
-use Rattle.fuse_grammar.specs.Words.{ask_header, refused, silent}
-use Rattle.fuse_grammar.specs.Memory.{header_of}
-use Rattle.fuse_grammar.specs.FormParts.{second_or_refusal, both_or_refusal, sized_or_refusal, name_or_refusal, flags2_in}
-use Rattle.fuse_grammar.specs.Forms.{Ask, Ends, Asks, Lists, WithMemory, within, refused_or, tail_of, pairs_of, pairs_in, second_flags, ask_version, Layout, Without, Record, layout_record, Form, NoTail, NameTail, TwoNames, NameAndValue, NameAndExtensions, LinkAndExtensions, Pairs, WithRest, IntoRoom, Directories, Versions, Silent, NotServed, space_after_header, ask_form, extended_in, link_in_tail}
-use Rattle.fuse_grammar.specs.Listing.{Listing}
+use Rattle.vfs_flags.specs.Numbers.{enomem, enosys, eproto, opcode_of}
+use Rattle.vfs_flags.specs.Flags.{init_ext, has_flag}
+use Rattle.vfs_flags.specs.declared.constants.TheConstants.{KERNEL_VERSION, MIN_KERNEL_MINOR_VERSION}
+use Rattle.vfs_flags.specs.declared.opcode.Opcode.{Opcode}
+use Rattle.vfs_wire.specs.Fields.{Table, bytes_of, value_of}
+use Rattle.vfs_wire.specs.Records.{in_header, out_header, init_in_compat, init_in_ext, init_out, forget_one}
+use Rattle.vfs_wire.specs.declared.headers.InHeader.{InHeader}
+use Rattle.vfs_wire.specs.declared.init.InitInCompat.{InitInCompat}
+use Rattle.vfs_files.specs.Calls.{Call}
+use Rattle.vfs_files.specs.Values.{name_of, first_name}
+use Rattle.vfs_grammar.specs.Limits.{max_len}
+use Rattle.vfs_grammar.specs.Records.{size_of, record_of}
+use Rattle.vfs_grammar.specs.Ask.{form_of, ask_number, ask}
+use Rattle.vfs_grammar.specs.Words.{ask_header, refused, silent}
+use Rattle.vfs_grammar.specs.Memory.{header_of}
+use Rattle.vfs_grammar.specs.FormParts.{second_or_refusal, both_or_refusal, sized_or_refusal, name_or_refusal, flags2_in}
+use Rattle.vfs_grammar.specs.Forms.{Ask, Ends, Asks, Lists, WithMemory, within, refused_or, tail_of, pairs_of, pairs_in, second_flags, ask_version, Layout, Without, Record, layout_record, Form, NoTail, NameTail, TwoNames, NameAndValue, NameAndExtensions, LinkAndExtensions, Pairs, WithRest, IntoRoom, Directories, Versions, Silent, NotServed, space_after_header, ask_form, extended_in, link_in_tail}
+use Rattle.vfs_grammar.specs.Listing.{Listing}
 use Rattle.laws_turns.specs.Turns.{unique_of}
-use Rattle.fuse_grammar.specs.Books.{opcode_in}
-use Rattle.fuse_grammar.specs.Reply.{Bytes, Echo, fault_reply, body_reply, version_out}
-use Rattle.fuse_grammar.specs.declared.limits.Limits.{Limits}
-use Rattle.fuse_grammar.specs.declared.error.Error.{Error}
-use Rattle.fuse_grammar.specs.declared.error.Error.TheVariants.{DecodeMessage, EncodeMessage, MissingParameter, InvalidXattrSize, InvalidCString, InvalidHeaderLength}
-use Rattle.fuse_grammar.proofs.Refusing.{MayRefuse, either, IsRefused, of_extended, of_link}
+use Rattle.vfs_grammar.specs.Books.{opcode_in}
+use Rattle.vfs_grammar.specs.Reply.{Bytes, Echo, fault_reply, body_reply, version_out}
+use Rattle.vfs_grammar.specs.declared.limits.Limits.{Limits}
+use Rattle.vfs_grammar.specs.declared.error.Error.{Error}
+use Rattle.vfs_grammar.specs.declared.error.Error.TheVariants.{DecodeMessage, EncodeMessage, MissingParameter, InvalidXattrSize, InvalidCString, InvalidHeaderLength}
+use Rattle.vfs_grammar.proofs.Refusing.{MayRefuse, either, IsRefused, of_extended, of_link}
 
 -- a request of this form carries data, and its room is too small for the header of their reply
 abbrev pub IsCramped : Form → Type 0

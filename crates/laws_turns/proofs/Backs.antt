@@ -1,16 +1,16 @@
 -- Entries that are given back: as many forgets are sent as the answer has entries.
 use Rattle.std.proofs.Common.{◌≡◌, ◌≢◌, ◌≤◌, ℕ, nat_eq, Bool, true, false, if◌then◌else◌, List, [], ◌∷◌, length, Option, Some, None, refl, ap, sym, ◌∙◌, arith, zero-add}
 use Rattle.std.proofs.lemmas.Bool.Decides.{nat_tests}
-use Rattle.fs_trait.specs.declared.entry.Context.{Context}
-use Rattle.fs_trait.specs.Answers.{Kind, Quiet, Entries, Creations, Answer, Found, Created, IsAnswer}
-use Rattle.fs_trait.specs.Calls.{Call, Lookup, Symlink, Mknod, Mkdir, Link, Create, kind_of}
-use Rattle.fs_trait.specs.Runs.{Event, Called}
-use Rattle.fuse_grammar.specs.Listing.{given_back}
-use Rattle.fuse_grammar.specs.Reply.{Reply}
-use Rattle.fuse_grammar.specs.Room.{unseen}
-use Rattle.fuse_grammar.specs.Turn.{node_answered}
-use Rattle.fuse_grammar.specs.Words.{counted}
-use Rattle.fuse_grammar.specs.Books.{times, forgotten, entry_node, answered_nodes, forgets_of, answered, sent}
+use Rattle.vfs_files.specs.declared.entry.Context.{Context}
+use Rattle.vfs_files.specs.Answers.{Kind, Quiet, Entries, Creations, Answer, Found, Created, IsAnswer}
+use Rattle.vfs_files.specs.Calls.{Call, Lookup, Symlink, Mknod, Mkdir, Link, Create, kind_of}
+use Rattle.vfs_files.specs.Runs.{Event, Called}
+use Rattle.vfs_grammar.specs.Listing.{given_back}
+use Rattle.vfs_grammar.specs.Reply.{Reply}
+use Rattle.vfs_grammar.specs.Room.{unseen}
+use Rattle.vfs_grammar.specs.Turn.{node_answered}
+use Rattle.vfs_grammar.specs.Words.{counted}
+use Rattle.vfs_grammar.specs.Books.{times, forgotten, entry_node, answered_nodes, forgets_of, answered, sent}
 use Rattle.laws_turns.proofs.ListedNodes.{no_node}
 use Rattle.laws_turns.proofs.Replying.{LastOnly, one_event}
 use Rattle.laws_turns.proofs.Saying.{AreForgets}

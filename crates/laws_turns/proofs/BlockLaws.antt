@@ -3,15 +3,15 @@ use Rattle.std.proofs.Common.{◌≡◌, ◌+◌, ◌-◌, ◌^◌, ◌<◌, ℕ
 use Rattle.std.specs.Prelude.{nat_lt}
 use Rattle.std.proofs.lemmas.Bool.{le-ltb}
 use Rattle.std.proofs.lemmas.List.{drop_at, take_at}
-use Rattle.fuse_wire.specs.Fields.{value_of, bytes_of}
-use Rattle.fuse_wire.specs.FieldLaws.{value_of-bytes_of-then, value_of-take, length-bytes_of}
-use Rattle.fuse_wire.specs.Records.{ext_header}
-use Rattle.fuse_wire.specs.declared.extensions.ExtHeader.{ExtHeader}
-use Rattle.fuse_grammar.specs.Extensions.{Block, block_in, error_or}
-use Rattle.fuse_grammar.specs.Words.{block_size}
+use Rattle.vfs_wire.specs.Fields.{value_of, bytes_of}
+use Rattle.vfs_wire.specs.FieldLaws.{value_of-bytes_of-then, value_of-take, length-bytes_of}
+use Rattle.vfs_wire.specs.Records.{ext_header}
+use Rattle.vfs_wire.specs.declared.extensions.ExtHeader.{ExtHeader}
+use Rattle.vfs_grammar.specs.Extensions.{Block, block_in, error_or}
+use Rattle.vfs_grammar.specs.Words.{block_size}
 use Rattle.laws_turns.specs.Extensions.{IsBlock, block_bytes}
-use Rattle.fuse_grammar.specs.declared.error.Error.{Error}
-use Rattle.fuse_grammar.specs.declared.error.Error.TheVariants.{DecodeMessage, InvalidHeaderLength}
+use Rattle.vfs_grammar.specs.declared.error.Error.{Error}
+use Rattle.vfs_grammar.specs.declared.error.Error.TheVariants.{DecodeMessage, InvalidHeaderLength}
 
 -- two tests of a part that let it pass
 error_or-pass : {R : Type 0} (a : Bool) (b c : R → Bool) (r : R) (e f g : Error) (make : R → Block)

@@ -2,20 +2,20 @@
 -- with its header.
 use Rattle.std.proofs.Common.{◌≡◌, ◌≤◌, ◌+◌, ◌-◌, ◌^◌, ◌<◌, ◌++◌, ℕ, ℤ, List, length, take, Option, pos, ◌-ℤ◌, ap, sym, ◌∙◌, arith, length-append}
 use Rattle.std.proofs.lemmas.List.{take_all, take_at}
-use Rattle.fuse_wire.specs.Fields.{bytes_of}
-use Rattle.fuse_wire.specs.Records.{out_header, attr_out, entry_out, kstatfs, init_out, kstatfs_of}
-use Rattle.fuse_wire.specs.declared.headers.OutHeader.{OutHeader}
-use Rattle.fuse_wire.specs.FieldLaws.{length-little, length-bytes_of}
-use Rattle.fuse_wire_more.specs.Records.{open_out, write_out, getxattr_out}
-use Rattle.fuse_wire.specs.declared.init.InitOut.{InitOut}
-use Rattle.fs_trait.specs.Answers.{Kind, Quiet, Untold, Data, Agreements, Entries, TimedAttributes, Openings, Creations, Capacities, Texts, TextsOrCounts, Offsets, Writes, IsAnswer, Answer, Done, Failed, Options, Found, Put, Attributes, Opened, Created, Statistics, Text, Count, Offset, Wrote}
-use Rattle.fs_trait.specs.Values.{entry_out_of}
-use Rattle.fs_trait.specs.declared.entry.Entry.{Entry}
-use Rattle.fuse_grammar.specs.Reply.{Reply, NoReply, Bytes, OpenAfter, Echo, body_of, answer_reply, reply_of, fault_reply, body_reply, init_out_of, open_out_of}
-use Rattle.fuse_grammar.specs.Words.{fault_number, attr_out_of, getxattr_out_of, write_out_of}
-use Rattle.fuse_grammar.specs.Records.{size_of}
-use Rattle.fuse_grammar.specs.declared.limits.Limits.{Limits}
-use Rattle.fuse_grammar.proofs.Rooms.{length-header, length-fault_reply, length-body_reply}
+use Rattle.vfs_wire.specs.Fields.{bytes_of}
+use Rattle.vfs_wire.specs.Records.{out_header, attr_out, entry_out, kstatfs, init_out, kstatfs_of}
+use Rattle.vfs_wire.specs.declared.headers.OutHeader.{OutHeader}
+use Rattle.vfs_wire.specs.FieldLaws.{length-little, length-bytes_of}
+use Rattle.vfs_wire_more.specs.Records.{open_out, write_out, getxattr_out}
+use Rattle.vfs_wire.specs.declared.init.InitOut.{InitOut}
+use Rattle.vfs_files.specs.Answers.{Kind, Quiet, Untold, Data, Agreements, Entries, TimedAttributes, Openings, Creations, Capacities, Texts, TextsOrCounts, Offsets, Writes, IsAnswer, Answer, Done, Failed, Options, Found, Put, Attributes, Opened, Created, Statistics, Text, Count, Offset, Wrote}
+use Rattle.vfs_files.specs.Values.{entry_out_of}
+use Rattle.vfs_files.specs.declared.entry.Entry.{Entry}
+use Rattle.vfs_grammar.specs.Reply.{Reply, NoReply, Bytes, OpenAfter, Echo, body_of, answer_reply, reply_of, fault_reply, body_reply, init_out_of, open_out_of}
+use Rattle.vfs_grammar.specs.Words.{fault_number, attr_out_of, getxattr_out_of, write_out_of}
+use Rattle.vfs_grammar.specs.Records.{size_of}
+use Rattle.vfs_grammar.specs.declared.limits.Limits.{Limits}
+use Rattle.vfs_grammar.proofs.Rooms.{length-header, length-fault_reply, length-body_reply}
 
 -- a body that a header can say, with the header in front of it
 abbrev pub IsShort : (body : List ℕ) → Type 0

@@ -2,17 +2,17 @@
 use Rattle.std.proofs.Common.{◌≡◌, ◌≤◌, ◌+◌, ℕ, zero, suc, List, [], ◌∷◌, ◌++◌, Option, Some, Result, Ok, take, refl, ap, ◌∙◌, arith}
 use Rattle.std.proofs.lemmas.List.{take_all}
 use Rattle.std.proofs.lemmas.List.Sums.{sum_by-cons}
-use Rattle.fuse_flags.specs.Numbers.{opcode_of}
-use Rattle.fuse_flags.specs.declared.opcode.Opcode.{Opcode}
-use Rattle.fuse_wire.specs.Fields.{number}
-use Rattle.fs_trait.specs.Calls.{Call, Found}
-use Rattle.fs_trait.specs.Runs.{Called}
-use Rattle.fs_trait.specs.declared.entry.Entry.{Entry}
-use Rattle.fuse_grammar.specs.Words.{u64_at, GivesBackWithin}
-use Rattle.fuse_grammar.specs.Turn.{Turn}
-use Rattle.fuse_grammar.specs.declared.error.Error.{Error}
-use Rattle.fuse_grammar.specs.Books.{times, opcode_in, nodes_after, delivered, delivered_by, accepted, accepted_by, answered, sent}
-use Rattle.fuse_grammar.specs.Samples.{reply_of_node_5, batch_of_two}
+use Rattle.vfs_flags.specs.Numbers.{opcode_of}
+use Rattle.vfs_flags.specs.declared.opcode.Opcode.{Opcode}
+use Rattle.vfs_wire.specs.Fields.{number}
+use Rattle.vfs_files.specs.Calls.{Call, Found}
+use Rattle.vfs_files.specs.Runs.{Called}
+use Rattle.vfs_files.specs.declared.entry.Entry.{Entry}
+use Rattle.vfs_grammar.specs.Words.{u64_at, GivesBackWithin}
+use Rattle.vfs_grammar.specs.Turn.{Turn}
+use Rattle.vfs_grammar.specs.declared.error.Error.{Error}
+use Rattle.vfs_grammar.specs.Books.{times, opcode_in, nodes_after, delivered, delivered_by, accepted, accepted_by, answered, sent}
+use Rattle.vfs_grammar.specs.Samples.{reply_of_node_5, batch_of_two}
 
 -- the books of a node balance over one turn
 abbrev Balances : (n : ℕ) → Turn → Type 0

@@ -1,19 +1,19 @@
 -- The books held against turns written out: each sum, computed.
 use Rattle.std.proofs.Common.{◌-◌, length, take, ◌≡◌, ◌+◌, ◌/◌, ◌%◌, ℕ, List, [], ◌∷◌, ◌++◌, replicate, false, Option, Some, None, Result, Ok, Err, sum_by, refl, pos}
-use Rattle.fuse_flags.specs.Numbers.{opcode_of}
-use Rattle.fuse_wire.specs.Fields.{number, value_of}
-use Rattle.fuse_wire.specs.Records.{attr}
-use Rattle.fs_trait.specs.declared.entry.Context.{Context}
-use Rattle.fs_trait.specs.declared.entry.Entry.{Entry}
-use Rattle.fs_trait.specs.Values.{ExtensionValues, Item}
-use Rattle.fs_trait.specs.Calls.{Found, Created, Done, Text}
-use Rattle.fs_trait.specs.Calls as call
-use Rattle.fs_trait.specs.Runs.{Event, Called, OpenedDirectory, Taken}
-use Rattle.fuse_grammar.specs.Listing.{given_back}
-use Rattle.fuse_grammar.specs.Turn.{Turn, events_in}
-use Rattle.fuse_grammar.specs.declared.error.Error.{Error}
-use Rattle.fuse_grammar.specs.declared.error.Error.TheVariants.{DecodeMessage, EncodeMessage}
-use Rattle.fuse_grammar.specs.Books.{answered, sent, delivered, accepted}
+use Rattle.vfs_flags.specs.Numbers.{opcode_of}
+use Rattle.vfs_wire.specs.Fields.{number, value_of}
+use Rattle.vfs_wire.specs.Records.{attr}
+use Rattle.vfs_files.specs.declared.entry.Context.{Context}
+use Rattle.vfs_files.specs.declared.entry.Entry.{Entry}
+use Rattle.vfs_files.specs.Values.{ExtensionValues, Item}
+use Rattle.vfs_files.specs.Calls.{Found, Created, Done, Text}
+use Rattle.vfs_files.specs.Calls as call
+use Rattle.vfs_files.specs.Runs.{Event, Called, OpenedDirectory, Taken}
+use Rattle.vfs_grammar.specs.Listing.{given_back}
+use Rattle.vfs_grammar.specs.Turn.{Turn, events_in}
+use Rattle.vfs_grammar.specs.declared.error.Error.{Error}
+use Rattle.vfs_grammar.specs.declared.error.Error.TheVariants.{DecodeMessage, EncodeMessage}
+use Rattle.vfs_grammar.specs.Books.{answered, sent, delivered, accepted}
 
 -- four bytes of a number, the lowest first
 abbrev four : ℕ → List ℕ

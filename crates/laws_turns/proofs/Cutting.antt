@@ -1,28 +1,28 @@
 -- Replies that don't fit: the room holds the beginning of what the grammar gives.
 use Rattle.std.proofs.Common.{◌≡◌, ◌<◌, ℕ, Bool, true, false, List, [], ◌++◌, length, take, drop, nat_le, if◌then◌else◌, Option, Some, None, Result, Ok, Err, refl, sym, ◌∙◌, inl, inr, ◌⊎◌, arith, subst}
 use Rattle.std.proofs.lemmas.Bool.Decides.{nat_tests}
-use Rattle.fuse_flags.specs.declared.opcode.Opcode.{Opcode}
-use Rattle.fuse_flags.specs.declared.opcode.Opcode.TheVariants.{Read, Readdir, Readdirplus}
-use Rattle.fuse_wire.specs.Fields.{bytes_of}
-use Rattle.fuse_wire.specs.Records.{out_header, init_out}
-use Rattle.fuse_wire.specs.declared.headers.InHeader.{InHeader}
-use Rattle.fs_trait.specs.Calls.{Kind, Answer, IsAnswer, Data, kind_of, read_answer}
-use Rattle.fuse_grammar.specs.Ask.{form_of, ask}
-use Rattle.fuse_grammar.specs.Memory.{header_of}
-use Rattle.fuse_grammar.specs.Forms.{Ask}
+use Rattle.vfs_flags.specs.declared.opcode.Opcode.{Opcode}
+use Rattle.vfs_flags.specs.declared.opcode.Opcode.TheVariants.{Read, Readdir, Readdirplus}
+use Rattle.vfs_wire.specs.Fields.{bytes_of}
+use Rattle.vfs_wire.specs.Records.{out_header, init_out}
+use Rattle.vfs_wire.specs.declared.headers.InHeader.{InHeader}
+use Rattle.vfs_files.specs.Calls.{Kind, Answer, IsAnswer, Data, kind_of, read_answer}
+use Rattle.vfs_grammar.specs.Ask.{form_of, ask}
+use Rattle.vfs_grammar.specs.Memory.{header_of}
+use Rattle.vfs_grammar.specs.Forms.{Ask}
 use Rattle.laws_turns.specs.Turns.{unique_of, CarriesData, IsCutOff, CutsOff, cut_turn_tells, LacksRoomForHeader}
-use Rattle.fuse_grammar.specs.Books.{opcode_in}
-use Rattle.fuse_grammar.specs.Records.{size_of}
-use Rattle.fuse_grammar.specs.Reply.{Bytes, Refusal, Echo, fault_reply, body_reply, reply_of, version_out}
-use Rattle.fuse_grammar.specs.Room.{IsReplied}
-use Rattle.fuse_grammar.specs.Turn.{Turn, Follows, IsTurn}
-use Rattle.fuse_grammar.specs.Witnesses.{FollowsFor}
-use Rattle.fuse_grammar.specs.declared.limits.Limits.{Limits}
-use Rattle.fuse_grammar.specs.declared.error.Error.{Error}
-use Rattle.fuse_grammar.specs.declared.error.Error.TheVariants.{EncodeMessage, OutOfMemory}
+use Rattle.vfs_grammar.specs.Books.{opcode_in}
+use Rattle.vfs_grammar.specs.Records.{size_of}
+use Rattle.vfs_grammar.specs.Reply.{Bytes, Refusal, Echo, fault_reply, body_reply, reply_of, version_out}
+use Rattle.vfs_grammar.specs.Room.{IsReplied}
+use Rattle.vfs_grammar.specs.Turn.{Turn, Follows, IsTurn}
+use Rattle.vfs_grammar.specs.Witnesses.{FollowsFor}
+use Rattle.vfs_grammar.specs.declared.limits.Limits.{Limits}
+use Rattle.vfs_grammar.specs.declared.error.Error.{Error}
+use Rattle.vfs_grammar.specs.declared.error.Error.TheVariants.{EncodeMessage, OutOfMemory}
 use Rattle.laws_turns.proofs.Bodies.{replies_hold}
 use Rattle.laws_turns.proofs.Asking.{IsCramped, IsCrampedBy, ask_cases}
-use Rattle.fuse_grammar.proofs.Refusing.{MayRefuse}
+use Rattle.vfs_grammar.proofs.Refusing.{MayRefuse}
 
 put_cut : (fits : Bool) (reply room room_after : List ℕ) → nat_le (length reply) (length room) ≡ fits
     → (if fits then Ok (length reply) else Err EncodeMessage) ≡ Err EncodeMessage

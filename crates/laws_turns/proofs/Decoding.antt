@@ -7,16 +7,16 @@ use Rattle.std.proofs.Math.Facts.{Fits-of_z}
 use Rattle.std.proofs.Math.IntN.{+ℤ_idl, pos-ne-negsuc}
 use mir.Val.{SFits}
 use Rattle.std.specs.Int.{w32, cast_signed, cast_unsigned}
-use Rattle.fuse_flags.specs.declared.opcode.Opcode.{Opcode}
-use Rattle.fuse_wire.specs.Fields.{little, number, bytes_of}
-use Rattle.fuse_wire.specs.FieldLaws.{length-little, number-little}
-use Rattle.fuse_wire.specs.Records.{out_header}
-use Rattle.fuse_wire.specs.declared.headers.OutHeader.{OutHeader}
-use Rattle.fuse_grammar.specs.Forms.{pairs_of}
-use Rattle.fuse_grammar.specs.Reply.{body_reply, fault_reply}
-use Rattle.fuse_grammar.specs.Words.{fault_number, u32_at, u64_at, pairs_at}
-use Rattle.fuse_grammar.proofs.Rooms.{length-header}
-use Rattle.fuse_grammar.specs.Books.{nodes_after, delivered_nodes}
+use Rattle.vfs_flags.specs.declared.opcode.Opcode.{Opcode}
+use Rattle.vfs_wire.specs.Fields.{little, number, bytes_of}
+use Rattle.vfs_wire.specs.FieldLaws.{length-little, number-little}
+use Rattle.vfs_wire.specs.Records.{out_header}
+use Rattle.vfs_wire.specs.declared.headers.OutHeader.{OutHeader}
+use Rattle.vfs_grammar.specs.Forms.{pairs_of}
+use Rattle.vfs_grammar.specs.Reply.{body_reply, fault_reply}
+use Rattle.vfs_grammar.specs.Words.{fault_number, u32_at, u64_at, pairs_at}
+use Rattle.vfs_grammar.proofs.Rooms.{length-header}
+use Rattle.vfs_grammar.specs.Books.{nodes_after, delivered_nodes}
 
 -- ---- headers
 

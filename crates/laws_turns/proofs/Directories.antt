@@ -1,17 +1,17 @@
 -- What holds of every turn that reads a directory.
 use Rattle.std.proofs.Common.{◌≡◌, ℕ, List, length, Option, Result, Ok, Err, sym, ◌∙◌, inl, inr, arith, subst}
-use Rattle.fs_trait.specs.Calls.{Data, read_answer}
-use Rattle.fuse_grammar.specs.Directories.{IsWhole, listing_reply, StopsForACause, ComesWhole, TakesFew}
-use Rattle.fuse_grammar.specs.Listing.{IsListing, Listing}
+use Rattle.vfs_files.specs.Calls.{Data, read_answer}
+use Rattle.vfs_grammar.specs.Directories.{IsWhole, listing_reply, StopsForACause, ComesWhole, TakesFew}
+use Rattle.vfs_grammar.specs.Listing.{IsListing, Listing}
 use Rattle.laws_turns.proofs.Takings.{listing_whole, takings_bounded}
-use Rattle.fuse_grammar.specs.Ask.{ask}
-use Rattle.fuse_grammar.specs.Forms.{Lists}
-use Rattle.fuse_grammar.specs.Reply.{Echo}
-use Rattle.fuse_grammar.specs.Words.{reply_to, IsRead}
-use Rattle.fuse_grammar.specs.Room.{IsReplied, IsPutOpen}
-use Rattle.fuse_grammar.specs.Turn.{Turn, Follows, IsTurn}
-use Rattle.fuse_grammar.specs.declared.limits.Limits.{Limits}
-use Rattle.fuse_grammar.specs.declared.error.Error.{Error}
+use Rattle.vfs_grammar.specs.Ask.{ask}
+use Rattle.vfs_grammar.specs.Forms.{Lists}
+use Rattle.vfs_grammar.specs.Reply.{Echo}
+use Rattle.vfs_grammar.specs.Words.{reply_to, IsRead}
+use Rattle.vfs_grammar.specs.Room.{IsReplied, IsPutOpen}
+use Rattle.vfs_grammar.specs.Turn.{Turn, Follows, IsTurn}
+use Rattle.vfs_grammar.specs.declared.limits.Limits.{Limits}
+use Rattle.vfs_grammar.specs.declared.error.Error.{Error}
 
 replied_so : (unique size : ℕ) (answer : Result ℕ (Option ℕ)) (records room : List ℕ) (outcome : Result ℕ Error) (room_after : List ℕ)
     → IsReplied (reply_to unique (Data size) (read_answer answer records)) room outcome room_after

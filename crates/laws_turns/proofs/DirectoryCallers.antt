@@ -1,21 +1,21 @@
 -- What small callers cite of directories: what their requests ask, and what came back of them.
 use Rattle.std.proofs.Common.{◌≡◌, ◌≤◌, ◌+◌, ◌/◌, ℕ, Bool, true, false, List, [], ◌∷◌, Option, Some, None, Result, Ok, length, take, refl, ap, ◌∙◌, arith, subst}
-use Rattle.fuse_flags.specs.Numbers.{opcode_of}
-use Rattle.fuse_wire.specs.Fields.{little, number}
-use Rattle.fs_trait.specs.Calls.{Call, Readdir, Answer, Failed}
-use Rattle.fs_trait.specs.Values.{Item}
-use Rattle.fs_trait.specs.Runs.{Event, Called, OpenedDirectory, Taken}
-use Rattle.fuse_grammar.specs.Directories.{takings, IsWhole, listing_reply}
-use Rattle.fuse_grammar.specs.Listing.{Listing}
-use Rattle.fuse_grammar.specs.Words.{IsDirectoryOf}
-use Rattle.fuse_grammar.specs.Samples.{file_a, nobody, reply_of_one_file, refused_reply, request_for_data}
+use Rattle.vfs_flags.specs.Numbers.{opcode_of}
+use Rattle.vfs_wire.specs.Fields.{little, number}
+use Rattle.vfs_files.specs.Calls.{Call, Readdir, Answer, Failed}
+use Rattle.vfs_files.specs.Values.{Item}
+use Rattle.vfs_files.specs.Runs.{Event, Called, OpenedDirectory, Taken}
+use Rattle.vfs_grammar.specs.Directories.{takings, IsWhole, listing_reply}
+use Rattle.vfs_grammar.specs.Listing.{Listing}
+use Rattle.vfs_grammar.specs.Words.{IsDirectoryOf}
+use Rattle.vfs_grammar.specs.Samples.{file_a, nobody, reply_of_one_file, refused_reply, request_for_data}
 use Rattle.laws_turns.proofs.Lines.{one_file, refused_is}
-use Rattle.fuse_grammar.specs.Ask.{ask}
-use Rattle.fuse_grammar.specs.Forms.{Ask, Lists}
-use Rattle.fuse_grammar.specs.Limits.{default_limits}
-use Rattle.fuse_grammar.specs.Reply.{Echo, body_reply}
-use Rattle.fuse_grammar.specs.Room.{IsPutOpen}
-use Rattle.fuse_grammar.specs.declared.error.Error.{Error}
+use Rattle.vfs_grammar.specs.Ask.{ask}
+use Rattle.vfs_grammar.specs.Forms.{Ask, Lists}
+use Rattle.vfs_grammar.specs.Limits.{default_limits}
+use Rattle.vfs_grammar.specs.Reply.{Echo, body_reply}
+use Rattle.vfs_grammar.specs.Room.{IsPutOpen}
+use Rattle.vfs_grammar.specs.declared.error.Error.{Error}
 
 -- what the replies repeat
 abbrev pub echo : Echo

@@ -4,32 +4,32 @@ use Rattle.std.specs.Int.{bit_at}
 use Rattle.std.proofs.lemmas.List.{take-append-le, take-take}
 use Rattle.std.proofs.lemmas.Nat.Bits.{bit_at_and, bit_at_or}
 use Rattle.std.proofs.lemmas.Bool.Decides.{nat_tests}
-use Rattle.fuse_flags.specs.Numbers.{enomem, enosys, opcode_of}
-use Rattle.fuse_flags.specs.Flags.{supported_fs_options}
-use Rattle.fuse_flags.specs.declared.opcode.Opcode.{Opcode}
-use Rattle.fuse_wire.specs.Fields.{bytes_of, value_of}
-use Rattle.fuse_wire.specs.Records.{in_header, out_header, init_out}
-use Rattle.fuse_wire.specs.declared.headers.InHeader.{InHeader}
-use Rattle.fs_trait.specs.Calls.{Call, Kind, Init, Destroy, Readdir, Answer, Failed, Options, Data, Iterators, kind_of, read_answer, IsAnswer, IsFault}
-use Rattle.fs_trait.specs.Runs.{Event, Called}
-use Rattle.fs_trait.specs.declared.entry.Context.{Context}
-use Rattle.fuse_grammar.specs.Listing.{given_back, Listing}
-use Rattle.fuse_grammar.specs.Limits.{max_len}
-use Rattle.fuse_grammar.specs.Records.{size_of}
-use Rattle.fuse_grammar.specs.Ask.{form_of, ask, ask_number}
-use Rattle.fuse_grammar.specs.Forms.{Ask, Ends, Asks, Lists, WithMemory, Form, NoTail, NameTail, TwoNames, NameAndValue, NameAndExtensions, LinkAndExtensions, Pairs, WithRest, IntoRoom, Directories, Versions, Silent, NotServed, Layout, refused_or, layout_record, layout_size, tail_of, ask_form}
-use Rattle.fuse_grammar.specs.Words.{following, refused, IsRead}
+use Rattle.vfs_flags.specs.Numbers.{enomem, enosys, opcode_of}
+use Rattle.vfs_flags.specs.Flags.{supported_fs_options}
+use Rattle.vfs_flags.specs.declared.opcode.Opcode.{Opcode}
+use Rattle.vfs_wire.specs.Fields.{bytes_of, value_of}
+use Rattle.vfs_wire.specs.Records.{in_header, out_header, init_out}
+use Rattle.vfs_wire.specs.declared.headers.InHeader.{InHeader}
+use Rattle.vfs_files.specs.Calls.{Call, Kind, Init, Destroy, Readdir, Answer, Failed, Options, Data, Iterators, kind_of, read_answer, IsAnswer, IsFault}
+use Rattle.vfs_files.specs.Runs.{Event, Called}
+use Rattle.vfs_files.specs.declared.entry.Context.{Context}
+use Rattle.vfs_grammar.specs.Listing.{given_back, Listing}
+use Rattle.vfs_grammar.specs.Limits.{max_len}
+use Rattle.vfs_grammar.specs.Records.{size_of}
+use Rattle.vfs_grammar.specs.Ask.{form_of, ask, ask_number}
+use Rattle.vfs_grammar.specs.Forms.{Ask, Ends, Asks, Lists, WithMemory, Form, NoTail, NameTail, TwoNames, NameAndValue, NameAndExtensions, LinkAndExtensions, Pairs, WithRest, IntoRoom, Directories, Versions, Silent, NotServed, Layout, refused_or, layout_record, layout_size, tail_of, ask_form}
+use Rattle.vfs_grammar.specs.Words.{following, refused, IsRead}
 use Rattle.laws_turns.specs.Turns.{TailIsWhole, HasWhole, unique_of, BeginsWithHeader, WantsMemory, WantsMemoryAfter}
-use Rattle.fuse_grammar.specs.Options.{AreAgreed, agreed, options_after}
-use Rattle.fuse_grammar.specs.Reply.{Reply, Echo, echo_of, Refusal, NoReply, Bytes, OpenAfter, fault_reply, body_reply, reply_of, version_out}
-use Rattle.fuse_grammar.specs.Room.{IsReplied, unseen}
-use Rattle.fuse_grammar.specs.Turn.{Turn, Follows, IsTurn, node_answered}
-use Rattle.fuse_grammar.specs.Witnesses.{IsTurnWithMemory, turn_with_memory_tells, FollowsFor}
-use Rattle.fuse_grammar.specs.declared.limits.Limits.{Limits}
-use Rattle.fuse_grammar.specs.declared.error.Error.{Error}
-use Rattle.fuse_grammar.specs.declared.error.Error.TheVariants.{DecodeMessage, EncodeMessage, FlushMessage, InvalidCString2, OutOfMemory}
+use Rattle.vfs_grammar.specs.Options.{AreAgreed, agreed, options_after}
+use Rattle.vfs_grammar.specs.Reply.{Reply, Echo, echo_of, Refusal, NoReply, Bytes, OpenAfter, fault_reply, body_reply, reply_of, version_out}
+use Rattle.vfs_grammar.specs.Room.{IsReplied, unseen}
+use Rattle.vfs_grammar.specs.Turn.{Turn, Follows, IsTurn, node_answered}
+use Rattle.vfs_grammar.specs.Witnesses.{IsTurnWithMemory, turn_with_memory_tells, FollowsFor}
+use Rattle.vfs_grammar.specs.declared.limits.Limits.{Limits}
+use Rattle.vfs_grammar.specs.declared.error.Error.{Error}
+use Rattle.vfs_grammar.specs.declared.error.Error.TheVariants.{DecodeMessage, EncodeMessage, FlushMessage, InvalidCString2, OutOfMemory}
 use Rattle.laws_turns.proofs.Asking.{EachCase, ask_cases, layout_cases, tail_cases, pairs_cases, room_cases, within_cases, versions_cases}
-use Rattle.fuse_grammar.proofs.Refusing.{MayRefuse}
+use Rattle.vfs_grammar.proofs.Refusing.{MayRefuse}
 use Rattle.laws_turns.proofs.Bodies.{IsReply, IsReply-fault, IsReply-body, init_out_is_short, replies_hold}
 
 -- ---- refusals

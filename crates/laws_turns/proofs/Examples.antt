@@ -1,26 +1,26 @@
 -- The definitions held against examples: what these bytes ask, and what these replies are, computed.
 use Rattle.std.proofs.Common.{◌≡◌, ◌+◌, ◌/◌, ◌%◌, ◌^◌, ℕ, Bool, List, [], ◌∷◌, ◌++◌, take, replicate, true, false, Some, None, Ok, Err, refl, pos, negsuc}
-use Rattle.fuse_flags.specs.Numbers.{opcode_of}
-use Rattle.fuse_flags.specs.declared.constants.TheConstants.{GREATEST_MAX_BUFFER}
-use Rattle.fuse_wire.specs.Fields.{number, little, value_of}
-use Rattle.fuse_wire.specs.Records.{attr, setattr_in}
-use Rattle.fuse_wire.specs.declared.attributes.Attr.{Attr}
-use Rattle.fuse_wire.specs.declared.stat.Statvfs64.{Statvfs64}
-use Rattle.fs_trait.specs.declared.entry.Context.{Context}
-use Rattle.fs_trait.specs.declared.entry.Entry.{Entry}
-use Rattle.fs_trait.specs.Calls as call
-use Rattle.fs_trait.specs.Answers.{Done, Failed, Options, Found, Attributes, Put, Opened, Created, Statistics, Text, Count, Offset, Wrote, Agreements, Data, Entries, Told, Untold, TimedAttributes, Openings, Creations, Capacities, Texts, TextsOrCounts, Offsets, Writes, Faults}
-use Rattle.fuse_grammar.specs.Ask.{ask}
-use Rattle.fuse_grammar.specs.Extensions.{extensions_in, cut_of, no_extensions}
-use Rattle.fuse_grammar.specs.Forms.{Ask, Ends, Asks, Lists, WithMemory}
-use Rattle.fuse_grammar.specs.Words.{refused, silent, put_outcome, put_room}
-use Rattle.fuse_grammar.specs.declared.limits.Limits.{Limits}
-use Rattle.fuse_grammar.specs.Limits.{default_limits}
-use Rattle.fuse_grammar.specs.Options.{agreed, options_after}
-use Rattle.fuse_grammar.specs.Reply.{Bytes, OpenAfter, NoReply, Echo, reply_of}
-use Rattle.fuse_grammar.specs.Room.{unseen}
-use Rattle.fuse_grammar.specs.Turn.{node_answered}
-use Rattle.fuse_grammar.specs.declared.error.Error.TheVariants.{DecodeMessage, EncodeMessage, InvalidCString, InvalidHeaderLength, InvalidXattrSize, MissingExtension, MissingParameter}
+use Rattle.vfs_flags.specs.Numbers.{opcode_of}
+use Rattle.vfs_flags.specs.declared.constants.TheConstants.{GREATEST_MAX_BUFFER}
+use Rattle.vfs_wire.specs.Fields.{number, little, value_of}
+use Rattle.vfs_wire.specs.Records.{attr, setattr_in}
+use Rattle.vfs_wire.specs.declared.attributes.Attr.{Attr}
+use Rattle.vfs_wire.specs.declared.stat.Statvfs64.{Statvfs64}
+use Rattle.vfs_files.specs.declared.entry.Context.{Context}
+use Rattle.vfs_files.specs.declared.entry.Entry.{Entry}
+use Rattle.vfs_files.specs.Calls as call
+use Rattle.vfs_files.specs.Answers.{Done, Failed, Options, Found, Attributes, Put, Opened, Created, Statistics, Text, Count, Offset, Wrote, Agreements, Data, Entries, Told, Untold, TimedAttributes, Openings, Creations, Capacities, Texts, TextsOrCounts, Offsets, Writes, Faults}
+use Rattle.vfs_grammar.specs.Ask.{ask}
+use Rattle.vfs_grammar.specs.Extensions.{extensions_in, cut_of, no_extensions}
+use Rattle.vfs_grammar.specs.Forms.{Ask, Ends, Asks, Lists, WithMemory}
+use Rattle.vfs_grammar.specs.Words.{refused, silent, put_outcome, put_room}
+use Rattle.vfs_grammar.specs.declared.limits.Limits.{Limits}
+use Rattle.vfs_grammar.specs.Limits.{default_limits}
+use Rattle.vfs_grammar.specs.Options.{agreed, options_after}
+use Rattle.vfs_grammar.specs.Reply.{Bytes, OpenAfter, NoReply, Echo, reply_of}
+use Rattle.vfs_grammar.specs.Room.{unseen}
+use Rattle.vfs_grammar.specs.Turn.{node_answered}
+use Rattle.vfs_grammar.specs.declared.error.Error.TheVariants.{DecodeMessage, EncodeMessage, InvalidCString, InvalidHeaderLength, InvalidXattrSize, MissingExtension, MissingParameter}
 
 -- four bytes of a number, the lowest first
 abbrev four : ℕ → List ℕ

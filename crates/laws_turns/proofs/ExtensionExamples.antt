@@ -1,10 +1,10 @@
 -- Extensions held against examples: what these bytes are, computed.
 use Rattle.std.proofs.Common.{◌≡◌, ◌+◌, ℕ, List, [], ◌∷◌, ◌++◌, Some, None, Ok, Err, refl}
-use Rattle.fuse_flags.specs.Flags.{security_ctx, create_supp_group}
-use Rattle.fuse_wire.specs.Fields.{number}
-use Rattle.fuse_grammar.specs.Extensions.{cut_of, extensions_in, no_extensions, security_context_in, group_in}
-use Rattle.fuse_grammar.specs.Words.{extensions_after}
-use Rattle.fuse_grammar.specs.declared.error.Error.TheVariants.{DecodeMessage, InvalidHeaderLength, MissingExtension, MissingParameter}
+use Rattle.vfs_flags.specs.Flags.{security_ctx, create_supp_group}
+use Rattle.vfs_wire.specs.Fields.{number}
+use Rattle.vfs_grammar.specs.Extensions.{cut_of, extensions_in, no_extensions, security_context_in, group_in}
+use Rattle.vfs_grammar.specs.Words.{extensions_after}
+use Rattle.vfs_grammar.specs.declared.error.Error.TheVariants.{DecodeMessage, InvalidHeaderLength, MissingExtension, MissingParameter}
 
 -- four bytes of a number below 256
 abbrev four : ℕ → List ℕ

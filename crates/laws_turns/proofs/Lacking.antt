@@ -1,21 +1,21 @@
 -- Memory is wanted only for requests that are as long as they say.
 use Rattle.std.proofs.Common.{◌≡◌, ◌≢◌, ◌≤◌, ◌+◌, ◌-◌, ◌*◌, ℕ, Bool, true, false, List, length, take, drop, nat_lt, if◌then◌else◌, Option, Some, None, Result, Ok, Err, IsOk, refl, ap, subst, arith, length-drop}
 use Rattle.std.proofs.lemmas.Bool.Decides.{nat_tests}
-use Rattle.fuse_flags.specs.declared.opcode.Opcode.{Opcode}
-use Rattle.fuse_flags.specs.declared.opcode.Opcode.TheVariants.{BatchForget}
-use Rattle.fuse_wire.specs.Fields.{Table, value_of}
-use Rattle.fuse_wire.specs.Records.{batch_forget_in}
-use Rattle.fuse_wire.specs.declared.entries.BatchForgetIn.{BatchForgetIn}
-use Rattle.fuse_wire.specs.declared.headers.InHeader.{InHeader}
-use Rattle.fuse_grammar.specs.Ask.{form_of}
-use Rattle.fuse_grammar.specs.Memory.{header_of}
-use Rattle.fuse_grammar.specs.Forms.{Layout, Without, Record, tail_of, pairs_of, Form, NoTail, NameTail, TwoNames, NameAndValue, NameAndExtensions, LinkAndExtensions, Pairs, WithRest, IntoRoom, Directories, Versions, Silent, NotServed}
+use Rattle.vfs_flags.specs.declared.opcode.Opcode.{Opcode}
+use Rattle.vfs_flags.specs.declared.opcode.Opcode.TheVariants.{BatchForget}
+use Rattle.vfs_wire.specs.Fields.{Table, value_of}
+use Rattle.vfs_wire.specs.Records.{batch_forget_in}
+use Rattle.vfs_wire.specs.declared.entries.BatchForgetIn.{BatchForgetIn}
+use Rattle.vfs_wire.specs.declared.headers.InHeader.{InHeader}
+use Rattle.vfs_grammar.specs.Ask.{form_of}
+use Rattle.vfs_grammar.specs.Memory.{header_of}
+use Rattle.vfs_grammar.specs.Forms.{Layout, Without, Record, tail_of, pairs_of, Form, NoTail, NameTail, TwoNames, NameAndValue, NameAndExtensions, LinkAndExtensions, Pairs, WithRest, IntoRoom, Directories, Versions, Silent, NotServed}
 use Rattle.laws_turns.specs.Turns.{TailIsWhole, PairsAreWhole, HasWhole, after_header, count_of_pairs, WantsMemory, WantsMemoryAfter}
-use Rattle.fuse_grammar.specs.Books.{opcode_in}
-use Rattle.fuse_grammar.specs.Records.{size_of, record_of}
-use Rattle.fuse_grammar.specs.declared.limits.Limits.{Limits}
-use Rattle.fuse_grammar.specs.declared.error.Error.{Error}
-use Rattle.fuse_grammar.specs.declared.error.Error.TheVariants.{DecodeMessage, InvalidHeaderLength}
+use Rattle.vfs_grammar.specs.Books.{opcode_in}
+use Rattle.vfs_grammar.specs.Records.{size_of, record_of}
+use Rattle.vfs_grammar.specs.declared.limits.Limits.{Limits}
+use Rattle.vfs_grammar.specs.declared.error.Error.{Error}
+use Rattle.vfs_grammar.specs.declared.error.Error.TheVariants.{DecodeMessage, InvalidHeaderLength}
 
 no_error : {A : Type 0} (b : Bool) (e : Error) (r : Result A Error) → IsOk (if b then Err e else r) → (b ≡ false) × IsOk r
 no_error true e r ok = absurd (let a = ok in cc)

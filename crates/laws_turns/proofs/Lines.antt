@@ -3,19 +3,19 @@
 use Rattle.std.proofs.Common.{◌≡◌, ◌<◌, ◌≤◌, ◌-◌, ◌⊎◌, ℕ, List, [], ◌∷◌, ◌++◌, Bool, true, false, Option, Some, None, Result, Ok, Err, length, refl, sym, ap, subst, ◌∙◌, inl, inr, arith, append_assoc, append-nil, length-append, sum_by}
 use Rattle.std.proofs.lemmas.List.Elements.{All-nil, All-cons, All-head, All-tail}
 use Rattle.std.specs.List.{All, flat_map}
-use Rattle.fuse_wire.specs.Fields.{little, bytes_of}
-use Rattle.fuse_wire.specs.Records.{entry_out}
-use Rattle.fuse_wire.specs.declared.entries.EntryOut.{EntryOut}
-use Rattle.fs_trait.specs.Calls.{Readdir, Lookup, Forget, Failed, Found, Done}
-use Rattle.fs_trait.specs.Values.{entry_out_of, Item}
-use Rattle.fs_trait.specs.Runs.{Event, Called, Taken}
-use Rattle.fs_trait.specs.declared.entry.Context.{Context}
-use Rattle.fs_trait.specs.declared.entry.Entry.{Entry}
-use Rattle.fuse_grammar.specs.Directories.{GoesOn, EndsWhole, EndsFull, IsWhole}
-use Rattle.fuse_grammar.specs.Listing.{Got, Line, Stop, End, At, Gets, IsGot, is_dot, dot_out, line_events, stop_events, given_back, node_got, line_bytes, line_len, bytes_got, len_of, answer_at, answer_of, AreWritten, Stops, IsListing, verdict, Fails, Fits, dirent_bytes, record_len}
-use Rattle.fuse_grammar.specs.Words.{IsDotEntry, lookups, lookup_of, record_bytes, IsDirectoryOf}
-use Rattle.fuse_grammar.proofs.Dirents.{length-record_bytes}
-use Rattle.fuse_grammar.specs.Samples.{file_a, root_dot, record_of_a, record_of_dot, entry_of_dot}
+use Rattle.vfs_wire.specs.Fields.{little, bytes_of}
+use Rattle.vfs_wire.specs.Records.{entry_out}
+use Rattle.vfs_wire.specs.declared.entries.EntryOut.{EntryOut}
+use Rattle.vfs_files.specs.Calls.{Readdir, Lookup, Forget, Failed, Found, Done}
+use Rattle.vfs_files.specs.Values.{entry_out_of, Item}
+use Rattle.vfs_files.specs.Runs.{Event, Called, Taken}
+use Rattle.vfs_files.specs.declared.entry.Context.{Context}
+use Rattle.vfs_files.specs.declared.entry.Entry.{Entry}
+use Rattle.vfs_grammar.specs.Directories.{GoesOn, EndsWhole, EndsFull, IsWhole}
+use Rattle.vfs_grammar.specs.Listing.{Got, Line, Stop, End, At, Gets, IsGot, is_dot, dot_out, line_events, stop_events, given_back, node_got, line_bytes, line_len, bytes_got, len_of, answer_at, answer_of, AreWritten, Stops, IsListing, verdict, Fails, Fits, dirent_bytes, record_len}
+use Rattle.vfs_grammar.specs.Words.{IsDotEntry, lookups, lookup_of, record_bytes, IsDirectoryOf}
+use Rattle.vfs_grammar.proofs.Dirents.{length-record_bytes}
+use Rattle.vfs_grammar.specs.Samples.{file_a, root_dot, record_of_a, record_of_dot, entry_of_dot}
 
 -- ---- records
 

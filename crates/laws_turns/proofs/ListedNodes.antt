@@ -4,23 +4,23 @@ use Rattle.std.proofs.Common.{◌≡◌, ◌≢◌, ◌≤◌, ◌+◌, ◌-◌,
 use Rattle.std.proofs.lemmas.Bool.Decides.{nat_tests}
 use Rattle.std.proofs.lemmas.List.Sums.{sum_by-cons}
 use Rattle.std.specs.List.{flat_map}
-use Rattle.fuse_flags.specs.declared.opcode.Opcode.{Opcode}
-use Rattle.fuse_wire.specs.declared.entries.EntryOut.{EntryOut}
-use Rattle.fs_trait.specs.declared.entry.Context.{Context}
-use Rattle.fs_trait.specs.Values.{Item}
-use Rattle.fs_trait.specs.Calls.{Call, Readdir, Data, read_answer}
-use Rattle.fs_trait.specs.Runs.{Event, OpenedDirectory, Taken}
+use Rattle.vfs_flags.specs.declared.opcode.Opcode.{Opcode}
+use Rattle.vfs_wire.specs.declared.entries.EntryOut.{EntryOut}
+use Rattle.vfs_files.specs.declared.entry.Context.{Context}
+use Rattle.vfs_files.specs.Values.{Item}
+use Rattle.vfs_files.specs.Calls.{Call, Readdir, Data, read_answer}
+use Rattle.vfs_files.specs.Runs.{Event, OpenedDirectory, Taken}
 use Rattle.laws_turns.specs.Listings.{node_of_line}
-use Rattle.fuse_grammar.specs.Listing.{Got, Line, Stop, End, At, Gets, IsGot, is_dot, line_events, stop_events, given_back, line_len, line_bytes, AreWritten, Stops, answer_at, answer_of, IsListing, node_got, verdict, Fails, Verdict, Fits, Full}
-use Rattle.fuse_grammar.specs.Words.{lookups, reply_to, IsUnopened, IsOpened, IsDirectoryOf}
+use Rattle.vfs_grammar.specs.Listing.{Got, Line, Stop, End, At, Gets, IsGot, is_dot, line_events, stop_events, given_back, line_len, line_bytes, AreWritten, Stops, answer_at, answer_of, IsListing, node_got, verdict, Fails, Verdict, Fits, Full}
+use Rattle.vfs_grammar.specs.Words.{lookups, reply_to, IsUnopened, IsOpened, IsDirectoryOf}
 use Rattle.laws_turns.proofs.Takings.{lines_least}
 use Rattle.laws_turns.proofs.Nodes.{nodes_in-listing}
-use Rattle.fuse_grammar.specs.Nodes.{nodes_in}
-use Rattle.fuse_grammar.specs.Reply.{body_of, fault_reply, body_reply}
-use Rattle.fuse_grammar.specs.Room.{IsReplied}
-use Rattle.fuse_grammar.specs.Turn.{Turn}
-use Rattle.fuse_grammar.proofs.Rooms.{length-fault_reply, length-body_reply}
-use Rattle.fuse_grammar.specs.Books.{times, opcode_in, nodes_after, delivered_nodes, sent_by, answered, sent}
+use Rattle.vfs_grammar.specs.Nodes.{nodes_in}
+use Rattle.vfs_grammar.specs.Reply.{body_of, fault_reply, body_reply}
+use Rattle.vfs_grammar.specs.Room.{IsReplied}
+use Rattle.vfs_grammar.specs.Turn.{Turn}
+use Rattle.vfs_grammar.proofs.Rooms.{length-fault_reply, length-body_reply}
+use Rattle.vfs_grammar.specs.Books.{times, opcode_in, nodes_after, delivered_nodes, sent_by, answered, sent}
 use Rattle.laws_turns.proofs.Decoding.{delivered_nodes-fault, delivered_nodes-body, following-body}
 use Rattle.laws_turns.proofs.Replying.{Balances, LastOnly, whole_books}
 use Rattle.laws_turns.proofs.Saying.{said_as, FaultFits}

@@ -4,19 +4,19 @@ use Rattle.std.proofs.lemmas.Bool.Decides.{nat_tests}
 use Rattle.std.proofs.lemmas.List.{drop_at, drop-drop}
 use Rattle.std.proofs.lemmas.List.Elements.{All-head, All-tail}
 use Rattle.std.specs.List.{All, flat_map}
-use Rattle.fuse_wire.specs.Records.{entry_out}
-use Rattle.fuse_wire.specs.Fields.{little, number, bytes_of}
-use Rattle.fuse_wire.specs.FieldLaws.{length-little, number-little}
-use Rattle.fs_trait.specs.Answers.{FitsEntry}
-use Rattle.fs_trait.specs.Values.{entry_out_of, Item}
-use Rattle.fs_trait.specs.Runs.{Event}
-use Rattle.fs_trait.specs.declared.entry.Context.{Context}
-use Rattle.fs_trait.specs.declared.entry.Entry.{Entry}
-use Rattle.fuse_grammar.specs.Listing.{Got, Line, Gets, FitsGot, is_dot, line_len, line_bytes, bytes_got, AreWritten, IsListing, verdict, Fails, Fits, Full, dirent_len, record_len, dirent_bytes, entry_bytes}
-use Rattle.fuse_grammar.specs.Words.{record_bytes, u32_at, u64_at}
-use Rattle.fuse_grammar.proofs.Listings.{length-lines}
-use Rattle.fuse_grammar.specs.Nodes.{nodes_of, nodes_in}
-use Rattle.fuse_grammar.proofs.Dirents.{length-record_bytes, length-entry_bytes}
+use Rattle.vfs_wire.specs.Records.{entry_out}
+use Rattle.vfs_wire.specs.Fields.{little, number, bytes_of}
+use Rattle.vfs_wire.specs.FieldLaws.{length-little, number-little}
+use Rattle.vfs_files.specs.Answers.{FitsEntry}
+use Rattle.vfs_files.specs.Values.{entry_out_of, Item}
+use Rattle.vfs_files.specs.Runs.{Event}
+use Rattle.vfs_files.specs.declared.entry.Context.{Context}
+use Rattle.vfs_files.specs.declared.entry.Entry.{Entry}
+use Rattle.vfs_grammar.specs.Listing.{Got, Line, Gets, FitsGot, is_dot, line_len, line_bytes, bytes_got, AreWritten, IsListing, verdict, Fails, Fits, Full, dirent_len, record_len, dirent_bytes, entry_bytes}
+use Rattle.vfs_grammar.specs.Words.{record_bytes, u32_at, u64_at}
+use Rattle.vfs_grammar.proofs.Listings.{length-lines}
+use Rattle.vfs_grammar.specs.Nodes.{nodes_of, nodes_in}
+use Rattle.vfs_grammar.proofs.Dirents.{length-record_bytes, length-entry_bytes}
 use Rattle.laws_turns.specs.Listings.{node_of_line, rows_bytes, IsRow}
 use Rattle.laws_turns.proofs.Takings.{lines_least}
 

@@ -2,16 +2,16 @@
 use Rattle.std.proofs.Common.{◌≡◌, ◌+◌, ◌-◌, ◌≤◌, ℕ, zero, suc, List, [], ◌∷◌, ◌++◌, length, take, drop, Bool, true, false, if◌then◌else◌, None, Result, Ok, Err, refl, ap, sym, ◌∙◌, subst, arith, length-drop}
 use Rattle.std.specs.Prelude.{nat_lt}
 use Rattle.std.proofs.lemmas.List.{take-append-drop, drop-drop, length-take}
-use Rattle.fuse_wire.specs.Fields.{value_of}
-use Rattle.fuse_wire.specs.FieldLaws.{value_of-take}
-use Rattle.fuse_wire.specs.Records.{ext_header}
-use Rattle.fuse_wire.specs.declared.extensions.ExtHeader.{ExtHeader}
-use Rattle.fuse_grammar.specs.Extensions.{Block, Cut, block_in, cut_on, cut_of_most, cut_of, error_or}
-use Rattle.fuse_grammar.specs.Words.{block_size}
+use Rattle.vfs_wire.specs.Fields.{value_of}
+use Rattle.vfs_wire.specs.FieldLaws.{value_of-take}
+use Rattle.vfs_wire.specs.Records.{ext_header}
+use Rattle.vfs_wire.specs.declared.extensions.ExtHeader.{ExtHeader}
+use Rattle.vfs_grammar.specs.Extensions.{Block, Cut, block_in, cut_on, cut_of_most, cut_of, error_or}
+use Rattle.vfs_grammar.specs.Words.{block_size}
 use Rattle.laws_turns.specs.Extensions.{IsBlock, IsCut, error_of, error_left}
-use Rattle.fuse_grammar.specs.declared.error.Error.{Error}
-use Rattle.fuse_grammar.specs.declared.error.Error.TheVariants.{DecodeMessage, InvalidHeaderLength}
-use Rattle.fuse_grammar.proofs.Blocks.{HasBlock, block_in-has}
+use Rattle.vfs_grammar.specs.declared.error.Error.{Error}
+use Rattle.vfs_grammar.specs.declared.error.Error.TheVariants.{DecodeMessage, InvalidHeaderLength}
+use Rattle.vfs_grammar.proofs.Blocks.{HasBlock, block_in-has}
 use Rattle.laws_turns.proofs.BlockLaws.{block_in-is, after_block}
 
 -- what two tests let pass is what is made of the part

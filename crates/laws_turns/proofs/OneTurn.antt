@@ -1,23 +1,23 @@
 -- The books of one turn.
 use Rattle.std.proofs.Common.{◌≡◌, ◌≢◌, ◌+◌, ℕ, Bool, true, false, if◌then◌else◌, List, [], ◌∷◌, length, Option, None, Result, Ok, Err, refl, ap, sym, ◌∙◌, inl, inr, arith}
 use Rattle.std.proofs.lemmas.List.Sums.{sum_by-cons}
-use Rattle.fs_trait.specs.Answers.{Answer, Done, Failed, Kind, Quiet, Untold, Agreements}
-use Rattle.fs_trait.specs.Calls.{Call, Data, kind_of, read_answer}
-use Rattle.fs_trait.specs.Runs.{Called}
-use Rattle.fs_trait.specs.declared.entry.Context.{Context}
-use Rattle.fuse_grammar.specs.Listing.{given_back}
-use Rattle.fuse_grammar.specs.Ask.{ask}
-use Rattle.fuse_grammar.specs.Forms.{Ask, Ends, Asks, Lists, WithMemory}
-use Rattle.fuse_grammar.specs.Reply.{Reply, Refusal, NoReply, Bytes, OpenAfter, Echo, reply_of, fault_reply, body_reply}
-use Rattle.fuse_grammar.specs.Room.{IsReplied, unseen}
-use Rattle.fuse_grammar.specs.Turn.{Turn, Follows, IsTurn, node_answered}
-use Rattle.fuse_grammar.specs.declared.limits.Limits.{Limits}
-use Rattle.fuse_grammar.specs.declared.error.Error.{Error}
-use Rattle.fuse_grammar.specs.declared.error.Error.TheVariants.{EncodeMessage, OutOfMemory}
-use Rattle.fuse_grammar.proofs.Rooms.{length-fault_reply, length-body_reply}
+use Rattle.vfs_files.specs.Answers.{Answer, Done, Failed, Kind, Quiet, Untold, Agreements}
+use Rattle.vfs_files.specs.Calls.{Call, Data, kind_of, read_answer}
+use Rattle.vfs_files.specs.Runs.{Called}
+use Rattle.vfs_files.specs.declared.entry.Context.{Context}
+use Rattle.vfs_grammar.specs.Listing.{given_back}
+use Rattle.vfs_grammar.specs.Ask.{ask}
+use Rattle.vfs_grammar.specs.Forms.{Ask, Ends, Asks, Lists, WithMemory}
+use Rattle.vfs_grammar.specs.Reply.{Reply, Refusal, NoReply, Bytes, OpenAfter, Echo, reply_of, fault_reply, body_reply}
+use Rattle.vfs_grammar.specs.Room.{IsReplied, unseen}
+use Rattle.vfs_grammar.specs.Turn.{Turn, Follows, IsTurn, node_answered}
+use Rattle.vfs_grammar.specs.declared.limits.Limits.{Limits}
+use Rattle.vfs_grammar.specs.declared.error.Error.{Error}
+use Rattle.vfs_grammar.specs.declared.error.Error.TheVariants.{EncodeMessage, OutOfMemory}
+use Rattle.vfs_grammar.proofs.Rooms.{length-fault_reply, length-body_reply}
 use Rattle.laws_turns.proofs.Unseen.{unseen-whole, unseen-unfit}
-use Rattle.fuse_grammar.specs.Words.{u64_at}
-use Rattle.fuse_grammar.specs.Books.{times, forgotten, opcode_in, answered_nodes, forgets_of, delivered_nodes, answered_by, sent_by, answered, sent}
+use Rattle.vfs_grammar.specs.Words.{u64_at}
+use Rattle.vfs_grammar.specs.Books.{times, forgotten, opcode_in, answered_nodes, forgets_of, delivered_nodes, answered_by, sent_by, answered, sent}
 use Rattle.laws_turns.proofs.Backs.{back_answered, nodes_back, call_last}
 use Rattle.laws_turns.proofs.Decoding.{delivered_nodes-fault, delivered_nodes-body, u64_at-body}
 use Rattle.laws_turns.proofs.ListedNodes.{directory_books, directory_last}

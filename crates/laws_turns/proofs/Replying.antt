@@ -2,12 +2,12 @@
 use Rattle.std.proofs.Common.{◌+◌, ◌≡◌, ◌≤◌, ◌<◌, ℕ, nat_eq, nat_le, Bool, true, false, if◌then◌else◌, List, [], ◌∷◌, ◌++◌, length, take, drop, Result, Ok, Err, refl, ap, ◌∙◌, ◌⊎◌, inl, inr, arith}
 use Rattle.std.proofs.lemmas.Bool.Decides.{nat_tests}
 use Rattle.std.proofs.lemmas.List.{take_at}
-use Rattle.fs_trait.specs.Runs.{Event}
-use Rattle.fuse_grammar.specs.Room.{IsPut}
-use Rattle.fuse_grammar.specs.Turn.{Turn}
-use Rattle.fuse_grammar.specs.declared.error.Error.{Error}
-use Rattle.fuse_grammar.specs.declared.error.Error.TheVariants.{EncodeMessage}
-use Rattle.fuse_grammar.specs.Books.{times, forgotten, opcode_in, forgets_in, delivered_nodes, answered, sent, delivered_by, delivered, accepted_by, accepted}
+use Rattle.vfs_files.specs.Runs.{Event}
+use Rattle.vfs_grammar.specs.Room.{IsPut}
+use Rattle.vfs_grammar.specs.Turn.{Turn}
+use Rattle.vfs_grammar.specs.declared.error.Error.{Error}
+use Rattle.vfs_grammar.specs.declared.error.Error.TheVariants.{EncodeMessage}
+use Rattle.vfs_grammar.specs.Books.{times, forgotten, opcode_in, forgets_in, delivered_nodes, answered, sent, delivered_by, delivered, accepted_by, accepted}
 
 -- ---- what came back
 

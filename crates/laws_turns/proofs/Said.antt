@@ -4,33 +4,33 @@ use Rattle.std.proofs.lemmas.List.{take_at, drop_at, drop-drop, take-append-drop
 use Rattle.std.proofs.lemmas.Nat.{and_le_r, or_lt}
 use Rattle.std.proofs.Math.Nat.{mul-div-le, mul-le-mul_right}
 use Rattle.std.specs.declared.time.Duration.{Duration}
-use Rattle.fuse_flags.specs.Flags.{supported_fs_options}
-use Rattle.fuse_wire.specs.Fields.{Table, Fit, little, number, row, numbers_at, bytes_of, value_of}
-use Rattle.fuse_wire.specs.FieldLaws.{length-little, number-little, length-bytes_of, value_of-bytes_of-then}
-use Rattle.fuse_wire.specs.Records.{attr_out, entry_out, out_header, init_out}
-use Rattle.fuse_wire_more.specs.Records.{open_out, write_out, getxattr_out}
-use Rattle.fuse_wire.specs.declared.attributes.Attr.{Attr}
-use Rattle.fuse_wire_more.specs.declared.files.WriteOut.{WriteOut}
-use Rattle.fuse_wire.specs.declared.headers.OutHeader.{OutHeader}
-use Rattle.fuse_wire_more.specs.declared.xattrs.GetxattrOut.{GetxattrOut}
-use Rattle.fs_trait.specs.Answers.{Kind, Agreements, Data, Entries, TimedAttributes, Openings, Creations, Capacities, Texts, TextsOrCounts, Offsets, Writes, IsAnswer, Answer, Failed, Options, Found, Put, Attributes, Opened, Created, Statistics, Text, Count, Offset, Wrote, Done, read_answer}
-use Rattle.fs_trait.specs.Calls.{Call, Init, kind_of}
-use Rattle.fs_trait.specs.Values.{entry_out_of}
-use Rattle.fs_trait.specs.Runs.{Called}
-use Rattle.fs_trait.specs.declared.entry.Entry.{Entry}
-use Rattle.fuse_grammar.specs.Ask.{ask}
-use Rattle.fuse_grammar.specs.Forms.{Ask, Ends, Asks, Lists, WithMemory}
-use Rattle.fuse_grammar.specs.Listing.{Listing}
+use Rattle.vfs_flags.specs.Flags.{supported_fs_options}
+use Rattle.vfs_wire.specs.Fields.{Table, Fit, little, number, row, numbers_at, bytes_of, value_of}
+use Rattle.vfs_wire.specs.FieldLaws.{length-little, number-little, length-bytes_of, value_of-bytes_of-then}
+use Rattle.vfs_wire.specs.Records.{attr_out, entry_out, out_header, init_out}
+use Rattle.vfs_wire_more.specs.Records.{open_out, write_out, getxattr_out}
+use Rattle.vfs_wire.specs.declared.attributes.Attr.{Attr}
+use Rattle.vfs_wire_more.specs.declared.files.WriteOut.{WriteOut}
+use Rattle.vfs_wire.specs.declared.headers.OutHeader.{OutHeader}
+use Rattle.vfs_wire_more.specs.declared.xattrs.GetxattrOut.{GetxattrOut}
+use Rattle.vfs_files.specs.Answers.{Kind, Agreements, Data, Entries, TimedAttributes, Openings, Creations, Capacities, Texts, TextsOrCounts, Offsets, Writes, IsAnswer, Answer, Failed, Options, Found, Put, Attributes, Opened, Created, Statistics, Text, Count, Offset, Wrote, Done, read_answer}
+use Rattle.vfs_files.specs.Calls.{Call, Init, kind_of}
+use Rattle.vfs_files.specs.Values.{entry_out_of}
+use Rattle.vfs_files.specs.Runs.{Called}
+use Rattle.vfs_files.specs.declared.entry.Entry.{Entry}
+use Rattle.vfs_grammar.specs.Ask.{ask}
+use Rattle.vfs_grammar.specs.Forms.{Ask, Ends, Asks, Lists, WithMemory}
+use Rattle.vfs_grammar.specs.Listing.{Listing}
 use Rattle.laws_turns.specs.Turns.{AnswersWhole, body_in}
-use Rattle.fuse_grammar.specs.Limits.{AreLimits, max_pages}
-use Rattle.fuse_grammar.specs.Options.{agreed, options_after}
-use Rattle.fuse_grammar.specs.Reply.{Bytes, OpenAfter, Echo, reply_of, body_of, body_reply, init_out_of, open_out_of}
-use Rattle.fuse_grammar.specs.Words.{attr_out_of, getxattr_out_of, write_out_of, IsRead}
-use Rattle.fuse_grammar.specs.Room.{IsReplied}
-use Rattle.fuse_grammar.specs.Turn.{Turn, Follows}
-use Rattle.fuse_grammar.specs.declared.limits.Limits.{Limits}
-use Rattle.fuse_grammar.specs.declared.error.Error.TheVariants.{EncodeMessage}
-use Rattle.fuse_grammar.proofs.Rooms.{length-header}
+use Rattle.vfs_grammar.specs.Limits.{AreLimits, max_pages}
+use Rattle.vfs_grammar.specs.Options.{agreed, options_after}
+use Rattle.vfs_grammar.specs.Reply.{Bytes, OpenAfter, Echo, reply_of, body_of, body_reply, init_out_of, open_out_of}
+use Rattle.vfs_grammar.specs.Words.{attr_out_of, getxattr_out_of, write_out_of, IsRead}
+use Rattle.vfs_grammar.specs.Room.{IsReplied}
+use Rattle.vfs_grammar.specs.Turn.{Turn, Follows}
+use Rattle.vfs_grammar.specs.declared.limits.Limits.{Limits}
+use Rattle.vfs_grammar.specs.declared.error.Error.TheVariants.{EncodeMessage}
+use Rattle.vfs_grammar.proofs.Rooms.{length-header}
 use Rattle.laws_turns.proofs.EachTurn.{after_call, of_its_kind}
 
 -- how many pages a payload takes can be said in two bytes

@@ -1,17 +1,17 @@
 -- What is said of the answer of a call, by the kind of the call, as the books see it.
 use Rattle.std.proofs.Common.{◌≡◌, ◌<◌, ◌^◌, ℕ, Bool, true, false, List, [], ◌∷◌, ◌++◌, Option, Some, None, refl, ap, sym, arith}
-use Rattle.fuse_wire.specs.Fields.{little, number, bytes_of}
-use Rattle.fuse_wire.specs.FieldLaws.{number-little}
-use Rattle.fuse_wire.specs.Records.{entry_out, init_out}
-use Rattle.fuse_wire_more.specs.Records.{open_out}
-use Rattle.fs_trait.specs.declared.entry.Entry.{Entry}
-use Rattle.fs_trait.specs.Values.{entry_out_of}
-use Rattle.fs_trait.specs.Answers.{Kind, Quiet, Untold, Agreements, Entries, Creations, Answer, Done, Failed, Found, Created, IsAnswer, IsFault, FitsEntry}
-use Rattle.fs_trait.specs.Calls.{Call, Lookup, Symlink, Mknod, Mkdir, Link, Create, Forget, BatchForget, Destroy, kind_of}
-use Rattle.fuse_grammar.specs.Reply.{Echo, body_of, init_out_of, open_out_of}
-use Rattle.fuse_grammar.specs.Words.{fault_number}
-use Rattle.fuse_grammar.specs.declared.limits.Limits.{Limits}
-use Rattle.fuse_grammar.specs.Books.{entry_node, answered_nodes, forgets_of}
+use Rattle.vfs_wire.specs.Fields.{little, number, bytes_of}
+use Rattle.vfs_wire.specs.FieldLaws.{number-little}
+use Rattle.vfs_wire.specs.Records.{entry_out, init_out}
+use Rattle.vfs_wire_more.specs.Records.{open_out}
+use Rattle.vfs_files.specs.declared.entry.Entry.{Entry}
+use Rattle.vfs_files.specs.Values.{entry_out_of}
+use Rattle.vfs_files.specs.Answers.{Kind, Quiet, Untold, Agreements, Entries, Creations, Answer, Done, Failed, Found, Created, IsAnswer, IsFault, FitsEntry}
+use Rattle.vfs_files.specs.Calls.{Call, Lookup, Symlink, Mknod, Mkdir, Link, Create, Forget, BatchForget, Destroy, kind_of}
+use Rattle.vfs_grammar.specs.Reply.{Echo, body_of, init_out_of, open_out_of}
+use Rattle.vfs_grammar.specs.Words.{fault_number}
+use Rattle.vfs_grammar.specs.declared.limits.Limits.{Limits}
+use Rattle.vfs_grammar.specs.Books.{entry_node, answered_nodes, forgets_of}
 
 -- a fault; a body after a header; or nothing
 pub data Saying : Type 0 where

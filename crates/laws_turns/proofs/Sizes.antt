@@ -2,31 +2,31 @@
 use Rattle.std.proofs.Common.{◌≡◌, ◌≤◌, ◌<◌, ◌+◌, ◌-◌, ◌*◌, ℕ, Bool, true, false, List, length, drop, nat_le, nat_lt, if◌then◌else◌, Option, Some, Ok, Err, refl, ap, sym, ◌∙◌, arith, length-drop}
 use Rattle.std.proofs.lemmas.Bool.Decides.{nat_tests}
 use Rattle.std.proofs.lemmas.List.{drop-drop}
-use Rattle.fuse_flags.specs.Numbers.{enomem}
-use Rattle.fuse_flags.specs.declared.opcode.Opcode.{Opcode}
-use Rattle.fuse_flags.specs.declared.opcode.Opcode.TheVariants.{Read, Readdir, Readdirplus, BatchForget}
-use Rattle.fuse_wire.specs.Fields.{value_of}
-use Rattle.fuse_wire.specs.Records.{batch_forget_in}
-use Rattle.fuse_wire_more.specs.Records.{read_in}
-use Rattle.fuse_wire.specs.declared.headers.InHeader.{InHeader}
-use Rattle.fs_trait.specs.Calls as call
-use Rattle.fs_trait.specs.Calls.{Answer, Failed, Put, Data, IsAnswer, read_answer}
-use Rattle.fs_trait.specs.Values.{context_of}
-use Rattle.fs_trait.specs.declared.entry.Context.{Context}
-use Rattle.fuse_grammar.specs.Ask.{ask, ask_number, lists_too_much, listing_of}
-use Rattle.fuse_grammar.specs.Memory.{header_of}
-use Rattle.fuse_grammar.specs.Forms.{Ask, Asks, Lists, WithMemory, faulted, refused_or, within, pairs_in, Record, Directories, ask_form}
-use Rattle.fuse_grammar.specs.Words.{refused, reply_to}
-use Rattle.fuse_grammar.specs.Books.{opcode_in}
+use Rattle.vfs_flags.specs.Numbers.{enomem}
+use Rattle.vfs_flags.specs.declared.opcode.Opcode.{Opcode}
+use Rattle.vfs_flags.specs.declared.opcode.Opcode.TheVariants.{Read, Readdir, Readdirplus, BatchForget}
+use Rattle.vfs_wire.specs.Fields.{value_of}
+use Rattle.vfs_wire.specs.Records.{batch_forget_in}
+use Rattle.vfs_wire_more.specs.Records.{read_in}
+use Rattle.vfs_wire.specs.declared.headers.InHeader.{InHeader}
+use Rattle.vfs_files.specs.Calls as call
+use Rattle.vfs_files.specs.Calls.{Answer, Failed, Put, Data, IsAnswer, read_answer}
+use Rattle.vfs_files.specs.Values.{context_of}
+use Rattle.vfs_files.specs.declared.entry.Context.{Context}
+use Rattle.vfs_grammar.specs.Ask.{ask, ask_number, lists_too_much, listing_of}
+use Rattle.vfs_grammar.specs.Memory.{header_of}
+use Rattle.vfs_grammar.specs.Forms.{Ask, Asks, Lists, WithMemory, faulted, refused_or, within, pairs_in, Record, Directories, ask_form}
+use Rattle.vfs_grammar.specs.Words.{refused, reply_to}
+use Rattle.vfs_grammar.specs.Books.{opcode_in}
 use Rattle.laws_turns.specs.Turns.{after_header, count_of_pairs, CarriesData, size_asked}
-use Rattle.fuse_grammar.specs.Limits.{max_len}
-use Rattle.fuse_grammar.specs.Reply.{Echo, echo_of, fault_reply, body_reply}
-use Rattle.fuse_grammar.specs.Room.{IsReplied}
-use Rattle.fuse_grammar.specs.Turn.{Turn, Follows, IsTurn}
-use Rattle.fuse_grammar.specs.declared.limits.Limits.{Limits}
-use Rattle.fuse_grammar.specs.declared.error.Error.{Error}
-use Rattle.fuse_grammar.specs.declared.error.Error.TheVariants.{DecodeMessage, EncodeMessage}
-use Rattle.fuse_grammar.proofs.Rooms.{length-body_reply, length-fault_reply}
+use Rattle.vfs_grammar.specs.Limits.{max_len}
+use Rattle.vfs_grammar.specs.Reply.{Echo, echo_of, fault_reply, body_reply}
+use Rattle.vfs_grammar.specs.Room.{IsReplied}
+use Rattle.vfs_grammar.specs.Turn.{Turn, Follows, IsTurn}
+use Rattle.vfs_grammar.specs.declared.limits.Limits.{Limits}
+use Rattle.vfs_grammar.specs.declared.error.Error.{Error}
+use Rattle.vfs_grammar.specs.declared.error.Error.TheVariants.{DecodeMessage, EncodeMessage}
+use Rattle.vfs_grammar.proofs.Rooms.{length-body_reply, length-fault_reply}
 
 -- ---- the limits
 

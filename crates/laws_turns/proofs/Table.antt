@@ -3,31 +3,31 @@
 -- bytes say.
 use Rattle.std.proofs.Common.{◌≡◌, ◌<◌, ◌*◌, ◌^◌, ℕ, Bool, true, false, if◌then◌else◌, nat_lt, List, [], ◌∷◌, length, drop, Option, Some, None, Result, Ok, Err, refl, ap, ◌∙◌, arith}
 use Rattle.std.proofs.lemmas.List.{drop-drop}
-use Rattle.fuse_flags.specs.Numbers.{enomem, enosys, eproto}
-use Rattle.fuse_flags.specs.declared.constants.TheConstants.{KERNEL_VERSION, MIN_KERNEL_MINOR_VERSION}
-use Rattle.fuse_flags.specs.declared.opcode.Opcode.{Opcode}
-use Rattle.fuse_flags.specs.declared.opcode.Opcode.TheVariants.{Forget, BatchForget, Init, Interrupt, Readdir, Readdirplus, SetupMapping, RemoveMapping}
-use Rattle.fuse_wire.specs.Fields.{Table, bytes_of, value_of}
-use Rattle.fuse_wire.specs.Records.{in_header, init_in_compat, init_out, forget_in, forget_one, batch_forget_in}
-use Rattle.fuse_wire.specs.declared.entries.BatchForgetIn.{BatchForgetIn}
-use Rattle.fuse_wire.specs.declared.entries.ForgetIn.{ForgetIn}
-use Rattle.fuse_wire.specs.declared.headers.InHeader.{InHeader}
-use Rattle.fuse_wire.specs.declared.init.InitInCompat.{InitInCompat}
-use Rattle.fs_trait.specs.Calls.{Call}
-use Rattle.fs_trait.specs.Calls as call
-use Rattle.fs_trait.specs.Values.{ExtensionValues}
-use Rattle.fuse_grammar.specs.Ask.{form_of, ask_number, ask}
-use Rattle.fuse_grammar.specs.Words.{ask_header, refused, silent, name_in, u32_at, u64_at, pairs_at, following}
-use Rattle.fuse_grammar.specs.Forms.{Ask, Ends, Asks, Lists, WithMemory, faulted, refused_or, within, tail_of, two_names_in, value_in, extended_in, link_in_tail, pairs_of, pairs_in, space_after_header, second_flags, ask_version, Layout, layout_size, layout_record, Form, NoTail, NameTail, TwoNames, NameAndValue, NameAndExtensions, LinkAndExtensions, Pairs, WithRest, IntoRoom, Directories, Versions, Silent, NotServed, ask_form}
-use Rattle.fuse_grammar.specs.Limits.{max_len}
-use Rattle.fuse_grammar.specs.Records.{size_of, record_of}
-use Rattle.fuse_grammar.specs.Reply.{Reply, Refusal, NoReply, Bytes, OpenAfter, Echo, echo_of, body_reply, version_out}
-use Rattle.fuse_grammar.specs.declared.limits.Limits.{Limits}
-use Rattle.fuse_grammar.specs.declared.error.Error.{Error}
-use Rattle.fuse_grammar.specs.declared.error.Error.TheVariants.{DecodeMessage}
-use Rattle.fuse_grammar.proofs.Refusing.{either}
-use Rattle.fuse_grammar.proofs.Rooms.{length-fault_reply, length-body_reply}
-use Rattle.fuse_grammar.specs.Books.{opcode_in, nodes_after, delivered_nodes, forgets_of, forgets_in}
+use Rattle.vfs_flags.specs.Numbers.{enomem, enosys, eproto}
+use Rattle.vfs_flags.specs.declared.constants.TheConstants.{KERNEL_VERSION, MIN_KERNEL_MINOR_VERSION}
+use Rattle.vfs_flags.specs.declared.opcode.Opcode.{Opcode}
+use Rattle.vfs_flags.specs.declared.opcode.Opcode.TheVariants.{Forget, BatchForget, Init, Interrupt, Readdir, Readdirplus, SetupMapping, RemoveMapping}
+use Rattle.vfs_wire.specs.Fields.{Table, bytes_of, value_of}
+use Rattle.vfs_wire.specs.Records.{in_header, init_in_compat, init_out, forget_in, forget_one, batch_forget_in}
+use Rattle.vfs_wire.specs.declared.entries.BatchForgetIn.{BatchForgetIn}
+use Rattle.vfs_wire.specs.declared.entries.ForgetIn.{ForgetIn}
+use Rattle.vfs_wire.specs.declared.headers.InHeader.{InHeader}
+use Rattle.vfs_wire.specs.declared.init.InitInCompat.{InitInCompat}
+use Rattle.vfs_files.specs.Calls.{Call}
+use Rattle.vfs_files.specs.Calls as call
+use Rattle.vfs_files.specs.Values.{ExtensionValues}
+use Rattle.vfs_grammar.specs.Ask.{form_of, ask_number, ask}
+use Rattle.vfs_grammar.specs.Words.{ask_header, refused, silent, name_in, u32_at, u64_at, pairs_at, following}
+use Rattle.vfs_grammar.specs.Forms.{Ask, Ends, Asks, Lists, WithMemory, faulted, refused_or, within, tail_of, two_names_in, value_in, extended_in, link_in_tail, pairs_of, pairs_in, space_after_header, second_flags, ask_version, Layout, layout_size, layout_record, Form, NoTail, NameTail, TwoNames, NameAndValue, NameAndExtensions, LinkAndExtensions, Pairs, WithRest, IntoRoom, Directories, Versions, Silent, NotServed, ask_form}
+use Rattle.vfs_grammar.specs.Limits.{max_len}
+use Rattle.vfs_grammar.specs.Records.{size_of, record_of}
+use Rattle.vfs_grammar.specs.Reply.{Reply, Refusal, NoReply, Bytes, OpenAfter, Echo, echo_of, body_reply, version_out}
+use Rattle.vfs_grammar.specs.declared.limits.Limits.{Limits}
+use Rattle.vfs_grammar.specs.declared.error.Error.{Error}
+use Rattle.vfs_grammar.specs.declared.error.Error.TheVariants.{DecodeMessage}
+use Rattle.vfs_grammar.proofs.Refusing.{either}
+use Rattle.vfs_grammar.proofs.Rooms.{length-fault_reply, length-body_reply}
+use Rattle.vfs_grammar.specs.Books.{opcode_in, nodes_after, delivered_nodes, forgets_of, forgets_in}
 use Rattle.laws_turns.proofs.Decoding.{delivered_nodes-fault, delivered_nodes-body, pairs_of-pairs_at}
 use Rattle.laws_turns.proofs.ListedNodes.{ListsFor}
 use Rattle.laws_turns.proofs.Saying.{has_entry}

@@ -6,15 +6,15 @@ use Rattle.std.proofs.lemmas.List.{length-map}
 use Rattle.std.proofs.lemmas.List.Elements.{All-nil, All-cons, All-head, All-tail, All-same}
 use Rattle.std.proofs.lemmas.List.Sums.{sum_by-cons}
 use Rattle.std.specs.List.{All, flat_map}
-use Rattle.fs_trait.specs.Calls.{Lookup, Failed}
-use Rattle.fs_trait.specs.Values.{Item}
-use Rattle.fs_trait.specs.Runs.{Event, Called, OpenedDirectory, Taken}
-use Rattle.fs_trait.specs.declared.entry.Context.{Context}
-use Rattle.fs_trait.specs.declared.entry.Entry.{Entry}
-use Rattle.fuse_grammar.specs.Directories.{takings, least_record, GoesOn, IsWhole}
-use Rattle.fuse_grammar.specs.Listing.{Fits, Full, Fails, record_len, Got, Line, Stop, End, At, Gets, is_dot, line_events, given_back, node_got, stop_events, Stops, len_of, line_len, line_bytes, AreWritten, answer_at, answer_of, IsListing, IsGot, verdict}
-use Rattle.fuse_grammar.specs.Words.{lookup_of, lookups}
-use Rattle.fuse_grammar.proofs.Listings.{length-lines, lines_within}
+use Rattle.vfs_files.specs.Calls.{Lookup, Failed}
+use Rattle.vfs_files.specs.Values.{Item}
+use Rattle.vfs_files.specs.Runs.{Event, Called, OpenedDirectory, Taken}
+use Rattle.vfs_files.specs.declared.entry.Context.{Context}
+use Rattle.vfs_files.specs.declared.entry.Entry.{Entry}
+use Rattle.vfs_grammar.specs.Directories.{takings, least_record, GoesOn, IsWhole}
+use Rattle.vfs_grammar.specs.Listing.{Fits, Full, Fails, record_len, Got, Line, Stop, End, At, Gets, is_dot, line_events, given_back, node_got, stop_events, Stops, len_of, line_len, line_bytes, AreWritten, answer_at, answer_of, IsListing, IsGot, verdict}
+use Rattle.vfs_grammar.specs.Words.{lookup_of, lookups}
+use Rattle.vfs_grammar.proofs.Listings.{length-lines, lines_within}
 
 -- ---- how many are taken
 

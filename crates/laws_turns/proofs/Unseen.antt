@@ -1,11 +1,11 @@
 -- Which entry a client doesn't get to see, by what came of its reply.
 use Rattle.std.proofs.Common.{◌≡◌, ℕ, Bool, true, false, List, length, nat_le, if◌then◌else◌, Option, Some, None, Result, Ok, Err, refl, sym, ◌∙◌}
-use Rattle.fuse_grammar.specs.Reply.{Reply, Refusal, NoReply, Bytes, OpenAfter, Echo, reply_of}
-use Rattle.fuse_grammar.specs.Room.{IsReplied, unseen}
-use Rattle.fs_trait.specs.Calls.{Kind, Answer, IsAnswer}
-use Rattle.fuse_grammar.specs.declared.limits.Limits.{Limits}
-use Rattle.fuse_grammar.specs.declared.error.Error.{Error}
-use Rattle.fuse_grammar.specs.declared.error.Error.TheVariants.{EncodeMessage}
+use Rattle.vfs_grammar.specs.Reply.{Reply, Refusal, NoReply, Bytes, OpenAfter, Echo, reply_of}
+use Rattle.vfs_grammar.specs.Room.{IsReplied, unseen}
+use Rattle.vfs_files.specs.Calls.{Kind, Answer, IsAnswer}
+use Rattle.vfs_grammar.specs.declared.limits.Limits.{Limits}
+use Rattle.vfs_grammar.specs.declared.error.Error.{Error}
+use Rattle.vfs_grammar.specs.declared.error.Error.TheVariants.{EncodeMessage}
 use Rattle.laws_turns.proofs.Bodies.{replies_hold}
 
 by_whole : (fits : Bool) (len n node : ℕ) → (if fits then Ok len else Err EncodeMessage) ≡ Ok n

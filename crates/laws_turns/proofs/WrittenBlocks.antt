@@ -7,22 +7,22 @@ use Rattle.std.proofs.lemmas.Bool.Decides.{nat_tests}
 use Rattle.std.proofs.lemmas.Grind.{common_steps}
 use Rattle.std.proofs.lemmas.List.{drop_at, take_at, take_all, get_or_at, get_or_append_left}
 use Rattle.std.proofs.lemmas.List.Sums.{position_or_len_is}
-use Rattle.fuse_flags.specs.Flags.{security_ctx, create_supp_group, has_flag}
-use Rattle.fuse_wire.specs.Fields.{Table, Fit, bytes_of, lone_number}
-use Rattle.fuse_wire.specs.FieldLaws.{value_of-bytes_of-then, length-bytes_of}
-use Rattle.fuse_wire.specs.Records.{secctx, supp_groups}
-use Rattle.fuse_wire.specs.declared.extensions.Secctx.{Secctx}
-use Rattle.fuse_wire.specs.declared.extensions.SuppGroups.{SuppGroups}
-use Rattle.fs_trait.specs.Values.{first_name, ExtensionValues}
-use Rattle.fs_trait.specs.Places.{cut_at}
-use Rattle.fuse_grammar.specs.Records.{size_of, record_of}
-use Rattle.fuse_grammar.specs.Extensions.{Block, Received, error_or, name_and_value, context_in, security_context_in, group_in, cut_of, extensions_in}
-use Rattle.fuse_grammar.specs.Words.{reads_extensions, nothing_received, with_context, with_group, receive, extensions_of, extensions_after}
-use Rattle.fuse_grammar.specs.FormParts.{value_after}
+use Rattle.vfs_flags.specs.Flags.{security_ctx, create_supp_group, has_flag}
+use Rattle.vfs_wire.specs.Fields.{Table, Fit, bytes_of, lone_number}
+use Rattle.vfs_wire.specs.FieldLaws.{value_of-bytes_of-then, length-bytes_of}
+use Rattle.vfs_wire.specs.Records.{secctx, supp_groups}
+use Rattle.vfs_wire.specs.declared.extensions.Secctx.{Secctx}
+use Rattle.vfs_wire.specs.declared.extensions.SuppGroups.{SuppGroups}
+use Rattle.vfs_files.specs.Values.{first_name, ExtensionValues}
+use Rattle.vfs_files.specs.Places.{cut_at}
+use Rattle.vfs_grammar.specs.Records.{size_of, record_of}
+use Rattle.vfs_grammar.specs.Extensions.{Block, Received, error_or, name_and_value, context_in, security_context_in, group_in, cut_of, extensions_in}
+use Rattle.vfs_grammar.specs.Words.{reads_extensions, nothing_received, with_context, with_group, receive, extensions_of, extensions_after}
+use Rattle.vfs_grammar.specs.FormParts.{value_after}
 use Rattle.laws_turns.specs.Extensions.{context_bytes, context_block, group_bytes, group_block, blocks_of, FitsContext, MayFitContext, MayFitGroup, FitExtensions, IsBlock}
-use Rattle.fuse_grammar.specs.declared.error.Error.{Error}
-use Rattle.fuse_grammar.specs.declared.error.Error.TheVariants.{DecodeMessage}
-use Rattle.fuse_grammar.proofs.Blocks.{extensions_in-cut, says-more, extensions_of-end}
+use Rattle.vfs_grammar.specs.declared.error.Error.{Error}
+use Rattle.vfs_grammar.specs.declared.error.Error.TheVariants.{DecodeMessage}
+use Rattle.vfs_grammar.proofs.Blocks.{extensions_in-cut, says-more, extensions_of-end}
 use Rattle.laws_turns.proofs.BlockLaws.{block_in-is, after_block, block_bytes-is}
 
 -- a test that fails

@@ -1,11 +1,11 @@
 -- Extensions as they are written, and that bytes are cut into blocks in one way.
 use Rattle.std.specs.Prelude.{◌≡◌, ◌≢◌, ◌<◌, ◌+◌, ◌^◌, ℕ, List, [], ◌∷◌, ◌++◌, length, slice_index, Option, Some, None, Result, Ok, Err}
-use Rattle.fuse_wire.specs.Fields.{bytes_of, value_of, lone_number}
-use Rattle.fuse_wire.specs.Records.{ext_header, secctx, supp_groups}
-use Rattle.fs_trait.specs.Values.{ExtensionValues}
-use Rattle.fuse_grammar.specs.Extensions.{Block, block_in}
-use Rattle.fuse_grammar.specs.Records.{size_of}
-use Rattle.fuse_grammar.specs.declared.error.Error.{Error}
+use Rattle.vfs_wire.specs.Fields.{bytes_of, value_of, lone_number}
+use Rattle.vfs_wire.specs.Records.{ext_header, secctx, supp_groups}
+use Rattle.vfs_files.specs.Values.{ExtensionValues}
+use Rattle.vfs_grammar.specs.Extensions.{Block, block_in}
+use Rattle.vfs_grammar.specs.Records.{size_of}
+use Rattle.vfs_grammar.specs.declared.error.Error.{Error}
 
 -- ---- as they are written
 

@@ -1,5 +1,5 @@
 -- The limits of a small caller.
-use Rattle.fuse_grammar.specs.declared.limits.Limits.{Limits}
+use Rattle.vfs_grammar.specs.declared.limits.Limits.{Limits}
 
 -- a server whose largest payload is one page
 abbrev pub one_page : Limits

@@ -1,11 +1,11 @@
 -- The words of the laws of directory records.
 use Rattle.std.specs.Prelude.{◌<◌, ◌^◌, ℕ, List, length, Some, unwrap_or}
 use Rattle.std.specs.List.{flat_map}
-use Rattle.fs_trait.specs.Calls.{FitsEntry}
-use Rattle.fs_trait.specs.Values.{Item}
-use Rattle.fs_trait.specs.declared.entry.Entry.{Entry}
-use Rattle.fuse_grammar.specs.Listing.{Line, node_got}
-use Rattle.fuse_grammar.specs.Words.{record_bytes}
+use Rattle.vfs_files.specs.Calls.{FitsEntry}
+use Rattle.vfs_files.specs.Values.{Item}
+use Rattle.vfs_files.specs.declared.entry.Entry.{Entry}
+use Rattle.vfs_grammar.specs.Listing.{Line, node_got}
+use Rattle.vfs_grammar.specs.Words.{record_bytes}
 
 -- the node of the entry that a line got, or 0 where it got none
 abbrev pub node_of_line : Line → ℕ

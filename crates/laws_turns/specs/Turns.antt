@@ -1,25 +1,25 @@
 -- The words of the laws of turns.
 use Rattle.std.specs.Prelude.{◌≡◌, ◌<◌, ◌^◌, ℕ, ℤ, List, take, Bool, false, Ok, IsOk, ◌≤◌, [], ◌∷◌, length, drop, Option, Some, None}
-use Rattle.fuse_flags.specs.Numbers.{opcode_of}
-use Rattle.fuse_flags.specs.declared.opcode.Opcode.{Opcode}
-use Rattle.fuse_wire.specs.Fields.{bytes_of, value_of}
-use Rattle.fuse_wire.specs.Records.{out_header, in_header, batch_forget_in}
-use Rattle.fuse_wire.specs.declared.headers.InHeader.{InHeader}
-use Rattle.fuse_wire_more.specs.Records.{read_in}
-use Rattle.fs_trait.specs.Calls.{Call, Readdir, Answer}
-use Rattle.fs_trait.specs.Runs.{Called}
-use Rattle.fuse_grammar.specs.Records.{size_of}
-use Rattle.fuse_grammar.specs.Ask.{form_of}
-use Rattle.fuse_grammar.specs.Memory.{header_of, by_memory}
-use Rattle.fuse_grammar.specs.Forms.{tail_of, pairs_in, Layout, layout_size, layout_record, Form}
-use Rattle.fuse_grammar.specs.Words.{following}
-use Rattle.fuse_grammar.specs.Books.{opcode_in}
-use Rattle.fuse_grammar.specs.Limits.{max_len}
-use Rattle.fuse_grammar.specs.Reply.{Reply, Bytes}
-use Rattle.fuse_grammar.specs.Witnesses.{Witness, turn_tells}
-use Rattle.fuse_grammar.specs.Turn.{Turn, IsTurn}
-use Rattle.fuse_grammar.specs.declared.limits.Limits.{Limits}
-use Rattle.fuse_flags.specs.declared.opcode.Opcode.TheVariants as opcode
+use Rattle.vfs_flags.specs.Numbers.{opcode_of}
+use Rattle.vfs_flags.specs.declared.opcode.Opcode.{Opcode}
+use Rattle.vfs_wire.specs.Fields.{bytes_of, value_of}
+use Rattle.vfs_wire.specs.Records.{out_header, in_header, batch_forget_in}
+use Rattle.vfs_wire.specs.declared.headers.InHeader.{InHeader}
+use Rattle.vfs_wire_more.specs.Records.{read_in}
+use Rattle.vfs_files.specs.Calls.{Call, Readdir, Answer}
+use Rattle.vfs_files.specs.Runs.{Called}
+use Rattle.vfs_grammar.specs.Records.{size_of}
+use Rattle.vfs_grammar.specs.Ask.{form_of}
+use Rattle.vfs_grammar.specs.Memory.{header_of, by_memory}
+use Rattle.vfs_grammar.specs.Forms.{tail_of, pairs_in, Layout, layout_size, layout_record, Form}
+use Rattle.vfs_grammar.specs.Words.{following}
+use Rattle.vfs_grammar.specs.Books.{opcode_in}
+use Rattle.vfs_grammar.specs.Limits.{max_len}
+use Rattle.vfs_grammar.specs.Reply.{Reply, Bytes}
+use Rattle.vfs_grammar.specs.Witnesses.{Witness, turn_tells}
+use Rattle.vfs_grammar.specs.Turn.{Turn, IsTurn}
+use Rattle.vfs_grammar.specs.declared.limits.Limits.{Limits}
+use Rattle.vfs_flags.specs.declared.opcode.Opcode.TheVariants as opcode
 
 -- the number that a client gave its request
 abbrev pub unique_of : (request : List ℕ) → ℕ

@@ -1,10 +1,10 @@
 //! What holds of the books of lookups and forgets.
 
 ghost use Rattle.std.specs.Prelude.{◌≡◌, ◌≢◌, ◌+◌, ℕ, List, sum_by};
-ghost use Rattle.fuse_grammar.specs.Books.{answered, sent, delivered, accepted, KeepsBooks};
-ghost use Rattle.fuse_grammar.specs.Words.{GivesBackWithin, NeverBelow};
-ghost use Rattle.fuse_grammar.specs.Turn.{AreTurns, events_in, Turn, IsTurn};
-ghost use Rattle.fuse_grammar.specs.declared.limits.Limits.{Limits};
+ghost use Rattle.vfs_grammar.specs.Books.{answered, sent, delivered, accepted, KeepsBooks};
+ghost use Rattle.vfs_grammar.specs.Words.{GivesBackWithin, NeverBelow};
+ghost use Rattle.vfs_grammar.specs.Turn.{AreTurns, events_in, Turn, IsTurn};
+ghost use Rattle.vfs_grammar.specs.declared.limits.Limits.{Limits};
 
 /// Over each turn the books of each node but 0 balance: entries answered and forgets accepted are
 /// entries delivered and forgets sent. No entry is lost.

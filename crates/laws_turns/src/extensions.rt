@@ -2,10 +2,10 @@
 //! proved.
 
 ghost use Rattle.std.specs.Prelude.{◌≡◌, ◌<◌, ◌^◌, ◌++◌, ℕ, List, length, IsTrue, IsFalse, is_some, if◌then◌else◌, Ok, Some, None};
-ghost use Rattle.fuse_flags.specs.Flags.{security_ctx, create_supp_group, has_flag};
-ghost use Rattle.fs_trait.specs.Values.{ExtensionValues};
-ghost use Rattle.fuse_grammar.specs.Extensions.{Block, cut_of, extensions_in, no_extensions};
-ghost use Rattle.fuse_grammar.specs.Words.{extensions_after, extensions_of, reads_extensions, nothing_received};
+ghost use Rattle.vfs_flags.specs.Flags.{security_ctx, create_supp_group, has_flag};
+ghost use Rattle.vfs_files.specs.Values.{ExtensionValues};
+ghost use Rattle.vfs_grammar.specs.Extensions.{Block, cut_of, extensions_in, no_extensions};
+ghost use Rattle.vfs_grammar.specs.Words.{extensions_after, extensions_of, reads_extensions, nothing_received};
 ghost use Rattle.laws_turns.specs.Extensions.{blocks_of, group_block, FitExtensions, IsCut, error_left};
 
 /// What is found in extensions as they are written is what was written, whatever names are in

@@ -2,14 +2,14 @@
 
 ghost use Rattle.std.specs.Prelude.{◌≡◌, ◌≤◌, ◌+◌, ◌%◌, ◌/◌, ℕ, Bool, true, List, length, map, Option, Some, None, Ok, Result as Outcome};
 ghost use Rattle.std.specs.List.{All};
-ghost use Rattle.fs_trait.specs.Values.{Item};
-ghost use Rattle.fs_trait.specs.Runs.{Event};
-ghost use Rattle.fs_trait.specs.declared.entry.Context.{Context};
-ghost use Rattle.fs_trait.specs.declared.entry.Entry.{Entry};
-ghost use Rattle.fuse_grammar.specs.Directories.{takings, least_record, GoesOn, IsWhole};
-ghost use Rattle.fuse_grammar.specs.Listing.{IsListing, record_len};
-ghost use Rattle.fuse_grammar.specs.Words.{record_bytes};
-ghost use Rattle.fuse_grammar.specs.Nodes.{nodes_in};
+ghost use Rattle.vfs_files.specs.Values.{Item};
+ghost use Rattle.vfs_files.specs.Runs.{Event};
+ghost use Rattle.vfs_files.specs.declared.entry.Context.{Context};
+ghost use Rattle.vfs_files.specs.declared.entry.Entry.{Entry};
+ghost use Rattle.vfs_grammar.specs.Directories.{takings, least_record, GoesOn, IsWhole};
+ghost use Rattle.vfs_grammar.specs.Listing.{IsListing, record_len};
+ghost use Rattle.vfs_grammar.specs.Words.{record_bytes};
+ghost use Rattle.vfs_grammar.specs.Nodes.{nodes_in};
 ghost use Rattle.laws_turns.specs.Listings.{IsRow, rows_bytes, node_of_line};
 
 /// A record has as many bytes as its length says: a multiple of 8, at least 24, and with an entry

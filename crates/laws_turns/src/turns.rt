@@ -2,30 +2,30 @@
 
 ghost use Rattle.std.specs.Prelude.{◌≡◌, ◌≢◌, ◌<◌, ◌≤◌, ◌+◌, ◌*◌, ◌-◌, ◌/◌, ◌^◌, ◌⊎◌, ℕ, length, take, drop, List, [], ◌∷◌, Option, Ok, Err, Some};
 ghost use Rattle.std.specs.declared.time.Duration.{Duration};
-ghost use Rattle.fuse_flags.specs.declared.opcode.Opcode.{Opcode};
-ghost use Rattle.fuse_wire.specs.Records.{attr_out, entry_out, init_out};
-ghost use Rattle.fuse_wire.specs.Fields.{value_of};
-ghost use Rattle.fuse_wire_more.specs.Records.{open_out, write_out, getxattr_out};
-ghost use Rattle.fuse_wire.specs.declared.attributes.Attr.{Attr};
-ghost use Rattle.fs_trait.specs.Calls.{Found, Attributes, Opened, Created, Count, Wrote, Call, Init, Destroy, BatchForget, Answer, Options, kind_of, IsAnswer};
-ghost use Rattle.fs_trait.specs.Values.{entry_out_of, context_of};
-ghost use Rattle.fs_trait.specs.Runs.{Event, Called};
-ghost use Rattle.fs_trait.specs.declared.entry.Entry.{Entry};
-ghost use Rattle.fuse_grammar.specs.Ask.{ask, ask_number};
-ghost use Rattle.fuse_grammar.specs.Memory.{header_of};
-ghost use Rattle.fuse_grammar.specs.Forms.{Ask, Lists, Asks, WithMemory, faulted, refused_or, pairs_in};
-ghost use Rattle.fuse_grammar.specs.Listing.{Listing};
+ghost use Rattle.vfs_flags.specs.declared.opcode.Opcode.{Opcode};
+ghost use Rattle.vfs_wire.specs.Records.{attr_out, entry_out, init_out};
+ghost use Rattle.vfs_wire.specs.Fields.{value_of};
+ghost use Rattle.vfs_wire_more.specs.Records.{open_out, write_out, getxattr_out};
+ghost use Rattle.vfs_wire.specs.declared.attributes.Attr.{Attr};
+ghost use Rattle.vfs_files.specs.Calls.{Found, Attributes, Opened, Created, Count, Wrote, Call, Init, Destroy, BatchForget, Answer, Options, kind_of, IsAnswer};
+ghost use Rattle.vfs_files.specs.Values.{entry_out_of, context_of};
+ghost use Rattle.vfs_files.specs.Runs.{Event, Called};
+ghost use Rattle.vfs_files.specs.declared.entry.Entry.{Entry};
+ghost use Rattle.vfs_grammar.specs.Ask.{ask, ask_number};
+ghost use Rattle.vfs_grammar.specs.Memory.{header_of};
+ghost use Rattle.vfs_grammar.specs.Forms.{Ask, Lists, Asks, WithMemory, faulted, refused_or, pairs_in};
+ghost use Rattle.vfs_grammar.specs.Listing.{Listing};
 ghost use Rattle.laws_turns.specs.Turns.{AnswersWhole, body_in, unique_of, BeginsWithHeader, WantsMemory, after_header, count_of_pairs, CarriesData, size_asked, cut_turn_tells, LacksRoomForHeader};
-ghost use Rattle.fuse_grammar.specs.Books.{opcode_in};
-ghost use Rattle.fuse_grammar.specs.Limits.{default_limits, AreLimits, max_len};
-ghost use Rattle.fuse_grammar.specs.Options.{AreAgreed};
-ghost use Rattle.fuse_grammar.specs.Directories.{StopsForACause, ComesWhole, TakesFew};
-ghost use Rattle.fuse_grammar.specs.Reply.{Echo, echo_of, open_out_of, body_of};
-ghost use Rattle.fuse_grammar.specs.Words.{attr_out_of};
-ghost use Rattle.fuse_grammar.specs.Turn.{Turn, IsTurn, Follows};
-ghost use Rattle.fuse_grammar.specs.Witnesses.{IsTurnWithMemory, FollowsFor, turn_tells};
-ghost use Rattle.fuse_grammar.specs.declared.error.Error.{Error};
-ghost use Rattle.fuse_grammar.specs.declared.limits.Limits.{Limits};
+ghost use Rattle.vfs_grammar.specs.Books.{opcode_in};
+ghost use Rattle.vfs_grammar.specs.Limits.{default_limits, AreLimits, max_len};
+ghost use Rattle.vfs_grammar.specs.Options.{AreAgreed};
+ghost use Rattle.vfs_grammar.specs.Directories.{StopsForACause, ComesWhole, TakesFew};
+ghost use Rattle.vfs_grammar.specs.Reply.{Echo, echo_of, open_out_of, body_of};
+ghost use Rattle.vfs_grammar.specs.Words.{attr_out_of};
+ghost use Rattle.vfs_grammar.specs.Turn.{Turn, IsTurn, Follows};
+ghost use Rattle.vfs_grammar.specs.Witnesses.{IsTurnWithMemory, FollowsFor, turn_tells};
+ghost use Rattle.vfs_grammar.specs.declared.error.Error.{Error};
+ghost use Rattle.vfs_grammar.specs.declared.limits.Limits.{Limits};
 
 /// What a server goes by that was made for these limits, whatever they are: INIT's reply says the
 /// largest payload as `max_write`, and in `max_pages` how many pages it takes. A `len` of more than

@@ -1,9 +1,9 @@
 -- What both promises conclude of a request that was asked and then answered.
 use Rattle.std.proofs.Common.{◌≡◌, ◌≢◌, ◌≤◌, ◌+◌, ◌-◌, ◌++◌, ◌∙◌, ◌==◌, ◌⊎◌, ℕ, ℤ, List, length, replicate, refl, sym, subst, inl, inr, arith, length-append}
 use Rattle.std.proofs.lemmas.List.{length-replicate}
-use Rattle.fuse_grammar.specs.Ask.{ask}
-use Rattle.fuse_grammar.specs.Turn.{Turn, IsTurn}
-use Rattle.fuse_grammar.specs.declared.limits.Limits.{Limits}
+use Rattle.vfs_grammar.specs.Ask.{ask}
+use Rattle.vfs_grammar.specs.Turn.{Turn, IsTurn}
+use Rattle.vfs_grammar.specs.declared.limits.Limits.{Limits}
 use Rattle.door_calls.specs.declared.call.CallData.{CallData}
 use Rattle.door_calls.specs.declared.call.kind.TheConstants as kind
 use Rattle.door_calls.specs.declared.data.AnswerData.{AnswerData}

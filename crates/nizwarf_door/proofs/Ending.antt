@@ -1,20 +1,20 @@
 -- Requests that are finished at their ask or are not asked; and what is told of INIT, DESTROY and directories.
 use Rattle.std.proofs.Common.{◌≡◌, ◌≢◌, ◌⊎◌, ◌≤◌, ◌^◌, ◌∙◌, ℕ, ℤ, pos, List, [], length, take, Option, Some, None, MatchOption, IfSome, Result, Ok, Err, refl, ap, sym, subst, inl, inr, arith}
 use Rattle.std.specs.Prelude.{⊤, bit_and}
-use Rattle.fuse_flags.specs.Flags.{known_fs_options}
-use Rattle.fuse_flags.specs.Numbers.{opcode_of}
-use Rattle.fuse_wire.specs.Fields.{little, number}
-use Rattle.fuse_segments.specs.Written.{Written}
-use Rattle.fs_trait.specs.Calls.{Call, Init, Destroy, kind_of, Iterators}
-use Rattle.fuse_grammar.specs.Ask.{ask}
-use Rattle.fuse_grammar.specs.Forms.{Ask, Ends, Asks as asks_call, Lists, WithMemory}
-use Rattle.fuse_grammar.specs.Options.{agreed}
-use Rattle.fuse_grammar.specs.Reply.{Bytes, Echo, NoReply}
-use Rattle.fuse_grammar.specs.Samples.{nobody, not_served_reply}
-use Rattle.fuse_grammar.specs.declared.error.Error.{Error}
-use Rattle.fuse_grammar.specs.declared.error.Error.TheVariants as error
-use Rattle.fuse_grammar.specs.declared.limits.Limits.{Limits}
-use Rattle.fuse_messages.specs.Rooms.{Writes}
+use Rattle.vfs_flags.specs.Flags.{known_fs_options}
+use Rattle.vfs_flags.specs.Numbers.{opcode_of}
+use Rattle.vfs_wire.specs.Fields.{little, number}
+use Rattle.vfs_segments.specs.Written.{Written}
+use Rattle.vfs_files.specs.Calls.{Call, Init, Destroy, kind_of, Iterators}
+use Rattle.vfs_grammar.specs.Ask.{ask}
+use Rattle.vfs_grammar.specs.Forms.{Ask, Ends, Asks as asks_call, Lists, WithMemory}
+use Rattle.vfs_grammar.specs.Options.{agreed}
+use Rattle.vfs_grammar.specs.Reply.{Bytes, Echo, NoReply}
+use Rattle.vfs_grammar.specs.Samples.{nobody, not_served_reply}
+use Rattle.vfs_grammar.specs.declared.error.Error.{Error}
+use Rattle.vfs_grammar.specs.declared.error.Error.TheVariants as error
+use Rattle.vfs_grammar.specs.declared.limits.Limits.{Limits}
+use Rattle.vfs_messages.specs.Rooms.{Writes}
 use Rattle.door_calls.specs.Shapes.{nothing}
 use Rattle.door_calls.specs.declared.call.CallData.{CallData}
 use Rattle.door_calls.specs.declared.data.AnswerData.{AnswerData}

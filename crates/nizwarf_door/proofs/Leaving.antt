@@ -2,10 +2,10 @@
 use Rattle.std.proofs.Common.{◌≡◌, ◌≤◌, ◌+◌, ◌++◌, ◌∙◌, ℕ, ℤ, inl, inr, List, [], ◌∷◌, length, take, drop, if◌then◌else◌, Option, None, Some, Result, refl, ap, sym, subst, arith, length-append, append_assoc}
 use Rattle.std.proofs.lemmas.List.{drop_at, length-take-le, take_at}
 use Rattle.std.proofs.Math.Seq.{take-append-add}
-use Rattle.fuse_segments.specs.Written.{Written, whole, Leaves}
-use Rattle.fuse_messages.specs.Rooms.{Replies, with_after}
-use Rattle.fuse_grammar.specs.Reply.{Reply, Refusal, NoReply, Bytes, OpenAfter}
-use Rattle.fuse_grammar.specs.declared.error.Error.{Error}
+use Rattle.vfs_segments.specs.Written.{Written, whole, Leaves}
+use Rattle.vfs_messages.specs.Rooms.{Replies, with_after}
+use Rattle.vfs_grammar.specs.Reply.{Reply, Refusal, NoReply, Bytes, OpenAfter}
+use Rattle.vfs_grammar.specs.declared.error.Error.{Error}
 use Rattle.door_calls.specs.declared.call.CallData.{CallData}
 use Rattle.nizwarf_door.specs.Kept.{Holds, HoldsAnswer, TellsOrNot, put_of}
 use Rattle.nizwarf_door.specs.Rooms.{HasRoomFor}

@@ -3,23 +3,23 @@ use Rattle.std.proofs.Common.{◌≡◌, ◌≢◌, ◌⊎◌, ◌≤◌, ◌^�
 use Rattle.std.proofs.lemmas.Int.{ints}
 use Rattle.std.proofs.lemmas.List.{append_cancel_left}
 use Rattle.std.specs.Prelude.{⊤}
-use Rattle.fuse_flags.specs.Numbers.{opcode_of}
-use Rattle.fuse_wire.specs.Records.{entry_out, in_header}
-use Rattle.fuse_wire.specs.Fields.{little, number, value_of, bytes_of}
-use Rattle.fuse_segments.specs.Written.{Written, whole}
-use Rattle.fs_trait.specs.Calls.{Call, Lookup, Answer, Failed, Found, Entries}
-use Rattle.fs_trait.specs.Values.{context_of, entry_out_of}
-use Rattle.fs_trait.specs.declared.entry.Entry.{Entry}
-use Rattle.fuse_grammar.specs.Ask.{ask}
-use Rattle.fuse_grammar.specs.Forms.{Ask, Asks as asks_call, WithMemory}
-use Rattle.fuse_grammar.specs.Limits.{AreLimits}
-use Rattle.fuse_grammar.specs.Reply.{Echo, echo_of, reply_of, body_reply}
-use Rattle.fuse_grammar.specs.Room.{IsReplied}
-use Rattle.fuse_grammar.specs.Words.{put_outcome}
-use Rattle.fuse_grammar.specs.Samples.{lookup_of_a}
-use Rattle.fuse_grammar.specs.declared.error.Error.{Error}
-use Rattle.fuse_grammar.specs.declared.limits.Limits.{Limits}
-use Rattle.fuse_messages.specs.Rooms.{Replies}
+use Rattle.vfs_flags.specs.Numbers.{opcode_of}
+use Rattle.vfs_wire.specs.Records.{entry_out, in_header}
+use Rattle.vfs_wire.specs.Fields.{little, number, value_of, bytes_of}
+use Rattle.vfs_segments.specs.Written.{Written, whole}
+use Rattle.vfs_files.specs.Calls.{Call, Lookup, Answer, Failed, Found, Entries}
+use Rattle.vfs_files.specs.Values.{context_of, entry_out_of}
+use Rattle.vfs_files.specs.declared.entry.Entry.{Entry}
+use Rattle.vfs_grammar.specs.Ask.{ask}
+use Rattle.vfs_grammar.specs.Forms.{Ask, Asks as asks_call, WithMemory}
+use Rattle.vfs_grammar.specs.Limits.{AreLimits}
+use Rattle.vfs_grammar.specs.Reply.{Echo, echo_of, reply_of, body_reply}
+use Rattle.vfs_grammar.specs.Room.{IsReplied}
+use Rattle.vfs_grammar.specs.Words.{put_outcome}
+use Rattle.vfs_grammar.specs.Samples.{lookup_of_a}
+use Rattle.vfs_grammar.specs.declared.error.Error.{Error}
+use Rattle.vfs_grammar.specs.declared.limits.Limits.{Limits}
+use Rattle.vfs_messages.specs.Rooms.{Replies}
 use Rattle.door_calls.specs.declared.call.CallData.{CallData}
 use Rattle.door_calls.specs.declared.data.AnswerData.{AnswerData}
 use Rattle.door_calls.specs.declared.data.ItemData.{ItemData}

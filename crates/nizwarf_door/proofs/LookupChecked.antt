@@ -1,12 +1,12 @@
 -- A LOOKUP of a name in one piece is whole, and takes no memory.
 use Rattle.std.proofs.Common.{◌≡◌, ◌∙◌, ℕ, ℤ, List, [], ◌∷◌, length, ap, subst, inl, inr}
-use Rattle.fuse_flags.specs.Numbers.{opcode_of}
-use Rattle.fuse_wire.specs.Fields.{little, number}
-use Rattle.fuse_segments.specs.Lengths.{lengths_from}
-use Rattle.fuse_segments.specs.Unread.{Unread}
-use Rattle.fuse_grammar.specs.Ask.{ask}
-use Rattle.fuse_grammar.specs.Forms.{Ask, Asks, WithMemory}
-use Rattle.fuse_grammar.specs.Samples.{lookup_of_a}
+use Rattle.vfs_flags.specs.Numbers.{opcode_of}
+use Rattle.vfs_wire.specs.Fields.{little, number}
+use Rattle.vfs_segments.specs.Lengths.{lengths_from}
+use Rattle.vfs_segments.specs.Unread.{Unread}
+use Rattle.vfs_grammar.specs.Ask.{ask}
+use Rattle.vfs_grammar.specs.Forms.{Ask, Asks, WithMemory}
+use Rattle.vfs_grammar.specs.Samples.{lookup_of_a}
 use Rattle.door_calls.specs.declared.call.CallData.{CallData}
 use Rattle.door_ask.specs.Asked.{interrupted_by}
 use Rattle.door_ask.specs.Checked.{Judges}

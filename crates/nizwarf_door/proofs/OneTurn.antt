@@ -2,11 +2,11 @@
 use Rattle.std.proofs.Common.{◌≡◌, ◌≢◌, ◌≤◌, ◌^◌, ◌⊎◌, ◌+◌, ◌∙◌, ◌==◌, if◌then◌else◌, ℕ, ℤ, List, length, min, Bool, true, false, Option, Some, None, refl, ap, sym, subst, inl, inr, arith, length-append}
 use Rattle.std.proofs.lemmas.Bool.Decides.{nat_tests}
 use Rattle.std.specs.Prelude.{⊤}
-use Rattle.fuse_segments.specs.Written.{Written}
-use Rattle.fuse_messages.specs.Rooms.{with_after}
-use Rattle.fuse_grammar.specs.Ask.{ask}
-use Rattle.fuse_grammar.specs.Forms.{Ask, Ends, Asks as asks_call, Lists, WithMemory}
-use Rattle.fuse_grammar.specs.declared.limits.Limits.{Limits}
+use Rattle.vfs_segments.specs.Written.{Written}
+use Rattle.vfs_messages.specs.Rooms.{with_after}
+use Rattle.vfs_grammar.specs.Ask.{ask}
+use Rattle.vfs_grammar.specs.Forms.{Ask, Ends, Asks as asks_call, Lists, WithMemory}
+use Rattle.vfs_grammar.specs.declared.limits.Limits.{Limits}
 use Rattle.door_calls.specs.declared.call.CallData.{CallData}
 use Rattle.door_calls.specs.declared.data.AnswerData.{AnswerData}
 use Rattle.door_calls.specs.declared.data.ItemData.{ItemData}
@@ -15,7 +15,7 @@ use Rattle.door_ask.specs.declared.asked.Asked.{Asked}
 use Rattle.door_ask.specs.declared.asked.Asked.TheVariants as asked
 use Rattle.door_answer.specs.Told.{AnswersEachCall, AnswersEachListing}
 use Rattle.door_answer.specs.declared.answered.Answered.{Answered}
-use Rattle.fuse_messages.proofs.Rooms.{with_none_after}
+use Rattle.vfs_messages.proofs.Rooms.{with_none_after}
 use Rattle.laws_flight.specs.OneTurn.{AreOneTurn}
 use Rattle.c_rooms.specs.Codes.{no_memory, not_asked, too_long, is_asked}
 use Rattle.nizwarf_door.specs.Answering.{AnswersOrNot, IsAnswerTold}

@@ -2,8 +2,8 @@
 use Rattle.std.proofs.Common.{◌≡◌, ◌-◌, ◌≤◌, List, [], ◌∷◌, ℕ, Bool, true, false, nat_lt, length, get_or, refl, ap, arith, append-nil}
 use Rattle.std.proofs.lemmas.Bool.Decides.{nat_tests}
 use Rattle.std.specs.Borrow.{Bor}
-use Rattle.fuse_segments.specs.Lengths.{lengths_from}
-use Rattle.fuse_segments.specs.Segments.{segments_of, flat_bytes, lengths_of}
+use Rattle.vfs_segments.specs.Lengths.{lengths_from}
+use Rattle.vfs_segments.specs.Segments.{segments_of, flat_bytes, lengths_of}
 
 pub one_piece : (xs : List (Bor (List ℕ))) (d : Bor (List ℕ)) → length xs ≡ 1 → flat_bytes (segments_of xs) ≡ (get_or xs 0 d).now
 one_piece [] d e = absurd (let a = e in cc)

@@ -2,7 +2,7 @@
 use Rattle.std.proofs.Common.{◌≡◌, ◌+◌, ◌++◌, ◌∙◌, ℕ, List, [], ◌∷◌, length, take, drop, ap, sym, subst, arith}
 use Rattle.std.proofs.Math.Seq.{drop-length, take-length}
 use Rattle.std.proofs.lemmas.List.{take-append-drop}
-use Rattle.fuse_print.specs.Lines.{HasLine, IsLine, shown}
+use Rattle.vfs_print.specs.Lines.{HasLine, IsLine, shown}
 
 pub exact_line : (line old new : List ℕ) (len : ℕ) → length old ≡ length line + 1
     → HasLine line len old new → IsLine len old new → new ≡ line ++ 0 ∷ []

@@ -1,18 +1,18 @@
 -- What the promises say of any request that is asked, and of any call that is answered.
 use Rattle.std.proofs.Common.{◌≡◌, ◌≢◌, ◌⊎◌, ◌≤◌, ◌+◌, ◌-◌, ◌++◌, ◌==◌, ◌∙◌, if◌then◌else◌, Bool, false, true, nat_le, ℕ, ℤ, pos, List, [], ◌∷◌, length, replicate, take, Option, None, Some, Result, Ok, Err, refl, ap, sym, subst, inl, inr, arith, length-append}
 use Rattle.std.proofs.lemmas.List.{length-replicate}
-use Rattle.fs_trait.specs.Calls.{Answer, Kind, Agreements, Data, Quiet, Untold, kind_of, read_answer, Getattr, TimedAttributes, Done, Failed, Options, Found, Attributes, Put, Opened, Created, Statistics, Text, Count, Offset, Wrote}
-use Rattle.fs_trait.specs.Runs.{Event, Called}
-use Rattle.fs_trait.specs.declared.entry.Context.{Context}
-use Rattle.fuse_grammar.specs.Ask.{ask}
-use Rattle.fuse_grammar.specs.Forms.{Ask, Asks, Ends, Lists, WithMemory}
-use Rattle.fuse_grammar.specs.Listing.{Listing, IsDirectory, given_back}
-use Rattle.fuse_grammar.specs.Reply.{Bytes, Echo, NoReply, OpenAfter, Refusal, Reply, reply_of}
-use Rattle.fuse_grammar.specs.Room.{IsReplied}
-use Rattle.fuse_grammar.specs.Turn.{Follows, Turn, IsTurn}
-use Rattle.fuse_grammar.specs.declared.error.Error.{Error}
-use Rattle.fuse_grammar.specs.declared.error.Error.TheVariants as error
-use Rattle.fuse_grammar.specs.declared.limits.Limits.{Limits}
+use Rattle.vfs_files.specs.Calls.{Answer, Kind, Agreements, Data, Quiet, Untold, kind_of, read_answer, Getattr, TimedAttributes, Done, Failed, Options, Found, Attributes, Put, Opened, Created, Statistics, Text, Count, Offset, Wrote}
+use Rattle.vfs_files.specs.Runs.{Event, Called}
+use Rattle.vfs_files.specs.declared.entry.Context.{Context}
+use Rattle.vfs_grammar.specs.Ask.{ask}
+use Rattle.vfs_grammar.specs.Forms.{Ask, Asks, Ends, Lists, WithMemory}
+use Rattle.vfs_grammar.specs.Listing.{Listing, IsDirectory, given_back}
+use Rattle.vfs_grammar.specs.Reply.{Bytes, Echo, NoReply, OpenAfter, Refusal, Reply, reply_of}
+use Rattle.vfs_grammar.specs.Room.{IsReplied}
+use Rattle.vfs_grammar.specs.Turn.{Follows, Turn, IsTurn}
+use Rattle.vfs_grammar.specs.declared.error.Error.{Error}
+use Rattle.vfs_grammar.specs.declared.error.Error.TheVariants as error
+use Rattle.vfs_grammar.specs.declared.limits.Limits.{Limits}
 use Rattle.door_calls.specs.Shapes.{nothing}
 use Rattle.door_calls.specs.declared.call.CallData.{CallData}
 use Rattle.door_calls.specs.declared.data.AnswerData.{AnswerData}

@@ -3,22 +3,22 @@ use Rattle.std.proofs.Common.{◌≡◌, ◌≤◌, ◌<◌, ◌+◌, ◌-◌, �
 use Rattle.std.proofs.lemmas.Bool.Decides.{nat_tests}
 use Rattle.std.proofs.lemmas.List.{append_cancel_left, length-replicate}
 use Rattle.std.specs.Prelude.{⊤}
-use Rattle.fuse_segments.specs.Written.{Written, whole}
-use Rattle.fs_trait.specs.Calls.{Call, Kind, Entries, Creations, Data, Answer, Found, Created, kind_of, read_answer}
-use Rattle.fs_trait.specs.Calls as call
-use Rattle.fs_trait.specs.Runs.{Event, Called}
-use Rattle.fuse_messages.specs.Rooms.{with_after}
-use Rattle.fuse_messages.proofs.Rooms.{whole_after}
-use Rattle.fuse_grammar.specs.Ask.{ask}
-use Rattle.fuse_grammar.specs.Forms.{Ask, Ends, Asks as asks_call, Lists, WithMemory}
-use Rattle.fuse_grammar.specs.Limits.{AreLimits}
-use Rattle.fuse_grammar.specs.Listing.{Listing, given_back}
-use Rattle.fuse_grammar.specs.Reply.{Echo, Reply, Refusal, NoReply, Bytes, OpenAfter, reply_of}
-use Rattle.fuse_grammar.specs.Room.{IsReplied, unseen}
-use Rattle.fuse_grammar.specs.Turn.{Turn, Follows, node_answered}
-use Rattle.fuse_grammar.specs.Words.{counted}
-use Rattle.fuse_grammar.specs.declared.error.Error.{Error}
-use Rattle.fuse_grammar.specs.declared.limits.Limits.{Limits}
+use Rattle.vfs_segments.specs.Written.{Written, whole}
+use Rattle.vfs_files.specs.Calls.{Call, Kind, Entries, Creations, Data, Answer, Found, Created, kind_of, read_answer}
+use Rattle.vfs_files.specs.Calls as call
+use Rattle.vfs_files.specs.Runs.{Event, Called}
+use Rattle.vfs_messages.specs.Rooms.{with_after}
+use Rattle.vfs_messages.proofs.Rooms.{whole_after}
+use Rattle.vfs_grammar.specs.Ask.{ask}
+use Rattle.vfs_grammar.specs.Forms.{Ask, Ends, Asks as asks_call, Lists, WithMemory}
+use Rattle.vfs_grammar.specs.Limits.{AreLimits}
+use Rattle.vfs_grammar.specs.Listing.{Listing, given_back}
+use Rattle.vfs_grammar.specs.Reply.{Echo, Reply, Refusal, NoReply, Bytes, OpenAfter, reply_of}
+use Rattle.vfs_grammar.specs.Room.{IsReplied, unseen}
+use Rattle.vfs_grammar.specs.Turn.{Turn, Follows, node_answered}
+use Rattle.vfs_grammar.specs.Words.{counted}
+use Rattle.vfs_grammar.specs.declared.error.Error.{Error}
+use Rattle.vfs_grammar.specs.declared.limits.Limits.{Limits}
 use Rattle.door_calls.specs.Shapes.{bit, nothing, shape_of}
 use Rattle.door_calls.specs.declared.call.CallData.{CallData}
 use Rattle.door_calls.specs.declared.data.AnswerData.{AnswerData}

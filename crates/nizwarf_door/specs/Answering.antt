@@ -1,8 +1,8 @@
 -- What C is told of a call that was answered.
 use Rattle.std.specs.Prelude.{◌≡◌, ◌≤◌, ◌==◌, ◌||◌, ◌&&◌, if◌then◌else◌, ◌⊎◌, ℕ, ℤ, pos, List, [], length, Option, Some, None, IfSome}
 use Rattle.std.specs.Ordering.{int_eq}
-use Rattle.fuse_segments.specs.Written.{Written}
-use Rattle.fuse_grammar.specs.declared.limits.Limits.{Limits}
+use Rattle.vfs_segments.specs.Written.{Written}
+use Rattle.vfs_grammar.specs.declared.limits.Limits.{Limits}
 use Rattle.door_calls.specs.declared.call.CallData.{CallData}
 use Rattle.door_calls.specs.declared.call.kind.TheConstants as kind
 use Rattle.door_calls.specs.declared.data.AnswerData.{AnswerData}

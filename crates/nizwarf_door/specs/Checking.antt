@@ -1,8 +1,8 @@
 -- What C is told of a request that was checked.
 use Rattle.std.specs.Prelude.{◌≡◌, ℕ, ℤ, List, [], ◌∷◌, length, Err}
-use Rattle.fuse_segments.specs.Lengths.{lengths_from}
-use Rattle.fuse_segments.specs.Unread.{Unread}
-use Rattle.fuse_grammar.specs.declared.limits.Limits.{Limits}
+use Rattle.vfs_segments.specs.Lengths.{lengths_from}
+use Rattle.vfs_segments.specs.Unread.{Unread}
+use Rattle.vfs_grammar.specs.declared.limits.Limits.{Limits}
 use Rattle.door_calls.specs.declared.call.CallData.{CallData}
 use Rattle.door_ask.specs.Checked.{IsChecked}
 use Rattle.door_ask.specs.declared.checked.Checked.{Checked}

@@ -1,11 +1,11 @@
 -- What C is told of a request that is asked by both tables.
 use Rattle.std.specs.Prelude.{◌≡◌, ⊤, if◌then◌else◌, ℕ, ℤ, pos, List, [], Option, Err}
 use Rattle.std.specs.Ordering.{int_eq}
-use Rattle.fuse_flags.specs.Numbers.{eio}
-use Rattle.fuse_segments.specs.Unread.{Unread}
-use Rattle.fuse_grammar.specs.Ask.{ask}
-use Rattle.fuse_grammar.specs.declared.error.Error.TheVariants.{DecodeMessage}
-use Rattle.fuse_grammar.specs.declared.limits.Limits.{Limits}
+use Rattle.vfs_flags.specs.Numbers.{eio}
+use Rattle.vfs_segments.specs.Unread.{Unread}
+use Rattle.vfs_grammar.specs.Ask.{ask}
+use Rattle.vfs_grammar.specs.declared.error.Error.TheVariants.{DecodeMessage}
+use Rattle.vfs_grammar.specs.declared.limits.Limits.{Limits}
 use Rattle.door_calls.specs.Shapes.{nothing}
 use Rattle.door_calls.specs.declared.call.CallData.{CallData}
 use Rattle.door_calls.specs.declared.data.AnswerData.{AnswerData}

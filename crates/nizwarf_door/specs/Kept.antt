@@ -1,8 +1,8 @@
 -- Which memory a slot has: for the answer to a call that is told, `HoldsAnswer`, and for what comes of a request,
 -- `HoldsFor`.
 use Rattle.std.specs.Prelude.{◌≡◌, ◌==◌, ◌⊎◌, if◌then◌else◌, ⊤, ℕ, ℤ, min, Option, Some}
-use Rattle.fs_trait.specs.Calls.{Kind, Data, kind_of}
-use Rattle.fuse_grammar.specs.Forms.{Ask, Ends, Asks, Lists, WithMemory}
+use Rattle.vfs_files.specs.Calls.{Kind, Data, kind_of}
+use Rattle.vfs_grammar.specs.Forms.{Ask, Ends, Asks, Lists, WithMemory}
 use Rattle.door_calls.specs.Shapes.{nothing}
 use Rattle.door_calls.specs.declared.call.CallData.{CallData}
 use Rattle.door_calls.specs.declared.call.kind.TheConstants as kind

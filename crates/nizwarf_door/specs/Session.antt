@@ -1,7 +1,7 @@
 -- What is agreed on with a client, as C hands it in.
 use Rattle.std.specs.Prelude.{ℕ, bit_and}
-use Rattle.fuse_flags.specs.Flags.{known_fs_options}
-use Rattle.fuse_grammar.specs.declared.limits.Limits.{Limits}
+use Rattle.vfs_flags.specs.Flags.{known_fs_options}
+use Rattle.vfs_grammar.specs.declared.limits.Limits.{Limits}
 use Rattle.nizwarf_door.specs.declared.data.SessionData.{SessionData}
 
 -- the sizes that a session goes by

@@ -1,6 +1,6 @@
 -- What is there to be copied out.
 use Rattle.std.specs.Prelude.{◌≡◌, ◌++◌, if◌then◌else◌, ℕ, List, [], ◌∷◌, take, drop, Option, None, Some}
-use Rattle.fuse_segments.specs.Written.{Written, whole}
+use Rattle.vfs_segments.specs.Written.{Written, whole}
 use Rattle.nizwarf_door.specs.declared.memory.Part.{Part}
 use Rattle.nizwarf_door.specs.declared.memory.Memory.{Memory}
 

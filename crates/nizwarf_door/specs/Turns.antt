@@ -2,14 +2,14 @@
 -- `IsAskedOrNot` and `IsAnsweredOrNot`. `call` is a call as data, and `told` what C is told besides; `shown` are the
 -- bytes that are there to be copied out; `room_len` is how long the room is, and `room` its bytes.
 use Rattle.std.specs.Prelude.{◌≡◌, ◌⊎◌, ◌==◌, ◌++◌, if◌then◌else◌, ℕ, ℤ, List, [], ◌∷◌, length, take, Option, Some, None, Result}
-use Rattle.fs_trait.specs.Calls.{Answer, kind_of}
-use Rattle.fs_trait.specs.Runs.{Event, Called}
-use Rattle.fuse_grammar.specs.Ask.{ask}
-use Rattle.fuse_grammar.specs.Forms.{Ask, Ends, Asks, Lists, WithMemory}
-use Rattle.fuse_grammar.specs.Listing.{IsDirectory, given_back}
-use Rattle.fuse_grammar.specs.Turn.{Turn, IsTurn}
-use Rattle.fuse_grammar.specs.declared.error.Error.{Error}
-use Rattle.fuse_grammar.specs.declared.limits.Limits.{Limits}
+use Rattle.vfs_files.specs.Calls.{Answer, kind_of}
+use Rattle.vfs_files.specs.Runs.{Event, Called}
+use Rattle.vfs_grammar.specs.Ask.{ask}
+use Rattle.vfs_grammar.specs.Forms.{Ask, Ends, Asks, Lists, WithMemory}
+use Rattle.vfs_grammar.specs.Listing.{IsDirectory, given_back}
+use Rattle.vfs_grammar.specs.Turn.{Turn, IsTurn}
+use Rattle.vfs_grammar.specs.declared.error.Error.{Error}
+use Rattle.vfs_grammar.specs.declared.limits.Limits.{Limits}
 use Rattle.door_calls.specs.Shapes.{nothing}
 use Rattle.door_calls.specs.declared.call.CallData.{CallData}
 use Rattle.door_calls.specs.declared.call.kind.TheConstants.{DIRECTORY}

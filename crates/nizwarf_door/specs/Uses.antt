@@ -1,16 +1,16 @@
 -- What small callers of the library say.
 use Rattle.std.specs.Prelude.{◌≡◌, ◌+◌, ℕ, ℤ, List, [], ◌∷◌, length, Some}
-use Rattle.fuse_segments.specs.Written.{Written}
-use Rattle.fuse_messages.specs.Rooms.{with_after}
-use Rattle.fuse_grammar.specs.Ask.{ask}
-use Rattle.fuse_grammar.specs.Samples.{lookup_of_a}
-use Rattle.fuse_grammar.specs.Turn.{Turn, IsTurn}
+use Rattle.vfs_segments.specs.Written.{Written}
+use Rattle.vfs_messages.specs.Rooms.{with_after}
+use Rattle.vfs_grammar.specs.Ask.{ask}
+use Rattle.vfs_grammar.specs.Samples.{lookup_of_a}
+use Rattle.vfs_grammar.specs.Turn.{Turn, IsTurn}
 use Rattle.door_calls.specs.declared.call.CallData.{CallData}
 use Rattle.door_calls.specs.declared.call.number.TheConstants.{LOOKUP}
 use Rattle.door_calls.specs.declared.call.kind.TheConstants.{ENTRY}
 use Rattle.door_calls.specs.declared.data.AnswerData.{AnswerData}
 use Rattle.door_calls.specs.declared.data.ItemData.{ItemData}
-use Rattle.fuse_grammar.specs.declared.limits.Limits.{Limits}
+use Rattle.vfs_grammar.specs.declared.limits.Limits.{Limits}
 use Rattle.door_ask.specs.Asked.{IsNameIn}
 use Rattle.door_answer.specs.declared.answered.Answered.{Answered}
 use Rattle.laws_flight.specs.OneTurn.{IsAnsweredTurn}

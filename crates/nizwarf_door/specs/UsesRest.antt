@@ -1,6 +1,6 @@
 -- What further small callers of the library say.
 use Rattle.std.specs.Prelude.{◌≡◌, ◌++◌, ℕ, List}
-use Rattle.fuse_grammar.specs.Samples.{eight, header_9}
+use Rattle.vfs_grammar.specs.Samples.{eight, header_9}
 use Rattle.door_calls.specs.declared.call.CallData.{CallData}
 
 -- request 9: a header of an opcode that nobody knows, 99

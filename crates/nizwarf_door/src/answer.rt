@@ -1,7 +1,7 @@
 //! Answering a call.
 
 ghost use Rattle.std.specs.Prelude.{◌≡◌, ◌≢◌, ℕ};
-ghost use Rattle.fuse_grammar.specs.Limits.{AreLimits};
+ghost use Rattle.vfs_grammar.specs.Limits.{AreLimits};
 ghost use Rattle.c_rooms.specs.Codes.{no_memory};
 ghost use Rattle.nizwarf_door.specs.Answering.{AnswersOrNot, entry_of};
 ghost use Rattle.nizwarf_door.specs.Kept.{put_of};
@@ -14,8 +14,8 @@ use crate::memory::Memory;
 use c_rooms::codes::{NOT_ASKED, OUT_OF_MEMORY};
 use door_answer::answer as put_answer;
 use door_calls::{AnswerData, CallData, ItemData, kind};
-use fuse_grammar::Limits;
 use std::alloc::Global;
+use vfs_grammar::Limits;
 
 /// The bytes of the header of a reply.
 pub const HEADER_SIZE: usize = 16;

@@ -1,12 +1,12 @@
 //! Asking a request for its call.
 
 ghost use Rattle.std.specs.Prelude.{◌≡◌, ◌≢◌, ◌≤◌, ◌++◌, ◌∷◌, [], ℕ, false, length, min, true, MatchOption};
-ghost use Rattle.fuse_flags.specs.Flags.{fs_options_bits};
-ghost use Rattle.fuse_segments.specs.Lengths.{lengths_from};
-ghost use Rattle.fuse_segments.specs.Segments.{segments_of, flat_bytes, lengths_of};
-ghost use Rattle.fuse_segments.specs.Written.{Written};
-ghost use Rattle.fuse_grammar.specs.Ask.{ask as ask_of};
-ghost use Rattle.fuse_grammar.specs.Limits.{AreLimits};
+ghost use Rattle.vfs_flags.specs.Flags.{fs_options_bits};
+ghost use Rattle.vfs_segments.specs.Lengths.{lengths_from};
+ghost use Rattle.vfs_segments.specs.Segments.{segments_of, flat_bytes, lengths_of};
+ghost use Rattle.vfs_segments.specs.Written.{Written};
+ghost use Rattle.vfs_grammar.specs.Ask.{ask as ask_of};
+ghost use Rattle.vfs_grammar.specs.Limits.{AreLimits};
 ghost use Rattle.door_calls.specs.Shapes.{nothing};
 ghost use Rattle.door_ask.specs.Asked.{IsAsked};
 ghost use Rattle.door_ask.specs.AtOnce.{AsksAtOnce};
@@ -26,12 +26,12 @@ use crate::rest::ask_pieces;
 use c_rooms::codes::{ASKED, OK, OUT_OF_MEMORY, TOO_LONG, told as code_of};
 use door_ask::{Asked, LONGEST_REPLY, ask, ask_at_once};
 use door_calls::{CallData, kind, number};
-use fuse_flags::FsOptions;
-use fuse_grammar::{Limits, Result};
-use fuse_segments::Reader;
-use fuse_wire::parts::part_at;
-use fuse_wire::{ByteValued, InHeader};
 use std::alloc::Global;
+use vfs_flags::FsOptions;
+use vfs_grammar::{Limits, Result};
+use vfs_segments::Reader;
+use vfs_wire::parts::part_at;
+use vfs_wire::{ByteValued, InHeader};
 
 /// Where a header has its opcode.
 const OPCODE_PLACE: usize = 4;
@@ -158,7 +158,7 @@ fn ask_cut(
     memory.shown = 0;
     match Reader::new(alloc, request) {
         Ok(reader) => ask_reader(alloc, memory, limits, options, reader, room, call, told),
-        Err(fuse_segments::Error::DescriptorChainOverflow) => not_asked(TOO_LONG, call),
+        Err(vfs_segments::Error::DescriptorChainOverflow) => not_asked(TOO_LONG, call),
         Err(_) => not_asked(OUT_OF_MEMORY, call),
     }
 }

@@ -1,9 +1,9 @@
 //! What a request is, without a reply: for a check in front of a server that trusts its client.
 
 ghost use Rattle.std.specs.Prelude.{◌≡◌, ◌^◌, ◌<◌, length};
-ghost use Rattle.fuse_segments.specs.Segments.{flat_bytes, segments_of};
-ghost use Rattle.fuse_flags.specs.Flags.{fs_options_bits};
-ghost use Rattle.fuse_grammar.specs.Limits.{AreLimits};
+ghost use Rattle.vfs_segments.specs.Segments.{flat_bytes, segments_of};
+ghost use Rattle.vfs_flags.specs.Flags.{fs_options_bits};
+ghost use Rattle.vfs_grammar.specs.Limits.{AreLimits};
 ghost use Rattle.c_rooms.specs.Codes.{wrong_size};
 ghost use Rattle.nizwarf_door.specs.Checking.{Checks, IsWhole, checked_code, interrupts_of};
 ghost use Rattle.nizwarf_door.specs.Session.{limits_of, options_of};
@@ -12,10 +12,10 @@ use crate::data::SessionData;
 use c_rooms::codes::{ASKED, OK, WRONG_SIZE, told as code_of};
 use door_ask::{Checked, check};
 use door_calls::CallData;
-use fuse_flags::FsOptions;
-use fuse_grammar::Limits;
-use fuse_segments::Reader;
 use std::alloc::Global;
+use vfs_flags::FsOptions;
+use vfs_grammar::Limits;
+use vfs_segments::Reader;
 
 /// Says what a request in one piece is, without a reply. `room` is how many bytes there would be for one.
 ///

@@ -1,13 +1,13 @@
 //! What C hands in and is told, in the order of the header's fields.
 
 ghost use Rattle.std.specs.Prelude.{◌≡◌, MatchOption};
-ghost use Rattle.fuse_flags.specs.Flags.{fs_options_bits};
-ghost use Rattle.fuse_grammar.specs.Limits.{AreLimits};
+ghost use Rattle.vfs_flags.specs.Flags.{fs_options_bits};
+ghost use Rattle.vfs_grammar.specs.Limits.{AreLimits};
 ghost use Rattle.nizwarf_door.specs.Session.{limits_of, options_of};
 
 use bitflags::Flags;
-use fuse_flags::{FsOptions, GREATEST_MAX_BUFFER, LEAST_MAX_BUFFER};
-use fuse_grammar::Limits;
+use vfs_flags::{FsOptions, GREATEST_MAX_BUFFER, LEAST_MAX_BUFFER};
+use vfs_grammar::Limits;
 
 /// What is agreed on with a client (`nizwarf_session`).
 #[repr(C)]

@@ -1,14 +1,14 @@
 //! The door of a file system that offers rows of the further table: calls that virtiofsd has not.
 
 ghost use Rattle.std.specs.Prelude.{◌≡◌, ◌≢◌, ◌≤◌, ℕ, [], length, min, Err, IsSome};
-ghost use Rattle.fuse_flags.specs.Flags.{fs_options_bits};
-ghost use Rattle.fuse_segments.specs.Segments.{segments_of, flat_bytes};
+ghost use Rattle.vfs_flags.specs.Flags.{fs_options_bits};
+ghost use Rattle.vfs_segments.specs.Segments.{segments_of, flat_bytes};
 ghost use Rattle.door_calls.specs.declared.call.number.TheConstants.{CREATE};
 ghost use Rattle.door_calls.specs.Shapes.{nothing};
-ghost use Rattle.fuse_grammar.specs.Ask.{ask as ask_of};
-ghost use Rattle.fuse_grammar.specs.Forms.{Ask};
-ghost use Rattle.fuse_grammar.specs.Limits.{AreLimits};
-ghost use Rattle.fuse_grammar.specs.declared.error.Error.TheVariants.{DecodeMessage};
+ghost use Rattle.vfs_grammar.specs.Ask.{ask as ask_of};
+ghost use Rattle.vfs_grammar.specs.Forms.{Ask};
+ghost use Rattle.vfs_grammar.specs.Limits.{AreLimits};
+ghost use Rattle.vfs_grammar.specs.declared.error.Error.TheVariants.{DecodeMessage};
 ghost use Rattle.door_ask.specs.Memory.{MayWant};
 ghost use Rattle.door_ask.specs.WithOpcode.{unread_with_opcode};
 ghost use Rattle.door_further.specs.Fitting.{answer_offered};
@@ -34,10 +34,10 @@ use c_rooms::codes::{ASKED, OUT_OF_MEMORY, TOO_LONG, WRONG_SIZE, told as code_of
 use door_ask::{Asked, LONGEST_REPLY, ask_as, check_as};
 use door_calls::{AnswerData, CallData, ItemData, number};
 use door_further::{EIO, Further, is_unfit, what};
-use fuse_flags::FsOptions;
-use fuse_grammar::{Error, Limits};
-use fuse_segments::Reader;
 use std::alloc::Global;
+use vfs_flags::FsOptions;
+use vfs_grammar::{Error, Limits};
+use vfs_segments::Reader;
 
 // Gives the call of a CREATE that was told the number of a TMPFILE.
 fn name(code: i32, call: &mut CallData)
@@ -194,7 +194,7 @@ fn ask_segments_as(
     memory.shown = 0;
     match Reader::new(alloc, request) {
         Ok(reader) => ask_reader_as(alloc, memory, limits, options, reader, room, call, told),
-        Err(fuse_segments::Error::DescriptorChainOverflow) => not_asked(TOO_LONG, call),
+        Err(vfs_segments::Error::DescriptorChainOverflow) => not_asked(TOO_LONG, call),
         Err(_) => not_asked(OUT_OF_MEMORY, call),
     }
 }

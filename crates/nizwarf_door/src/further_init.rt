@@ -2,10 +2,10 @@
 
 ghost use Rattle.std.specs.Prelude.{◌≡◌, pos};
 ghost use Rattle.std.specs.Int.{w32, cast_unsigned};
-ghost use Rattle.fuse_notices.specs.Backing.{Opens, reply_with_backing};
-ghost use Rattle.fuse_notices.specs.Init.{AddsNothing, Agrees, further_agreed, further_offered as offered_in, reply_with_more, said_in};
+ghost use Rattle.vfs_notices.specs.Backing.{Opens, reply_with_backing};
+ghost use Rattle.vfs_notices.specs.Init.{AddsNothing, Agrees, further_agreed, further_offered as offered_in, reply_with_more, said_in};
 
-use fuse_notices::{InitMore, add_backing, add_to_init, further_offered};
+use vfs_notices::{InitMore, add_backing, add_to_init, further_offered};
 
 /// The further options that an INIT offers, of which the first 104 bytes are enough: see [`further_offered`].
 #[unsafe(no_mangle)]

@@ -30,10 +30,10 @@ mod uses_text;
 
 ghost use Rattle.std.specs.Prelude.{◌≡◌, ◌≢◌, ◌≤◌, ◌++◌, ℕ, [], length, take, drop, min, IsSome, MatchOption};
 ghost use Rattle.std.specs.declared.option.Option.TheVariants.{None, Some};
-ghost use Rattle.fuse_segments.specs.Segments.{segments_of, flat_bytes};
-ghost use Rattle.fuse_grammar.specs.Ask.{ask as ask_of};
-ghost use Rattle.fuse_grammar.specs.Forms.{Ask};
-ghost use Rattle.fuse_grammar.specs.Limits.{AreLimits};
+ghost use Rattle.vfs_segments.specs.Segments.{segments_of, flat_bytes};
+ghost use Rattle.vfs_grammar.specs.Ask.{ask as ask_of};
+ghost use Rattle.vfs_grammar.specs.Forms.{Ask};
+ghost use Rattle.vfs_grammar.specs.Limits.{AreLimits};
 ghost use Rattle.door_ask.specs.Memory.{MayWant};
 ghost use Rattle.c_rooms.specs.Codes.{is_asked, no_memory, no_server, ok, wrong_size};
 ghost use Rattle.nizwarf_door.specs.Answering.{AnswersOrNot};

@@ -5,8 +5,8 @@ ghost use Rattle.nizwarf_door.specs.Rooms.{HasRoomFor};
 
 use c_rooms::{copy_part, lend};
 use door_ask::LONGEST_REPLY;
-use fuse_segments::Writer;
 use std::alloc::Global;
+use vfs_segments::Writer;
 
 /// Memory in which one reply after another is put together.
 #[derive(Drop)]

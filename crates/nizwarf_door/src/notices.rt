@@ -1,9 +1,9 @@
 //! Notices, for C: each puts one over the first bytes of `out`, and answers how many they are; 0 where it has no
 //! room there, or no length that its header can tell, and then nothing was put.
 
-ghost use Rattle.fuse_notices.specs.Notices.{IsPut, delete, inc_epoch, inval_entry, inval_inode, poll, prune, resend, retrieve, store};
+ghost use Rattle.vfs_notices.specs.Notices.{IsPut, delete, inc_epoch, inval_entry, inval_inode, poll, prune, resend, retrieve, store};
 
-use fuse_notices::{
+use vfs_notices::{
     put_delete, put_inc_epoch, put_inval_entry, put_inval_inode, put_poll, put_prune, put_resend,
     put_retrieve, put_store,
 };

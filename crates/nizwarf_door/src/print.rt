@@ -1,11 +1,11 @@
 //! Messages as lines of text.
 
 ghost use Rattle.std.specs.Prelude.{◌≡◌, ◌<◌, codes, length};
-ghost use Rattle.fuse_print.specs.Lines.{HasLine, IsLine};
+ghost use Rattle.vfs_print.specs.Lines.{HasLine, IsLine};
 
 use bitflags::Flags;
-use fuse_flags::FsOptions;
-use fuse_print::Message;
+use vfs_flags::FsOptions;
+use vfs_print::Message;
 
 /// Writes a request as a line over the first bytes of `text`, as many as fit before a 0. `options` are
 /// those that are agreed on.

@@ -1,10 +1,10 @@
 //! Asking a request for its call whose header lies in one piece, and in one all that follows it.
 
 ghost use Rattle.std.specs.Prelude.{◌≡◌, ◌≢◌, ◌++◌, ◌∷◌, ℕ, [], length, min};
-ghost use Rattle.fuse_flags.specs.Flags.{fs_options_bits};
-ghost use Rattle.fuse_segments.specs.Lengths.{lengths_from};
-ghost use Rattle.fuse_grammar.specs.Ask.{ask as ask_of};
-ghost use Rattle.fuse_grammar.specs.Limits.{AreLimits};
+ghost use Rattle.vfs_flags.specs.Flags.{fs_options_bits};
+ghost use Rattle.vfs_segments.specs.Lengths.{lengths_from};
+ghost use Rattle.vfs_grammar.specs.Ask.{ask as ask_of};
+ghost use Rattle.vfs_grammar.specs.Limits.{AreLimits};
 ghost use Rattle.door_ask.specs.Memory.{MayWantAfterHeader};
 ghost use Rattle.c_rooms.specs.Codes.{is_asked, no_memory};
 ghost use Rattle.nizwarf_door.specs.Asking.{AsksOrNot};
@@ -19,9 +19,9 @@ use crate::memory::Memory;
 use c_rooms::codes::OUT_OF_MEMORY;
 use door_ask::{Asked, LONGEST_REPLY, ask_rest};
 use door_calls::CallData;
-use fuse_flags::FsOptions;
-use fuse_grammar::Limits;
 use std::alloc::Global;
+use vfs_flags::FsOptions;
+use vfs_grammar::Limits;
 
 /// Asks the request that has this header, and after it these bytes.
 #[inline(always)]

@@ -2,11 +2,11 @@
 
 ghost use Rattle.std.specs.Prelude.{◌≡◌, ◌≢◌, ◌≤◌, ◌⊎◌, ℤ, [], ◌∷◌, length};
 ghost use Rattle.std.specs.declared.option.Option.TheVariants.{None};
-ghost use Rattle.fuse_grammar.specs.Samples.{lookup_of_a};
-ghost use Rattle.fuse_segments.specs.Segments.{segments_of, flat_bytes};
+ghost use Rattle.vfs_grammar.specs.Samples.{lookup_of_a};
+ghost use Rattle.vfs_segments.specs.Segments.{segments_of, flat_bytes};
 ghost use Rattle.c_rooms.specs.Codes.{ok, no_memory, not_asked, is_asked};
-ghost use Rattle.fuse_grammar.specs.Limits.{AreLimits};
-ghost use Rattle.fuse_grammar.specs.Ask.{ask};
+ghost use Rattle.vfs_grammar.specs.Limits.{AreLimits};
+ghost use Rattle.vfs_grammar.specs.Ask.{ask};
 ghost use Rattle.door_ask.specs.Memory.{MayWant};
 ghost use Rattle.nizwarf_door.specs.Asking.{unread_in};
 ghost use Rattle.nizwarf_door.specs.Kept.{HoldsAnswer, HoldsFor, put_of};

@@ -1,9 +1,9 @@
 //! Small callers of the door of a file system that offers rows.
 
 ghost use Rattle.std.specs.Prelude.{◌≡◌, ◌≢◌, ◌≤◌, ◌⊎◌, ℤ, [], length, pos};
-ghost use Rattle.fuse_segments.specs.Segments.{segments_of, flat_bytes};
-ghost use Rattle.fuse_grammar.specs.Forms.{Ask};
-ghost use Rattle.fuse_grammar.specs.Samples.{lookup_of_a};
+ghost use Rattle.vfs_segments.specs.Segments.{segments_of, flat_bytes};
+ghost use Rattle.vfs_grammar.specs.Forms.{Ask};
+ghost use Rattle.vfs_grammar.specs.Samples.{lookup_of_a};
 ghost use Rattle.laws_flight.specs.Table.{AreOf};
 ghost use Rattle.door_further.specs.Uses.{getlk, getlk_asked};
 ghost use Rattle.c_rooms.specs.Codes.{is_asked, no_memory};

@@ -1,16 +1,16 @@
 //! A program that says a notice, and one that agrees on more.
 
 ghost use Rattle.std.specs.Prelude.{◌≡◌, ◌^◌, length, pos};
-ghost use Rattle.fuse_notices.specs.Samples.{a_is_old, agreed_on_init_ext, agreed_on_passthrough, init_7_45, opened_3, opened_3_by_258, two_nodes_follow};
+ghost use Rattle.vfs_notices.specs.Samples.{a_is_old, agreed_on_init_ext, agreed_on_passthrough, init_7_45, opened_3, opened_3_by_258, two_nodes_follow};
 
 use crate::further_init::{
     nizwarf_add_backing_at, nizwarf_add_to_init_at, nizwarf_init_offered_at,
 };
 use crate::notices::{nizwarf_notice_inval_entry_at, nizwarf_notice_prune_at};
-use fuse_notices::{InitMore, further};
+use vfs_notices::{InitMore, further};
 
 /// The name `a` in node 1 is to be looked up again.
-#[tactic(auto, unfolding(fuse_wire::specs::Fields::little))]
+#[tactic(auto, unfolding(vfs_wire::specs::Fields::little))]
 fn name_is_old(out: &mut [u8]) -> usize
     requires { length out.old ≡ 34 }
     ensures len { result ≡ 34 }
@@ -20,7 +20,7 @@ fn name_is_old(out: &mut [u8]) -> usize
 }
 
 /// Two nodes may be dropped, whose numbers follow.
-#[tactic(auto, unfolding(fuse_wire::specs::Fields::little))]
+#[tactic(auto, unfolding(vfs_wire::specs::Fields::little))]
 fn nodes_follow(out: &mut [u8]) -> usize
     requires { length out.old ≡ 32 }
     ensures len { result ≡ 32 }
@@ -30,7 +30,7 @@ fn nodes_follow(out: &mut [u8]) -> usize
 }
 
 /// An INIT offers all further options, and PASSTHROUGH is agreed on.
-#[tactic(auto, unfolding(fuse_wire::specs::Fields::little, fuse_wire::specs::Fields::number))]
+#[tactic(auto, unfolding(vfs_wire::specs::Fields::little, vfs_wire::specs::Fields::number))]
 fn agree_on_passthrough(request: &[u8], reply: &mut [u8]) -> u64
     requires request { request.now ≡ init_7_45 }
     requires reply { reply.old ≡ agreed_on_init_ext }
@@ -49,7 +49,7 @@ fn agree_on_passthrough(request: &[u8], reply: &mut [u8]) -> u64
 }
 
 /// An open file is read by the client itself.
-#[tactic(auto, unfolding(fuse_wire::specs::Fields::little, fuse_wire::specs::Fields::number))]
+#[tactic(auto, unfolding(vfs_wire::specs::Fields::little, vfs_wire::specs::Fields::number))]
 fn pass_through(reply: &mut [u8]) -> i32
     requires { reply.old ≡ opened_3 }
     ensures named { result ≡ pos 1 }

@@ -2,21 +2,21 @@
 //! directories.
 
 ghost use Rattle.std.specs.Prelude.{◌≡◌, ◌≢◌, ◌≤◌, ◌^◌, ◌⊎◌, ◌==◌, if◌then◌else◌, ℕ, ℤ, List, [], ◌∷◌, length, take, bit_and, pos, Option, None, Some, Result};
-ghost use Rattle.fuse_flags.specs.Flags.{known_fs_options};
-ghost use Rattle.fuse_segments.specs.Segments.{segments_of, flat_bytes};
-ghost use Rattle.fuse_grammar.specs.Ask.{ask as ask_of};
-ghost use Rattle.fs_trait.specs.Calls.{Failed, Getattr};
-ghost use Rattle.fs_trait.specs.Runs.{Called};
-ghost use Rattle.fs_trait.specs.declared.entry.Context.{Context};
-ghost use Rattle.fuse_grammar.specs.Forms.{Asks, Lists};
-ghost use Rattle.fuse_grammar.specs.Listing.{Listing, given_back};
-ghost use Rattle.fuse_grammar.specs.Memory.{header_of};
-ghost use Rattle.fuse_grammar.specs.Reply.{Echo};
+ghost use Rattle.vfs_flags.specs.Flags.{known_fs_options};
+ghost use Rattle.vfs_segments.specs.Segments.{segments_of, flat_bytes};
+ghost use Rattle.vfs_grammar.specs.Ask.{ask as ask_of};
+ghost use Rattle.vfs_files.specs.Calls.{Failed, Getattr};
+ghost use Rattle.vfs_files.specs.Runs.{Called};
+ghost use Rattle.vfs_files.specs.declared.entry.Context.{Context};
+ghost use Rattle.vfs_grammar.specs.Forms.{Asks, Lists};
+ghost use Rattle.vfs_grammar.specs.Listing.{Listing, given_back};
+ghost use Rattle.vfs_grammar.specs.Memory.{header_of};
+ghost use Rattle.vfs_grammar.specs.Reply.{Echo};
 ghost use Rattle.door_answer.specs.Said.{IsFailed};
-ghost use Rattle.fuse_grammar.specs.Options.{agreed};
-ghost use Rattle.fuse_grammar.specs.Samples.{not_served_reply};
-ghost use Rattle.fuse_grammar.specs.Turn.{IsTurn, Turn};
-ghost use Rattle.fuse_grammar.specs.declared.error.Error.{Error};
+ghost use Rattle.vfs_grammar.specs.Options.{agreed};
+ghost use Rattle.vfs_grammar.specs.Samples.{not_served_reply};
+ghost use Rattle.vfs_grammar.specs.Turn.{IsTurn, Turn};
+ghost use Rattle.vfs_grammar.specs.declared.error.Error.{Error};
 ghost use Rattle.door_calls.specs.Shapes.{nothing};
 ghost use Rattle.door_calls.specs.declared.call.CallData.{CallData};
 ghost use Rattle.door_calls.specs.declared.call.Range.{Range};

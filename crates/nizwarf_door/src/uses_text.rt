@@ -1,7 +1,7 @@
 //! A program that checks a request, and one that prints it.
 
 ghost use Rattle.std.specs.Prelude.{◌≡◌, ◌++◌, ◌∷◌, [], codes, length};
-ghost use Rattle.fuse_grammar.specs.Samples.{lookup_of_a};
+ghost use Rattle.vfs_grammar.specs.Samples.{lookup_of_a};
 ghost use Rattle.c_rooms.specs.Codes.{is_asked};
 ghost use Rattle.nizwarf_door.specs.Uses.{IsLookupOfA};
 

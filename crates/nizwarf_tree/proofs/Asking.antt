@@ -1,14 +1,14 @@
 -- What a request asks by the rows that the file system offers.
 use Rattle.std.proofs.Common.{◌≡◌, ◌==◌, ◌&&◌, ◌+◌, ℕ, Bool, true, false, List, length, drop, nat_le, nat_lt, if◌then◌else◌, Result, Ok, Err, refl, subst}
-use Rattle.fuse_flags.specs.Flags.{has_flag}
-use Rattle.fuse_wire.specs.Records.{in_header}
-use Rattle.fuse_wire.specs.declared.headers.InHeader.{InHeader}
-use Rattle.fuse_wire_more.specs.Locks.{lk_in}
-use Rattle.fuse_wire_more.specs.Devices.{ioctl_in, statx_in}
-use Rattle.fuse_grammar.specs.Limits.{max_len}
-use Rattle.fuse_grammar.specs.Records.{record_of, size_of}
-use Rattle.fuse_grammar.specs.declared.error.Error.{Error}
-use Rattle.fuse_grammar.specs.declared.limits.Limits.{Limits}
+use Rattle.vfs_flags.specs.Flags.{has_flag}
+use Rattle.vfs_wire.specs.Records.{in_header}
+use Rattle.vfs_wire.specs.declared.headers.InHeader.{InHeader}
+use Rattle.vfs_wire_more.specs.Locks.{lk_in}
+use Rattle.vfs_wire_more.specs.Devices.{ioctl_in, statx_in}
+use Rattle.vfs_grammar.specs.Limits.{max_len}
+use Rattle.vfs_grammar.specs.Records.{record_of, size_of}
+use Rattle.vfs_grammar.specs.declared.error.Error.{Error}
+use Rattle.vfs_grammar.specs.declared.limits.Limits.{Limits}
 use Rattle.door_calls.specs.declared.call.CallData.{CallData}
 use Rattle.door_calls.specs.declared.call.kind.TheConstants as kind
 use Rattle.door_calls.specs.declared.call.number.TheConstants as number
@@ -16,7 +16,7 @@ use Rattle.door_further.specs.declared.offers.TheConstants as row
 use Rattle.door_further.specs.Further.{What, Ordinary, Short, Row, Unnamed, Tells, ioctl_place, or_short, row_of, told_under, what_after}
 use Rattle.door_further.specs.declared.row.Further.{Further}
 use Rattle.door_further.specs.declared.row.Further.TheVariants as further
-use Rattle.fuse_server.specs.Step.{ServerState}
+use Rattle.vfs_server.specs.Step.{ServerState}
 use Rattle.nizwarf_tree.specs.Files.{State}
 use Rattle.nizwarf_tree.specs.Offered.{AsksRow, row_limits, what_asked}
 use Rattle.nizwarf_tree.specs.declared.files.TheConstants.{OFFERS}

@@ -1,10 +1,10 @@
 -- The library's functions in a row.
 use Rattle.std.proofs.Common.{◌≡◌, ◌≤◌, ◌^◌, ◌⊎◌, ◌++◌, ◌∙◌, length, ℕ, ℤ, List, [], ◌∷◌, Option, Some, None, IfSome, MatchOption, append-nil, ap, refl, subst, sym, inl, inr}
-use Rattle.fuse_server.specs.Step.{ServerState}
+use Rattle.vfs_server.specs.Step.{ServerState}
 use Rattle.laws_history.specs.History.{Moment, Handled, Changed, IsHistory, HistoriesKeepBooks}
 use Rattle.door_further.specs.Further.{What, Ordinary, Short, Row, Unnamed}
 use Rattle.door_further.specs.Turns.{as_create}
-use Rattle.fuse_grammar.specs.declared.limits.Limits.{Limits}
+use Rattle.vfs_grammar.specs.declared.limits.Limits.{Limits}
 use Rattle.c_rooms.specs.Codes.{ok, no_memory, too_long}
 use Rattle.nizwarf_tree.specs.Files.{State, Allows, Gives, at_time}
 use Rattle.nizwarf_tree.specs.History.{AreAdded, Answered, AnsweredAs, Extends, HandlesTwo, Told, Turned}

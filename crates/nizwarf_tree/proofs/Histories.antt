@@ -1,7 +1,7 @@
 -- What a call adds to the history of a server.
 use Rattle.std.proofs.Common.{ℕ, ℤ, List, refl, sym, ◌∙◌, inl, inr}
 use Rattle.std.proofs.lemmas.List.{append_cancel_left}
-use Rattle.fuse_server.specs.Step.{ServerState}
+use Rattle.vfs_server.specs.Step.{ServerState}
 use Rattle.laws_history.specs.History.{GoesOnHandled, GoesOnChanged, turn_of}
 use Rattle.nizwarf_tree.specs.Files.{State, Allows, Gives}
 use Rattle.door_further.specs.Further.{What, Ordinary, Short, Row, Unnamed}

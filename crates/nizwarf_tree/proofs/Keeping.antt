@@ -1,15 +1,15 @@
 -- Which memory a server keeps.
 use Rattle.std.proofs.Common.{◌≡◌, ◌≢◌, ◌≤◌, ◌<◌, ◌^◌, ◌+◌, ◌∙◌, ℕ, ℤ, List, length, Option, None, Some, Result, Ok, Err, IfSome, IsSome, MatchOption, refl, ap, sym, subst, arith, length-append}
-use Rattle.fuse_segments.specs.Lengths.{lengths_from}
-use Rattle.fuse_segments.specs.Segments.{flat_bytes, lengths_of}
-use Rattle.fuse_segments.specs.Unread.{Unread}
-use Rattle.fuse_segments.specs.Written.{Written, Leaves, whole}
-use Rattle.fuse_grammar.specs.declared.error.Error.{Error}
-use Rattle.fuse_grammar.specs.declared.error.Error.TheVariants.{OutOfMemory}
-use Rattle.fuse_grammar.specs.declared.error.Error.TheVariants as error
-use Rattle.fuse_grammar.specs.declared.limits.Limits.{Limits}
-use Rattle.fuse_server.specs.Memory.{WantsNoMemory}
-use Rattle.fuse_server.specs.Step.{ServerState}
+use Rattle.vfs_segments.specs.Lengths.{lengths_from}
+use Rattle.vfs_segments.specs.Segments.{flat_bytes, lengths_of}
+use Rattle.vfs_segments.specs.Unread.{Unread}
+use Rattle.vfs_segments.specs.Written.{Written, Leaves, whole}
+use Rattle.vfs_grammar.specs.declared.error.Error.{Error}
+use Rattle.vfs_grammar.specs.declared.error.Error.TheVariants.{OutOfMemory}
+use Rattle.vfs_grammar.specs.declared.error.Error.TheVariants as error
+use Rattle.vfs_grammar.specs.declared.limits.Limits.{Limits}
+use Rattle.vfs_server.specs.Memory.{WantsNoMemory}
+use Rattle.vfs_server.specs.Step.{ServerState}
 use Rattle.c_rooms.specs.Codes.{no_memory, no_server, outcome_code, ok}
 use Rattle.nizwarf_tree.specs.Files.{State}
 use Rattle.nizwarf_tree.specs.Kept.{KeepsFor, WantsNone, unread_in}

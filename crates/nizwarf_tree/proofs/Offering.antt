@@ -5,9 +5,9 @@ use Rattle.std.proofs.lemmas.List.Folds.{concat-append}
 use Rattle.std.specs.Borrow.{Bor}
 use Rattle.std.specs.List.{concat}
 use Rattle.std.specs.Prelude.{min}
-use Rattle.fuse_segments.proofs.Flat.{concat-split}
-use Rattle.fuse_segments.specs.Segments.{flat_bytes, segments_of}
-use Rattle.fuse_wire.specs.Fields.{little}
+use Rattle.vfs_segments.proofs.Flat.{concat-split}
+use Rattle.vfs_segments.specs.Segments.{flat_bytes, segments_of}
+use Rattle.vfs_wire.specs.Fields.{little}
 use Rattle.door_further.specs.Turns.{as_create}
 
 -- ---- the first bytes of two pieces, and those after

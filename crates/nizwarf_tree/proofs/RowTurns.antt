@@ -2,14 +2,14 @@
 use Rattle.std.proofs.Common.{◌≡◌, ◌<◌, ◌+◌, ◌-◌, ◌++◌, ◌∙◌, ◌&&◌, ◌==◌, ℕ, ℤ, pos, Bool, true, false, not, List, [], length, drop, IfSome, Option, Some, None, Result, Err, if◌then◌else◌, append-nil, ap, refl, sym, subst, inl, inr, arith}
 use Rattle.std.specs.Ordering.{int_eq}
 use Rattle.std.proofs.lemmas.Bool.Decides.{Decides-int_eq}
-use Rattle.fuse_flags.specs.Numbers.{eio}
-use Rattle.fuse_segments.specs.Written.{Written, whole}
-use Rattle.fs_trait.specs.Calls.{Answer, Failed, Text, Texts}
-use Rattle.fuse_messages.specs.Rooms.{Replies, with_after}
-use Rattle.fuse_grammar.specs.Reply.{Reply, Refusal, NoReply, Bytes, OpenAfter, reply_of}
-use Rattle.fuse_grammar.specs.declared.error.Error.{Error}
-use Rattle.fuse_grammar.specs.declared.error.Error.TheVariants.{DecodeMessage}
-use Rattle.fuse_grammar.specs.declared.limits.Limits.{Limits}
+use Rattle.vfs_flags.specs.Numbers.{eio}
+use Rattle.vfs_segments.specs.Written.{Written, whole}
+use Rattle.vfs_files.specs.Calls.{Answer, Failed, Text, Texts}
+use Rattle.vfs_messages.specs.Rooms.{Replies, with_after}
+use Rattle.vfs_grammar.specs.Reply.{Reply, Refusal, NoReply, Bytes, OpenAfter, reply_of}
+use Rattle.vfs_grammar.specs.declared.error.Error.{Error}
+use Rattle.vfs_grammar.specs.declared.error.Error.TheVariants.{DecodeMessage}
+use Rattle.vfs_grammar.specs.declared.limits.Limits.{Limits}
 use Rattle.door_calls.specs.declared.call.CallData.{CallData}
 use Rattle.door_calls.specs.declared.call.kind.TheConstants as kind
 use Rattle.door_calls.specs.declared.data.AnswerData.{AnswerData}
@@ -23,7 +23,7 @@ use Rattle.door_further.specs.Further.{What, Short, Row, told_under, what_of}
 use Rattle.door_further.specs.OneTurn.{AreOneOfferedTurn, HappenedOffered, IsAnsweredOffered, IsToldOffered, offered_turn}
 use Rattle.door_further.specs.Turns.{FollowsOffered, IsOfferedTurn, OfferedTurn, row_kind}
 use Rattle.c_rooms.specs.Codes.{outcome_code, length_of, shown_of}
-use Rattle.fuse_server.specs.Step.{ServerState}
+use Rattle.vfs_server.specs.Step.{ServerState}
 use Rattle.nizwarf_tree.specs.Files.{State, row_answer}
 use Rattle.nizwarf_tree.specs.Offered.{AsksRow, row_limits, what_asked}
 use Rattle.nizwarf_tree.specs.Served.{RowInC, SaysText}

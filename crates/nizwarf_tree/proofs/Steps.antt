@@ -1,9 +1,9 @@
 -- A message that was handed to the server was served.
 use Rattle.std.proofs.Common.{◌≡◌, ◌≤◌, ◌^◌, ◌⊎◌, ℕ, ℤ, List, ◌++◌, ◌+◌, ◌-◌, length, drop, Result, inl, inr, sym, ap, ◌∙◌, subst, arith, length-append}
 use Rattle.std.proofs.lemmas.List.{drop_at}
-use Rattle.fuse_segments.specs.Written.{Written, whole}
-use Rattle.fuse_grammar.specs.declared.error.Error.{Error}
-use Rattle.fuse_server.specs.Step.{ServerState, IsStep, ReadsDirectories}
+use Rattle.vfs_segments.specs.Written.{Written, whole}
+use Rattle.vfs_grammar.specs.declared.error.Error.{Error}
+use Rattle.vfs_server.specs.Step.{ServerState, IsStep, ReadsDirectories}
 use Rattle.c_rooms.specs.Codes.{no_memory, too_long, outcome_code, length_of, shown_of}
 use Rattle.nizwarf_tree.specs.Files.{State, Allows, Gives}
 use Rattle.door_calls.specs.declared.call.CallData.{CallData}

@@ -2,8 +2,8 @@
 use Rattle.std.proofs.Common.{◌≡◌, ◌≤◌, ◌+◌, ◌==◌, ◌∙◌, ℕ, Bool, true, false, List, length, take, replicate, Result, Ok, Err, IfOk, if◌then◌else◌, ap, sym, arith}
 use Rattle.std.proofs.lemmas.Bool.{le-leb}
 use Rattle.std.proofs.lemmas.List.{take_all}
-use Rattle.fuse_wire.specs.Fields.{number as number_of}
-use Rattle.fs_trait.specs.Calls.{Text}
+use Rattle.vfs_wire.specs.Fields.{number as number_of}
+use Rattle.vfs_files.specs.Calls.{Text}
 use Rattle.door_calls.specs.declared.call.CallData.{CallData}
 use Rattle.door_calls.specs.declared.call.number.TheConstants as number
 use Rattle.door_further.specs.Fitting.{fits, fits_ioctl}

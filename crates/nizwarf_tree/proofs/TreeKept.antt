@@ -1,10 +1,10 @@
 -- A directory that is read of a tree.
 use Rattle.std.proofs.Common.{◌≡◌, ◌≢◌, ◌⊎◌, ◌^◌, ◌≤◌, ◌∙◌, ℕ, ℤ, List, length, Option, Some, None, IfSome, MatchOption, ap, subst, inl, inr}
-use Rattle.fuse_grammar.specs.Ask.{ask}
-use Rattle.fuse_grammar.specs.Forms.{Lists}
+use Rattle.vfs_grammar.specs.Ask.{ask}
+use Rattle.vfs_grammar.specs.Forms.{Lists}
 use Rattle.door_further.specs.Further.{What}
 use Rattle.c_rooms.specs.Codes.{no_memory, too_long}
-use Rattle.fuse_server.specs.Step.{ServerState}
+use Rattle.vfs_server.specs.Step.{ServerState}
 use Rattle.nizwarf_tree.specs.Files.{State}
 use Rattle.nizwarf_tree.specs.Served.{ServedAs, ServedInC, SteppedInC}
 use Rattle.nizwarf_tree.specs.TreeUses.{TakesFewItems}

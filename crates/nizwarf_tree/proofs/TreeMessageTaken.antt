@@ -1,9 +1,9 @@
 -- A message between two takings: the first has memory, and the second takes the reply.
 use denote.RawPtr.{Ptr}
 use Rattle.std.proofs.Common.{◌≡◌, ◌∙◌, ◌⊎◌, ℕ, ◌-◌, ℤ, List, length, drop, min, Option, Some, None, IfSome, MatchOption, Result, Ok, Err, refl, ap, sym, subst}
-use Rattle.fuse_server.specs.Step.{ServerState}
-use Rattle.fuse_grammar.specs.declared.error.Error.{Error}
-use Rattle.fuse_grammar.specs.declared.error.Error.TheVariants.{DecodeMessage, EncodeMessage, FlushMessage, MissingParameter, InvalidCString, InvalidCString2, InvalidHeaderLength, InvalidXattrSize, MissingExtension, OutOfMemory}
+use Rattle.vfs_server.specs.Step.{ServerState}
+use Rattle.vfs_grammar.specs.declared.error.Error.{Error}
+use Rattle.vfs_grammar.specs.declared.error.Error.TheVariants.{DecodeMessage, EncodeMessage, FlushMessage, MissingParameter, InvalidCString, InvalidCString2, InvalidHeaderLength, InvalidXattrSize, MissingExtension, OutOfMemory}
 use Rattle.c_rooms.specs.Codes.{ok, no_memory, no_server, outcome_code, length_of, shown_of}
 use Rattle.nizwarf_tree.specs.Files.{State}
 use Rattle.door_further.specs.Further.{What, Ordinary, Short, Row, Unnamed}

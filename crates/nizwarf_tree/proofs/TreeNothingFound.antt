@@ -1,21 +1,21 @@
 -- A LOOKUP of a name in a new tree, and what is copied out of its reply.
 use Rattle.std.proofs.Common.{◌≡◌, ◌∙◌, ℕ, ℤ, pos, List, [], ◌∷◌, ◌++◌, length, take, drop, min, Option, Some, None, IfSome, MatchOption, Result, Ok, refl, ap, sym, subst, inl, inr, arith}
 use Rattle.std.proofs.lemmas.List.{drop_all}
-use Rattle.fuse_flags.specs.Numbers.{opcode_of}
-use Rattle.fuse_wire.specs.Fields.{little, number, value_of}
-use Rattle.fuse_wire.specs.Records.{in_header}
-use Rattle.fs_trait.specs.Calls.{Call, Lookup, Answer, Failed, Entries, Plain}
-use Rattle.fs_trait.specs.Values.{context_of}
-use Rattle.fs_trait.specs.Runs.{Event, IsRun}
-use Rattle.fuse_grammar.specs.Ask.{ask}
-use Rattle.fuse_grammar.specs.Forms.{Asks, WithMemory}
-use Rattle.fuse_grammar.specs.Reply.{Echo, echo_of, reply_of}
-use Rattle.fuse_grammar.specs.Room.{IsReplied}
-use Rattle.fuse_grammar.specs.Samples.{lookup_of_a}
-use Rattle.fuse_grammar.specs.Turn.{Turn, Follows}
-use Rattle.fuse_grammar.specs.declared.error.Error.{Error}
-use Rattle.fuse_grammar.specs.declared.limits.Limits.{Limits}
-use Rattle.fuse_server.specs.Step.{ServerState}
+use Rattle.vfs_flags.specs.Numbers.{opcode_of}
+use Rattle.vfs_wire.specs.Fields.{little, number, value_of}
+use Rattle.vfs_wire.specs.Records.{in_header}
+use Rattle.vfs_files.specs.Calls.{Call, Lookup, Answer, Failed, Entries, Plain}
+use Rattle.vfs_files.specs.Values.{context_of}
+use Rattle.vfs_files.specs.Runs.{Event, IsRun}
+use Rattle.vfs_grammar.specs.Ask.{ask}
+use Rattle.vfs_grammar.specs.Forms.{Asks, WithMemory}
+use Rattle.vfs_grammar.specs.Reply.{Echo, echo_of, reply_of}
+use Rattle.vfs_grammar.specs.Room.{IsReplied}
+use Rattle.vfs_grammar.specs.Samples.{lookup_of_a}
+use Rattle.vfs_grammar.specs.Turn.{Turn, Follows}
+use Rattle.vfs_grammar.specs.declared.error.Error.{Error}
+use Rattle.vfs_grammar.specs.declared.limits.Limits.{Limits}
+use Rattle.vfs_server.specs.Step.{ServerState}
 use Rattle.laws_history.specs.History.{Handled, IsHistory, IsHandled}
 use Rattle.door_further.specs.Further.{What, Ordinary}
 use Rattle.c_rooms.specs.Codes.{ok, outcome_code, shown_of}

@@ -2,16 +2,16 @@
 use Rattle.std.proofs.Common.{◌≡◌, ◌≤◌, ◌+◌, ◌∙◌, ℕ, ℤ, Bool, false, List, Option, Some, None, IfSome, MatchOption, nat_lt, if◌then◌else◌, ap, sym, subst, arith}
 use Rattle.std.proofs.lemmas.Bool.{le-ltb}
 use Rattle.std.specs.Prelude.{max, min}
-use Rattle.fuse_flags.specs.declared.constants.TheConstants.{GREATEST_MAX_BUFFER, LEAST_MAX_BUFFER}
-use Rattle.fuse_wire.specs.Fields.{little, number}
-use Rattle.fs_trait.specs.Calls.{Answer}
-use Rattle.fuse_grammar.specs.declared.limits.Limits.{Limits}
+use Rattle.vfs_flags.specs.declared.constants.TheConstants.{GREATEST_MAX_BUFFER, LEAST_MAX_BUFFER}
+use Rattle.vfs_wire.specs.Fields.{little, number}
+use Rattle.vfs_files.specs.Calls.{Answer}
+use Rattle.vfs_grammar.specs.declared.limits.Limits.{Limits}
 use Rattle.door_calls.specs.declared.call.CallData.{CallData}
 use Rattle.door_further.specs.Further.{What, Ordinary, Row, told_under, what_of}
 use Rattle.door_further.specs.Turns.{FollowsOffered}
 use Rattle.door_further.specs.Uses.{statx, statx_asked}
 use Rattle.c_rooms.specs.Codes.{ok}
-use Rattle.fuse_server.specs.Step.{ServerState}
+use Rattle.vfs_server.specs.Step.{ServerState}
 use Rattle.fs_tree.specs.Rows.{ioctl_answer, statx_answer}
 use Rattle.nizwarf_tree.specs.Files.{State, row_answer}
 use Rattle.nizwarf_tree.specs.History.{Answered, AnsweredAs}

@@ -2,14 +2,14 @@
 use Rattle.std.proofs.Common.{◌≡◌, ◌≤◌, ◌+◌, ◌∙◌, ℕ, ℤ, Bool, false, List, Option, Some, None, IfSome, MatchOption, nat_lt, if◌then◌else◌, ap, subst, arith}
 use Rattle.std.proofs.lemmas.Bool.{le-ltb}
 use Rattle.std.specs.Prelude.{max, min}
-use Rattle.fuse_flags.specs.declared.constants.TheConstants.{GREATEST_MAX_BUFFER, LEAST_MAX_BUFFER}
-use Rattle.fuse_grammar.specs.declared.limits.Limits.{Limits}
-use Rattle.fuse_wire.specs.Fields.{little, number}
+use Rattle.vfs_flags.specs.declared.constants.TheConstants.{GREATEST_MAX_BUFFER, LEAST_MAX_BUFFER}
+use Rattle.vfs_grammar.specs.declared.limits.Limits.{Limits}
+use Rattle.vfs_wire.specs.Fields.{little, number}
 use Rattle.door_further.specs.Further.{What, Ordinary, Unnamed}
 use Rattle.door_further.specs.Turns.{as_create}
 use Rattle.door_further.specs.Uses.{tmpfile}
 use Rattle.c_rooms.specs.Codes.{ok}
-use Rattle.fuse_server.specs.Step.{ServerState}
+use Rattle.vfs_server.specs.Step.{ServerState}
 use Rattle.nizwarf_tree.specs.Files.{State}
 use Rattle.nizwarf_tree.specs.History.{Answered, AnsweredAs, Turned}
 use Rattle.nizwarf_tree.specs.Offered.{what_asked}

@@ -1,10 +1,10 @@
 -- The file system after the server, as contracts see it. A library over another one has other
 -- values here, and another `src/files.rt`.
 use Rattle.std.specs.Prelude.{ℕ, ◌==◌, bit_and, List, Option, Some, if◌then◌else◌}
-use Rattle.fuse_flags.specs.Numbers.{enosys}
-use Rattle.fs_trait.specs.Values.{Item}
-use Rattle.fs_trait.specs.Calls.{Answer, Failed, Call, Handed}
-use Rattle.fs_trait.specs.Listing.{GivesFirst}
+use Rattle.vfs_flags.specs.Numbers.{enosys}
+use Rattle.vfs_files.specs.Values.{Item}
+use Rattle.vfs_files.specs.Calls.{Answer, Failed, Call, Handed}
+use Rattle.vfs_files.specs.Listing.{GivesFirst}
 use Rattle.door_calls.specs.declared.call.CallData.{CallData}
 use Rattle.door_calls.specs.declared.call.number.TheConstants as number
 use Rattle.fs_tree.specs.Rows.{ioctl_answer, statx_answer}

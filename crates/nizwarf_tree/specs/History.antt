@@ -1,8 +1,8 @@
 -- What a call adds to the history of the server after a handle.
 use Rattle.std.specs.Prelude.{◌≡◌, ◌⊎◌, ℕ, ℤ, List, [], ◌∷◌, ◌++◌, length}
-use Rattle.fuse_grammar.specs.Books.{KeepsBooks}
-use Rattle.fuse_grammar.specs.Turn.{Turn}
-use Rattle.fuse_server.specs.Step.{ServerState}
+use Rattle.vfs_grammar.specs.Books.{KeepsBooks}
+use Rattle.vfs_grammar.specs.Turn.{Turn}
+use Rattle.vfs_server.specs.Step.{ServerState}
 use Rattle.laws_history.specs.History.{Moment, Handled, Changed, IsHistory, turns_in}
 use Rattle.door_further.specs.Further.{What, Ordinary, Short, Row, Unnamed}
 use Rattle.door_further.specs.Turns.{as_create}

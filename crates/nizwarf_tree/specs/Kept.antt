@@ -1,10 +1,10 @@
 -- Which memory a server keeps for its replies, and which requests want no other.
 use Rattle.std.specs.Prelude.{◌≡◌, ℕ, List}
-use Rattle.fuse_segments.specs.Lengths.{lengths_from}
-use Rattle.fuse_segments.specs.Segments.{flat_bytes, lengths_of}
-use Rattle.fuse_segments.specs.Unread.{Unread}
-use Rattle.fuse_server.specs.Memory.{WantsNoMemory}
-use Rattle.fuse_server.specs.Step.{ServerState}
+use Rattle.vfs_segments.specs.Lengths.{lengths_from}
+use Rattle.vfs_segments.specs.Segments.{flat_bytes, lengths_of}
+use Rattle.vfs_segments.specs.Unread.{Unread}
+use Rattle.vfs_server.specs.Memory.{WantsNoMemory}
+use Rattle.vfs_server.specs.Step.{ServerState}
 use Rattle.door_further.specs.Further.{Ordinary}
 use Rattle.c_rooms.specs.Places.{Lends}
 use Rattle.nizwarf_tree.specs.Files.{State}

@@ -1,9 +1,9 @@
 -- What calls tell of the server after a handle.
 use Rattle.std.specs.Prelude.{◌≡◌, ◌≤◌, ◌<◌, ◌-◌, ◌^◌, ◌⊎◌, pos, true, ℕ, ℤ, List, ◌++◌, length, IfSome, Some, Result}
-use Rattle.fuse_segments.specs.Written.{Written, whole}
-use Rattle.fuse_grammar.specs.declared.error.Error.{Error}
-use Rattle.fuse_server.specs.Step.{ServerState, IsStep, ReadsDirectories}
-use Rattle.fs_trait.specs.Calls.{Answer, Failed, Text}
+use Rattle.vfs_segments.specs.Written.{Written, whole}
+use Rattle.vfs_grammar.specs.declared.error.Error.{Error}
+use Rattle.vfs_server.specs.Step.{ServerState, IsStep, ReadsDirectories}
+use Rattle.vfs_files.specs.Calls.{Answer, Failed, Text}
 use Rattle.door_calls.specs.declared.call.CallData.{CallData}
 use Rattle.door_calls.specs.declared.data.AnswerData.{AnswerData}
 use Rattle.door_further.specs.Fitting.{fits}

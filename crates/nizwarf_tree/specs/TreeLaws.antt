@@ -1,7 +1,7 @@
 -- What holds of the tree after a server, since that was made. A library over another file system has no
 -- such file.
 use Rattle.std.specs.Prelude.{ℕ, List}
-use Rattle.fuse_server.specs.Step.{ServerState}
+use Rattle.vfs_server.specs.Step.{ServerState}
 use Rattle.laws_history.specs.History.{Moment, turns_in, IsHistory}
 use Rattle.laws_tree.specs.Histories.{OnlyTold, IsKept}
 use Rattle.nizwarf_tree.specs.Files.{State, Allows, Gives}

@@ -1,21 +1,21 @@
 -- What small callers of the library say.
 use denote.RawPtr.{Ptr}
 use Rattle.std.specs.Prelude.{◌≡◌, ◌≢◌, ◌≤◌, ◌+◌, ◌/◌, ℕ, ℤ, ◌-◌, ◌++◌, List, [], ◌∷◌, length, drop, min, Some, None}
-use Rattle.fs_trait.specs.Calls.{Answer}
-use Rattle.fs_trait.specs.Runs.{Event, IsRun}
-use Rattle.fuse_grammar.specs.Ask.{ask}
-use Rattle.fuse_grammar.specs.Directories.{least_record, takings}
-use Rattle.fuse_grammar.specs.Forms.{Lists}
-use Rattle.fuse_grammar.specs.Listing.{Listing}
-use Rattle.fuse_grammar.specs.Reply.{Echo}
-use Rattle.fuse_grammar.specs.Samples.{eight, four, header_9, zeros}
+use Rattle.vfs_files.specs.Calls.{Answer}
+use Rattle.vfs_files.specs.Runs.{Event, IsRun}
+use Rattle.vfs_grammar.specs.Ask.{ask}
+use Rattle.vfs_grammar.specs.Directories.{least_record, takings}
+use Rattle.vfs_grammar.specs.Forms.{Lists}
+use Rattle.vfs_grammar.specs.Listing.{Listing}
+use Rattle.vfs_grammar.specs.Reply.{Echo}
+use Rattle.vfs_grammar.specs.Samples.{eight, four, header_9, zeros}
 use Rattle.door_calls.specs.Shapes.{nothing}
 use Rattle.door_calls.specs.declared.call.CallData.{CallData}
 use Rattle.door_calls.specs.declared.call.kind.TheConstants as kind
 use Rattle.door_calls.specs.declared.call.number.TheConstants as number
 use Rattle.door_further.specs.Further.{Ordinary}
 use Rattle.door_further.specs.Turns.{OfferedTurn, IsOfferedTurn}
-use Rattle.fuse_server.specs.Step.{ServerState}
+use Rattle.vfs_server.specs.Step.{ServerState}
 use Rattle.c_rooms.specs.Codes.{ok, length_of, no_memory, outcome_code, too_long}
 use Rattle.nizwarf_tree.specs.Files.{State, Allows, Gives}
 use Rattle.nizwarf_tree.specs.History.{AnsweredAs}

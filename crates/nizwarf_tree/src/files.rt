@@ -2,7 +2,7 @@
 //! this, and other values in `specs/Files.antt`.
 
 ghost use Rattle.std.specs.Prelude.{◌≡◌, ◌≤◌, true, replicate, take, IfErr, IfOk, IfSome};
-ghost use Rattle.fs_trait.specs.Calls.{Failed, Text};
+ghost use Rattle.vfs_files.specs.Calls.{Failed, Text};
 ghost use Rattle.door_further.specs.Fitting.{fits};
 ghost use Rattle.nizwarf_tree.specs.Files.{new_state, at_time, row_answer};
 
@@ -10,8 +10,8 @@ use crate::settings::{Settings, WRITEBACK};
 use door_calls::{CallData, number};
 use door_further::offers;
 use fs_tree::{Capacity, Time, TreeFs};
-use fuse_flags::{Errno, GuestGid, GuestUid};
 use std::alloc::Global;
+use vfs_flags::{Errno, GuestGid, GuestUid};
 
 /// The file system.
 pub type Files = TreeFs;

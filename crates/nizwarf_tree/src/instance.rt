@@ -1,10 +1,10 @@
 //! A server and the room of its replies, as they live between calls.
 
 ghost use Rattle.std.specs.Prelude.{◌≡◌, ◌≢◌, ◌≤◌, ◌⊎◌, ◌-◌, ◌++◌, ◌∷◌, ℕ, [], None, length, take, drop, min, IfSome, IsSome};
-ghost use Rattle.fuse_flags.specs.declared.constants.TheConstants.{LEAST_MAX_BUFFER, GREATEST_MAX_BUFFER};
-ghost use Rattle.fuse_segments.specs.Segments.{segments_of, contents, flat_bytes, lengths_of};
-ghost use Rattle.fuse_segments.specs.Written.{whole};
-ghost use Rattle.fuse_server.specs.Memory.{WantsNoMemory};
+ghost use Rattle.vfs_flags.specs.declared.constants.TheConstants.{LEAST_MAX_BUFFER, GREATEST_MAX_BUFFER};
+ghost use Rattle.vfs_segments.specs.Segments.{segments_of, contents, flat_bytes, lengths_of};
+ghost use Rattle.vfs_segments.specs.Written.{whole};
+ghost use Rattle.vfs_server.specs.Memory.{WantsNoMemory};
 ghost use Rattle.door_further.specs.Turns.{as_create};
 ghost use Rattle.laws_history.specs.History.{Handled, turn_of_end};
 ghost use Rattle.nizwarf_tree.specs.History.{Extends};
@@ -22,12 +22,12 @@ use c_rooms::codes::{OK, OUT_OF_MEMORY, TOO_LONG, told};
 use c_rooms::{copy_part, lend, only_room};
 use door_calls::CallData;
 use door_further::Further;
-use fuse_grammar::Result;
-use fuse_segments::{Reader, Writer};
-use fuse_server::server::Server;
 use laws_history::laws::history_goes_on;
 use std::alloc::Global;
 use std::mem;
+use vfs_grammar::Result;
+use vfs_segments::{Reader, Writer};
+use vfs_server::server::Server;
 
 /// A server, and the memory in which its replies are put together.
 #[derive(Drop)]
@@ -137,7 +137,7 @@ impl Instance {
         self.shown = 0;
         match Reader::new(alloc, request) {
             Ok(reader) => self.answer_reader(alloc, reader, total),
-            Err(fuse_segments::Error::DescriptorChainOverflow) => (TOO_LONG, 0),
+            Err(vfs_segments::Error::DescriptorChainOverflow) => (TOO_LONG, 0),
             Err(_) => (OUT_OF_MEMORY, 0),
         }
     }

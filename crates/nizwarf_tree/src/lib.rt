@@ -23,11 +23,11 @@ mod uses;
 
 ghost use Rattle.std.specs.Prelude.{◌≡◌, ◌≢◌, ◌≤◌, ◌<◌, ◌⊎◌, ◌++◌, ◌∷◌, ℕ, [], length, take, drop, min, IfSome, MatchOption};
 ghost use Rattle.std.specs.declared.option.Option.TheVariants.{None, Some};
-ghost use Rattle.fuse_flags.specs.declared.constants.TheConstants.{LEAST_MAX_BUFFER, GREATEST_MAX_BUFFER};
-ghost use Rattle.fuse_segments.specs.Segments.{segments_of, flat_bytes};
+ghost use Rattle.vfs_flags.specs.declared.constants.TheConstants.{LEAST_MAX_BUFFER, GREATEST_MAX_BUFFER};
+ghost use Rattle.vfs_segments.specs.Segments.{segments_of, flat_bytes};
 ghost use Rattle.c_rooms.specs.Codes.{ok, no_memory, no_server, too_long, wrong_size};
 ghost use Rattle.laws_history.specs.History.{Handled, turn_of_end};
-ghost use Rattle.fuse_server.specs.Step.{ServerState};
+ghost use Rattle.vfs_server.specs.Step.{ServerState};
 ghost use Rattle.nizwarf_tree.specs.Files.{State};
 ghost use Rattle.nizwarf_tree.specs.History.{Answered, Extends, Told};
 ghost use Rattle.nizwarf_tree.specs.Kept.{KeepsFor, WantsNone};
@@ -43,9 +43,9 @@ use crate::settings::Settings;
 use crate::taken::Taken;
 use bitflags::Flags;
 use c_rooms::codes::{NO_SERVER, OK, OUT_OF_MEMORY, WRONG_SIZE};
-use fuse_flags::{GREATEST_MAX_BUFFER, LEAST_MAX_BUFFER};
 use laws_history::laws::history_goes_on;
 use std::alloc::Global;
+use vfs_flags::{GREATEST_MAX_BUFFER, LEAST_MAX_BUFFER};
 
 /// Puts a new server over a new file system of these settings into the handle, for this size of a
 /// page and this largest payload, both in bytes. A server that is there is ended first. Answers 0;

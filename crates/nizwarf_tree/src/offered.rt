@@ -1,8 +1,8 @@
 //! What the file system offers beyond virtiofsd, and the CREATE that a TMPFILE is handed to the server as.
 
 ghost use Rattle.std.specs.Prelude.{◌≡◌, ◌++◌, take, drop, IfOk, OnOk};
-ghost use Rattle.fuse_segments.specs.Segments.{segments_of, flat_bytes};
-ghost use Rattle.fuse_grammar.specs.Limits.{AreLimits};
+ghost use Rattle.vfs_segments.specs.Segments.{segments_of, flat_bytes};
+ghost use Rattle.vfs_grammar.specs.Limits.{AreLimits};
 ghost use Rattle.door_calls.specs.declared.call.kind.TheConstants as kind;
 ghost use Rattle.door_further.specs.Further.{Ordinary, Short, Tells, Unnamed, told_under};
 ghost use Rattle.door_further.specs.declared.row.Further.TheVariants.{Ordinary as IsOrdinary, Row as IsRow, Short as IsShort, Unnamed as IsUnnamed};
@@ -12,10 +12,10 @@ ghost use Rattle.nizwarf_tree.specs.Offered.{AsksRow, row_limits, what_asked};
 use crate::files::{Files, OFFERS};
 use door_calls::CallData;
 use door_further::{Further, what};
-use fuse_flags::{GREATEST_MAX_BUFFER, LEAST_MAX_BUFFER};
-use fuse_grammar::Limits;
-use fuse_server::server::Server;
 use std::alloc::{AllocError, Global};
+use vfs_flags::{GREATEST_MAX_BUFFER, LEAST_MAX_BUFFER};
+use vfs_grammar::Limits;
+use vfs_server::server::Server;
 
 /// The opcode of a CREATE, as a request has it, and where it is.
 static CREATE: [u8; 4] = [35, 0, 0, 0];

@@ -18,8 +18,8 @@ use door_further::answer_offered;
 use door_further::laws::{
     a_short_request_is_one_offered_turn, asked_and_answered_is_one_offered_turn,
 };
-use fuse_grammar::Error;
 use std::alloc::Global;
+use vfs_grammar::Error;
 
 impl Instance {
     /// Answers a call of a row, as the file system does.

@@ -1,8 +1,8 @@
 //! A transport that calls the library in a row, as that of `/dev/fuse` does.
 
 ghost use Rattle.std.specs.Prelude.{◌≡◌, ◌≢◌, ◌≤◌, ◌^◌, ℕ, ℤ, List, [], ◌∷◌, MatchOption, length, map};
-ghost use Rattle.fuse_segments.specs.Segments.{segments_of, flat_bytes};
-ghost use Rattle.fuse_server.specs.Step.{ServerState};
+ghost use Rattle.vfs_segments.specs.Segments.{segments_of, flat_bytes};
+ghost use Rattle.vfs_server.specs.Step.{ServerState};
 ghost use Rattle.door_calls.specs.declared.call.CallData.{CallData};
 ghost use Rattle.door_further.specs.Further.{Ordinary, Row, Short, Unnamed};
 ghost use Rattle.door_further.specs.Turns.{as_create};

@@ -1,10 +1,10 @@
 //! What no contract says: that names and extensions are copied where there is memory.
 
 use crate::support::holds;
-use fs_trait::{CStr, CString, Extensions, SecContext};
-use fuse_flags::{Errno, Fault, GuestGid};
 use std::alloc::Global;
 use std::test::Fail;
+use vfs_files::{CStr, CString, Extensions, SecContext};
+use vfs_flags::{Errno, Fault, GuestGid};
 
 /// A name of its own that has these bytes, in place of the 0 that ends them.
 fn own_name(alloc: Global, bytes: &[u8]) -> Result<CString, Fault> {

@@ -1,9 +1,9 @@
 //! Errors, as they are shown.
 
 use crate::support::{has_text, holds, none_is_wrong};
-use fuse_flags::Errno;
 use std::alloc::{AllocError, Global};
 use std::test::Fail;
+use vfs_flags::Errno;
 
 /// The numbers of the errors that have a name, and how they are shown.
 static ERRORS: [(i32, &str); 20] = [

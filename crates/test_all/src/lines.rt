@@ -2,7 +2,7 @@
 
 use crate::support::{have_texts, holds};
 use std::test::Fail;
-use text_run::RunError;
+use vfs_run::RunError;
 
 /// Each end of a run that has a text, and the text.
 static TEXTS: [(RunError, &str); 3] = [

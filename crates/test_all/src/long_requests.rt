@@ -2,14 +2,14 @@
 //! tails. The calls are then those of the uncut request, with all that stood in it.
 
 use crate::support::{holds, request};
-use fuse_segments::{Reader, Writer};
-use fuse_server::server::Server;
 use std::alloc::{AllocError, Global};
 use std::cell::RefCell;
 use std::collections::VecDeque;
 use std::test::Fail;
 use test_seeded::SeededFs;
-use text_run::{PAGE_SIZE, answer_to, parse_line};
+use vfs_run::{PAGE_SIZE, answer_to, parse_line};
+use vfs_segments::{Reader, Writer};
+use vfs_server::server::Server;
 
 /// A server over the seeded file system, which shows with what each call came.
 type SeededServer<'a> = Server<SeededFs<'a>>;

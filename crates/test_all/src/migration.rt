@@ -2,11 +2,11 @@
 
 use crate::support::{have_texts, holds};
 use fs_small::Unserved;
-use fuse_flags::Errno;
-use fuse_server::filesystem::{MigrateError, SerializableFileSystem};
-use fuse_server::server::Server;
 use std::alloc::Global;
 use std::test::Fail;
+use vfs_flags::Errno;
+use vfs_server::filesystem::{MigrateError, SerializableFileSystem};
+use vfs_server::server::Server;
 
 /// Whether a server's state is not saved, and nothing is written.
 fn saves_nothing(alloc: Global, server: &mut Server<Unserved>) -> bool {

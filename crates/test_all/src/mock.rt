@@ -8,15 +8,15 @@ use crate::support::{
     ScriptServer, holds, none_is_wrong, reply, reply_by_script, script_server, server_over,
 };
 use bitflags::Flags;
-use fs_mock::{Note, Recorder, Script, ScriptDirectory, ScriptFile, ScriptItem};
 use fs_small::Unserved;
-use fs_trait::{CStr, CString, Entry, FileSystem, GetxattrReply, ListxattrReply};
-use fuse_flags::{Errno, Fault, FsOptions, OpenOptions};
-use fuse_server::server::Server;
-use fuse_wire::Attr;
 use std::alloc::{AllocError, Global};
 use std::test::Fail;
 use std::time::Duration;
+use vfs_bench::{Note, Recorder, Script, ScriptDirectory, ScriptFile, ScriptItem};
+use vfs_files::{CStr, CString, Entry, FileSystem, GetxattrReply, ListxattrReply};
+use vfs_flags::{Errno, Fault, FsOptions, OpenOptions};
+use vfs_server::server::Server;
+use vfs_wire::Attr;
 
 /// An entry of this node.
 fn entry_of(inode: u64) -> Entry {

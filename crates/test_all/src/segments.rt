@@ -1,10 +1,10 @@
 //! A thousand segments, written and read; and the texts of errors.
 
 use crate::support::{filled, have_texts, holds};
-use fuse_segments::{Error, Reader, Writer};
 use std::alloc::{AllocError, Global};
 use std::io::{Read, Write};
 use std::test::Fail;
+use vfs_segments::{Error, Reader, Writer};
 
 /// How many bytes the largest write of a client has.
 const LARGEST_WRITE: usize = 65_536;

@@ -4,12 +4,12 @@ use crate::support::{have_texts, holds, request};
 use example_client::{data, lookup, read, said};
 use example_tree::Docs;
 use fs_small::ReadOnly;
-use fuse_flags::Errno;
-use fuse_server::server::Server;
-use fuse_server::transport::{ServeError, serve};
-use fuse_wire::{AttrOut, EntryOut};
 use std::alloc::Global;
 use std::test::Fail;
+use vfs_flags::Errno;
+use vfs_server::server::Server;
+use vfs_server::transport::{ServeError, serve};
+use vfs_wire::{AttrOut, EntryOut};
 
 /// A server of the three files.
 type DocsServer = Server<ReadOnly<Docs>>;
@@ -86,11 +86,11 @@ fn a_wide_room_is_served(rt: HostRuntime) -> Result<(), Fail> {
 const TEXTS: [(ServeError, &str); 4] = [
     (ServeError::OutOfMemory, "out of memory"),
     (
-        ServeError::Segments(fuse_segments::Error::SplitOutOfBounds(3)),
+        ServeError::Segments(vfs_segments::Error::SplitOutOfBounds(3)),
         "a place 3 bytes on is past what is left",
     ),
     (
-        ServeError::Server(fuse_server::Error::EncodeMessage),
+        ServeError::Server(vfs_server::Error::EncodeMessage),
         "the reply is longer than the room for it",
     ),
     (
@@ -106,7 +106,7 @@ fn lacks_room(alloc: Global) -> Result<bool, Fail> {
     let refused = served(alloc, &mut server, &request, 143);
     Ok(matches!(
         refused,
-        Err(ServeError::Server(fuse_server::Error::EncodeMessage))
+        Err(ServeError::Server(vfs_server::Error::EncodeMessage))
     ))
 }
 

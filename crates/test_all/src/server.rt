@@ -2,11 +2,11 @@
 
 use crate::support::{ScriptServer, have_texts, holds, reply_by_script, script_server};
 use bitflags::Flags;
-use fs_mock::{Note, NoteKind, Script};
-use fuse_server::Error;
-use fuse_server::filesystem::FsOptions;
 use std::alloc::{AllocError, Global};
 use std::test::Fail;
+use vfs_bench::{Note, NoteKind, Script};
+use vfs_server::Error;
+use vfs_server::filesystem::FsOptions;
 
 /// A server over a file system that wants these options, with a note of each call.
 fn server(alloc: Global, wants: FsOptions) -> Result<ScriptServer, AllocError> {

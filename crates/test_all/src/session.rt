@@ -1,14 +1,14 @@
 //! Sessions over files in memory: how a run ends, and the books with the calls that were made.
 
 use crate::support::{holds, none_is_wrong, server_over};
-use fs_mock::{Note, NoteKind, Recorder};
 use fs_small::MemFs;
-use fuse_server::server::Server;
 use std::alloc::{AllocError, Global};
 use std::io;
 use std::io::{ErrorKind, Read};
 use std::test::Fail;
-use text_run::{Line, RunError, answers_to, exit_status, parse_line, run};
+use vfs_bench::{Note, NoteKind, Recorder};
+use vfs_run::{Line, RunError, answers_to, exit_status, parse_line, run};
+use vfs_server::server::Server;
 
 /// A FORGET of node 2.
 const FORGET: &str =

@@ -1,12 +1,12 @@
 //! Requests and replies as bytes, the servers that tests hand them to, and the texts of errors.
 
-use fs_mock::{Recorder, Script};
-use fuse_server::descriptor_utils::{Reader, Writer};
-use fuse_server::filesystem::FileSystem;
-use fuse_server::server::Server;
 use std::alloc::{AllocError, Global};
 use std::fmt::{Debug, Display};
 use std::test::Fail;
+use vfs_bench::{Recorder, Script};
+use vfs_server::descriptor_utils::{Reader, Writer};
+use vfs_server::filesystem::FileSystem;
+use vfs_server::server::Server;
 
 /// A request with this opcode and node, and these bytes after its header. Its `len` counts all of
 /// them, its `unique` is 9, and all else in the header is 0.

@@ -4,13 +4,13 @@ ghost use Rattle.std.specs.Prelude.{◌≤◌, IfOk};
 
 use crate::segments::writer_over;
 use crate::support::holds;
-use fs_trait::{ZeroCopyReader, ZeroCopyWriter};
-use fuse_flags::{Errno, Fault};
-use fuse_segments::Reader;
-use fuse_server::server::{ZcReader, ZcWriter};
-use fuse_views::{PositionedFile, Slices, SlicesMut, WritevFlags};
 use std::alloc::Global;
 use std::test::Fail;
+use vfs_files::{ZeroCopyReader, ZeroCopyWriter};
+use vfs_flags::{Errno, Fault};
+use vfs_segments::Reader;
+use vfs_server::server::{ZcReader, ZcWriter};
+use vfs_views::{PositionedFile, Slices, SlicesMut, WritevFlags};
 
 /// A file that moves at most that many bytes a call, fails with EIO at one of its calls, and notes
 /// what it was lent.

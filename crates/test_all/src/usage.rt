@@ -1,14 +1,14 @@
 //! What a program over a session says to a person whose first line is wrong.
 
 use crate::support::holds;
-use fuse_flags::{DEFAULT_MAX_BUFFER, GREATEST_MAX_BUFFER, LEAST_MAX_BUFFER};
 use std::alloc::Global;
 use std::cell::RefCell;
 use std::fmt::Display;
 use std::io;
 use std::io::ErrorKind;
 use std::test::Fail;
-use text_run::{Program, RunError, report_session};
+use vfs_flags::{DEFAULT_MAX_BUFFER, GREATEST_MAX_BUFFER, LEAST_MAX_BUFFER};
+use vfs_run::{Program, RunError, report_session};
 
 /// Keeps what is printed as an error; anything else it can't print.
 #[derive(Drop)]

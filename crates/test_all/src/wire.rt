@@ -1,7 +1,7 @@
 //! Attributes from a `stat`.
 
-use fuse_flags::{Errno, GuestGid};
-use fuse_wire::{Attr, Stat64};
+use vfs_flags::{Errno, GuestGid};
+use vfs_wire::{Attr, Stat64};
 
 #[test]
 fn the_group_is_not_mapped_after_a_fault_of_the_owner(rt: HostRuntime) {

@@ -11,13 +11,13 @@
 //!   where it moves all of that, another one the rest.
 
 ghost use Rattle.std.specs.Prelude.{◌≤◌, ℕ, List, IfOk};
-ghost use Rattle.fs_trait.specs.Answers.{Counts};
-ghost use Rattle.fuse_views.specs.Views.{IsSameRoom};
+ghost use Rattle.vfs_files.specs.Answers.{Counts};
+ghost use Rattle.vfs_views.specs.Views.{IsSameRoom};
 
 use crate::notes::Notes;
-use fs_trait::{ZeroCopyReader, ZeroCopyWriter};
-use fuse_flags::{Errno, Fault, MAX_REPLY_DATA};
-use fuse_views::{PositionedFile, Slices, SlicesMut, WritevFlags};
+use vfs_files::{ZeroCopyReader, ZeroCopyWriter};
+use vfs_flags::{Errno, Fault, MAX_REPLY_DATA};
+use vfs_views::{PositionedFile, Slices, SlicesMut, WritevFlags};
 
 /// The file. It notes its calls.
 #[derive(Drop)]

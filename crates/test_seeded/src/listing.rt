@@ -15,8 +15,8 @@
 
 ghost use Rattle.std.specs.Prelude.{◌<◌, ◌≤◌, ◌^◌};
 
-use fs_mock::ScriptEntries;
-use fs_trait::{CStr, DirEntry, DirectoryIterator};
+use vfs_bench::ScriptEntries;
+use vfs_files::{CStr, DirEntry, DirectoryIterator};
 
 /// How many bytes a name has at most, with the 0 after it.
 const NAME_ROOM: usize = 301;

@@ -1,8 +1,8 @@
 //! The notes of the calls, as text.
 
-use fs_trait::{CStr, Context, Extensions};
-use fuse_flags::Fault;
 use std::alloc::{AllocError, Global};
+use vfs_files::{CStr, Context, Extensions};
+use vfs_flags::Fault;
 
 mod answers;
 mod calls;

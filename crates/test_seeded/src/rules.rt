@@ -8,11 +8,11 @@
 ghost use Rattle.std.specs.Prelude.{◌≤◌, IfOk, vec_len};
 
 use bitflags::Flags;
-use fs_trait::{Context, Entry};
-use fuse_flags::{Errno, Fault, OpenOptions};
-use fuse_wire::{Attr, Statvfs64};
 use std::alloc::Global;
 use std::time::Duration;
+use vfs_files::{Context, Entry};
+use vfs_flags::{Errno, Fault, OpenOptions};
+use vfs_wire::{Attr, Statvfs64};
 
 /// The fault of a number below 160: 0 has no number, and 135 to 137, which stand for numbers that
 /// no fault has, have none either. 1 to 133 are themselves, 134 is the largest, the others are 2.

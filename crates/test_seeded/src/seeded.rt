@@ -29,8 +29,8 @@
 //! An answer that the input tells goes before all this.
 
 ghost use Rattle.std.specs.Prelude.{◌≤◌, ℕ, List, IfOk};
-ghost use Rattle.fs_trait.specs.Answers.{Counts};
-ghost use Rattle.fs_trait.specs.CallValue.{IsOptions, IsEntry, IsAttributes, IsText, IsTextOrCount};
+ghost use Rattle.vfs_files.specs.Answers.{Counts};
+ghost use Rattle.vfs_files.specs.CallValue.{IsOptions, IsEntry, IsAttributes, IsText, IsTextOrCount};
 
 use crate::contents::Contents;
 use crate::listing::{DirectoryItems, Seeded};
@@ -38,13 +38,13 @@ use crate::notes::Notes;
 use crate::rules::{attr, bytes, fault_of, time, wanted_bits};
 use crate::told::{Source, Told};
 use bitflags::Flags;
-use fs_trait::{CStr, Context, Given, ZeroCopyReader, ZeroCopyWriter};
-use fuse_flags::{Errno, Fault, FsOptions, OpenOptions};
-use fuse_wire::{Attr, SetattrIn};
 use std::alloc::{AllocError, Global};
 use std::cell::RefCell;
 use std::collections::VecDeque;
 use std::mem;
+use vfs_files::{CStr, Context, Given, ZeroCopyReader, ZeroCopyWriter};
+use vfs_flags::{Errno, Fault, FsOptions, OpenOptions};
+use vfs_wire::{Attr, SetattrIn};
 
 mod calls;
 

@@ -2,13 +2,13 @@
 
 use crate::rules::{entry, opening};
 use bitflags::Flags;
-use fs_mock::{ScriptDirectory, ScriptItem};
-use fs_trait::{CStr, CString, Context, Entry};
-use fuse_flags::{Errno, Fault, OpenOptions};
-use fuse_wire::Attr;
 use hex::FromHexError;
 use std::alloc::{AllocError, Global};
 use std::time::Duration;
+use vfs_bench::{ScriptDirectory, ScriptItem};
+use vfs_files::{CStr, CString, Context, Entry};
+use vfs_flags::{Errno, Fault, OpenOptions};
+use vfs_wire::Attr;
 
 /// An answer that a line tells.
 #[derive(Drop)]

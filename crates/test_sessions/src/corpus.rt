@@ -4,7 +4,7 @@ use crate::cuttings::Way;
 use crate::hostile::{Tally, try_message};
 use crate::table::messages;
 use std::alloc::Global;
-use text_run::RunError;
+use vfs_run::RunError;
 
 /// Tries each message of the corpus in this way, with servers of its own, and appends a line for
 /// each: its name, how many forms of it were tried, how many requests these were, with all

@@ -3,14 +3,14 @@
 ghost use Rattle.std.specs.Prelude.{◌≡◌, length, vec_len, IfOk};
 
 use crate::table::Message;
-use fuse_flags::FsOptions;
-use fuse_segments::{Reader, Writer};
-use fuse_server::server::Server;
 use std::alloc::{AllocError, Global};
 use std::cell::RefCell;
 use std::collections::VecDeque;
 use test_seeded::{Notes, SeededFs};
-use text_run::{PAGE_SIZE, RunError, answer_to, lines_of, parse_line};
+use vfs_flags::FsOptions;
+use vfs_run::{PAGE_SIZE, RunError, answer_to, lines_of, parse_line};
+use vfs_segments::{Reader, Writer};
+use vfs_server::server::Server;
 
 /// For how many bytes of notes the file system has room from the first: more than those of a few
 /// calls.
@@ -64,7 +64,7 @@ pub type Cutting = (Cut, Cut);
 #[derive(Drop)]
 pub struct Served {
     /// The reply's length or the error, a cutting each.
-    pub outcomes: Vec<fuse_server::Result<usize>>,
+    pub outcomes: Vec<vfs_server::Result<usize>>,
 
     /// All bytes of the room, a cutting each.
     pub rooms: Vec<Vec<u8>>,
@@ -183,7 +183,7 @@ fn hand_over<W: Watch>(
     server: &mut Server<SeededFs<'_>>,
     asked: Asked<'_>,
     watch: &mut W,
-) -> Result<(Vec<fuse_server::Result<usize>>, Vec<Vec<u8>>), RunError> {
+) -> Result<(Vec<vfs_server::Result<usize>>, Vec<Vec<u8>>), RunError> {
     let (pieces, counts) = cut_each(alloc, asked.bytes, asked.cuttings)?;
     let readers = readers_over(alloc, &pieces, &counts)?;
     let mut writers = writers_for(alloc, asked.room, asked.cuttings)?;
@@ -206,7 +206,7 @@ fn handle_all<W: Watch>(
     server: &mut Server<SeededFs<'_>>,
     readers: Vec<Reader<'_>>,
     writers: &mut [Writer],
-    outcomes: &mut [fuse_server::Result<usize>],
+    outcomes: &mut [vfs_server::Result<usize>],
     way: Way,
     watch: &mut W,
 ) -> Result<(), RunError>
@@ -227,7 +227,7 @@ fn handle_each(
     server: &mut Server<SeededFs<'_>>,
     readers: Vec<Reader<'_>>,
     writers: &mut [Writer],
-    outcomes: &mut [fuse_server::Result<usize>],
+    outcomes: &mut [vfs_server::Result<usize>],
 ) {
     for ((reader, writer), outcome) in readers.into_iter().zip(writers).zip(outcomes) {
         *outcome = server.handle_message(alloc, reader, writer);

@@ -4,7 +4,7 @@
 use crate::cuttings::{Asked, Cut, Cutting, Served, Way, serve};
 use crate::table::Message;
 use std::alloc::{AllocError, Global};
-use text_run::{RunError, answer_line};
+use vfs_run::{RunError, answer_line};
 
 /// A form of a message.
 #[derive(Clone, Copy, Debug)]
@@ -183,7 +183,7 @@ fn count_wrong(uncut: &Served, served: &Served, open: bool) -> usize {
 }
 
 // Whether an outcome and a room are those of the uncut form; the room after a reply may be open.
-fn is_like(uncut: &Served, outcome: &fuse_server::Result<usize>, room: &[u8], open: bool) -> bool {
+fn is_like(uncut: &Served, outcome: &vfs_server::Result<usize>, room: &[u8], open: bool) -> bool {
     let (Some(wanted), Some(bytes)) = (uncut.outcomes.first(), uncut.rooms.first()) else {
         return false;
     };

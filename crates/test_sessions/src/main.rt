@@ -2,7 +2,7 @@
 //!
 //! Standard input has lines of five forms, and standard output gets the answers:
 //!
-//! - A request, in the form of `text_demo`. Its answer is written as there, and below it the calls
+//! - A request, in the form of `vfs_demo`. Its answer is written as there, and below it the calls
 //!   that it was turned into, each line with two spaces before it.
 //! - `answer N`, `answer fault N`, `answer fault none`, `answer items ITEM ..` or
 //!   `answer endless ITEM ..`: what the next call is answered, in place of what the file system's
@@ -16,7 +16,7 @@
 //!   after this one last. The module `refusals` says what is written; it is written at once.
 //! - A line that begins with `#` is passed over.
 //!
-//! The first line of all may be `limit N` in place of one of these, as in `text_demo`.
+//! The first line of all may be `limit N` in place of one of these, as in `vfs_demo`.
 //!
 //! What each call is answered else is a function of its caller's process, by the file system of
 //! `test_seeded`, so that any request can be made to meet any answer, and another implementation of
@@ -34,7 +34,7 @@ mod run;
 mod table;
 
 use std::process::ExitCode;
-use text_run::{
+use vfs_run::{
     Program, USAGE_STATUS, exit_status, greet_terminal, read_all, refuses_arguments, report_session,
 };
 

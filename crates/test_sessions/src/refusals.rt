@@ -12,7 +12,7 @@
 //!
 //! The parts are `Reader::new`, `Writer::new`, `split_at` and `clone`; each message of the corpus,
 //! whole, cut after its header, before its last byte and in single bytes, by `handle_message`, and
-//! three times in a row by `handle_session`; and each of the lines, in the form of `text_demo` and
+//! three times in a row by `handle_session`; and each of the lines, in the form of `vfs_demo` and
 //! over files in memory as there, by `handle_message`. The bytes of a room are zeros before a
 //! request.
 
@@ -24,7 +24,7 @@ mod segments;
 use crate::refusals::parts::Parts;
 use std::alloc::Global;
 use std::io;
-use text_run::RunError;
+use vfs_run::RunError;
 
 /// Makes all calls, with the requests of these lines at the end. The first of them has the number
 /// that comes next after `before`, which tells a bad one.

@@ -3,15 +3,15 @@
 use crate::corpus::push_corpus;
 use crate::cuttings::Way;
 use crate::refusals::try_calls;
-use fuse_server::server::Server;
 use std::alloc::Global;
 use std::cell::RefCell;
 use std::collections::VecDeque;
 use std::io;
 use test_seeded::{SeededFs, Told, parse_told};
-use text_run::{
+use vfs_run::{
     Line, RunError, answer_to, lines_before_requests, lines_of, parse_line, server_for, write_all,
 };
+use vfs_server::server::Server;
 
 /// What a line with an answer begins with.
 const ANSWER: &[u8] = b"answer ";

@@ -2,7 +2,7 @@
 //! agreed option gives it.
 
 use std::alloc::{AllocError, Global};
-use text_run::{RunError, parse_line};
+use vfs_run::{RunError, parse_line};
 
 /// A message that the server accepts, and what is agreed on before it.
 #[derive(Clone, Copy)]

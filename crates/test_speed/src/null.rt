@@ -2,14 +2,14 @@
 
 ghost use Rattle.std.specs.Prelude.{⊤};
 
-use fs_trait::{
+use std::time::Duration;
+use vfs_files::{
     CStr, CallValue, Context, DirEntry, DirectoryIterator, Entry, Given, PartialFileSystem,
     ZeroCopyReader, ZeroCopyWriter, unserved,
 };
-use fuse_flags::{Errno, Fault, FsOptions, MAX_REPLY_DATA};
-use fuse_views::{PositionedFile, Slices, SlicesMut, WritevFlags};
-use fuse_wire::Attr;
-use std::time::Duration;
+use vfs_flags::{Errno, Fault, FsOptions, MAX_REPLY_DATA};
+use vfs_views::{PositionedFile, Slices, SlicesMut, WritevFlags};
+use vfs_wire::Attr;
 
 /// The kind and permissions of a file.
 const FILE_MODE: u32 = 0o100644;

@@ -1,10 +1,10 @@
 //! Many small reads or writes over many pieces, by a reader or a writer alone.
 
 use crate::pieces::{copies, pieces_of};
-use fuse_segments::{Reader, Writer};
-use fuse_wire::OutHeader;
 use std::alloc::Global;
 use std::mem;
+use vfs_segments::{Reader, Writer};
+use vfs_wire::OutHeader;
 
 /// The bytes that one call moves: those of an `OutHeader`.
 const CALL: usize = 16;

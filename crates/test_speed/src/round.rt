@@ -2,12 +2,12 @@
 
 use crate::batch::{Ask, Batch};
 use crate::pieces::{REQUEST_HEAD, cut, room};
-use fs_trait::FileSystem;
-use fuse_segments::{Reader, Writer};
-use fuse_server::Error;
-use fuse_server::server::Server;
 use std::alloc::Global;
 use std::mem;
+use vfs_files::FileSystem;
+use vfs_segments::{Reader, Writer};
+use vfs_server::Error;
+use vfs_server::server::Server;
 
 /// The page size of the server, in bytes.
 const PAGE_SIZE: u32 = 4096;

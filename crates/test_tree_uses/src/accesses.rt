@@ -4,9 +4,9 @@ ghost use Rattle.std.specs.Prelude.{◌≡◌, Ok, Some, MatchResult};
 ghost use Rattle.test_tree_uses.specs.Trees.{later, read_tree, small_tree};
 
 use crate::support::root;
-use fs_trait::{CStr, Extensions, FileSystem, ZeroCopyWriter};
 use fs_tree::{Time, TreeFs};
-use fuse_flags::Fault;
+use vfs_files::{CStr, Extensions, FileSystem, ZeroCopyWriter};
+use vfs_flags::Fault;
 
 /// READ at second 9 of a file that was written at second 7, and not read since: its time of access is
 /// now.

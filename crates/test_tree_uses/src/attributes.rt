@@ -2,15 +2,15 @@
 
 ghost use Rattle.std.specs.Prelude.{◌≡◌, codes, None, Some, Err, IfOk, MatchResult};
 ghost use Rattle.std.specs.Duration.{as_nanos};
-ghost use Rattle.fuse_flags.specs.Flags.{open_options_bits};
+ghost use Rattle.vfs_flags.specs.Flags.{open_options_bits};
 ghost use Rattle.test_tree_uses.specs.Trees.{file_of, file_tree, small_tree, tree_of, wide};
 
 use crate::support::root;
-use fs_trait::{CStr, Entry, Extensions, FileSystem};
 use fs_tree::TreeFs;
-use fuse_flags::{Fault, GuestGid, GuestUid, OpenOptions, SetattrValid};
-use fuse_wire::{Attr, SetattrIn};
 use std::time::Duration;
+use vfs_files::{CStr, Entry, Extensions, FileSystem};
+use vfs_flags::{Fault, GuestGid, GuestUid, OpenOptions, SetattrValid};
+use vfs_wire::{Attr, SetattrIn};
 
 /// GETATTR of a file: what it is, which a client may rely on for a day.
 fn attributes_for_a_day(tree: &mut TreeFs) -> Result<(Attr, Duration), Fault>

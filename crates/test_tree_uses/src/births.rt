@@ -1,16 +1,16 @@
 //! When a node was made, as STATX tells it, and what IOCTLs tell of its flags.
 
 ghost use Rattle.std.specs.Prelude.{◌≡◌, length, Ok, Err, IfOk};
-ghost use Rattle.fuse_wire.specs.Fields.{spelled};
+ghost use Rattle.vfs_wire.specs.Fields.{spelled};
 ghost use Rattle.fs_nodes.specs.Node.{attr_of};
 ghost use Rattle.fs_nodes.specs.Statx.{statx_fields};
 ghost use Rattle.test_tree_uses.specs.Trees.{empty_file, fifo_tree, later, second_7, small_tree, tree_of, wide};
 
 use crate::support::root;
-use fs_trait::FileSystem;
 use fs_tree::TreeFs;
-use fuse_flags::{Errno, Fault, SetattrValid};
-use fuse_wire::SetattrIn;
+use vfs_files::FileSystem;
+use vfs_flags::{Errno, Fault, SetattrValid};
+use vfs_wire::SetattrIn;
 
 /// A file that was made at second 7 and is changed at second 9: STATX tells both.
 fn born_once(tree: &mut TreeFs, text: &mut [u8]) -> Result<(), Fault>

@@ -1,8 +1,8 @@
 //! The first calls of a new tree.
 
 ghost use Rattle.std.specs.Prelude.{◌≡◌, codes, true, false, Err, Some, IfOk, IfSome};
-ghost use Rattle.fuse_flags.specs.Numbers.{enoent, eisdir};
-ghost use Rattle.fs_trait.specs.Answers.{Count, value_or_count};
+ghost use Rattle.vfs_flags.specs.Numbers.{enoent, eisdir};
+ghost use Rattle.vfs_files.specs.Answers.{Count, value_or_count};
 ghost use Rattle.fs_nodes.specs.Listing.{dot_items};
 ghost use Rattle.fs_nodes.specs.Children.{is_directory};
 ghost use Rattle.fs_tree.specs.State.{node_at};
@@ -10,11 +10,11 @@ ghost use Rattle.test_tree_uses.specs.Trees.{empty_directory, empty_file, small_
 
 use crate::support::root;
 use bitflags::Flags;
-use fs_trait::{CStr, Context, Entry, EntryList, Extensions, FileSystem, GetxattrReply};
 use fs_tree::{Capacity, Time, TreeFs};
-use fuse_flags::{Fault, GuestGid, GuestUid, SetattrValid, SetxattrFlags};
-use fuse_wire::SetattrIn;
 use std::alloc::Global;
+use vfs_files::{CStr, Context, Entry, EntryList, Extensions, FileSystem, GetxattrReply};
+use vfs_flags::{Fault, GuestGid, GuestUid, SetattrValid, SetxattrFlags};
+use vfs_wire::SetattrIn;
 
 /// A new tree of at most a hundred nodes and two pages. `None` where there is no memory.
 fn new_tree(alloc: Global) -> Option<TreeFs>

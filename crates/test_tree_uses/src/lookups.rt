@@ -5,9 +5,9 @@ ghost use Rattle.fs_tree.specs.State.{node_at};
 ghost use Rattle.test_tree_uses.specs.Trees.{file_tree, small_tree, wide};
 
 use crate::support::root;
-use fs_trait::{CStr, Extensions, FileSystem};
 use fs_tree::TreeFs;
-use fuse_flags::FsOptions;
+use vfs_files::{CStr, Extensions, FileSystem};
+use vfs_flags::FsOptions;
 
 /// A file without a name is gone once the client is: a DESTROY takes every lookup back.
 fn gone_by_destroy(tree: &mut TreeFs) -> Option<()>

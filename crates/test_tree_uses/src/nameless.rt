@@ -5,9 +5,9 @@ ghost use Rattle.fs_tree.specs.Tree.{first_state};
 ghost use Rattle.test_tree_uses.specs.Trees.{empty_file, nameless_tree, of_client, pair, second_7, single, small_tree, tree_of, wide};
 
 use crate::support::root;
-use fs_trait::{CStr, Entry, Extensions, FileSystem};
 use fs_tree::TreeFs;
-use fuse_flags::{Fault, OpenOptions};
+use vfs_files::{CStr, Entry, Extensions, FileSystem};
+use vfs_flags::{Fault, OpenOptions};
 
 /// CREATE of `/`, which is a TMPFILE, by these flags of `open(2)`: with O_EXCL (0o200) no name leads to the file
 /// later.

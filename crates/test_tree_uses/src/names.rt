@@ -1,14 +1,14 @@
 //! Names of more than a byte, those that can't be made, and those that are moved and exchanged.
 
 ghost use Rattle.std.specs.Prelude.{◌≡◌, ◌⊎◌, ◌-◌, ◌^◌, [], ◌∷◌, false, codes, length, Ok, Err, Some, IfOk, IfSome, MatchResult};
-ghost use Rattle.fs_trait.specs.Values.{name_text};
+ghost use Rattle.vfs_files.specs.Values.{name_text};
 ghost use Rattle.fs_tree.specs.Tree.{first_state};
 ghost use Rattle.test_tree_uses.specs.Trees.{empty_file, second_7, small_tree, to_directory, to_file, to_whiteout, tree_of, tree_of_two, whitened_tree, wide};
 
 use crate::support::root;
-use fs_trait::{CStr, Context, Entry, EntryList, Extensions, FileSystem};
 use fs_tree::TreeFs;
-use fuse_flags::{Fault, GuestGid, GuestUid};
+use vfs_files::{CStr, Context, Entry, EntryList, Extensions, FileSystem};
+use vfs_flags::{Fault, GuestGid, GuestUid};
 
 /// Of two names of five bytes that differ in the last one, the second leads to its own node.
 fn long_names(tree: &mut TreeFs) -> Option<Entry>

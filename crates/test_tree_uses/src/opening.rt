@@ -1,16 +1,16 @@
 //! What clients open, by requests or by themselves, and what they close.
 
 ghost use Rattle.std.specs.Prelude.{◌≡◌, codes, None, Some, Ok, Err, MatchResult};
-ghost use Rattle.fuse_flags.specs.Flags.{fs_options_bits, open_options_bits};
-ghost use Rattle.fs_trait.specs.Answers.{Options, init_answer};
+ghost use Rattle.vfs_flags.specs.Flags.{fs_options_bits, open_options_bits};
+ghost use Rattle.vfs_files.specs.Answers.{Options, init_answer};
 ghost use Rattle.test_tree_uses.specs.Trees.{file_tree, later, of_client, small_tree, tree_of, wide, empty_file, hollow_file, written_later};
 
 use crate::support::root;
-use fs_trait::{CStr, Entry, Extensions, FileSystem};
 use fs_tree::TreeFs;
-use fuse_flags::{Fault, FsOptions, OpenOptions, SetattrValid};
-use fuse_wire::{Attr, SetattrIn};
 use std::time::Duration;
+use vfs_files::{CStr, Entry, Extensions, FileSystem};
+use vfs_flags::{Fault, FsOptions, OpenOptions, SetattrValid};
+use vfs_wire::{Attr, SetattrIn};
 
 /// INIT asks for READDIRPLUS as the client likes, DO_READDIRPLUS and READDIRPLUS_AUTO, that directories
 /// are opened without a request, ZERO_MESSAGE_OPENDIR, and that the tree takes privileges,

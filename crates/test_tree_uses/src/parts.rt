@@ -5,9 +5,9 @@ ghost use Rattle.std.specs.BTreeMap.{insert_entry, is_at, Updates};
 ghost use Rattle.std.specs.Map.{remove_entry};
 ghost use Rattle.std.specs.Ordering.{nat_cmp};
 ghost use Rattle.std.specs.declared.alloc.Global.{Global as GlobalValue};
-ghost use Rattle.fs_trait.specs.Bytes.{fitting};
-ghost use Rattle.fs_trait.specs.Calls.{Failed, Handed, Plain};
-ghost use Rattle.fs_trait.specs.Values.{Item, name_text};
+ghost use Rattle.vfs_files.specs.Bytes.{fitting};
+ghost use Rattle.vfs_files.specs.Calls.{Failed, Handed, Plain};
+ghost use Rattle.vfs_files.specs.Values.{Item, name_text};
 ghost use Rattle.fs_contents.specs.Contents.{lacking, pages_over};
 ghost use Rattle.fs_contents.specs.Pages.{IsPage, Pages, reach};
 ghost use Rattle.fs_contents.specs.Reading.{ReadsSome};
@@ -23,11 +23,11 @@ ghost use Rattle.fs_tree.specs.State.{State};
 
 use fs_contents::{Contents, is_mode};
 use fs_nodes::{Held, Node, Text, Xattrs, no_device, put_node, remove_node};
-use fs_trait::CStr;
 use fs_tree::{Capacity, Time, TreeFs};
-use fuse_flags::{Errno, Fault, GuestGid, GuestUid};
 use std::alloc::Global;
 use std::collections::BTreeMap;
+use vfs_files::CStr;
+use vfs_flags::{Errno, Fault, GuestGid, GuestUid};
 
 /// FALLOCATE of zeros that keeps the size is a mode, a hole that doesn't is none.
 fn modes_of_fallocate() -> (bool, bool)

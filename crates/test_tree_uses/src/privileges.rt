@@ -6,15 +6,15 @@ ghost use Rattle.test_tree_uses.specs.Trees.{capability, directory_tree, program
 
 use crate::support::root;
 use bitflags::Flags;
-use fs_trait::{Context, FileSystem, ZeroCopyReader};
 use fs_tree::TreeFs;
-use fuse_flags::{Fault, GuestUid, OpenOptions, SetattrValid};
-use fuse_wire::{Attr, SetattrIn};
 use std::time::Duration;
+use vfs_files::{Context, FileSystem, ZeroCopyReader};
+use vfs_flags::{Fault, GuestUid, OpenOptions, SetattrValid};
+use vfs_wire::{Attr, SetattrIn};
 
 /// WRITE over the beginning of a program takes its capabilities, and where the request says so its
 /// set-user-ID and set-group-ID too; a delayed one takes nothing. Its other attributes stay.
-#[tactic(auto, unfolding(fuse_views::specs::Segments::with_bytes_at))]
+#[tactic(auto, unfolding(vfs_views::specs::Segments::with_bytes_at))]
 fn written<R: ZeroCopyReader>(
     tree: &mut TreeFs,
     r: &mut R,

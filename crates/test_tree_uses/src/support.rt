@@ -2,8 +2,8 @@
 
 ghost use Rattle.std.specs.Prelude.{◌≡◌};
 
-use fs_trait::Context;
-use fuse_flags::{GuestGid, GuestUid};
+use vfs_files::Context;
+use vfs_flags::{GuestGid, GuestUid};
 
 /// The caller of user and group 0.
 pub(crate) fn root() -> Context

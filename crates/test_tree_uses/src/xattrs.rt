@@ -1,14 +1,14 @@
 //! Extended attributes: they are set, told, listed and taken away, by their names, in three namespaces.
 
 ghost use Rattle.std.specs.Prelude.{◌≡◌, ◌++◌, ◌^◌, ◌-◌, [], ◌∷◌, codes, Ok, Err, Some, MatchResult, ⊤};
-ghost use Rattle.fs_trait.specs.Answers.{Text, Count, value_or_count, names_or_count};
+ghost use Rattle.vfs_files.specs.Answers.{Text, Count, value_or_count, names_or_count};
 ghost use Rattle.test_tree_uses.specs.Trees.{attribute_tree, trusted_a, user_a, user_b, wide};
 
 use crate::support::root;
 use bitflags::Flags;
-use fs_trait::{CStr, Context, FileSystem, GetxattrReply, ListxattrReply};
 use fs_tree::TreeFs;
-use fuse_flags::{Fault, GuestUid, SetxattrFlags};
+use vfs_files::{CStr, Context, FileSystem, GetxattrReply, ListxattrReply};
+use vfs_flags::{Fault, GuestUid, SetxattrFlags};
 
 /// SETXATTR of `user.a`, by these flags: 1 is XATTR_CREATE, 2 XATTR_REPLACE.
 fn set(tree: &mut TreeFs, flags: u32) -> Result<(), Fault>

@@ -2,31 +2,31 @@
 use Rattle.std.proofs.Common.{◌≡◌, ◌≤◌, ℕ, Bool, false, true, List, [], ◌∷◌, ◌++◌, length, drop, nat_lt, Option, Some, None, Result, Ok, Err, ap, ◌∙◌, arith, subst, refl, append-nil, inl, inr}
 use Rattle.std.proofs.lemmas.Bool.Decides.{nat_tests}
 use Rattle.std.proofs.lemmas.List.{drop_all}
-use Rattle.fuse_flags.specs.Numbers.{enomem, enosys, opcode_of}
-use Rattle.fuse_wire.specs.Fields.{little, number, value_of}
-use Rattle.fuse_wire.specs.Records.{in_header}
-use Rattle.fuse_flags.specs.declared.opcode.Opcode.{Opcode}
-use Rattle.fuse_wire.specs.declared.headers.InHeader.{InHeader}
-use Rattle.fuse_segments.specs.Unread.{Unread}
-use Rattle.fuse_segments.specs.Written.{Written, whole}
-use Rattle.fs_trait.specs.Values.{Item, context_of}
-use Rattle.fs_trait.specs.Answers.{Answer, Handed, Plain, Capacities}
-use Rattle.fs_trait.specs.Calls.{Call, Statfs, default_answer}
-use Rattle.fs_trait.specs.Runs.{Event, Called, OpenedDirectory, Taken, IsRun}
-use Rattle.fuse_grammar.specs.Ask.{ask}
-use Rattle.fuse_grammar.specs.Forms.{Ask, Asks, within, faulted}
-use Rattle.fuse_grammar.specs.Words.{refused}
-use Rattle.fuse_grammar.specs.Limits.{max_len}
-use Rattle.fuse_grammar.specs.Reply.{Echo, echo_of, fault_reply, reply_of}
-use Rattle.fuse_grammar.specs.Room.{IsReplied, IsPut}
-use Rattle.fuse_grammar.specs.Turn.{Turn, Follows, IsTurn}
-use Rattle.fuse_grammar.specs.Samples.{not_served_reply}
-use Rattle.fuse_grammar.specs.declared.limits.Limits.{Limits}
-use Rattle.fuse_grammar.specs.declared.error.Error.{Error}
-use Rattle.fuse_grammar.specs.declared.error.Error.TheVariants.{EncodeMessage}
-use Rattle.fuse_grammar.proofs.Rooms.{length-fault_reply, put_outcome-fits, put_room-fits}
-use Rattle.fuse_server.specs.Step.{ServerState, IsStep, turn_over}
-use Rattle.fuse_server.specs.Memory.{WantsNoneAfter}
+use Rattle.vfs_flags.specs.Numbers.{enomem, enosys, opcode_of}
+use Rattle.vfs_wire.specs.Fields.{little, number, value_of}
+use Rattle.vfs_wire.specs.Records.{in_header}
+use Rattle.vfs_flags.specs.declared.opcode.Opcode.{Opcode}
+use Rattle.vfs_wire.specs.declared.headers.InHeader.{InHeader}
+use Rattle.vfs_segments.specs.Unread.{Unread}
+use Rattle.vfs_segments.specs.Written.{Written, whole}
+use Rattle.vfs_files.specs.Values.{Item, context_of}
+use Rattle.vfs_files.specs.Answers.{Answer, Handed, Plain, Capacities}
+use Rattle.vfs_files.specs.Calls.{Call, Statfs, default_answer}
+use Rattle.vfs_files.specs.Runs.{Event, Called, OpenedDirectory, Taken, IsRun}
+use Rattle.vfs_grammar.specs.Ask.{ask}
+use Rattle.vfs_grammar.specs.Forms.{Ask, Asks, within, faulted}
+use Rattle.vfs_grammar.specs.Words.{refused}
+use Rattle.vfs_grammar.specs.Limits.{max_len}
+use Rattle.vfs_grammar.specs.Reply.{Echo, echo_of, fault_reply, reply_of}
+use Rattle.vfs_grammar.specs.Room.{IsReplied, IsPut}
+use Rattle.vfs_grammar.specs.Turn.{Turn, Follows, IsTurn}
+use Rattle.vfs_grammar.specs.Samples.{not_served_reply}
+use Rattle.vfs_grammar.specs.declared.limits.Limits.{Limits}
+use Rattle.vfs_grammar.specs.declared.error.Error.{Error}
+use Rattle.vfs_grammar.specs.declared.error.Error.TheVariants.{EncodeMessage}
+use Rattle.vfs_grammar.proofs.Rooms.{length-fault_reply, put_outcome-fits, put_room-fits}
+use Rattle.vfs_server.specs.Step.{ServerState, IsStep, turn_over}
+use Rattle.vfs_server.specs.Memory.{WantsNoneAfter}
 use Rattle.test_uses.specs.Requests.{statfs_reply, no_memory_reply, IsWithoutTail}
 use Rattle.test_uses.specs.declared.server.TheConstants.{LONG_STATFS, READ, STATFS, UNKNOWN}
 

@@ -3,25 +3,25 @@ use Rattle.std.proofs.Common.{◌≡◌, ◌≤◌, ◌⊎◌, ◌||◌, ℕ, po
 use Rattle.std.proofs.lemmas.Bool.Decides.{nat_tests}
 use Rattle.std.proofs.lemmas.List.Elements.{All-cons, All-nil}
 use Rattle.std.specs.List.{flat_map}
-use Rattle.fuse_flags.specs.Numbers.{opcode_of}
-use Rattle.fuse_wire.specs.Fields.{little, number, value_of}
-use Rattle.fuse_wire.specs.Records.{in_header}
-use Rattle.fuse_segments.specs.Written.{Written, whole}
-use Rattle.fs_trait.specs.Values.{Item}
-use Rattle.fs_trait.specs.Calls.{Call, Failed, Handed}
-use Rattle.fs_trait.specs.Runs.{Event, Called, Taken}
-use Rattle.fuse_grammar.specs.Directories.{EndsWhole, EndsFull, GoesOn, CameWhole, listing_reply}
-use Rattle.fuse_grammar.specs.Listing.{Line, line_bytes, Listing}
-use Rattle.fuse_grammar.specs.Ask.{ask}
-use Rattle.fuse_grammar.specs.Forms.{Ask, Lists, within}
-use Rattle.fuse_grammar.specs.Limits.{max_len}
-use Rattle.fuse_grammar.specs.Reply.{Echo, echo_of, body_reply}
-use Rattle.fuse_grammar.specs.Room.{IsPutOpen}
-use Rattle.fuse_grammar.specs.Turn.{Turn}
-use Rattle.fuse_grammar.specs.Words.{IsRead}
-use Rattle.fuse_grammar.specs.declared.limits.Limits.{Limits}
-use Rattle.fuse_grammar.specs.declared.error.Error.{Error}
-use Rattle.fuse_server.specs.Step.{ServerState, ReadsDirectories, turn_over}
+use Rattle.vfs_flags.specs.Numbers.{opcode_of}
+use Rattle.vfs_wire.specs.Fields.{little, number, value_of}
+use Rattle.vfs_wire.specs.Records.{in_header}
+use Rattle.vfs_segments.specs.Written.{Written, whole}
+use Rattle.vfs_files.specs.Values.{Item}
+use Rattle.vfs_files.specs.Calls.{Call, Failed, Handed}
+use Rattle.vfs_files.specs.Runs.{Event, Called, Taken}
+use Rattle.vfs_grammar.specs.Directories.{EndsWhole, EndsFull, GoesOn, CameWhole, listing_reply}
+use Rattle.vfs_grammar.specs.Listing.{Line, line_bytes, Listing}
+use Rattle.vfs_grammar.specs.Ask.{ask}
+use Rattle.vfs_grammar.specs.Forms.{Ask, Lists, within}
+use Rattle.vfs_grammar.specs.Limits.{max_len}
+use Rattle.vfs_grammar.specs.Reply.{Echo, echo_of, body_reply}
+use Rattle.vfs_grammar.specs.Room.{IsPutOpen}
+use Rattle.vfs_grammar.specs.Turn.{Turn}
+use Rattle.vfs_grammar.specs.Words.{IsRead}
+use Rattle.vfs_grammar.specs.declared.limits.Limits.{Limits}
+use Rattle.vfs_grammar.specs.declared.error.Error.{Error}
+use Rattle.vfs_server.specs.Step.{ServerState, ReadsDirectories, turn_over}
 use Rattle.test_uses.specs.Requests.{small_readdir, no_directory_reply, no_records_reply, ReadsOneRecord}
 use Rattle.test_uses.specs.declared.server.TheConstants.{READDIR}
 

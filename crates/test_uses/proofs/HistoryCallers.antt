@@ -5,35 +5,35 @@ use Rattle.std.specs.declared.time.Duration.{Duration}
 use Rattle.std.proofs.lemmas.Bool.Decides.{nat_tests}
 use Rattle.std.proofs.lemmas.List.{take_all}
 use Rattle.std.proofs.lemmas.List.Sums.{sum_by-cons}
-use Rattle.fuse_flags.specs.Numbers.{opcode_of}
-use Rattle.fuse_wire.specs.Fields.{little, number, bytes_of, value_of}
-use Rattle.fuse_wire.specs.Records.{in_header, entry_out}
-use Rattle.fuse_wire.specs.declared.entries.EntryOut.{EntryOut}
-use Rattle.fuse_segments.specs.Unread.{Unread}
-use Rattle.fuse_segments.specs.Written.{Written, whole}
-use Rattle.fs_trait.specs.Answers.{Answer, Done, Failed, Options, Found, Attributes, Put, Opened, Created, Statistics, Text, Count, Offset, Wrote, Plain, Entries}
-use Rattle.fs_trait.specs.Calls.{Call, Lookup, Forget}
-use Rattle.fs_trait.specs.Values.{context_of, entry_out_of, whole_seconds, nanoseconds_beyond}
-use Rattle.fs_trait.specs.Listing.{GivesFirst}
-use Rattle.fs_trait.specs.Runs.{Event, Called, IsRun}
-use Rattle.fs_trait.specs.declared.entry.Entry.{Entry}
-use Rattle.fuse_grammar.specs.Ask.{ask}
-use Rattle.fuse_grammar.specs.Books.{opcode_in, answered, sent, accepted, accepted_by, forgotten, delivered, delivered_by, times, KeepsBooks}
-use Rattle.fuse_grammar.specs.Words.{GivesBackWithin, counted}
-use Rattle.fuse_grammar.specs.Forms.{Ask, Asks, WithMemory, within}
-use Rattle.fuse_grammar.specs.Limits.{max_len}
-use Rattle.fuse_grammar.specs.Listing.{given_back}
-use Rattle.fuse_grammar.specs.Reply.{Echo, Reply, Bytes, echo_of, body_reply, reply_of}
-use Rattle.fuse_grammar.specs.Room.{IsReplied, IsPut, unseen}
-use Rattle.fuse_grammar.specs.Samples.{lookup_of_a}
-use Rattle.fuse_grammar.specs.Turn.{Turn, Follows, node_answered, events_in}
-use Rattle.fuse_grammar.specs.declared.limits.Limits.{Limits}
-use Rattle.fuse_grammar.specs.declared.error.Error.{Error}
-use Rattle.fuse_grammar.specs.declared.error.Error.TheVariants.{OutOfMemory}
-use Rattle.fuse_grammar.proofs.Keeping.{never_below_over}
-use Rattle.fuse_grammar.proofs.Rooms.{put_outcome-fits, put_room-fits}
-use Rattle.fuse_server.specs.Memory.{WantsNoMemory}
-use Rattle.fuse_server.specs.Step.{ServerState, IsStep, turn_over}
+use Rattle.vfs_flags.specs.Numbers.{opcode_of}
+use Rattle.vfs_wire.specs.Fields.{little, number, bytes_of, value_of}
+use Rattle.vfs_wire.specs.Records.{in_header, entry_out}
+use Rattle.vfs_wire.specs.declared.entries.EntryOut.{EntryOut}
+use Rattle.vfs_segments.specs.Unread.{Unread}
+use Rattle.vfs_segments.specs.Written.{Written, whole}
+use Rattle.vfs_files.specs.Answers.{Answer, Done, Failed, Options, Found, Attributes, Put, Opened, Created, Statistics, Text, Count, Offset, Wrote, Plain, Entries}
+use Rattle.vfs_files.specs.Calls.{Call, Lookup, Forget}
+use Rattle.vfs_files.specs.Values.{context_of, entry_out_of, whole_seconds, nanoseconds_beyond}
+use Rattle.vfs_files.specs.Listing.{GivesFirst}
+use Rattle.vfs_files.specs.Runs.{Event, Called, IsRun}
+use Rattle.vfs_files.specs.declared.entry.Entry.{Entry}
+use Rattle.vfs_grammar.specs.Ask.{ask}
+use Rattle.vfs_grammar.specs.Books.{opcode_in, answered, sent, accepted, accepted_by, forgotten, delivered, delivered_by, times, KeepsBooks}
+use Rattle.vfs_grammar.specs.Words.{GivesBackWithin, counted}
+use Rattle.vfs_grammar.specs.Forms.{Ask, Asks, WithMemory, within}
+use Rattle.vfs_grammar.specs.Limits.{max_len}
+use Rattle.vfs_grammar.specs.Listing.{given_back}
+use Rattle.vfs_grammar.specs.Reply.{Echo, Reply, Bytes, echo_of, body_reply, reply_of}
+use Rattle.vfs_grammar.specs.Room.{IsReplied, IsPut, unseen}
+use Rattle.vfs_grammar.specs.Samples.{lookup_of_a}
+use Rattle.vfs_grammar.specs.Turn.{Turn, Follows, node_answered, events_in}
+use Rattle.vfs_grammar.specs.declared.limits.Limits.{Limits}
+use Rattle.vfs_grammar.specs.declared.error.Error.{Error}
+use Rattle.vfs_grammar.specs.declared.error.Error.TheVariants.{OutOfMemory}
+use Rattle.vfs_grammar.proofs.Keeping.{never_below_over}
+use Rattle.vfs_grammar.proofs.Rooms.{put_outcome-fits, put_room-fits}
+use Rattle.vfs_server.specs.Memory.{WantsNoMemory}
+use Rattle.vfs_server.specs.Step.{ServerState, IsStep, turn_over}
 use Rattle.laws_history.specs.Calls.{IsSeen}
 use Rattle.laws_history.specs.History.{Handled, turn_of, IsHistory, GoesOnHandled, HistoriesKeepBooks}
 use Rattle.fs_small.specs.MemFs.{Stored, Stock, MemFsAllows, AnswersEntry, IsEntryOf, file_attr}

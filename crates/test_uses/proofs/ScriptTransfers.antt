@@ -2,10 +2,10 @@
 -- none.
 use Rattle.std.proofs.Common.{◌≡◌, ◌<◌, ◌+◌, ℕ, List, [], ◌∷◌, ◌++◌, length, replicate, Option, Some, None, Result, Ok, Err, refl, ap, ◌∙◌, arith}
 use Rattle.std.proofs.lemmas.List.Sums.{sum_by-cons}
-use Rattle.fs_trait.specs.Answers.{Counts, Plain, read_answer, written_answer}
-use Rattle.fs_trait.specs.Transfers.{Ending, Finished, Stuck, Broken, Past, last_bytes, outcome, bytes_moved, count_moved, reads_of, writes_of, Goes, EndsBy}
-use Rattle.fs_mock.specs.Scripts.{ReadsScript, WritesScript, ReadsFile, WritesFile, called}
-use Rattle.fs_mock.specs.declared.file.ScriptFile.{ScriptFile}
+use Rattle.vfs_files.specs.Answers.{Counts, Plain, read_answer, written_answer}
+use Rattle.vfs_files.specs.Transfers.{Ending, Finished, Stuck, Broken, Past, last_bytes, outcome, bytes_moved, count_moved, reads_of, writes_of, Goes, EndsBy}
+use Rattle.vfs_bench.specs.Scripts.{ReadsScript, WritesScript, ReadsFile, WritesFile, called}
+use Rattle.vfs_bench.specs.declared.file.ScriptFile.{ScriptFile}
 
 -- an equation of two answers
 abbrev Same : Result ℕ (Option ℕ) → Result ℕ (Option ℕ) → Type 0

@@ -1,9 +1,9 @@
 -- What a new script says of each call.
 use Rattle.std.proofs.Common.{◌≡◌, Ok, Err, refl, ap}
-use Rattle.fs_trait.specs.Answers.{Options, Failed, init_answer, entry_answer, attr_answer, done_answer, opened_answer, created_answer, statistics_answer, text_answer, getxattr_answer, listxattr_answer, offset_answer, written_answer}
-use Rattle.fs_trait.specs.Calls.{Call, Lookup, Forget, Getattr, Setattr, Readlink, Symlink, Mknod, Mkdir, Unlink, Rmdir, Rename, Link, Open, Read, Write, Statfs, Release, Fsync, Setxattr, Getxattr, Listxattr, Removexattr, Flush, Init, Opendir, Readdir, Releasedir, Fsyncdir, Getlk, Setlk, Setlkw, Access, Create, Bmap, Destroy, Ioctl, Poll, NotifyReply, BatchForget, Fallocate, Lseek, Copyfilerange, Syncfs, Tmpfile, not_served, no_such_call, default_opening, default_statistics, default_answer}
-use Rattle.fs_mock.specs.Scripts.{said}
-use Rattle.fs_mock.specs.declared.script.Script.{Script}
+use Rattle.vfs_files.specs.Answers.{Options, Failed, init_answer, entry_answer, attr_answer, done_answer, opened_answer, created_answer, statistics_answer, text_answer, getxattr_answer, listxattr_answer, offset_answer, written_answer}
+use Rattle.vfs_files.specs.Calls.{Call, Lookup, Forget, Getattr, Setattr, Readlink, Symlink, Mknod, Mkdir, Unlink, Rmdir, Rename, Link, Open, Read, Write, Statfs, Release, Fsync, Setxattr, Getxattr, Listxattr, Removexattr, Flush, Init, Opendir, Readdir, Releasedir, Fsyncdir, Getlk, Setlk, Setlkw, Access, Create, Bmap, Destroy, Ioctl, Poll, NotifyReply, BatchForget, Fallocate, Lseek, Copyfilerange, Syncfs, Tmpfile, not_served, no_such_call, default_opening, default_statistics, default_answer}
+use Rattle.vfs_bench.specs.Scripts.{said}
+use Rattle.vfs_bench.specs.declared.script.Script.{Script}
 
 -- a script of default answers, call by call
 module _ (s : Script)

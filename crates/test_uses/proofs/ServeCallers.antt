@@ -2,21 +2,21 @@
 use Rattle.std.proofs.Common.{◌≡◌, ◌≤◌, ◌∙◌, ◌⊎◌, ℕ, true, List, length, take, nat_lt, Option, None, Result, Ok, Err, IfOk, MatchResult, Vec, ap, arith, subst, inl, inr, refl}
 use Rattle.std.specs.declared.alloc.Global.{Global}
 use Rattle.std.proofs.lemmas.Bool.Decides.{nat_tests}
-use Rattle.fuse_segments.specs.Written.{Written, whole}
-use Rattle.fs_trait.specs.Values.{Item}
-use Rattle.fs_trait.specs.Answers.{Plain, Answer, Handed}
-use Rattle.fs_trait.specs.Calls.{Call, default_answer}
-use Rattle.fuse_grammar.specs.Ask.{ask}
-use Rattle.fuse_grammar.specs.Forms.{Ask}
-use Rattle.fuse_grammar.specs.Words.{refused}
-use Rattle.fuse_grammar.specs.Turn.{Turn, Follows}
-use Rattle.fuse_grammar.specs.declared.error.Error.{Error}
-use Rattle.fuse_grammar.specs.declared.error.Error.TheVariants.{DecodeMessage}
-use Rattle.fuse_grammar.specs.declared.limits.Limits.{Limits}
-use Rattle.fuse_server.specs.Served.{Served, room_of}
-use Rattle.fuse_server.specs.Step.{ServerState, IsStep, turn_over}
-use Rattle.fuse_server.specs.declared.transport.error.ServeError.{ServeError}
-use Rattle.fuse_server.specs.declared.transport.error.ServeError.TheVariants.{OutOfMemory, Segments, Server, FileSystem}
+use Rattle.vfs_segments.specs.Written.{Written, whole}
+use Rattle.vfs_files.specs.Values.{Item}
+use Rattle.vfs_files.specs.Answers.{Plain, Answer, Handed}
+use Rattle.vfs_files.specs.Calls.{Call, default_answer}
+use Rattle.vfs_grammar.specs.Ask.{ask}
+use Rattle.vfs_grammar.specs.Forms.{Ask}
+use Rattle.vfs_grammar.specs.Words.{refused}
+use Rattle.vfs_grammar.specs.Turn.{Turn, Follows}
+use Rattle.vfs_grammar.specs.declared.error.Error.{Error}
+use Rattle.vfs_grammar.specs.declared.error.Error.TheVariants.{DecodeMessage}
+use Rattle.vfs_grammar.specs.declared.limits.Limits.{Limits}
+use Rattle.vfs_server.specs.Served.{Served, room_of}
+use Rattle.vfs_server.specs.Step.{ServerState, IsStep, turn_over}
+use Rattle.vfs_server.specs.declared.transport.error.ServeError.{ServeError}
+use Rattle.vfs_server.specs.declared.transport.error.ServeError.TheVariants.{OutOfMemory, Segments, Server, FileSystem}
 use Rattle.test_uses.proofs.Callers.{IsRun-no_events, run_is_default, same_server, turn-statfs}
 use Rattle.test_uses.proofs.DirectoryCallers.{seen-readdir}
 use Rattle.test_uses.specs.Requests.{statfs_reply, ReadsOneRecord}

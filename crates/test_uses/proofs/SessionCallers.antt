@@ -2,34 +2,34 @@
 use Rattle.std.proofs.Common.{◌≡◌, ◌≢◌, ◌⊎◌, ℕ, Bool, false, List, [], ◌∷◌, ◌++◌, length, map, nat_lt, Option, Some, None, Result, Ok, Err, ap, sym, ◌∙◌, arith, subst, inl, inr, refl, pos}
 use Rattle.std.proofs.lemmas.Bool.Decides.{nat_tests}
 use Rattle.std.proofs.lemmas.List.Sums.{sum_by-take-le}
-use Rattle.fuse_flags.specs.Numbers.{opcode_of}
-use Rattle.fuse_wire.specs.Fields.{little, number, value_of}
-use Rattle.fuse_wire.specs.Records.{in_header}
-use Rattle.fuse_segments.specs.Unread.{Unread}
-use Rattle.fuse_segments.specs.Written.{Written, whole, Leaves}
-use Rattle.fs_trait.specs.Values.{Item, context_of}
-use Rattle.fs_trait.specs.Answers.{Answer, Failed, Options, Handed, Plain, Agreements, Entries, Quiet}
-use Rattle.fs_trait.specs.Calls.{Call, Init, Lookup, Forget, default_answer}
-use Rattle.fs_trait.specs.declared.entry.Context.{Context}
-use Rattle.fs_trait.specs.Runs.{Event, Called, OpenedDirectory, Taken, IsRun}
-use Rattle.fuse_grammar.specs.Books.{accepted, delivered, accepted_by, delivered_by, opcode_in, KeepsBooks}
-use Rattle.fuse_grammar.specs.Words.{GivesBackWithin}
-use Rattle.fuse_grammar.specs.Turn.{events_in, Turn, IsTurn, Follows}
-use Rattle.fuse_grammar.specs.Ask.{ask}
-use Rattle.fuse_grammar.specs.Forms.{Ask, Asks, WithMemory, within}
-use Rattle.fuse_grammar.specs.Limits.{max_len}
-use Rattle.fuse_grammar.specs.Options.{options_after}
-use Rattle.fuse_grammar.specs.Reply.{Echo, echo_of, reply_of}
-use Rattle.fuse_grammar.specs.Room.{IsReplied}
-use Rattle.fuse_grammar.specs.declared.limits.Limits.{Limits}
-use Rattle.fuse_grammar.specs.declared.error.Error.{Error}
-use Rattle.fuse_grammar.specs.declared.error.Error.TheVariants.{OutOfMemory}
-use Rattle.fuse_grammar.proofs.Keeping.{never_below_over}
+use Rattle.vfs_flags.specs.Numbers.{opcode_of}
+use Rattle.vfs_wire.specs.Fields.{little, number, value_of}
+use Rattle.vfs_wire.specs.Records.{in_header}
+use Rattle.vfs_segments.specs.Unread.{Unread}
+use Rattle.vfs_segments.specs.Written.{Written, whole, Leaves}
+use Rattle.vfs_files.specs.Values.{Item, context_of}
+use Rattle.vfs_files.specs.Answers.{Answer, Failed, Options, Handed, Plain, Agreements, Entries, Quiet}
+use Rattle.vfs_files.specs.Calls.{Call, Init, Lookup, Forget, default_answer}
+use Rattle.vfs_files.specs.declared.entry.Context.{Context}
+use Rattle.vfs_files.specs.Runs.{Event, Called, OpenedDirectory, Taken, IsRun}
+use Rattle.vfs_grammar.specs.Books.{accepted, delivered, accepted_by, delivered_by, opcode_in, KeepsBooks}
+use Rattle.vfs_grammar.specs.Words.{GivesBackWithin}
+use Rattle.vfs_grammar.specs.Turn.{events_in, Turn, IsTurn, Follows}
+use Rattle.vfs_grammar.specs.Ask.{ask}
+use Rattle.vfs_grammar.specs.Forms.{Ask, Asks, WithMemory, within}
+use Rattle.vfs_grammar.specs.Limits.{max_len}
+use Rattle.vfs_grammar.specs.Options.{options_after}
+use Rattle.vfs_grammar.specs.Reply.{Echo, echo_of, reply_of}
+use Rattle.vfs_grammar.specs.Room.{IsReplied}
+use Rattle.vfs_grammar.specs.declared.limits.Limits.{Limits}
+use Rattle.vfs_grammar.specs.declared.error.Error.{Error}
+use Rattle.vfs_grammar.specs.declared.error.Error.TheVariants.{OutOfMemory}
+use Rattle.vfs_grammar.proofs.Keeping.{never_below_over}
 use Rattle.test_uses.proofs.Callers.{Seen, AreDefault, seen_put, turn-statfs, run_is_default}
-use Rattle.fuse_server.specs.Memory.{WantsNoMemory}
-use Rattle.fuse_server.specs.Session.{AreServed, IsSession}
-use Rattle.fuse_server.specs.Sparing.{IsServedSparingly, AreServedSparingly, IsSparing}
-use Rattle.fuse_server.specs.Step.{ServerState}
+use Rattle.vfs_server.specs.Memory.{WantsNoMemory}
+use Rattle.vfs_server.specs.Session.{AreServed, IsSession}
+use Rattle.vfs_server.specs.Sparing.{IsServedSparingly, AreServedSparingly, IsSparing}
+use Rattle.vfs_server.specs.Step.{ServerState}
 use Rattle.test_uses.specs.Requests.{init_request, init_reply, lookup_request, lookup_reply, statfs_request, statfs_reply, in_one_segment, AreRooms, SendsThreeBack}
 use Rattle.test_uses.specs.declared.server.session.TheConstants.{FORGET}
 

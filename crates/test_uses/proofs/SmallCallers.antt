@@ -3,19 +3,19 @@ use Rattle.std.proofs.Common.{◌≡◌, ◌≤◌, ◌<◌, ◌-◌, ◌^◌, �
 use Rattle.std.proofs.lemmas.Bool.Decides.{nat_tests}
 use Rattle.std.proofs.lemmas.List.{drop_all}
 use Rattle.std.specs.List.{flat_map}
-use Rattle.fuse_segments.specs.Written.{Written, wrote}
-use Rattle.fs_trait.specs.Answers.{Plain, directory_answer}
-use Rattle.fs_trait.specs.Calls.{not_served, no_such_call, Call, Handed}
-use Rattle.fs_trait.specs.Values.{Item}
-use Rattle.fs_trait.specs.declared.entry.Entry.{Entry}
-use Rattle.fs_trait.specs.Runs.{Taken}
-use Rattle.fs_trait.specs.declared.entry.Context.{Context}
-use Rattle.fuse_grammar.proofs.Dirents.{length-record_bytes}
-use Rattle.fuse_grammar.specs.Listing.{record_len, Verdict, Fails, Got, Line, Stop, End, At, line_events, stop_events, line_bytes, line_len, bytes_got, len_of, answer_at, answer_of, AreWritten, Stops, verdict}
-use Rattle.fuse_grammar.specs.Words.{record_bytes}
-use Rattle.fuse_grammar.proofs.Listings.{fits_within}
-use Rattle.fuse_grammar.specs.Samples.{file_a}
-use Rattle.fuse_listings.specs.Reading.{Adds, cut_by, cut_short, ReadsItems}
+use Rattle.vfs_segments.specs.Written.{Written, wrote}
+use Rattle.vfs_files.specs.Answers.{Plain, directory_answer}
+use Rattle.vfs_files.specs.Calls.{not_served, no_such_call, Call, Handed}
+use Rattle.vfs_files.specs.Values.{Item}
+use Rattle.vfs_files.specs.declared.entry.Entry.{Entry}
+use Rattle.vfs_files.specs.Runs.{Taken}
+use Rattle.vfs_files.specs.declared.entry.Context.{Context}
+use Rattle.vfs_grammar.proofs.Dirents.{length-record_bytes}
+use Rattle.vfs_grammar.specs.Listing.{record_len, Verdict, Fails, Got, Line, Stop, End, At, line_events, stop_events, line_bytes, line_len, bytes_got, len_of, answer_at, answer_of, AreWritten, Stops, verdict}
+use Rattle.vfs_grammar.specs.Words.{record_bytes}
+use Rattle.vfs_grammar.proofs.Listings.{fits_within}
+use Rattle.vfs_grammar.specs.Samples.{file_a}
+use Rattle.vfs_listings.specs.Reading.{Adds, cut_by, cut_short, ReadsItems}
 
 -- what fits is put
 pub put_whole : (max : ℕ) (entry : Option Entry) (i : Item) (old new : Written)

@@ -2,11 +2,11 @@
 use Rattle.std.proofs.Common.{◌≡◌, ◌<◌, ◌+◌, ℕ, List, length, Option, Some, None, remove, subst}
 use Rattle.std.specs.Duration.{as_nanos}
 use Rattle.std.specs.declared.time.Duration.{Duration}
-use Rattle.fuse_wire.specs.declared.attributes.Attr.{Attr}
-use Rattle.fs_trait.specs.Answers.{Answer, Attributes, Created, Done, Failed, Found, Iterator, Plain, Wrote}
-use Rattle.fs_trait.specs.Bytes.{fitting, written}
-use Rattle.fs_trait.specs.Values.{Item}
-use Rattle.fs_trait.specs.declared.entry.Entry.{Entry}
+use Rattle.vfs_wire.specs.declared.attributes.Attr.{Attr}
+use Rattle.vfs_files.specs.Answers.{Answer, Attributes, Created, Done, Failed, Found, Iterator, Plain, Wrote}
+use Rattle.vfs_files.specs.Bytes.{fitting, written}
+use Rattle.vfs_files.specs.Values.{Item}
+use Rattle.vfs_files.specs.declared.entry.Entry.{Entry}
 use Rattle.fs_small.specs.MemFile.{most_bytes}
 use Rattle.fs_small.specs.MemFs as files
 use Rattle.fs_small.specs.MemFs.{Stored, Stock, TakesOut, Makes, AnswersRead, WritesInto, contents_at, with_contents, with_file, new_file, file_attr}

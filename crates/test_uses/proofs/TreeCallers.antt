@@ -1,23 +1,23 @@
 -- What the laws of a tree say of one LOOKUP, and of a session of one DESTROY.
 use Rattle.std.proofs.Common.{◌≡◌, ◌≢◌, ◌≤◌, ◌<◌, ◌+◌, ◌∙◌, ℕ, zero, suc, Bool, true, false, List, [], ◌∷◌, length, take, sum_by, nat_lt, Option, Some, None, IfSome, IsSome, Result, Ok, Err, IfOk, ◌==◌, eq-eqb, ap, arith, subst, refl}
 use Rattle.std.proofs.lemmas.Bool.Decides.{nat_tests}
-use Rattle.fuse_flags.specs.Numbers.{opcode_of}
-use Rattle.fuse_wire.specs.Fields.{number, value_of}
-use Rattle.fuse_wire.specs.Records.{in_header}
-use Rattle.fuse_segments.specs.Unread.{Unread}
-use Rattle.fuse_segments.specs.Written.{Written}
-use Rattle.fs_trait.specs.Calls.{Destroy, Lookup, entry_answer}
-use Rattle.fs_trait.specs.declared.entry.Context.{Context}
-use Rattle.fs_trait.specs.declared.entry.Entry.{Entry}
-use Rattle.fuse_grammar.specs.Ask.{ask}
-use Rattle.fuse_grammar.specs.Books.{accepted, delivered}
-use Rattle.fuse_grammar.specs.Words.{GivesBackWithin}
-use Rattle.fuse_grammar.specs.Forms.{Ask, Asks, within}
-use Rattle.fuse_grammar.specs.Limits.{max_len}
-use Rattle.fuse_grammar.specs.Reply.{echo_of}
-use Rattle.fuse_grammar.specs.Turn.{Turn, IsTurn, Follows}
-use Rattle.fuse_grammar.specs.declared.limits.Limits.{Limits}
-use Rattle.fuse_server.specs.Session.{AreServed}
+use Rattle.vfs_flags.specs.Numbers.{opcode_of}
+use Rattle.vfs_wire.specs.Fields.{number, value_of}
+use Rattle.vfs_wire.specs.Records.{in_header}
+use Rattle.vfs_segments.specs.Unread.{Unread}
+use Rattle.vfs_segments.specs.Written.{Written}
+use Rattle.vfs_files.specs.Calls.{Destroy, Lookup, entry_answer}
+use Rattle.vfs_files.specs.declared.entry.Context.{Context}
+use Rattle.vfs_files.specs.declared.entry.Entry.{Entry}
+use Rattle.vfs_grammar.specs.Ask.{ask}
+use Rattle.vfs_grammar.specs.Books.{accepted, delivered}
+use Rattle.vfs_grammar.specs.Words.{GivesBackWithin}
+use Rattle.vfs_grammar.specs.Forms.{Ask, Asks, within}
+use Rattle.vfs_grammar.specs.Limits.{max_len}
+use Rattle.vfs_grammar.specs.Reply.{echo_of}
+use Rattle.vfs_grammar.specs.Turn.{Turn, IsTurn, Follows}
+use Rattle.vfs_grammar.specs.declared.limits.Limits.{Limits}
+use Rattle.vfs_server.specs.Session.{AreServed}
 use Rattle.fs_nodes.specs.declared.node.Node.{Node}
 use Rattle.fs_tree.specs.State.{State, node_at}
 use Rattle.laws_tree.specs.Laws.{CountsLookups, lookups_of, names_of}

@@ -1,12 +1,12 @@
 -- What a small caller of a server of files in memory finds: the reply to a LOOKUP of a file, and the
 -- history of that and of a FORGET.
 use Rattle.std.specs.Prelude.{◌≡◌, ◌≢◌, ℕ, List, [], ◌∷◌, ◌++◌, replicate}
-use Rattle.fs_trait.specs.Listing.{GivesFirst}
-use Rattle.fuse_grammar.specs.Books.{answered, sent, delivered, accepted, KeepsBooks}
-use Rattle.fuse_grammar.specs.Words.{NeverBelow}
-use Rattle.fuse_grammar.specs.Samples.{four, eight}
-use Rattle.fuse_grammar.specs.Turn.{Turn, events_in}
-use Rattle.fuse_server.specs.Step.{ServerState}
+use Rattle.vfs_files.specs.Listing.{GivesFirst}
+use Rattle.vfs_grammar.specs.Books.{answered, sent, delivered, accepted, KeepsBooks}
+use Rattle.vfs_grammar.specs.Words.{NeverBelow}
+use Rattle.vfs_grammar.specs.Samples.{four, eight}
+use Rattle.vfs_grammar.specs.Turn.{Turn, events_in}
+use Rattle.vfs_server.specs.Step.{ServerState}
 use Rattle.laws_history.specs.History.{Handled, IsHistory}
 use Rattle.fs_small.specs.MemFs.{Stock, MemFsAllows}
 

@@ -1,18 +1,18 @@
 -- What small callers of the server hand over and find: requests and replies as bytes, written out,
 -- and the rooms of a session.
 use Rattle.std.specs.Prelude.{◌≡◌, ◌≤◌, ◌+◌, ◌⊎◌, ℕ, pos, List, [], ◌∷◌, ◌++◌, length, replicate, take, Option, Some, None, Result, Ok}
-use Rattle.fuse_flags.specs.declared.opcode.Opcode.{Opcode}
-use Rattle.fuse_flags.specs.declared.opcode.Opcode.TheVariants.{Getattr, Read, Write, Init, Interrupt, SetupMapping}
-use Rattle.fuse_flags.specs.declared.opcode.Opcode.TheVariants as opcode
-use Rattle.fuse_segments.specs.Unread.{Unread}
-use Rattle.fuse_segments.specs.Written.{Written}
-use Rattle.fs_trait.specs.Values.{Item}
-use Rattle.fs_trait.specs.Calls.{Call, Readdir, Failed, Handed}
-use Rattle.fs_trait.specs.Runs.{Event, Called, OpenedDirectory, Taken, IsRun}
-use Rattle.fuse_grammar.specs.Directories.{takings}
-use Rattle.fuse_grammar.specs.Books.{answered, sent}
-use Rattle.fuse_grammar.specs.Words.{NeverBelow}
-use Rattle.fuse_grammar.specs.declared.error.Error.{Error}
+use Rattle.vfs_flags.specs.declared.opcode.Opcode.{Opcode}
+use Rattle.vfs_flags.specs.declared.opcode.Opcode.TheVariants.{Getattr, Read, Write, Init, Interrupt, SetupMapping}
+use Rattle.vfs_flags.specs.declared.opcode.Opcode.TheVariants as opcode
+use Rattle.vfs_segments.specs.Unread.{Unread}
+use Rattle.vfs_segments.specs.Written.{Written}
+use Rattle.vfs_files.specs.Values.{Item}
+use Rattle.vfs_files.specs.Calls.{Call, Readdir, Failed, Handed}
+use Rattle.vfs_files.specs.Runs.{Event, Called, OpenedDirectory, Taken, IsRun}
+use Rattle.vfs_grammar.specs.Directories.{takings}
+use Rattle.vfs_grammar.specs.Books.{answered, sent}
+use Rattle.vfs_grammar.specs.Words.{NeverBelow}
+use Rattle.vfs_grammar.specs.declared.error.Error.{Error}
 
 -- request 9, STATFS of node 1: a header alone, of 40 bytes
 abbrev pub statfs_request : List ℕ

@@ -1,19 +1,19 @@
 //! Calls of any file system, and what its maker uses, at work.
 
 ghost use Rattle.std.specs.Prelude.{◌≡◌, ◌≤◌, ℕ, List, IfErr, IfOk, IsTrue, Some, true};
-ghost use Rattle.fuse_flags.specs.Flags.{fs_options_bits};
-ghost use Rattle.fs_trait.specs.Calls.{Destroy, Getxattr, Init, Listxattr, Lookup, Plain, Done, Readdir, directory_answer, entry_answer, getxattr_answer, init_answer, listxattr_answer};
-ghost use Rattle.fs_trait.specs.Migrations.{Prepared, PrepareSerialization};
-ghost use Rattle.fs_trait.specs.Values.{name_text};
+ghost use Rattle.vfs_flags.specs.Flags.{fs_options_bits};
+ghost use Rattle.vfs_files.specs.Calls.{Destroy, Getxattr, Init, Listxattr, Lookup, Plain, Done, Readdir, directory_answer, entry_answer, getxattr_answer, init_answer, listxattr_answer};
+ghost use Rattle.vfs_files.specs.Migrations.{Prepared, PrepareSerialization};
+ghost use Rattle.vfs_files.specs.Values.{name_text};
 
 use bitflags::Flags;
-use fs_trait::{
+use std::alloc::Global;
+use vfs_files::{
     CStr, Context, DirEntry, Entry, EntryList, Extensions, FileSystem, GetxattrReply,
     ListxattrReply, Number, PartialFileSystem, SerializableFileSystem, ZeroCopyReader,
     ZeroCopyWriter, defaults, lengthen,
 };
-use fuse_flags::{Fault, FsOptions};
-use std::alloc::Global;
+use vfs_flags::{Fault, FsOptions};
 
 /// A name is looked for in the root as the file system allows it.
 fn lookup_in_the_root<F: FileSystem>(

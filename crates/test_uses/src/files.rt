@@ -1,23 +1,23 @@
 //! Names, copies, default answers and file systems of any kind at work.
 
 ghost use Rattle.std.specs.Prelude.{◌≡◌, ◌≤◌, ◌+◌, ◌++◌, pos, negsuc, IsTrue, IfOk, IfErr, Some, Err, map, option_map, ℕ, List};
-ghost use Rattle.fs_trait.specs.Values.{context_values, name_text};
-ghost use Rattle.fs_trait.specs.Calls.{Unlink, not_served};
-ghost use Rattle.fs_trait.specs.Answers.{Plain, done_answer, Counts};
-ghost use Rattle.fs_trait.specs.Runs.{ForgetsEach};
+ghost use Rattle.vfs_files.specs.Values.{context_values, name_text};
+ghost use Rattle.vfs_files.specs.Calls.{Unlink, not_served};
+ghost use Rattle.vfs_files.specs.Answers.{Plain, done_answer, Counts};
+ghost use Rattle.vfs_files.specs.Runs.{ForgetsEach};
 
 use bitflags::Flags;
 use fs_small::Unserved;
-use fs_trait::laws::runs_join;
-use fs_trait::{
+use std::alloc::Global;
+use std::time::Duration;
+use vfs_files::laws::runs_join;
+use vfs_files::{
     CStr, CString, Context, Entry, Extensions, FileSystem, GetxattrReply, ListxattrReply,
     MigrateError, Number, SecContext, SerializableFileSystem, ZeroCopyWriter, defaults, first_nul,
 };
-use fuse_flags::{Fault, GuestGid};
-use fuse_views::PositionedFile;
-use fuse_wire::{Attr, EntryOut, InHeader};
-use std::alloc::Global;
-use std::time::Duration;
+use vfs_flags::{Fault, GuestGid};
+use vfs_views::PositionedFile;
+use vfs_wire::{Attr, EntryOut, InHeader};
 
 /// A name ends at its only 0.
 fn name_of_two_letters() -> bool

@@ -1,12 +1,12 @@
 //! Numbers of the protocol by name.
 
 ghost use Rattle.std.specs.Prelude.{◌≡◌, ◌↔◌, [], ◌∷◌, pos, ◌-ℤ◌, ◌<ℤ◌, Some, None, IsTrue, map};
-ghost use Rattle.fuse_flags.specs.Numbers.{eperm, enoent, eio, ebadf, enomem, eacces, eexist, exdev, enotdir, eisdir, einval, enospc, erofs, erange, enosys, enotempty, enodata, eproto, eoverflow, eopnotsupp};
-ghost use Rattle.fuse_flags.specs.Flags.{fs_options_bits, init_ext, setxattr_ext, security_ctx, create_supp_group, supported_fs_options};
-ghost use Rattle.fuse_flags.specs.FlagTables.{bits_of_table, ioctl_flags_table, setupmapping_flags_table};
+ghost use Rattle.vfs_flags.specs.Numbers.{eperm, enoent, eio, ebadf, enomem, eacces, eexist, exdev, enotdir, eisdir, einval, enospc, erofs, erange, enosys, enotempty, enodata, eproto, eoverflow, eopnotsupp};
+ghost use Rattle.vfs_flags.specs.Flags.{fs_options_bits, init_ext, setxattr_ext, security_ctx, create_supp_group, supported_fs_options};
+ghost use Rattle.vfs_flags.specs.FlagTables.{bits_of_table, ioctl_flags_table, setupmapping_flags_table};
 
-use fuse_flags::laws::{masks_are_of_their_names, masks_have_their_bits};
-use fuse_flags::{Errno, FsOptions};
+use vfs_flags::laws::{masks_are_of_their_names, masks_have_their_bits};
+use vfs_flags::{Errno, FsOptions};
 
 mod ids;
 mod opcodes;

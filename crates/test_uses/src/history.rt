@@ -1,19 +1,19 @@
 //! A server of files in memory that is called message by message.
 
 ghost use Rattle.std.specs.Prelude.{◌≡◌, ◌≤◌, ◌++◌, codes, drop, length, Ok, Some};
-ghost use Rattle.fuse_segments.specs.Written.{whole};
-ghost use Rattle.fuse_grammar.specs.Samples.{lookup_of_a};
-ghost use Rattle.fuse_grammar.specs.Turn.{Turn};
+ghost use Rattle.vfs_segments.specs.Written.{whole};
+ghost use Rattle.vfs_grammar.specs.Samples.{lookup_of_a};
+ghost use Rattle.vfs_grammar.specs.Turn.{Turn};
 ghost use Rattle.laws_history.specs.Calls.{IsSeen};
 ghost use Rattle.test_uses.specs.Files.{one_file};
 ghost use Rattle.test_uses.specs.History.{file_reply, forget_of_2, LooksUpAndForgets};
 
 use fs_small::MemFs;
-use fuse_grammar::Result;
-use fuse_segments::{Reader, Writer};
-use fuse_server::server::Server;
 use laws_history::laws::{history_goes_on, history_keeps_books};
 use std::alloc::Global;
+use vfs_grammar::Result;
+use vfs_segments::{Reader, Writer};
+use vfs_server::server::Server;
 
 /// Request 9, LOOKUP of `a` in node 1: a header and a name, of 42 bytes.
 const LOOKUP: [u8; 42] = [

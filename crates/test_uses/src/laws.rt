@@ -1,13 +1,13 @@
 //! A law of directories at work.
 
 ghost use Rattle.std.specs.Prelude.{◌≤◌, ◌<◌, ◌^◌, ℕ, [], ◌∷◌, false, length, List, Option, Some, None, Result};
-ghost use Rattle.fs_trait.specs.Values.{Item};
-ghost use Rattle.fs_trait.specs.Runs.{Taken};
-ghost use Rattle.fs_trait.specs.declared.entry.Context.{Context};
-ghost use Rattle.fuse_grammar.specs.Directories.{IsWhole};
-ghost use Rattle.fuse_grammar.specs.Listing.{IsListing};
+ghost use Rattle.vfs_files.specs.Values.{Item};
+ghost use Rattle.vfs_files.specs.Runs.{Taken};
+ghost use Rattle.vfs_files.specs.declared.entry.Context.{Context};
+ghost use Rattle.vfs_grammar.specs.Directories.{IsWhole};
+ghost use Rattle.vfs_grammar.specs.Listing.{IsListing};
 
-use fuse_server::laws::listings::directories_are_whole;
+use vfs_server::laws::listings::directories_are_whole;
 
 /// A READDIR of a directory with one item is whole, whatever the item and its name, which may have
 /// up to 2^32 - 1 bytes, where there is room for as much as was asked for.

@@ -1,21 +1,21 @@
 //! Directory records, and directories read.
 
 ghost use Rattle.std.specs.Prelude.{◌≡◌, ◌≤◌, ℕ, length, true, false, [], ◌∷◌, Option, Some, Ok, Err, IfOk, codes, Result as Outcome, None as Nothing};
-ghost use Rattle.fuse_segments.specs.Written.{Written, wrote};
-ghost use Rattle.fs_trait.specs.Calls.{not_served};
-ghost use Rattle.fs_trait.specs.Values.{name_text};
-ghost use Rattle.fs_trait.specs.Runs.{Taken};
-ghost use Rattle.fs_trait.specs.declared.entry.Context.{Context};
-ghost use Rattle.fuse_grammar.specs.Samples.{record_of_dot, file_a};
-ghost use Rattle.fuse_listings.specs.Reading.{ReadsItems};
+ghost use Rattle.vfs_segments.specs.Written.{Written, wrote};
+ghost use Rattle.vfs_files.specs.Calls.{not_served};
+ghost use Rattle.vfs_files.specs.Values.{name_text};
+ghost use Rattle.vfs_files.specs.Runs.{Taken};
+ghost use Rattle.vfs_files.specs.declared.entry.Context.{Context};
+ghost use Rattle.vfs_grammar.specs.Samples.{record_of_dot, file_a};
+ghost use Rattle.vfs_listings.specs.Reading.{ReadsItems};
 
 use fs_small::Unserved;
-use fs_trait::{CStr, DirEntry, FileSystem};
-use fuse_flags::Fault;
-use fuse_listings::{add_dirent, read_directory, record_len};
-use fuse_segments::Writer;
-use fuse_wire::InHeader;
-use fuse_wire_more::ReadIn;
+use vfs_files::{CStr, DirEntry, FileSystem};
+use vfs_flags::Fault;
+use vfs_listings::{add_dirent, read_directory, record_len};
+use vfs_segments::Writer;
+use vfs_wire::InHeader;
+use vfs_wire_more::ReadIn;
 
 /// Adds `.` of the root, whose record has 32 bytes, where 32 may still be put.
 fn add_dot(w: &mut Writer, dot: CStr<'_>) -> Result<usize, Fault>

@@ -2,22 +2,22 @@
 
 ghost use Rattle.std.specs.Prelude.{◌≡◌, ◌++◌, [], ◌∷◌, List, codes, option_map, IfOk, MatchResult, IsTrue, false, Some, None, Ok, Err};
 ghost use Rattle.std.specs.Duration.{as_nanos};
-ghost use Rattle.fuse_flags.specs.Flags.{open_options_bits};
-ghost use Rattle.fs_trait.specs.Answers.{Plain, Iterator, Done, Options, attr_answer, init_answer};
-ghost use Rattle.fs_trait.specs.Calls.{Create, Getattr, Statfs, Write, default_statistics};
-ghost use Rattle.fs_trait.specs.Values.{ExtensionValues, Item, item_of, name_text};
+ghost use Rattle.vfs_flags.specs.Flags.{open_options_bits};
+ghost use Rattle.vfs_files.specs.Answers.{Plain, Iterator, Done, Options, attr_answer, init_answer};
+ghost use Rattle.vfs_files.specs.Calls.{Create, Getattr, Statfs, Write, default_statistics};
+ghost use Rattle.vfs_files.specs.Values.{ExtensionValues, Item, item_of, name_text};
 ghost use Rattle.fs_small.specs.MemFs.{Stock, MemFsAllows};
 ghost use Rattle.test_uses.specs.Files.{one_file, two_files};
 
 use fs_small::MemFs;
-use fs_trait::{
+use std::alloc::Global;
+use std::time::Duration;
+use vfs_files::{
     CStr, Context, DirEntry, DirectoryIterator, Entry, Extensions, FileSystem, ZeroCopyReader,
     ZeroCopyWriter,
 };
-use fuse_flags::{Fault, FsOptions, OpenOptions};
-use fuse_wire::{Attr, Statvfs64};
-use std::alloc::Global;
-use std::time::Duration;
+use vfs_flags::{Fault, FsOptions, OpenOptions};
+use vfs_wire::{Attr, Statvfs64};
 
 /// LOOKUP of `a` in the root of a new file system: node 2 with five bytes, for a second. Memory
 /// alone can be wanting, and then for the file system.
@@ -154,7 +154,7 @@ fn no_file_to_read<W: ZeroCopyWriter>(
 }
 
 /// WRITE of `HEY` over the beginning of node 2, which takes no memory, and READ of it then.
-#[tactic(auto, unfolding(fuse_views::specs::Segments::with_bytes_at))]
+#[tactic(auto, unfolding(vfs_views::specs::Segments::with_bytes_at))]
 fn written_and_read<R: ZeroCopyReader, W: ZeroCopyWriter>(
     fs: &mut MemFs,
     ctx: &Context,
@@ -175,7 +175,7 @@ fn written_and_read<R: ZeroCopyReader, W: ZeroCopyWriter>(
 
 /// WRITE of `HEY` two bytes after the end of node 2: zeros fill the gap. Memory alone can be
 /// wanting, and then the files stay.
-#[tactic(auto, unfolding(fuse_views::specs::Segments::with_bytes_at))]
+#[tactic(auto, unfolding(vfs_views::specs::Segments::with_bytes_at))]
 fn written_after_the_end<R: ZeroCopyReader>(
     fs: &mut MemFs,
     ctx: Context,

@@ -3,22 +3,22 @@
 mod versions;
 
 ghost use Rattle.std.specs.Prelude.{◌≡◌, ◌<◌, ◌≤◌, ◌++◌, length, drop, Ok, Err, Some, None, MatchResult, codes};
-ghost use Rattle.fuse_segments.specs.Segments.{with_bytes_at};
-ghost use Rattle.fuse_segments.specs.Written.{whole};
-ghost use Rattle.fs_trait.specs.Values.{extension_values_of};
-ghost use Rattle.fuse_grammar.specs.Samples.{not_served_reply, ten_of_done_reply};
-ghost use Rattle.fuse_grammar.specs.declared.error.Error.{Error};
+ghost use Rattle.vfs_segments.specs.Segments.{with_bytes_at};
+ghost use Rattle.vfs_segments.specs.Written.{whole};
+ghost use Rattle.vfs_files.specs.Values.{extension_values_of};
+ghost use Rattle.vfs_grammar.specs.Samples.{not_served_reply, ten_of_done_reply};
+ghost use Rattle.vfs_grammar.specs.declared.error.Error.{Error};
 
-use fs_trait::{Extensions, SecContext};
-use fuse_flags::{Errno, FsOptions, GuestGid};
-use fuse_grammar::Result;
-use fuse_messages::{
+use std::alloc::Global;
+use vfs_files::{Extensions, SecContext};
+use vfs_flags::{Errno, FsOptions, GuestGid};
+use vfs_grammar::Result;
+use vfs_messages::{
     Tail, get_extensions, parse_security_context, parse_sup_groups, read_record, read_tail,
     reply_error, reply_failed, reply_ok,
 };
-use fuse_segments::{Reader, Writer};
-use fuse_wire::{GetattrIn, InHeader};
-use std::alloc::Global;
+use vfs_segments::{Reader, Writer};
+use vfs_wire::{GetattrIn, InHeader};
 
 /// Says to request 9 that it is not served. Sixteen bytes are put into the room; those after
 /// them, and those that the writer had passed, are as they were, and so are the lengths of its

@@ -1,23 +1,23 @@
 //! Recorders and scripts at work.
 
 ghost use Rattle.std.specs.Prelude.{◌≡◌, ◌≤◌, ◌<◌, ◌++◌, [], ◌∷◌, true, false, length, map, vec_len, Some, None, Ok, Err, IfSome, IfOk, IfErr, IsOk, IsSome};
-ghost use Rattle.fuse_flags.specs.declared.opcode.Opcode.{Opcode};
-ghost use Rattle.fs_trait.specs.Answers.{entry_answer};
-ghost use Rattle.fs_trait.specs.Calls.{no_such_call, not_served, out_of_memory};
-ghost use Rattle.fs_mock.specs.Directories.{GivesNext, Reading};
-ghost use Rattle.fs_mock.specs.Notes.{unanswered};
-ghost use Rattle.fs_mock.specs.declared.note.NoteKind.TheVariants.{Nothing, Fault as Failed};
+ghost use Rattle.vfs_flags.specs.declared.opcode.Opcode.{Opcode};
+ghost use Rattle.vfs_files.specs.Answers.{entry_answer};
+ghost use Rattle.vfs_files.specs.Calls.{no_such_call, not_served, out_of_memory};
+ghost use Rattle.vfs_bench.specs.Directories.{GivesNext, Reading};
+ghost use Rattle.vfs_bench.specs.Notes.{unanswered};
+ghost use Rattle.vfs_bench.specs.declared.note.NoteKind.TheVariants.{Nothing, Fault as Failed};
 
 use crate::files::forget_each;
-use fs_mock::laws::notes_are_the_calls;
-use fs_mock::{Note, Recorder, Script, ScriptDirectory, ScriptEntries, ScriptFile, ScriptItem};
 use fs_small::Unserved;
-use fs_trait::{
+use std::alloc::Global;
+use vfs_bench::laws::notes_are_the_calls;
+use vfs_bench::{Note, Recorder, Script, ScriptDirectory, ScriptEntries, ScriptFile, ScriptItem};
+use vfs_files::{
     CStr, Context, DirectoryIterator, Entry, FileSystem, GetxattrReply, ZeroCopyReader,
     ZeroCopyWriter,
 };
-use fuse_flags::{Errno, Fault, Opcode};
-use std::alloc::Global;
+use vfs_flags::{Errno, Fault, Opcode};
 
 /// Looks a name up in node 9 of a file system that serves nothing: one note more says so.
 fn lookup_is_noted(
@@ -274,7 +274,7 @@ fn cleared(mut recorder: Recorder<Script>) -> (usize, bool, Script)
 }
 
 /// The opcode of a note of a LOOKUP, and that of one that no recorder makes.
-#[tactic(auto, unfolding(fuse_flags::specs::Numbers::opcode_of))]
+#[tactic(auto, unfolding(vfs_flags::specs::Numbers::opcode_of))]
 fn opcodes_of_notes(lookup: &Note, none: &Note) -> (Option<Opcode>, Option<Opcode>)
     requires lookup { lookup.now.call ≡ 1 }
     requires none { none.now.call ≡ 7 }

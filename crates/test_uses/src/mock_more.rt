@@ -1,16 +1,16 @@
 //! More of recorders and scripts at work: what a script says before anything is set, and what one may hand back.
 
 ghost use Rattle.std.specs.Prelude.{◌≡◌, ℕ, Bool, List, [], ◌∷◌, Option, Some, None, Err, IfErr, IfOk};
-ghost use Rattle.fs_trait.specs.Calls.{Call, Count, Failed, Getxattr, Handed, Plain, Readdir, Write, default_answer, getxattr_answer, not_served};
-ghost use Rattle.fs_trait.specs.Values.{Item};
-ghost use Rattle.fs_trait.specs.declared.entry.Context.{Context};
-ghost use Rattle.fs_mock.specs.Directories.{GivesNext, Reading, items_said};
-ghost use Rattle.fs_mock.specs.Scripts.{Plays, said};
-ghost use Rattle.fs_mock.specs.declared.script.Script.{Script as ScriptValue};
+ghost use Rattle.vfs_files.specs.Calls.{Call, Count, Failed, Getxattr, Handed, Plain, Readdir, Write, default_answer, getxattr_answer, not_served};
+ghost use Rattle.vfs_files.specs.Values.{Item};
+ghost use Rattle.vfs_files.specs.declared.entry.Context.{Context};
+ghost use Rattle.vfs_bench.specs.Directories.{GivesNext, Reading, items_said};
+ghost use Rattle.vfs_bench.specs.Scripts.{Plays, said};
+ghost use Rattle.vfs_bench.specs.declared.script.Script.{Script as ScriptValue};
 
-use fs_mock::{Recorder, Script, ScriptDirectory, ScriptEntries, ScriptItem};
-use fuse_flags::Fault;
 use std::alloc::Global;
+use vfs_bench::{Recorder, Script, ScriptDirectory, ScriptEntries, ScriptItem};
+use vfs_flags::Fault;
 
 /// A new script says of each call what a file system that serves nothing answers; it has no file, and no directory.
 fn new_script() -> Script

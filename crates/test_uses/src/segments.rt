@@ -1,18 +1,18 @@
 //! Readers and writers at work.
 
 ghost use Rattle.std.specs.Prelude.{◌≡◌, ◌+◌, ◌^◌, ◌<◌, ◌≤◌, ◌++◌, List, [], ◌∷◌, None, true, false, length, take, drop, IfOk, IfErr, MatchOption, OnOk, OnErr};
-ghost use Rattle.fuse_segments.specs.Answers.{Question, ReaderAnswer, AreAnswers, Available, Taken, Read, Count, Moved};
-ghost use Rattle.fuse_segments.specs.Segments.{contents, flat_bytes, lengths_of};
-ghost use Rattle.fuse_segments.specs.Unread.{Unread, IsUnread};
-ghost use Rattle.fuse_wire.specs.Fields.{bytes_of, lone_number, value_of};
+ghost use Rattle.vfs_segments.specs.Answers.{Question, ReaderAnswer, AreAnswers, Available, Taken, Read, Count, Moved};
+ghost use Rattle.vfs_segments.specs.Segments.{contents, flat_bytes, lengths_of};
+ghost use Rattle.vfs_segments.specs.Unread.{Unread, IsUnread};
+ghost use Rattle.vfs_wire.specs.Fields.{bytes_of, lone_number, value_of};
 
 use crate::views::{Journal, Zeros};
-use fuse_flags::Fault;
-use fuse_segments::laws::{Counted, Totals, equal_bytes_answer_alike, find_segment};
-use fuse_segments::{Error, Reader, Result, Writer};
 use std::alloc::Global;
 use std::io::{ErrorKind, Read, Write};
 use std::{io, result};
+use vfs_flags::Fault;
+use vfs_segments::laws::{Counted, Totals, equal_bytes_answer_alike, find_segment};
+use vfs_segments::{Error, Reader, Result, Writer};
 
 /// A new reader of two segments has the bytes of both left, and has given none. It is refused where
 /// they are too many to count, and else only for want of memory.

@@ -4,24 +4,24 @@ mod serve;
 mod session;
 
 ghost use Rattle.std.specs.Prelude.{◌≡◌, ◌≢◌, ◌≤◌, ◌-◌, ◌++◌, [], true, length, take, drop, Err, Some, IfSome, OnSome};
-ghost use Rattle.fuse_flags.specs.Numbers.{opcode_of};
-ghost use Rattle.fuse_flags.specs.declared.opcode.Opcode.{Opcode};
-ghost use Rattle.fuse_segments.specs.Segments.{contents, flat_bytes};
-ghost use Rattle.fuse_segments.specs.Unread.{are_together};
-ghost use Rattle.fuse_segments.specs.Written.{whole};
-ghost use Rattle.fs_trait.specs.declared.migration.MigrateError.TheVariants.{Unsupported};
-ghost use Rattle.fuse_grammar.specs.Memory.{header_of};
-ghost use Rattle.fuse_grammar.specs.Samples.{not_served_reply};
-ghost use Rattle.fuse_grammar.specs.declared.error.Error.TheVariants.{EncodeMessage, OutOfMemory};
+ghost use Rattle.vfs_flags.specs.Numbers.{opcode_of};
+ghost use Rattle.vfs_flags.specs.declared.opcode.Opcode.{Opcode};
+ghost use Rattle.vfs_segments.specs.Segments.{contents, flat_bytes};
+ghost use Rattle.vfs_segments.specs.Unread.{are_together};
+ghost use Rattle.vfs_segments.specs.Written.{whole};
+ghost use Rattle.vfs_files.specs.declared.migration.MigrateError.TheVariants.{Unsupported};
+ghost use Rattle.vfs_grammar.specs.Memory.{header_of};
+ghost use Rattle.vfs_grammar.specs.Samples.{not_served_reply};
+ghost use Rattle.vfs_grammar.specs.declared.error.Error.TheVariants.{EncodeMessage, OutOfMemory};
 ghost use Rattle.test_uses.specs.Requests.{statfs_reply, no_memory_reply, IsWithoutTail, ReadsOneRecord};
 
 use fs_small::Unserved;
-use fs_trait::{FileSystem, MigrateError, SerializableFileSystem};
-use fuse_grammar::Result;
-use fuse_segments::{Reader, Writer};
-use fuse_server::server::Server;
 use std::alloc::Global;
 use std::io;
+use vfs_files::{FileSystem, MigrateError, SerializableFileSystem};
+use vfs_grammar::Result;
+use vfs_segments::{Reader, Writer};
+use vfs_server::server::Server;
 
 /// Request 9, STATFS of node 1: a header alone, of 40 bytes.
 const STATFS: [u8; 40] = [

@@ -3,11 +3,11 @@
 ghost use Rattle.std.specs.Prelude.{◌≡◌, ◌<◌, ◌≤◌, ◌+◌, ℕ, Bool, List, [], ◌∷◌, length, codes, Option, Some, None, Ok, Err, IfSome};
 ghost use Rattle.std.specs.Duration.{as_nanos};
 ghost use Rattle.std.specs.declared.time.Duration.{Duration};
-ghost use Rattle.fuse_wire.specs.declared.attributes.Attr.{Attr};
-ghost use Rattle.fs_trait.specs.Calls.{Answer, Attributes, Create, Created, Done, Failed, Found, Getattr, Iterator, Lookup, Mkdir, Plain, Read, Readdir, Unlink, Write, Wrote};
-ghost use Rattle.fs_trait.specs.Values.{ExtensionValues, Item};
-ghost use Rattle.fs_trait.specs.declared.entry.Context.{Context};
-ghost use Rattle.fs_trait.specs.declared.entry.Entry.{Entry};
+ghost use Rattle.vfs_wire.specs.declared.attributes.Attr.{Attr};
+ghost use Rattle.vfs_files.specs.Calls.{Answer, Attributes, Create, Created, Done, Failed, Found, Getattr, Iterator, Lookup, Mkdir, Plain, Read, Readdir, Unlink, Write, Wrote};
+ghost use Rattle.vfs_files.specs.Values.{ExtensionValues, Item};
+ghost use Rattle.vfs_files.specs.declared.entry.Context.{Context};
+ghost use Rattle.vfs_files.specs.declared.entry.Entry.{Entry};
 ghost use Rattle.fs_small.specs.Index.{AddsWith};
 ghost use Rattle.fs_small.specs.MemFs.{MemFsAllows, Stock};
 ghost use Rattle.fs_small.specs.ReadOnly.{TreeHands, item_at};

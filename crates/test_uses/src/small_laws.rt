@@ -1,20 +1,20 @@
 //! Laws of names, runs, readings and segments at work.
 
 ghost use Rattle.std.specs.Prelude.{◌≡◌, ◌+◌, ◌++◌, ℕ, Bool, [], ◌∷◌, true, false, length, sum, List, Option, Some, None, Result};
-ghost use Rattle.fs_trait.specs.Answers.{IsAnswer, Entries};
-ghost use Rattle.fs_trait.specs.Calls.{Call, Answer, Iterator, Lookup, Plain, default_answer};
-ghost use Rattle.fs_trait.specs.Runs.{Called, Event, IsRun, OpenedDirectory, Taken};
-ghost use Rattle.fs_trait.specs.Values.{IsName, Item, name_of};
-ghost use Rattle.fs_trait.specs.declared.entry.Context.{Context};
-ghost use Rattle.fuse_listings.specs.Reading.{ReadsDirectory};
-ghost use Rattle.fuse_segments.specs.Lengths.{lie_together};
-ghost use Rattle.fuse_segments.specs.Unread.{Unread, first_of, rest_of};
-ghost use Rattle.fuse_segments.specs.Written.{Written, first_room, rest_room, whole};
+ghost use Rattle.vfs_files.specs.Answers.{IsAnswer, Entries};
+ghost use Rattle.vfs_files.specs.Calls.{Call, Answer, Iterator, Lookup, Plain, default_answer};
+ghost use Rattle.vfs_files.specs.Runs.{Called, Event, IsRun, OpenedDirectory, Taken};
+ghost use Rattle.vfs_files.specs.Values.{IsName, Item, name_of};
+ghost use Rattle.vfs_files.specs.declared.entry.Context.{Context};
+ghost use Rattle.vfs_listings.specs.Reading.{ReadsDirectory};
+ghost use Rattle.vfs_segments.specs.Lengths.{lie_together};
+ghost use Rattle.vfs_segments.specs.Unread.{Unread, first_of, rest_of};
+ghost use Rattle.vfs_segments.specs.Written.{Written, first_room, rest_room, whole};
 
-use fs_trait::FileSystem;
-use fs_trait::laws::{default_answers_are_of_their_kind, names_end_at_their_only_nul, runs_go_on};
-use fuse_listings::laws::readings_are_runs;
-use fuse_segments::laws::{reader_split, together_in_a_segment, together_over_a_cut, writer_split};
+use vfs_files::FileSystem;
+use vfs_files::laws::{default_answers_are_of_their_kind, names_end_at_their_only_nul, runs_go_on};
+use vfs_listings::laws::readings_are_runs;
+use vfs_segments::laws::{reader_split, together_in_a_segment, together_over_a_cut, writer_split};
 
 /// Bytes that are the name `ab` are these letters and a 0; and bytes are one name alone.
 fn bytes_of_a_name()

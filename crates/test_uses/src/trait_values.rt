@@ -2,16 +2,16 @@
 
 ghost use Rattle.std.specs.Prelude.{◌≡◌, ◌<◌, ◌+◌, ◌^◌, ◌⊎◌, ◌++◌, ℕ, List, [], ◌∷◌, length, Option, Some, Result, Ok, Vec};
 ghost use Rattle.std.specs.declared.alloc.Global.{Global};
-ghost use Rattle.fs_trait.specs.Answers.{Done, Kind, Quiet, Told, Untold, Writes};
-ghost use Rattle.fs_trait.specs.Bytes.{Reads};
-ghost use Rattle.fs_trait.specs.BytesMut.{ReadsFile, bytes_held};
-ghost use Rattle.fs_trait.specs.CallValue.{IsOfKind};
-ghost use Rattle.fs_trait.specs.Migrations.{Broken, IsTaken, IsWritten, Moved, Untouched};
-ghost use Rattle.fs_trait.specs.Transfers.{Goes, Transfers, reads_of};
-ghost use Rattle.fs_trait.specs.declared.bytes_mut.BytesMut.{BytesMut};
-ghost use Rattle.fs_trait.specs.declared.migration.MigrateError.{MigrateError};
+ghost use Rattle.vfs_files.specs.Answers.{Done, Kind, Quiet, Told, Untold, Writes};
+ghost use Rattle.vfs_files.specs.Bytes.{Reads};
+ghost use Rattle.vfs_files.specs.BytesMut.{ReadsFile, bytes_held};
+ghost use Rattle.vfs_files.specs.CallValue.{IsOfKind};
+ghost use Rattle.vfs_files.specs.Migrations.{Broken, IsTaken, IsWritten, Moved, Untouched};
+ghost use Rattle.vfs_files.specs.Transfers.{Goes, Transfers, reads_of};
+ghost use Rattle.vfs_files.specs.declared.bytes_mut.BytesMut.{BytesMut};
+ghost use Rattle.vfs_files.specs.declared.migration.MigrateError.{MigrateError};
 
-use fs_trait::Given;
+use vfs_files::Given;
 
 /// That a call was done is an answer of three kinds, and how many bytes were copied one of a single kind. A text that is an
 /// answer of some kind leaves room for a header.

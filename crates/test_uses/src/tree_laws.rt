@@ -5,15 +5,15 @@ ghost use Rattle.fs_nodes.specs.Children.{is_directory};
 ghost use Rattle.fs_tree.specs.State.{node_at};
 ghost use Rattle.laws_tree.specs.Laws.{IsTree, above, lookups_of};
 
-use fs_trait::{CStr, Context, Entry, FileSystem};
 use fs_tree::{Capacity, Time, TreeFs};
-use fuse_flags::{Fault, GuestGid, GuestUid};
-use fuse_grammar::Result as Served;
-use fuse_segments::{Reader, Writer};
-use fuse_server::server::Server;
 use laws_tree::laws::{calls_keep_trees, new_ones_are_trees};
 use laws_tree::session::handle_session;
 use std::alloc::Global;
+use vfs_files::{CStr, Context, Entry, FileSystem};
+use vfs_flags::{Fault, GuestGid, GuestUid};
+use vfs_grammar::Result as Served;
+use vfs_segments::{Reader, Writer};
+use vfs_server::server::Server;
 
 /// A new tree, whatever its limits: no lookup is held of any node. `None` where there is no memory.
 fn free_tree(alloc: Global, limits: Capacity, now: Time) -> Option<TreeFs>

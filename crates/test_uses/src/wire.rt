@@ -1,12 +1,12 @@
 //! Records as bytes, and attributes from a `stat`.
 
 ghost use Rattle.std.specs.Prelude.{ℕ, ◌≡◌, ◌+◌, ◌≤◌, ◌<◌, ◌^◌, [], ◌∷◌, ◌++◌, replicate, pos, negsuc, length, Ok, Err, Some};
-ghost use Rattle.fuse_wire.specs.Fields.{bytes_of, value_of};
-ghost use Rattle.fuse_wire.specs.Records.{out_header, attr_of_stat, forget_one};
+ghost use Rattle.vfs_wire.specs.Fields.{bytes_of, value_of};
+ghost use Rattle.vfs_wire.specs.Records.{out_header, attr_of_stat, forget_one};
 
-use fuse_flags::{Errno, Fault, GuestGid, GuestUid};
-use fuse_wire::parts::part_at;
-use fuse_wire::{
+use vfs_flags::{Errno, Fault, GuestGid, GuestUid};
+use vfs_wire::parts::part_at;
+use vfs_wire::{
     Attr, ByteValued, ForgetIn, ForgetOne, InHeader, Kstatfs, OutHeader, Stat64, Statvfs64,
     bytes_have_size, decoding_is_the_inverse, put_after_take, take_after_put,
 };
@@ -15,7 +15,7 @@ mod defaults;
 mod layouts;
 
 /// The bytes of a reply that refuses the request 9 with ENOSYS: the error is negated.
-#[tactic(auto, unfolding(fuse_wire::specs::Fields::little))]
+#[tactic(auto, unfolding(vfs_wire::specs::Fields::little))]
 fn refusal() -> [u8; 16]
     ensures { result ≡ (16 ∷ replicate 3 0) ++ (0xda ∷ replicate 3 0xff) ++ (9 ∷ replicate 7 0) }
 {
@@ -30,7 +30,7 @@ fn refusal() -> [u8; 16]
 }
 
 /// What these bytes say: the request 9 is refused with ENOSYS.
-#[tactic(auto, unfolding(fuse_wire::specs::Fields::number))]
+#[tactic(auto, unfolding(vfs_wire::specs::Fields::number))]
 fn refused() -> OutHeader
     ensures { result ≡ record { len = 16; error = negsuc 37; unique = 9 } }
 {
@@ -38,7 +38,7 @@ fn refused() -> OutHeader
 }
 
 /// What the record of a FORGET says: 258 lookups are given back.
-#[tactic(auto, unfolding(fuse_wire::specs::Fields::number))]
+#[tactic(auto, unfolding(vfs_wire::specs::Fields::number))]
 fn given_back() -> ForgetIn
     ensures { result ≡ record { nlookup = 258 } }
 {

@@ -2,14 +2,14 @@
 
 ghost use Rattle.std.specs.Prelude.{◌≡◌, ◌++◌, pos, negsuc, replicate};
 
-use fuse_wire::ByteValued;
-use fuse_wire_more::{IoctlOut, NotifyInvalInodeOut};
+use vfs_wire::ByteValued;
+use vfs_wire_more::{IoctlOut, NotifyInvalInodeOut};
 
 mod records;
 
 /// What these bytes of a notification say: the attributes of node 1 alone are out of date, for its
 /// place is below 0.
-#[tactic(auto, unfolding(fuse_wire::specs::Fields::number))]
+#[tactic(auto, unfolding(vfs_wire::specs::Fields::number))]
 fn attributes_alone() -> NotifyInvalInodeOut
     ensures { result ≡ record { ino = 1; off = negsuc 0; len = pos 0 } }
 {
@@ -19,7 +19,7 @@ fn attributes_alone() -> NotifyInvalInodeOut
 }
 
 /// The bytes of a reply to an IOCTL that answers -1.
-#[tactic(auto, unfolding(fuse_wire::specs::Fields::little))]
+#[tactic(auto, unfolding(vfs_wire::specs::Fields::little))]
 fn refused_ioctl() -> [u8; 16]
     ensures { result ≡ replicate 4 0xff ++ replicate 12 0 }
 {

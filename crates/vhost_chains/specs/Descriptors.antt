@@ -1,6 +1,6 @@
 -- A descriptor of a split ring as bytes: virtio 1.2, section 2.7.5.
 use Rattle.std.specs.Prelude.{ℕ, Bool, List, drop, ◌+◌, ◌/◌, ◌%◌, ◌^◌, ◌==◌, not, bit_and}
-use Rattle.fuse_wire.specs.Fields.{number}
+use Rattle.vfs_wire.specs.Fields.{number}
 use Rattle.vhost_chains.specs.declared.descriptor.Descriptor.{Descriptor}
 use Rattle.vhost_chains.specs.declared.descriptor.flag.TheConstants as flag
 

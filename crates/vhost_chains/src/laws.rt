@@ -4,7 +4,7 @@ ghost use Rattle.std.specs.Prelude.{◌≡◌, ◌≤◌, ◌+◌, ◌↔◌, �
 ghost use Rattle.vhost_chains.specs.Chains.{GoesThrough, IsChain, IsWithin};
 ghost use Rattle.vhost_chains.specs.Descriptors.{descriptor_from, of_words};
 ghost use Rattle.vhost_chains.specs.Walks.{begun, step_at};
-ghost use Rattle.fuse_wire.specs.Fields.{AreBytes, number};
+ghost use Rattle.vfs_wire.specs.Fields.{AreBytes, number};
 ghost use Rattle.vhost_chains.specs.declared.descriptor.Descriptor.{Descriptor};
 ghost use Rattle.vhost_chains.specs.declared.regions.Region.{Region};
 ghost use Rattle.vhost_chains.specs.declared.walk.Piece.{Piece};

@@ -1,7 +1,7 @@
 //! A device that reads chains by hand: these are its pieces, and what it refuses.
 
 ghost use Rattle.std.specs.Prelude.{◌≡◌, ◌≢◌, ◌≤◌, ◌<◌, ◌+◌, ◌-◌, ◌*◌, ◌%◌, ℕ, List, [], ◌∷◌, pos, true, false, length, drop, is_some, Some, None};
-ghost use Rattle.fuse_wire.specs.Fields.{AreBytes, number};
+ghost use Rattle.vfs_wire.specs.Fields.{AreBytes, number};
 ghost use Rattle.vhost_chains.specs.Chains.{GoesThrough, entry};
 ghost use Rattle.vhost_chains.specs.Descriptors.{descriptor_from, is_table, is_writable, of_words};
 ghost use Rattle.vhost_chains.specs.Regions.{place_of};

@@ -1,7 +1,7 @@
 -- Messages: the value of a header and a payload, or why they are refused.
 use Rattle.std.specs.Prelude.{◌==◌, ◌%◌, ◌+◌, ◌^◌, ◌&&◌, ◌||◌, ℕ, List, length, Bool, Option, Some, None, Result, Ok, Err, if◌then◌else◌, nat_lt, nat_le, bit_and}
 use Rattle.std.specs.Int.{is_power_of_two}
-use Rattle.fuse_wire.specs.Fields.{number}
+use Rattle.vfs_wire.specs.Fields.{number}
 use Rattle.vhost_messages.specs.Records.{address, head, log, record_at, state, transfer}
 use Rattle.vhost_messages.specs.Requests.{has_size, request_of}
 use Rattle.vhost_messages.specs.Tables.{alone, table_of}

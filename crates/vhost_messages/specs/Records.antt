@@ -1,6 +1,6 @@
 -- The records of messages: the width of each field in bytes, in order, each the lowest byte first.
 use Rattle.std.specs.Prelude.{ℕ, List, [], ◌∷◌, slice_index}
-use Rattle.fuse_wire.specs.Fields.{Table, numbers_at, table}
+use Rattle.vfs_wire.specs.Fields.{Table, numbers_at, table}
 use Rattle.vhost_messages.specs.declared.records.Address.{Address}
 use Rattle.vhost_messages.specs.declared.records.Head.{Head}
 use Rattle.vhost_messages.specs.declared.records.Region.{Region}

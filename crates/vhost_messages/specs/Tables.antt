@@ -1,7 +1,7 @@
 -- Tables of memory: which can be.
 use Rattle.std.specs.Prelude.{◌==◌, ◌≤◌, ◌<◌, ◌+◌, ◌*◌, ◌^◌, ◌&&◌, ◌||◌, ℕ, List, [], ◌∷◌, length, take, replicate, Bool, false, Option, Some, None, Result, Ok, Err, if◌then◌else◌, nat_lt, nat_le}
 use Rattle.std.specs.List.{All, AllPairs}
-use Rattle.fuse_wire.specs.Fields.{number}
+use Rattle.vfs_wire.specs.Fields.{number}
 use Rattle.vhost_messages.specs.Records.{record_at, region}
 use Rattle.vhost_messages.specs.Requests.{number_of}
 use Rattle.vhost_messages.specs.declared.message.Message.{Message}

@@ -10,8 +10,8 @@ use crate::message::{Message, Offer, Refusal, Rings};
 use crate::records::{Address, Log, State, Transfer};
 use crate::request::Request;
 use crate::table::table;
-use fuse_wire::bytes::u64_at;
-use fuse_wire::parts::part_at;
+use vfs_wire::bytes::u64_at;
+use vfs_wire::parts::part_at;
 
 /// The greatest offset of a file.
 const LAST_OFFSET: u64 = i64::MAX as u64;

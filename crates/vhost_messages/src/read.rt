@@ -9,7 +9,7 @@ use crate::message::{Message, Offer, Refusal};
 use crate::payload::payload;
 use crate::records::Head;
 use crate::request::{Request, has_size, request_by};
-use fuse_wire::ByteValued;
+use vfs_wire::ByteValued;
 
 const VERSION: u32 = 1;
 

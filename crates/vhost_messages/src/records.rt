@@ -4,9 +4,9 @@ ghost use Rattle.std.specs.Prelude.{refl};
 ghost use Rattle.std.proofs.Common.{lit≤};
 ghost use Rattle.vhost_messages.specs.Records.{address, head, log, region, state, transfer};
 
-use fuse_wire::ByteValued;
-use fuse_wire::bytes::Field::{Eight, Four};
-use fuse_wire::bytes::{put_fields, u32_at, u64_at};
+use vfs_wire::ByteValued;
+use vfs_wire::bytes::Field::{Eight, Four};
+use vfs_wire::bytes::{put_fields, u32_at, u64_at};
 
 /// What each message begins with, in 12 bytes.
 #[derive(Clone, Copy, Debug, Default)]

@@ -7,8 +7,8 @@ ghost use Rattle.vhost_messages.specs.Tables.{Apart, HasMemory, IsRegion, fault_
 use crate::message::{Message, Refusal, Table};
 use crate::records::Region;
 use crate::request::Request;
-use fuse_wire::bytes::u32_at;
-use fuse_wire::parts::part_at;
+use vfs_wire::bytes::u32_at;
+use vfs_wire::parts::part_at;
 
 /// The greatest offset of a file.
 const LAST_OFFSET: u64 = i64::MAX as u64;

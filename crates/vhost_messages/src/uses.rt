@@ -14,7 +14,7 @@ use crate::records::{Log, Region};
 use crate::request::{Request, request_by};
 
 /// The size of a queue's message is that of its header.
-#[tactic(auto, unfolding(fuse_wire::specs::Fields::number, crate::specs::Messages::size_in, crate::specs::Messages::asked_by, crate::specs::Requests::request_of, crate::specs::Requests::has_size))]
+#[tactic(auto, unfolding(vfs_wire::specs::Fields::number, crate::specs::Messages::size_in, crate::specs::Messages::asked_by, crate::specs::Requests::request_of, crate::specs::Requests::has_size))]
 fn size_of_num(head: &[u8]) -> Result<u32, Refusal>
     requires { head.now ≡ head_of 8 8 }
     ensures { result ≡ Ok 8 }
@@ -40,7 +40,7 @@ fn features_wanted(body: &[u8], offer: &Offer) -> Result<Message, Refusal>
 }
 
 /// A queue 1 of 128 descriptors.
-#[tactic(auto, unfolding(fuse_wire::specs::Fields::number, crate::specs::Messages::message_of, crate::specs::Messages::asked_by, crate::specs::Requests::request_of, crate::specs::Requests::has_size, crate::specs::Messages::payload_of, crate::specs::Messages::state_of, crate::specs::Messages::number_fault))]
+#[tactic(auto, unfolding(vfs_wire::specs::Fields::number, crate::specs::Messages::message_of, crate::specs::Messages::asked_by, crate::specs::Requests::request_of, crate::specs::Requests::has_size, crate::specs::Messages::payload_of, crate::specs::Messages::state_of, crate::specs::Messages::number_fault))]
 fn queue_of_128(head: &[u8], body: &[u8], offer: &Offer) -> Result<Message, Refusal>
     requires head { head.now ≡ head_of 8 8 }
     requires body { body.now ≡ num_128 }

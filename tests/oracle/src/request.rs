@@ -1,4 +1,4 @@
-//! Requests: the lines of a session, as `text_demo` and `test_sessions` read them, and what becomes of one.
+//! Requests: the lines of a session, as `vfs_demo` and `test_sessions` read them, and what becomes of one.
 use crate::descriptor_utils::{Reader, Writer};
 use crate::filesystem::FileSystem;
 use crate::server::Server;

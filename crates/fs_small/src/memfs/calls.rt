@@ -1,8 +1,8 @@
 //! The calls of the file system in memory. What it has no arm for is not served.
 
-ghost use Rattle.fs_trait.specs.Values.{name_text};
-ghost use Rattle.fs_trait.specs.Calls.{Plain, kind_of};
-ghost use Rattle.fs_trait.specs.CallValue.{call_of, answer_of, IsEntry, IsAttributes, IsDone, IsCreation, IsOfKind};
+ghost use Rattle.vfs_files.specs.Values.{name_text};
+ghost use Rattle.vfs_files.specs.Calls.{Plain, kind_of};
+ghost use Rattle.vfs_files.specs.CallValue.{call_of, answer_of, IsEntry, IsAttributes, IsDone, IsCreation, IsOfKind};
 ghost use Rattle.fs_small.specs.MemFs.{MemFsAllows, AnswersAttr, AnswersEntry, TakesOut, Makes, attr_at, file_named, place_of, refusal_of};
 
 use super::entries::root_entries;
@@ -10,12 +10,12 @@ use super::{MOST_FILES, MemFs, ROOT_MODE, TIMEOUT_SECONDS, attr, entry, not_foun
 use crate::memfile::MemFile;
 use crate::node_attr;
 use bitflags::Flags;
-use fs_trait::{
+use std::time::Duration;
+use vfs_files::{
     CStr, CallValue, Context, EntryList, Given, PartialFileSystem, ZeroCopyReader, ZeroCopyWriter,
     read_bytes, unserved,
 };
-use fuse_flags::{Errno, Fault, FsOptions, OpenOptions, ROOT_ID};
-use std::time::Duration;
+use vfs_flags::{Errno, Fault, FsOptions, OpenOptions, ROOT_ID};
 
 impl MemFs {
     // A LOOKUP. Inlined, so that the fields of an entry go into a reply without being put together

@@ -1,14 +1,14 @@
 //! A reading of the root: what it holds, in order.
 
 ghost use Rattle.std.specs.Prelude.{◌≡◌, ◌+◌, ◌<◌, drop, length, slice_get, Some, MatchResult};
-ghost use Rattle.fuse_flags.specs.Numbers.{enomem};
-ghost use Rattle.fs_trait.specs.Values.{item, name_text};
+ghost use Rattle.vfs_flags.specs.Numbers.{enomem};
+ghost use Rattle.vfs_files.specs.Values.{item, name_text};
 ghost use Rattle.fs_small.specs.MemFs.{root_item, file_item, root_items};
 
 use super::File;
-use fs_trait::{CStr, DirEntry, EntryList};
-use fuse_flags::{Fault, ROOT_ID};
 use std::alloc::Global;
+use vfs_files::{CStr, DirEntry, EntryList};
+use vfs_flags::{Fault, ROOT_ID};
 
 /// What `readdir(3)` calls a directory.
 const DIRECTORY: u32 = 4;

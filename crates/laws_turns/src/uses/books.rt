@@ -1,18 +1,18 @@
 //! Small callers of the laws of the books.
 
 ghost use Rattle.std.specs.Prelude.{◌≡◌, ◌≢◌, ◌≤◌, ◌+◌, ◌++◌, ℕ, List, [], ◌∷◌, Some, Ok, sum_by};
-ghost use Rattle.fuse_grammar.specs.Books.{answered, sent, delivered, accepted, opcode_in};
-ghost use Rattle.fuse_grammar.specs.Words.{GivesBackWithin, NeverBelow, in_header_size, out_header_size, entry_out_size, dirent_size, pair_size, pairs_place, namelen_place};
-ghost use Rattle.fuse_grammar.specs.Records.{size_of};
-ghost use Rattle.fuse_wire.specs.Records.{batch_forget_in, entry_out, forget_one, in_header, out_header, dirent};
-ghost use Rattle.fuse_grammar.specs.Turn.{AreTurns, events_in, Turn, IsTurn};
-ghost use Rattle.fuse_grammar.specs.Samples.{reply_of_node_5, batch_of_two};
-ghost use Rattle.fs_trait.specs.Calls.{Lookup, Forget, Destroy, Answer, Found, Done};
-ghost use Rattle.fs_trait.specs.Runs.{Event, Called};
-ghost use Rattle.fs_trait.specs.declared.entry.Context.{Context};
-ghost use Rattle.fs_trait.specs.declared.entry.Entry.{Entry};
-ghost use Rattle.fuse_flags.specs.declared.opcode.Opcode.{Opcode};
-ghost use Rattle.fuse_grammar.specs.declared.limits.Limits.{Limits};
+ghost use Rattle.vfs_grammar.specs.Books.{answered, sent, delivered, accepted, opcode_in};
+ghost use Rattle.vfs_grammar.specs.Words.{GivesBackWithin, NeverBelow, in_header_size, out_header_size, entry_out_size, dirent_size, pair_size, pairs_place, namelen_place};
+ghost use Rattle.vfs_grammar.specs.Records.{size_of};
+ghost use Rattle.vfs_wire.specs.Records.{batch_forget_in, entry_out, forget_one, in_header, out_header, dirent};
+ghost use Rattle.vfs_grammar.specs.Turn.{AreTurns, events_in, Turn, IsTurn};
+ghost use Rattle.vfs_grammar.specs.Samples.{reply_of_node_5, batch_of_two};
+ghost use Rattle.vfs_files.specs.Calls.{Lookup, Forget, Destroy, Answer, Found, Done};
+ghost use Rattle.vfs_files.specs.Runs.{Event, Called};
+ghost use Rattle.vfs_files.specs.declared.entry.Context.{Context};
+ghost use Rattle.vfs_files.specs.declared.entry.Entry.{Entry};
+ghost use Rattle.vfs_flags.specs.declared.opcode.Opcode.{Opcode};
+ghost use Rattle.vfs_grammar.specs.declared.limits.Limits.{Limits};
 
 use crate::books::{
     counts_never_fall_below_zero, each_turn_balances, turns_balance, turns_keep_books,

@@ -2,12 +2,12 @@
 //! bytes are written out.
 
 ghost use Rattle.std.specs.Prelude.{◌≡◌, ◌≢◌, ℕ, List, [], ◌∷◌, length, take, Option, Some, Ok, None as Nothing};
-ghost use Rattle.fs_trait.specs.Calls.{Readdir, Lookup, Answer, Failed};
-ghost use Rattle.fs_trait.specs.Values.{Item};
-ghost use Rattle.fs_trait.specs.Runs.{Event, Called, OpenedDirectory, Taken};
-ghost use Rattle.fuse_grammar.specs.Samples.{file_a, nobody, reply_of_one_file, refused_reply, request_for_data};
-ghost use Rattle.fuse_grammar.specs.Limits.{default_limits};
-ghost use Rattle.fuse_grammar.specs.Turn.{Turn, IsTurn};
+ghost use Rattle.vfs_files.specs.Calls.{Readdir, Lookup, Answer, Failed};
+ghost use Rattle.vfs_files.specs.Values.{Item};
+ghost use Rattle.vfs_files.specs.Runs.{Event, Called, OpenedDirectory, Taken};
+ghost use Rattle.vfs_grammar.specs.Samples.{file_a, nobody, reply_of_one_file, refused_reply, request_for_data};
+ghost use Rattle.vfs_grammar.specs.Limits.{default_limits};
+ghost use Rattle.vfs_grammar.specs.Turn.{Turn, IsTurn};
 
 use crate::turns::directories_are_read;
 

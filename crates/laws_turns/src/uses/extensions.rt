@@ -1,9 +1,9 @@
 //! Small callers of the laws of extensions.
 
 ghost use Rattle.std.specs.Prelude.{◌≡◌, ◌++◌, ℕ, List, [], ◌∷◌, Ok, Some, None, IsTrue};
-ghost use Rattle.fuse_grammar.specs.Extensions.{Block, cut_of, extensions_in};
-ghost use Rattle.fuse_grammar.specs.Words.{extensions_after, extensions_of, reads_extensions, nothing_received};
-ghost use Rattle.fuse_grammar.specs.Samples.{context_and_group, context_and_group_blocks};
+ghost use Rattle.vfs_grammar.specs.Extensions.{Block, cut_of, extensions_in};
+ghost use Rattle.vfs_grammar.specs.Words.{extensions_after, extensions_of, reads_extensions, nothing_received};
+ghost use Rattle.vfs_grammar.specs.Samples.{context_and_group, context_and_group_blocks};
 ghost use Rattle.laws_turns.specs.Extensions.{IsCut, blocks_of, error_left, group_block};
 
 use crate::extensions::{

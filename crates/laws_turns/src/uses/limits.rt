@@ -1,18 +1,18 @@
 //! Small callers of the laws of limits.
 
 ghost use Rattle.std.specs.Prelude.{◌≡◌, ◌≤◌, ℕ, length, drop, List, Some};
-ghost use Rattle.fuse_flags.specs.declared.opcode.Opcode.{Opcode};
-ghost use Rattle.fuse_wire.specs.Records.{init_out};
-ghost use Rattle.fuse_wire.specs.Fields.{value_of};
-ghost use Rattle.fs_trait.specs.Calls.{BatchForget, Options};
-ghost use Rattle.fs_trait.specs.Values.{context_of};
-ghost use Rattle.fuse_grammar.specs.Ask.{ask, ask_number};
-ghost use Rattle.fuse_grammar.specs.Books.{opcode_in};
-ghost use Rattle.fuse_grammar.specs.Forms.{Asks, WithMemory, faulted, refused_or, pairs_in};
-ghost use Rattle.fuse_grammar.specs.Limits.{default_limits, max_len};
-ghost use Rattle.fuse_grammar.specs.Memory.{header_of};
-ghost use Rattle.fuse_grammar.specs.Reply.{echo_of};
-ghost use Rattle.fuse_grammar.specs.Turn.{Turn};
+ghost use Rattle.vfs_flags.specs.declared.opcode.Opcode.{Opcode};
+ghost use Rattle.vfs_wire.specs.Records.{init_out};
+ghost use Rattle.vfs_wire.specs.Fields.{value_of};
+ghost use Rattle.vfs_files.specs.Calls.{BatchForget, Options};
+ghost use Rattle.vfs_files.specs.Values.{context_of};
+ghost use Rattle.vfs_grammar.specs.Ask.{ask, ask_number};
+ghost use Rattle.vfs_grammar.specs.Books.{opcode_in};
+ghost use Rattle.vfs_grammar.specs.Forms.{Asks, WithMemory, faulted, refused_or, pairs_in};
+ghost use Rattle.vfs_grammar.specs.Limits.{default_limits, max_len};
+ghost use Rattle.vfs_grammar.specs.Memory.{header_of};
+ghost use Rattle.vfs_grammar.specs.Reply.{echo_of};
+ghost use Rattle.vfs_grammar.specs.Turn.{Turn};
 ghost use Rattle.laws_turns.specs.Turns.{AnswersWhole, after_header, body_in, count_of_pairs};
 ghost use Rattle.laws_turns.specs.Limits.{one_page};
 

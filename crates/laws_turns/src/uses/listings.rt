@@ -1,17 +1,17 @@
 //! Small callers of the laws of directories.
 
 ghost use Rattle.std.specs.Prelude.{◌≡◌, ◌≤◌, ◌<◌, ◌++◌, ◌%◌, ℕ, length, Bool, true, false, List, [], ◌∷◌, Option, Some, Ok, Err, codes, Result as Outcome, None as Nothing};
-ghost use Rattle.fs_trait.specs.Answers.{FitsEntry};
-ghost use Rattle.fs_trait.specs.Calls.{Readdir, Lookup, Forget, Failed, Found, Done};
-ghost use Rattle.fs_trait.specs.Runs.{Event, Called, Taken};
-ghost use Rattle.fs_trait.specs.Values.{Item};
-ghost use Rattle.fs_trait.specs.declared.entry.Context.{Context};
-ghost use Rattle.fs_trait.specs.declared.entry.Entry.{Entry};
-ghost use Rattle.fuse_grammar.specs.Directories.{takings};
-ghost use Rattle.fuse_grammar.specs.Listing.{IsListing};
-ghost use Rattle.fuse_grammar.specs.Words.{record_bytes, IsDirectoryOf};
-ghost use Rattle.fuse_grammar.specs.Nodes.{nodes_in};
-ghost use Rattle.fuse_grammar.specs.Samples.{record_of_dot, record_of_a, entry_of_dot, root_dot, file_a};
+ghost use Rattle.vfs_files.specs.Answers.{FitsEntry};
+ghost use Rattle.vfs_files.specs.Calls.{Readdir, Lookup, Forget, Failed, Found, Done};
+ghost use Rattle.vfs_files.specs.Runs.{Event, Called, Taken};
+ghost use Rattle.vfs_files.specs.Values.{Item};
+ghost use Rattle.vfs_files.specs.declared.entry.Context.{Context};
+ghost use Rattle.vfs_files.specs.declared.entry.Entry.{Entry};
+ghost use Rattle.vfs_grammar.specs.Directories.{takings};
+ghost use Rattle.vfs_grammar.specs.Listing.{IsListing};
+ghost use Rattle.vfs_grammar.specs.Words.{record_bytes, IsDirectoryOf};
+ghost use Rattle.vfs_grammar.specs.Nodes.{nodes_in};
+ghost use Rattle.vfs_grammar.specs.Samples.{record_of_dot, record_of_a, entry_of_dot, root_dot, file_a};
 
 use crate::listings::{
     directories_are_whole, nodes_are_found, records_are_aligned, records_are_counted,

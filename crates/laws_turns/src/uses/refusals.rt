@@ -1,15 +1,15 @@
 //! Small callers of the laws of what is refused, and of what stays.
 
 ghost use Rattle.std.specs.Prelude.{◌≡◌, ◌≢◌, [], ◌∷◌, ℕ, List, length, Ok, Err, Some};
-ghost use Rattle.fuse_flags.specs.Numbers.{opcode_of};
-ghost use Rattle.fuse_flags.specs.declared.opcode.Opcode.{Opcode};
-ghost use Rattle.fuse_wire.specs.Records.{init_out};
-ghost use Rattle.fuse_wire.specs.Fields.{value_of};
-ghost use Rattle.fs_trait.specs.Calls.{Options};
-ghost use Rattle.fuse_grammar.specs.Memory.{header_of};
-ghost use Rattle.fuse_grammar.specs.Turn.{AreTurns, Turn, IsTurn};
-ghost use Rattle.fuse_grammar.specs.declared.error.Error.{Error};
-ghost use Rattle.fuse_grammar.specs.declared.limits.Limits.{Limits};
+ghost use Rattle.vfs_flags.specs.Numbers.{opcode_of};
+ghost use Rattle.vfs_flags.specs.declared.opcode.Opcode.{Opcode};
+ghost use Rattle.vfs_wire.specs.Records.{init_out};
+ghost use Rattle.vfs_wire.specs.Fields.{value_of};
+ghost use Rattle.vfs_files.specs.Calls.{Options};
+ghost use Rattle.vfs_grammar.specs.Memory.{header_of};
+ghost use Rattle.vfs_grammar.specs.Turn.{AreTurns, Turn, IsTurn};
+ghost use Rattle.vfs_grammar.specs.declared.error.Error.{Error};
+ghost use Rattle.vfs_grammar.specs.declared.limits.Limits.{Limits};
 ghost use Rattle.laws_turns.specs.Turns.{AnswersWhole, body_in};
 
 use crate::turns::{

@@ -1,6 +1,6 @@
 use Rattle.std.proofs.Common.{◌≡◌, rules}
 use Rattle.c_rooms.specs.Codes.{is_asked, no_memory}
-use Rattle.fuse_segments.specs.Segments.{flat_bytes, segments_of}
+use Rattle.vfs_segments.specs.Segments.{flat_bytes, segments_of}
 use Rattle.nizwarf_door.specs.Session.{limits_of, options_of}
 use Rattle.nizwarf_door.proofs.Asking.{held_for, holds_at_once, told_at_once, told_or_not}
 use Rattle.nizwarf_door.proofs.ask_at_once.Goals as goal

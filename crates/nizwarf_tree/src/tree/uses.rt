@@ -1,15 +1,15 @@
 //! A transport that calls the library in a row, over a new tree.
 
 ghost use Rattle.std.specs.Prelude.{◌≡◌, None, length};
-ghost use Rattle.fuse_grammar.specs.Samples.{lookup_of_a};
+ghost use Rattle.vfs_grammar.specs.Samples.{lookup_of_a};
 ghost use Rattle.laws_history.specs.Calls.{forget_of_5};
-ghost use Rattle.fuse_segments.specs.Segments.{segments_of, flat_bytes};
+ghost use Rattle.vfs_segments.specs.Segments.{segments_of, flat_bytes};
 ghost use Rattle.c_rooms.specs.Codes.{ok};
 ghost use Rattle.nizwarf_tree.specs.Files.{State};
 ghost use Rattle.nizwarf_tree.specs.History.{HandlesTwo};
 ghost use Rattle.nizwarf_tree.specs.Served.{new_server};
 ghost use Rattle.nizwarf_tree.specs.TreeUses.{no_such_name};
-ghost use Rattle.fuse_server.specs.Step.{ServerState};
+ghost use Rattle.vfs_server.specs.Step.{ServerState};
 
 use crate::files::Files;
 use crate::handle::Handle;

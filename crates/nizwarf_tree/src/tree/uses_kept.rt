@@ -1,11 +1,11 @@
 //! A transport that relies on what a directory and a tree keep.
 
 ghost use Rattle.std.specs.Prelude.{◌≡◌, ◌≢◌, ℕ, ℤ, List, IfSome, MatchOption, sum_by};
-ghost use Rattle.fuse_segments.specs.Segments.{segments_of, flat_bytes};
-ghost use Rattle.fuse_grammar.specs.Books.{accepted, delivered};
-ghost use Rattle.fuse_grammar.specs.Words.{GivesBackWithin};
+ghost use Rattle.vfs_segments.specs.Segments.{segments_of, flat_bytes};
+ghost use Rattle.vfs_grammar.specs.Books.{accepted, delivered};
+ghost use Rattle.vfs_grammar.specs.Words.{GivesBackWithin};
 ghost use Rattle.laws_history.specs.History.{IsHistory, Moment, turns_in};
-ghost use Rattle.fuse_server.specs.Step.{ServerState};
+ghost use Rattle.vfs_server.specs.Step.{ServerState};
 ghost use Rattle.laws_tree.specs.Histories.{OnlyTold};
 ghost use Rattle.laws_tree.specs.Laws.{lookups_of};
 ghost use Rattle.laws_tree.specs.Runs.{last_turns};

@@ -1,7 +1,7 @@
 //! A transport that hands on rows that the tree answers.
 
 ghost use Rattle.std.specs.Prelude.{◌≡◌, IfSome, MatchOption, drop};
-ghost use Rattle.fuse_segments.specs.Segments.{segments_of, flat_bytes};
+ghost use Rattle.vfs_segments.specs.Segments.{segments_of, flat_bytes};
 ghost use Rattle.c_rooms.specs.Codes.{ok};
 ghost use Rattle.door_further.specs.Uses.{statx, statx_asked};
 ghost use Rattle.fs_tree.specs.Rows.{ioctl_answer, statx_answer};

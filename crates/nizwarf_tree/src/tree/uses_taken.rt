@@ -2,8 +2,8 @@
 
 ghost use Rattle.std.specs.Prelude.{◌≡◌, IfSome, MatchOption, None, drop, take};
 ghost use Rattle.std_alloc.specs.Vec.{vec_ptr};
-ghost use Rattle.fuse_grammar.specs.Samples.{lookup_of_a};
-ghost use Rattle.fuse_segments.specs.Segments.{segments_of, flat_bytes};
+ghost use Rattle.vfs_grammar.specs.Samples.{lookup_of_a};
+ghost use Rattle.vfs_segments.specs.Segments.{segments_of, flat_bytes};
 ghost use Rattle.c_rooms.specs.Codes.{ok};
 ghost use Rattle.nizwarf_tree.specs.TreeUses.{no_such_name, IsTaken};
 

@@ -2,9 +2,9 @@
 
 use crate::mock::{directory, entry_of};
 use crate::support::{ScriptServer, holds, reply_by_script, script_server};
-use fs_mock::{Note, NoteKind, Recorder, Script};
 use std::alloc::{AllocError, Global};
 use std::test::Fail;
+use vfs_bench::{Note, NoteKind, Recorder, Script};
 
 /// A reading of a directory of one item, and what comes of it.
 struct Reading {

@@ -1,7 +1,7 @@
 //! A message for each call, its reply over a script and its notes.
 
 use crate::support::Message;
-use fs_mock::NoteKind;
+use vfs_bench::NoteKind;
 
 /// The record of a request in which all is 0. What lies after a record isn't looked at.
 const ZEROS: [u8; 88] = [0; 88];

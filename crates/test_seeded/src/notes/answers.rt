@@ -3,8 +3,8 @@
 use super::Notes;
 use crate::listing::DirectoryItems;
 use bitflags::Flags;
-use fs_trait::Given;
-use fuse_flags::{Fault, OpenOptions};
+use vfs_files::Given;
+use vfs_flags::{Fault, OpenOptions};
 
 impl Notes {
     /// Notes an answer, and the numbers that it shows.

@@ -2,8 +2,8 @@
 
 use super::Notes;
 use bitflags::Flags;
-use fs_trait::{CStr, CallValue, Context};
-use fuse_wire::{ByteValued, SetattrIn};
+use vfs_files::{CStr, CallValue, Context};
+use vfs_wire::{ByteValued, SetattrIn};
 
 impl Notes {
     /// Begins the line of a call whose first argument is this node.

@@ -1,16 +1,16 @@
 //! The calls of the seeded file system: how each is noted, and what it answers.
 
-ghost use Rattle.fs_trait.specs.Calls.{kind_of};
-ghost use Rattle.fs_trait.specs.CallValue.{call_of, IsOfKind};
+ghost use Rattle.vfs_files.specs.Calls.{kind_of};
+ghost use Rattle.vfs_files.specs.CallValue.{call_of, IsOfKind};
 
 use super::SeededFs;
 use crate::listing::DirectoryItems;
 use crate::rules::statistics;
 use bitflags::Flags;
-use fs_trait::{
+use vfs_files::{
     AnswerKind, CallValue, Context, Given, PartialFileSystem, ZeroCopyReader, ZeroCopyWriter,
 };
-use fuse_flags::{Errno, Fault};
+use vfs_flags::{Errno, Fault};
 
 impl SeededFs<'_> {
     // What a call answers.

@@ -2,13 +2,13 @@
 
 use crate::cuttings::{Served, Watch, bytes_of};
 use crate::refusals::parts::Parts;
-use fs_mock::Recorder;
 use fs_small::MemFs;
-use fuse_segments::{Reader, Writer};
-use fuse_server::server::Server;
 use std::alloc::{AllocError, Global};
 use std::io;
-use text_run::{Line, PAGE_SIZE, RunError, parse_line};
+use vfs_bench::Recorder;
+use vfs_run::{Line, PAGE_SIZE, RunError, parse_line};
+use vfs_segments::{Reader, Writer};
+use vfs_server::server::Server;
 
 /// How many calls can be noted.
 const PLACES: usize = 4096;
@@ -74,7 +74,7 @@ fn served_by(
     alloc: Global,
     server: &Server<Recorder<MemFs>>,
     noted: usize,
-    outcome: fuse_server::Result<usize>,
+    outcome: vfs_server::Result<usize>,
     writer: Writer,
 ) -> Result<Served, RunError> {
     Ok(Served {
@@ -113,7 +113,7 @@ fn handle_line<W: io::Write + Drop>(
     server: &mut Server<Recorder<MemFs>>,
     line: &Line,
     writer: &mut Writer,
-) -> Result<fuse_server::Result<usize>, RunError> {
+) -> Result<vfs_server::Result<usize>, RunError> {
     let segments = segments_of(alloc, line)?;
     match Reader::new(alloc, &segments) {
         Ok(reader) => handle(alloc, parts, server, reader, writer),
@@ -128,7 +128,7 @@ fn handle<W: io::Write + Drop>(
     server: &mut Server<Recorder<MemFs>>,
     reader: Reader<'_>,
     writer: &mut Writer,
-) -> Result<fuse_server::Result<usize>, RunError> {
+) -> Result<vfs_server::Result<usize>, RunError> {
     parts.call_next(String::from_str(alloc, "of a line")?);
     parts.before(server.options())?;
     let outcome = server.handle_message(alloc, reader, writer);

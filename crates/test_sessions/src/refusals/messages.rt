@@ -5,7 +5,7 @@ use crate::refusals::parts::Parts;
 use crate::table::{Message, messages};
 use std::alloc::Global;
 use std::io;
-use text_run::RunError;
+use vfs_run::RunError;
 
 /// How many bytes the header of a request has.
 const HEADER: usize = 40;

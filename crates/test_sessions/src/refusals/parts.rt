@@ -2,10 +2,10 @@
 
 use crate::cuttings::{Served, Watch};
 use bitflags::Flags;
-use fuse_flags::FsOptions;
 use std::alloc::Global;
 use std::io;
-use text_run::{RunError, write_all};
+use vfs_flags::FsOptions;
+use vfs_run::{RunError, write_all};
 
 /// The output, and the name of the part that comes next.
 #[derive(Drop)]

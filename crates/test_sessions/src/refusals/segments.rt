@@ -1,10 +1,10 @@
 //! The calls of a reader and a writer that ask for memory.
 
 use crate::refusals::parts::Parts;
-use fuse_segments::{Error, Reader, Writer};
 use std::alloc::{AllocError, Global};
 use std::io;
-use text_run::RunError;
+use vfs_run::RunError;
+use vfs_segments::{Error, Reader, Writer};
 
 /// The segments of a reader: more than need no memory.
 const SEGMENTS: [&[u8]; 6] = [b"ab", b"c", b"def", b"", b"g", b"hi"];

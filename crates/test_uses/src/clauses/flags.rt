@@ -1,14 +1,14 @@
 //! The known flags, a server's limits, and its versions.
 
 ghost use Rattle.std.specs.Prelude.{◌≡◌, ◌+◌, ◌^◌, ◌∷◌, []};
-ghost use Rattle.fuse_flags.specs.Flags.{create_supp_group, init_ext};
-ghost use Rattle.fuse_flags.specs.FlagTables.{bits_of_all, bits_of_table, fs_options_table, setattr_valid_table, open_options_table, setxattr_flags_table, notify_inval_entry_out_flags_table, async_read, atomic_o_trunc, big_writes, has_ioctl_dir, auto_inval_data, async_dio, parallel_dirops, max_pages_option, submounts, allow_idmap};
+ghost use Rattle.vfs_flags.specs.Flags.{create_supp_group, init_ext};
+ghost use Rattle.vfs_flags.specs.FlagTables.{bits_of_all, bits_of_table, fs_options_table, setattr_valid_table, open_options_table, setxattr_flags_table, notify_inval_entry_out_flags_table, async_read, atomic_o_trunc, big_writes, has_ioctl_dir, auto_inval_data, async_dio, parallel_dirops, max_pages_option, submounts, allow_idmap};
 
-use fuse_flags::laws::{
+use vfs_flags::laws::{
     limits_have_their_numbers, masks_are_of_their_names, masks_have_their_bits,
     single_flags_have_their_bits, versions_have_their_numbers,
 };
-use fuse_flags::{
+use vfs_flags::{
     DEFAULT_MAX_BUFFER, GREATEST_MAX_BUFFER, KERNEL_MINOR_VERSION, LEAST_MAX_BUFFER,
     MIN_KERNEL_MINOR_VERSION, RENAME_EXCHANGE, RENAME_FLAGS, RENAME_NOREPLACE, RENAME_WHITEOUT,
 };

@@ -1,21 +1,21 @@
 //! Parts of requests, for which memory is wanted or not, and replies by their outcomes.
 
 ghost use Rattle.std.specs.Prelude.{◌≡◌, ◌≢◌, ◌≤◌, [], ◌∷◌, Ok, Err, true, length, take, IfErr, IfOk, IsOk, MatchResult, OnSome};
-ghost use Rattle.fuse_flags.specs.Flags.{setattr_valid_bits, setxattr_flags_bits};
-ghost use Rattle.fuse_segments.specs.Lengths.{lie_together};
-ghost use Rattle.fuse_wire.specs.Fields.{bytes_of};
-ghost use Rattle.fuse_grammar.specs.declared.error.Error.{Error};
+ghost use Rattle.vfs_flags.specs.Flags.{setattr_valid_bits, setxattr_flags_bits};
+ghost use Rattle.vfs_segments.specs.Lengths.{lie_together};
+ghost use Rattle.vfs_wire.specs.Fields.{bytes_of};
+ghost use Rattle.vfs_grammar.specs.declared.error.Error.{Error};
 
-use fs_trait::{Extensions, GetxattrReply, SecContext};
-use fuse_flags::{Errno, FsOptions, SetattrValid, SetxattrFlags};
-use fuse_grammar::Result;
-use fuse_messages::{
+use std::alloc::Global;
+use vfs_files::{Extensions, GetxattrReply, SecContext};
+use vfs_flags::{Errno, FsOptions, SetattrValid, SetxattrFlags};
+use vfs_grammar::Result;
+use vfs_messages::{
     Name, Request, Tail, further_flags, get_extensions, known_valid, name_of_tail,
     parse_security_context, read_pairs, read_tail, reply_error, reply_ok, reply_value,
 };
-use fuse_segments::{Reader, Writer};
-use fuse_wire::{ByteValued, GetattrIn, InHeader, bytes_have_size};
-use std::alloc::Global;
+use vfs_segments::{Reader, Writer};
+use vfs_wire::{ByteValued, GetattrIn, InHeader, bytes_have_size};
 
 /// The tail of a request with three bytes after its header, which are there: only memory can be wanting, and not where
 /// they lie in one segment.

@@ -1,23 +1,23 @@
 //! Directories that are read, and what follows from a request.
 
 ghost use Rattle.std.specs.Prelude.{◌≡◌, ℕ, Bool, List, [], ◌∷◌, false, true, length, Option, Some, Ok, Err, None as Nothing, Result as Outcome};
-ghost use Rattle.fuse_segments.specs.Written.{Written};
-ghost use Rattle.fs_trait.specs.Calls.{Failed, Found, Lookup, Plain, Readdir, Statfs};
-ghost use Rattle.fs_trait.specs.Runs.{Called, Event, IsRun, Taken};
-ghost use Rattle.fs_trait.specs.Values.{Item};
-ghost use Rattle.fs_trait.specs.declared.entry.Context.{Context};
-ghost use Rattle.fs_trait.specs.declared.entry.Entry.{Entry};
-ghost use Rattle.fuse_grammar.specs.Forms.{Asks, Ends, Lists, WithMemory};
-ghost use Rattle.fuse_grammar.specs.Listing.{IsDirectory, Listing, entry_bytes};
-ghost use Rattle.fuse_grammar.specs.Reply.{Echo, Reply};
-ghost use Rattle.fuse_grammar.specs.Turn.{Turn};
-ghost use Rattle.fuse_grammar.specs.Witnesses.{FollowsFor, turn_tells};
-ghost use Rattle.fuse_grammar.specs.Words.{FitsOption};
-ghost use Rattle.fuse_grammar.specs.declared.limits.Limits.{Limits};
-ghost use Rattle.fuse_listings.specs.Reading.{LooksUp, ReadsDirectory, ReadsItems};
+ghost use Rattle.vfs_segments.specs.Written.{Written};
+ghost use Rattle.vfs_files.specs.Calls.{Failed, Found, Lookup, Plain, Readdir, Statfs};
+ghost use Rattle.vfs_files.specs.Runs.{Called, Event, IsRun, Taken};
+ghost use Rattle.vfs_files.specs.Values.{Item};
+ghost use Rattle.vfs_files.specs.declared.entry.Context.{Context};
+ghost use Rattle.vfs_files.specs.declared.entry.Entry.{Entry};
+ghost use Rattle.vfs_grammar.specs.Forms.{Asks, Ends, Lists, WithMemory};
+ghost use Rattle.vfs_grammar.specs.Listing.{IsDirectory, Listing, entry_bytes};
+ghost use Rattle.vfs_grammar.specs.Reply.{Echo, Reply};
+ghost use Rattle.vfs_grammar.specs.Turn.{Turn};
+ghost use Rattle.vfs_grammar.specs.Witnesses.{FollowsFor, turn_tells};
+ghost use Rattle.vfs_grammar.specs.Words.{FitsOption};
+ghost use Rattle.vfs_grammar.specs.declared.limits.Limits.{Limits};
+ghost use Rattle.vfs_listings.specs.Reading.{LooksUp, ReadsDirectory, ReadsItems};
 
-use fs_trait::FileSystem;
-use fuse_listings::record_len;
+use vfs_files::FileSystem;
+use vfs_listings::record_len;
 
 /// Where READDIR failed there is no record.
 fn no_record_of_a_fault()

@@ -1,19 +1,19 @@
 //! Readers and writers: what they answer as a value, what no byte moves, and what a record is that was moved.
 
 ghost use Rattle.std.specs.Prelude.{◌≡◌, ◌+◌, ◌<◌, ◌++◌, ℕ, List, [], ◌∷◌, true, false, Some, Ok, length, drop, min, slice_index, take, IfSome, MatchOption};
-ghost use Rattle.fuse_segments.specs.Answers.{Answers, AreAnswers, Available, Taken, Read, Count, Moved};
-ghost use Rattle.fuse_segments.specs.Lengths.{lengths_before, lie_together};
-ghost use Rattle.fuse_segments.specs.Unread.{Unread};
-ghost use Rattle.fuse_wire.specs.Fields.{bytes_of, numbers, value_of};
+ghost use Rattle.vfs_segments.specs.Answers.{Answers, AreAnswers, Available, Taken, Read, Count, Moved};
+ghost use Rattle.vfs_segments.specs.Lengths.{lengths_before, lie_together};
+ghost use Rattle.vfs_segments.specs.Unread.{Unread};
+ghost use Rattle.vfs_wire.specs.Fields.{bytes_of, numbers, value_of};
 
-use fuse_flags::Fault;
-use fuse_segments::laws::{equal_bytes_answer_alike, together_after_a_place};
-use fuse_segments::{Reader, Writer};
-use fuse_views::PositionedFile;
-use fuse_wire::{ByteValued, take_after_put};
 use std::alloc::Global;
 use std::io::ErrorKind;
 use std::result;
+use vfs_flags::Fault;
+use vfs_segments::laws::{equal_bytes_answer_alike, together_after_a_place};
+use vfs_segments::{Reader, Writer};
+use vfs_views::PositionedFile;
+use vfs_wire::{ByteValued, take_after_put};
 
 /// An answer to a question of a count is that count, and a read moves what fits.
 fn answers_are_known()

@@ -1,23 +1,23 @@
 //! A server that is taken apart, and what its parts tell of a request.
 
 ghost use Rattle.std.specs.Prelude.{◌≡◌, ◌≢◌, ℕ, Option, Some, None, Result as Outcome};
-ghost use Rattle.fuse_flags.specs.Numbers.{opcode_of};
-ghost use Rattle.fuse_flags.specs.declared.opcode.Opcode.{Opcode};
-ghost use Rattle.fuse_segments.specs.Unread.{Unread};
-ghost use Rattle.fuse_segments.specs.Written.{Written};
-ghost use Rattle.fs_trait.specs.Calls.{Answer, Call, Done, Forget, Plain};
-ghost use Rattle.fs_trait.specs.declared.entry.Context.{Context};
-ghost use Rattle.fuse_grammar.specs.Memory.{header_of};
-ghost use Rattle.fuse_grammar.specs.declared.error.Error.{Error};
-ghost use Rattle.fuse_grammar.specs.declared.limits.Limits.{Limits};
-ghost use Rattle.fuse_messages.specs.declared.parts.Request.{Request};
-ghost use Rattle.fuse_server.specs.Delivery.{CallsAndGivesBack};
-ghost use Rattle.fuse_server.specs.Handling.{ReadsInto, Serves};
-ghost use Rattle.fuse_server.specs.Memory.{MayWant};
-ghost use Rattle.fuse_server.specs.State.{ServerState};
+ghost use Rattle.vfs_flags.specs.Numbers.{opcode_of};
+ghost use Rattle.vfs_flags.specs.declared.opcode.Opcode.{Opcode};
+ghost use Rattle.vfs_segments.specs.Unread.{Unread};
+ghost use Rattle.vfs_segments.specs.Written.{Written};
+ghost use Rattle.vfs_files.specs.Calls.{Answer, Call, Done, Forget, Plain};
+ghost use Rattle.vfs_files.specs.declared.entry.Context.{Context};
+ghost use Rattle.vfs_grammar.specs.Memory.{header_of};
+ghost use Rattle.vfs_grammar.specs.declared.error.Error.{Error};
+ghost use Rattle.vfs_grammar.specs.declared.limits.Limits.{Limits};
+ghost use Rattle.vfs_messages.specs.declared.parts.Request.{Request};
+ghost use Rattle.vfs_server.specs.Delivery.{CallsAndGivesBack};
+ghost use Rattle.vfs_server.specs.Handling.{ReadsInto, Serves};
+ghost use Rattle.vfs_server.specs.Memory.{MayWant};
+ghost use Rattle.vfs_server.specs.State.{ServerState};
 
-use fs_trait::FileSystem;
-use fuse_server::server::Server;
+use vfs_files::FileSystem;
+use vfs_server::server::Server;
 
 /// The file system of a server that is no longer wanted is the one that it was made over.
 fn file_system_again<F>(fs: F) -> F

@@ -1,14 +1,14 @@
 //! Records as numbers, and owners whom a map refuses.
 
 ghost use Rattle.std.specs.Prelude.{◌≡◌, ◌<◌, ℕ, List, [], ◌∷◌, slice_index, None, Some, Err};
-ghost use Rattle.fuse_wire.specs.Fields.{AreBytes, value_of};
-ghost use Rattle.fuse_wire.specs.Layouts.{counting};
-ghost use Rattle.fuse_wire_more.specs.Devices.{syncfs_in};
-ghost use Rattle.fuse_wire_more.specs.Records.{lseek_in, lseek_out, fallocate_in};
+ghost use Rattle.vfs_wire.specs.Fields.{AreBytes, value_of};
+ghost use Rattle.vfs_wire.specs.Layouts.{counting};
+ghost use Rattle.vfs_wire_more.specs.Devices.{syncfs_in};
+ghost use Rattle.vfs_wire_more.specs.Records.{lseek_in, lseek_out, fallocate_in};
 
-use fuse_flags::{Errno, Fault, GuestGid, GuestUid};
-use fuse_wire::{Attr, ByteValued, Stat64, decoding_is_the_inverse};
-use fuse_wire_more::layouts;
+use vfs_flags::{Errno, Fault, GuestGid, GuestUid};
+use vfs_wire::{Attr, ByteValued, Stat64, decoding_is_the_inverse};
+use vfs_wire_more::layouts;
 
 /// Values of the same numbers are the same.
 fn numbers_tell_values<T: ByteValued>()

@@ -2,7 +2,7 @@
 
 ghost use Rattle.std.specs.Prelude.{◌≡◌, ◌↔◌, IsTrue};
 
-use fuse_flags::{GuestGid, GuestUid, HostGid, HostUid};
+use vfs_flags::{GuestGid, GuestUid, HostGid, HostUid};
 
 /// The users and groups root of the guest and of the host.
 fn roots() -> (GuestUid, GuestGid, HostUid, HostGid)

@@ -1,9 +1,9 @@
 //! Numbers of requests and of extensions, and what they stand for.
 
 ghost use Rattle.std.specs.Prelude.{◌≡◌, [], ◌∷◌, Ok, Err};
-ghost use Rattle.fuse_flags.specs.Numbers.{number_of};
+ghost use Rattle.vfs_flags.specs.Numbers.{number_of};
 
-use fuse_flags::{ExtType, NotifyOpcode, Opcode};
+use vfs_flags::{ExtType, NotifyOpcode, Opcode};
 
 /// 1 is a LOOKUP and 51 a TMPFILE; 7 and 52 are no numbers of requests.
 fn opcodes() -> [Result<Opcode, ()>; 4]

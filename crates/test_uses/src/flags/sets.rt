@@ -4,15 +4,15 @@ ghost use Rattle.std.specs.Prelude.{◌≡◌, ◌<◌, ◌==◌, ◌↔◌, ◌
 ghost use Rattle.std.specs.Ordering.{nat_cmp};
 ghost use Rattle.std.specs.Hash as fed;
 ghost use Rattle.std.specs.Hash.DefaultHasher as sip;
-ghost use Rattle.fuse_flags.specs.Flags.{fs_options_bits, known_fs_options, setattr_valid_bits, known_setattr_valid, open_options_bits, known_open_options, ioctl_flags_bits, known_ioctl_flags, setxattr_flags_bits, known_setxattr_flags, notify_inval_entry_out_flags_bits, known_notify_inval_entry_out_flags, setupmapping_flags_bits, known_setupmapping_flags};
+ghost use Rattle.vfs_flags.specs.Flags.{fs_options_bits, known_fs_options, setattr_valid_bits, known_setattr_valid, open_options_bits, known_open_options, ioctl_flags_bits, known_ioctl_flags, setxattr_flags_bits, known_setxattr_flags, notify_inval_entry_out_flags_bits, known_notify_inval_entry_out_flags, setupmapping_flags_bits, known_setupmapping_flags};
 
 use bitflags::Flags;
-use fuse_flags::{
+use std::cmp::Ordering;
+use std::hash::{DefaultHasher, Hash, Hasher};
+use vfs_flags::{
     FsOptions, IoctlFlags, NotifyInvalEntryOutFlags, OpenOptions, SetattrValid, SetupmappingFlags,
     SetxattrFlags,
 };
-use std::cmp::Ordering;
-use std::hash::{DefaultHasher, Hash, Hasher};
 
 /// The union of two sets, their intersection and the known ones among some bits; whether the two are
 /// the same, whether the first has lower bits, and their order.

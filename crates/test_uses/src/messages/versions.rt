@@ -2,10 +2,10 @@
 
 ghost use Rattle.std.specs.Prelude.{◌≡◌, ◌≤◌, length, None, Some, Ok};
 
-use fuse_grammar::Result;
-use fuse_messages::reply_unserved;
-use fuse_segments::Writer;
-use fuse_wire::{InHeader, InitInCompat};
+use vfs_grammar::Result;
+use vfs_messages::reply_unserved;
+use vfs_segments::Writer;
+use vfs_wire::{InHeader, InitInCompat};
 
 /// Of version 7.26 it is answered a fault, EPROTO, in sixteen bytes.
 fn reply_to_minor_26(header: &InHeader, w: &mut Writer) -> Option<Result<usize>>

@@ -1,20 +1,20 @@
 //! The simplest transport at work.
 
 ghost use Rattle.std.specs.Prelude.{◌≡◌, ◌≤◌, ◌⊎◌, ℕ, List, length, take, IfOk, MatchResult, Ok, Err};
-ghost use Rattle.fuse_grammar.specs.declared.error.Error.TheVariants.{DecodeMessage};
-ghost use Rattle.fuse_server.specs.declared.transport.error.ServeError.TheVariants.{OutOfMemory, Segments};
-ghost use Rattle.fuse_server.specs.declared.transport.error.ServeError.TheVariants as refusal;
-ghost use Rattle.fuse_segments.specs.declared.error.Error.{Error};
-ghost use Rattle.fuse_segments.specs.declared.error.Error.TheVariants.{SplitOutOfBounds};
+ghost use Rattle.vfs_grammar.specs.declared.error.Error.TheVariants.{DecodeMessage};
+ghost use Rattle.vfs_server.specs.declared.transport.error.ServeError.TheVariants.{OutOfMemory, Segments};
+ghost use Rattle.vfs_server.specs.declared.transport.error.ServeError.TheVariants as refusal;
+ghost use Rattle.vfs_segments.specs.declared.error.Error.{Error};
+ghost use Rattle.vfs_segments.specs.declared.error.Error.TheVariants.{SplitOutOfBounds};
 ghost use Rattle.test_uses.specs.Requests.{statfs_reply, ReadsOneRecord};
 
 use crate::server::{READDIR, STATFS};
 use fs_small::Unserved;
-use fs_trait::FileSystem;
-use fuse_flags::Fault;
-use fuse_server::server::Server;
-use fuse_server::transport::{ServeError, serve};
 use std::alloc::Global;
+use vfs_files::FileSystem;
+use vfs_flags::Fault;
+use vfs_server::server::Server;
+use vfs_server::transport::{ServeError, serve};
 
 /// STATFS of a new server over a file system that serves nothing, with a room of ninety-six bytes:
 /// they are the reply. Memory alone can be wanting.
@@ -81,5 +81,5 @@ fn told_fault(fault: Fault) -> ServeError
 fn told_place(place: usize) -> ServeError
     ensures { result ≡ Segments (SplitOutOfBounds place) }
 {
-    ServeError::from(fuse_segments::Error::SplitOutOfBounds(place))
+    ServeError::from(vfs_segments::Error::SplitOutOfBounds(place))
 }

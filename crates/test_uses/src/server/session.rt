@@ -1,15 +1,15 @@
 //! Sessions at work.
 
 ghost use Rattle.std.specs.Prelude.{◌≡◌, [], ◌∷◌, length, map, Ok, OnSome};
-ghost use Rattle.fuse_segments.specs.Written.{whole};
+ghost use Rattle.vfs_segments.specs.Written.{whole};
 ghost use Rattle.test_uses.specs.Requests.{init_request, init_reply, lookup_request, lookup_reply, statfs_request, statfs_reply, in_one_segment, AreRooms, SendsThreeBack};
 
 use fs_small::Unserved;
-use fs_trait::FileSystem;
-use fuse_grammar::Result;
-use fuse_segments::{Reader, Writer};
-use fuse_server::server::Server;
 use std::alloc::Global;
+use vfs_files::FileSystem;
+use vfs_grammar::Result;
+use vfs_segments::{Reader, Writer};
+use vfs_server::server::Server;
 
 /// Asks a server over a file system that serves nothing for three things in one session: INIT, a
 /// LOOKUP of `a` whose bytes lie in one segment, and STATFS. It tells what they are answered, to the

@@ -1,17 +1,17 @@
 //! Records by default: each field is 0, so each byte is.
 
 ghost use Rattle.std.specs.Prelude.{◌≡◌, replicate};
-ghost use Rattle.fuse_wire.specs.Fields.{bytes_of};
-ghost use Rattle.fuse_wire.specs.Records.{in_header, out_header, init_in_compat, init_in_ext, init_out, attr, getattr_in, attr_out, setattr_in, entry_out, forget_in, forget_one, batch_forget_in, dirent, direntplus, kstatfs, ext_header, secctx, supp_groups};
+ghost use Rattle.vfs_wire.specs.Fields.{bytes_of};
+ghost use Rattle.vfs_wire.specs.Records.{in_header, out_header, init_in_compat, init_in_ext, init_out, attr, getattr_in, attr_out, setattr_in, entry_out, forget_in, forget_one, batch_forget_in, dirent, direntplus, kstatfs, ext_header, secctx, supp_groups};
 
-use fuse_wire::{
+use vfs_wire::{
     Attr, AttrOut, BatchForgetIn, Dirent, Direntplus, EntryOut, ExtHeader, ForgetIn, ForgetOne,
     GetattrIn, InHeader, InitInCompat, InitInExt, InitOut, Kstatfs, OutHeader, Secctx, SetattrIn,
     SuppGroups,
 };
 
 /// The headers, with nothing set.
-#[tactic(auto, unfolding(fuse_wire::specs::Fields::little))]
+#[tactic(auto, unfolding(vfs_wire::specs::Fields::little))]
 fn headers() -> (InHeader, OutHeader)
     ensures in_header { bytes_of in_header result.0 ≡ replicate 40 0 }
     ensures out_header { bytes_of out_header result.1 ≡ replicate 16 0 }
@@ -20,7 +20,7 @@ fn headers() -> (InHeader, OutHeader)
 }
 
 /// The records of INIT, with nothing set.
-#[tactic(auto, unfolding(fuse_wire::specs::Fields::little))]
+#[tactic(auto, unfolding(vfs_wire::specs::Fields::little))]
 fn init() -> (InitInCompat, InitInExt, InitOut)
     ensures init_in_compat { bytes_of init_in_compat result.0 ≡ replicate 16 0 }
     ensures init_in_ext { bytes_of init_in_ext result.1 ≡ replicate 48 0 }
@@ -34,7 +34,7 @@ fn init() -> (InitInCompat, InitInExt, InitOut)
 }
 
 /// The records with attributes, with nothing set.
-#[tactic(auto, unfolding(fuse_wire::specs::Fields::little))]
+#[tactic(auto, unfolding(vfs_wire::specs::Fields::little))]
 fn attributes() -> (Attr, GetattrIn, AttrOut, SetattrIn)
     ensures attr { bytes_of attr result.0 ≡ replicate 88 0 }
     ensures getattr_in { bytes_of getattr_in result.1 ≡ replicate 16 0 }
@@ -50,7 +50,7 @@ fn attributes() -> (Attr, GetattrIn, AttrOut, SetattrIn)
 }
 
 /// The records of entries, with nothing set.
-#[tactic(auto, unfolding(fuse_wire::specs::Fields::little))]
+#[tactic(auto, unfolding(vfs_wire::specs::Fields::little))]
 fn entries() -> (EntryOut, ForgetIn, ForgetOne, BatchForgetIn)
     ensures entry_out { bytes_of entry_out result.0 ≡ replicate 128 0 }
     ensures forget_in { bytes_of forget_in result.1 ≡ replicate 8 0 }
@@ -66,7 +66,7 @@ fn entries() -> (EntryOut, ForgetIn, ForgetOne, BatchForgetIn)
 }
 
 /// The records of directories and of counts, with nothing set.
-#[tactic(auto, unfolding(fuse_wire::specs::Fields::little))]
+#[tactic(auto, unfolding(vfs_wire::specs::Fields::little))]
 fn listings() -> (Dirent, Direntplus, Kstatfs)
     ensures dirent { bytes_of dirent result.0 ≡ replicate 24 0 }
     ensures direntplus { bytes_of direntplus result.1 ≡ replicate 152 0 }
@@ -76,7 +76,7 @@ fn listings() -> (Dirent, Direntplus, Kstatfs)
 }
 
 /// The headers of extensions, with nothing set.
-#[tactic(auto, unfolding(fuse_wire::specs::Fields::little))]
+#[tactic(auto, unfolding(vfs_wire::specs::Fields::little))]
 fn extensions() -> (ExtHeader, Secctx, SuppGroups)
     ensures ext_header { bytes_of ext_header result.0 ≡ replicate 8 0 }
     ensures secctx { bytes_of secctx result.1 ≡ replicate 8 0 }

@@ -2,11 +2,11 @@
 //! `layouts` give to a caller. Each function here does nothing.
 
 ghost use Rattle.std.specs.Prelude.{◌≡◌, slice_index, pos};
-ghost use Rattle.fuse_wire.specs.Fields.{bytes_of, value_of};
-ghost use Rattle.fuse_wire.specs.Layouts.{counting};
-ghost use Rattle.fuse_wire.specs.Records.{in_header, out_header, init_in_compat, init_in_ext, init_out, attr, getattr_in, attr_out, setattr_in, entry_out, forget_in, forget_one, batch_forget_in, dirent, direntplus, kstatfs, ext_header, secctx, supp_groups};
+ghost use Rattle.vfs_wire.specs.Fields.{bytes_of, value_of};
+ghost use Rattle.vfs_wire.specs.Layouts.{counting};
+ghost use Rattle.vfs_wire.specs.Records.{in_header, out_header, init_in_compat, init_in_ext, init_out, attr, getattr_in, attr_out, setattr_in, entry_out, forget_in, forget_one, batch_forget_in, dirent, direntplus, kstatfs, ext_header, secctx, supp_groups};
 
-use fuse_wire::layouts;
+use vfs_wire::layouts;
 
 /// The headers of requests and replies.
 fn headers()

@@ -3,17 +3,17 @@
 //! latter does nothing. Those in the root of the crate are called there.
 
 ghost use Rattle.std.specs.Prelude.{◌≡◌, replicate, slice_index, pos};
-ghost use Rattle.fuse_wire.specs.Fields.{bytes_of, value_of};
-ghost use Rattle.fuse_wire.specs.Layouts.{counting};
-ghost use Rattle.fuse_wire_more.specs.Records.{mknod_in, mkdir_in, rename_in, rename2_in, link_in, create_in, access_in, open_in, open_out, release_in, flush_in, read_in, write_in, write_out, fsync_in, setxattr_in, setxattr_in_compat, getxattr_in, getxattr_out};
-ghost use Rattle.fuse_wire_more.specs.Listings.{statfs_out};
-ghost use Rattle.fuse_wire_more.specs.Extensions.{secctx_header};
-ghost use Rattle.fuse_wire_more.specs.Locks.{file_lock, lk_in, lk_out, interrupt_in};
-ghost use Rattle.fuse_wire_more.specs.Devices.{bmap_in, bmap_out, ioctl_in, ioctl_iovec, ioctl_out, poll_in, poll_out, statx_in};
-ghost use Rattle.fuse_wire_more.specs.Mappings.{setupmapping_in, removemapping_in, removemapping_one};
-ghost use Rattle.fuse_wire_more.specs.Notifications.{notify_poll_wakeup_out, notify_inval_inode_out, notify_inval_entry_out, notify_delete_out, notify_store_out, notify_retrieve_out, notify_retrieve_in, notify_prune_out};
+ghost use Rattle.vfs_wire.specs.Fields.{bytes_of, value_of};
+ghost use Rattle.vfs_wire.specs.Layouts.{counting};
+ghost use Rattle.vfs_wire_more.specs.Records.{mknod_in, mkdir_in, rename_in, rename2_in, link_in, create_in, access_in, open_in, open_out, release_in, flush_in, read_in, write_in, write_out, fsync_in, setxattr_in, setxattr_in_compat, getxattr_in, getxattr_out};
+ghost use Rattle.vfs_wire_more.specs.Listings.{statfs_out};
+ghost use Rattle.vfs_wire_more.specs.Extensions.{secctx_header};
+ghost use Rattle.vfs_wire_more.specs.Locks.{file_lock, lk_in, lk_out, interrupt_in};
+ghost use Rattle.vfs_wire_more.specs.Devices.{bmap_in, bmap_out, ioctl_in, ioctl_iovec, ioctl_out, poll_in, poll_out, statx_in};
+ghost use Rattle.vfs_wire_more.specs.Mappings.{setupmapping_in, removemapping_in, removemapping_one};
+ghost use Rattle.vfs_wire_more.specs.Notifications.{notify_poll_wakeup_out, notify_inval_inode_out, notify_inval_entry_out, notify_delete_out, notify_store_out, notify_retrieve_out, notify_retrieve_in, notify_prune_out};
 
-use fuse_wire_more::{
+use vfs_wire_more::{
     AccessIn, BmapIn, BmapOut, CreateIn, FileLock, FlushIn, FsyncIn, GetxattrIn, GetxattrOut,
     InterruptIn, IoctlIn, IoctlIovec, IoctlOut, LinkIn, LkIn, LkOut, MkdirIn, MknodIn,
     Notify_Retrieve_Out, NotifyDeleteOut, NotifyInvalEntryOut, NotifyInvalInodeOut,
@@ -24,7 +24,7 @@ use fuse_wire_more::{
 };
 
 /// The records of requests on names, with nothing set.
-#[tactic(auto, unfolding(fuse_wire::specs::Fields::little))]
+#[tactic(auto, unfolding(vfs_wire::specs::Fields::little))]
 fn names_unset() -> (
     MknodIn,
     MkdirIn,
@@ -54,7 +54,7 @@ fn names_unset() -> (
 }
 
 /// The records of requests on open files, with nothing set.
-#[tactic(auto, unfolding(fuse_wire::specs::Fields::little))]
+#[tactic(auto, unfolding(vfs_wire::specs::Fields::little))]
 fn files_unset() -> (
     OpenIn,
     OpenOut,
@@ -87,7 +87,7 @@ fn files_unset() -> (
 }
 
 /// The records of extended attributes, with nothing set.
-#[tactic(auto, unfolding(fuse_wire::specs::Fields::little))]
+#[tactic(auto, unfolding(vfs_wire::specs::Fields::little))]
 fn xattrs_unset() -> (SetxattrIn, SetxattrInCompat, GetxattrIn, GetxattrOut)
     ensures setxattr_in { bytes_of setxattr_in result.0 ≡ replicate 16 0 }
     ensures setxattr_in_compat { bytes_of setxattr_in_compat result.1 ≡ replicate 8 0 }
@@ -103,7 +103,7 @@ fn xattrs_unset() -> (SetxattrIn, SetxattrInCompat, GetxattrIn, GetxattrOut)
 }
 
 /// The record of a file system as a whole, with nothing set.
-#[tactic(auto, unfolding(fuse_wire::specs::Fields::little))]
+#[tactic(auto, unfolding(vfs_wire::specs::Fields::little))]
 fn listings_unset() -> StatfsOut
     ensures { bytes_of statfs_out result ≡ replicate 80 0 }
 {
@@ -111,7 +111,7 @@ fn listings_unset() -> StatfsOut
 }
 
 /// The headers of extensions, with nothing set.
-#[tactic(auto, unfolding(fuse_wire::specs::Fields::little))]
+#[tactic(auto, unfolding(vfs_wire::specs::Fields::little))]
 fn extensions_unset() -> SecctxHeader
     ensures { bytes_of secctx_header result ≡ replicate 8 0 }
 {
@@ -119,7 +119,7 @@ fn extensions_unset() -> SecctxHeader
 }
 
 /// The records of locks, with nothing set.
-#[tactic(auto, unfolding(fuse_wire::specs::Fields::little))]
+#[tactic(auto, unfolding(vfs_wire::specs::Fields::little))]
 fn locks_unset() -> (FileLock, LkIn, LkOut, InterruptIn)
     ensures file_lock { bytes_of file_lock result.0 ≡ replicate 24 0 }
     ensures lk_in { bytes_of lk_in result.1 ≡ replicate 48 0 }
@@ -135,7 +135,7 @@ fn locks_unset() -> (FileLock, LkIn, LkOut, InterruptIn)
 }
 
 /// The records of requests to devices, with nothing set.
-#[tactic(auto, unfolding(fuse_wire::specs::Fields::little))]
+#[tactic(auto, unfolding(vfs_wire::specs::Fields::little))]
 fn devices_unset() -> (
     BmapIn,
     BmapOut,
@@ -168,7 +168,7 @@ fn devices_unset() -> (
 }
 
 /// The records of mappings, with nothing set.
-#[tactic(auto, unfolding(fuse_wire::specs::Fields::little))]
+#[tactic(auto, unfolding(vfs_wire::specs::Fields::little))]
 fn mappings_unset() -> (SetupmappingIn, RemovemappingIn, RemovemappingOne)
     ensures setupmapping_in { bytes_of setupmapping_in result.0 ≡ replicate 40 0 }
     ensures removemapping_in { bytes_of removemapping_in result.1 ≡ replicate 4 0 }
@@ -182,7 +182,7 @@ fn mappings_unset() -> (SetupmappingIn, RemovemappingIn, RemovemappingOne)
 }
 
 /// The records of notifications, with nothing set.
-#[tactic(auto, unfolding(fuse_wire::specs::Fields::little))]
+#[tactic(auto, unfolding(vfs_wire::specs::Fields::little))]
 fn notifications_unset() -> (
     NotifyPollWakeupOut,
     NotifyInvalInodeOut,

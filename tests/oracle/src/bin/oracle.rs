@@ -2,7 +2,7 @@
 //!
 //! - `script` answers as `test_sessions` does, with the calls of the scripted file system below each answer,
 //!   which lines `answer ..` may tell what to answer;
-//! - `memory` answers as `text_demo` does, over files in memory;
+//! - `memory` answers as `vfs_demo` does, over files in memory;
 //! - `rooms` the same files, but for each request its outcome, its whole room and the options that are
 //!   agreed after it, as `test_sessions` does after its line `refusals`.
 //!

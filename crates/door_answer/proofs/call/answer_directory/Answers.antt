@@ -1,6 +1,6 @@
 -- The reply is that of the items which were offered, in all the room that was told.
 use Rattle.std.proofs.Common.{◌≡◌, true, Some, length, subst, sym}
-use Rattle.fs_trait.specs.Calls.{Iterators}
+use Rattle.vfs_files.specs.Calls.{Iterators}
 use Rattle.door_answer.specs.Answering.{can_answer}
 use Rattle.door_answer.specs.Listing.{listing_told}
 use Rattle.door_answer.specs.Offered.{ListsOffered}

@@ -1,7 +1,7 @@
 -- Each arm's reply is that of the kind which was matched.
 use Rattle.std.proofs.Common.{◌≡◌, ◌==◌, true, length, refl, ap, arith}
 use Rattle.std.proofs.lemmas.Bool.Decides.{nat_tests}
-use Rattle.fs_trait.specs.Answers.{Quiet, Told, Untold, Agreements, Entries, TimedAttributes, Openings, Creations, Capacities, Texts, TextsOrCounts, Offsets, Writes, Faults, Done, Failed, init_answer, done_answer, opened_answer, created_answer, statistics_answer, offset_answer, written_answer}
+use Rattle.vfs_files.specs.Answers.{Quiet, Told, Untold, Agreements, Entries, TimedAttributes, Openings, Creations, Capacities, Texts, TextsOrCounts, Offsets, Writes, Faults, Done, Failed, init_answer, done_answer, opened_answer, created_answer, statistics_answer, offset_answer, written_answer}
 use Rattle.door_answer.specs.Kinds.{kind_told}
 use Rattle.door_answer.specs.Said.{text_said, value_said}
 use Rattle.door_answer.proofs.Told.{answered}

@@ -1,4 +1,4 @@
-use Rattle.fs_trait.specs.Answers.{attr_answer}
+use Rattle.vfs_files.specs.Answers.{attr_answer}
 use Rattle.door_answer.proofs.call.attributes_here.Goals as goal
 
 pub returns : goal.returns

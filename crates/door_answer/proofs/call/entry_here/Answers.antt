@@ -1,4 +1,4 @@
-use Rattle.fs_trait.specs.Answers.{entry_answer}
+use Rattle.vfs_files.specs.Answers.{entry_answer}
 use Rattle.door_answer.proofs.call.entry_here.Goals as goal
 
 pub returns : goal.returns

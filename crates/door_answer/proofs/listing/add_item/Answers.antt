@@ -1,6 +1,6 @@
 use Rattle.std.proofs.Common.{◌≡◌, pos, rules, false}
-use Rattle.fs_trait.specs.Values.{item, name_text}
-use Rattle.fuse_grammar.specs.Listing.{is_dot}
+use Rattle.vfs_files.specs.Values.{item, name_text}
+use Rattle.vfs_grammar.specs.Listing.{is_dot}
 use Rattle.door_answer.proofs.Adding.{adds_plain, adds_entry}
 use Rattle.door_answer.proofs.listing.add_item.Goals as goal
 

@@ -1,10 +1,10 @@
 use Rattle.std.proofs.Common.{◌≡◌, ◌∙◌, ℕ, List, Ok, length, ap, arith}
 use Rattle.std.proofs.lemmas.List.{take_all}
-use Rattle.fuse_wire.specs.Fields.{bytes_of}
-use Rattle.fuse_wire.specs.Records.{out_header}
-use Rattle.fuse_segments.specs.Written.{wrote}
-use Rattle.fuse_messages.specs.Rooms.{data_header}
-use Rattle.fuse_grammar.proofs.Rooms.{length-header}
+use Rattle.vfs_wire.specs.Fields.{bytes_of}
+use Rattle.vfs_wire.specs.Records.{out_header}
+use Rattle.vfs_segments.specs.Written.{wrote}
+use Rattle.vfs_messages.specs.Rooms.{data_header}
+use Rattle.vfs_grammar.proofs.Rooms.{length-header}
 use Rattle.door_answer.proofs.reply.put_header.Goals as goal
 
 pub returns-clause-header : goal.returns-clause-header

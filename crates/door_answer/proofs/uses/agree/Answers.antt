@@ -1,5 +1,5 @@
 use Rattle.std.proofs.Common.{[], pos, refl, arith}
-use Rattle.fs_trait.specs.Calls.{Init}
+use Rattle.vfs_files.specs.Calls.{Init}
 use Rattle.door_answer.proofs.Using.{in_room, in_each, agrees}
 use Rattle.door_answer.proofs.uses.agree.Goals as goal
 

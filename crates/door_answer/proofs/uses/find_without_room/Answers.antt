@@ -1,5 +1,5 @@
 use Rattle.std.proofs.Common.{[], pos, refl, arith}
-use Rattle.fs_trait.specs.Calls.{Lookup}
+use Rattle.vfs_files.specs.Calls.{Lookup}
 use Rattle.door_answer.proofs.Using.{in_room, in_each, unfit}
 use Rattle.door_answer.proofs.uses.find_without_room.Goals as goal
 

@@ -1,6 +1,6 @@
 use Rattle.std.proofs.Common.{◌≡◌, ◌<◌, ◌≤◌, ◌-◌, ◌^◌, ℕ, length, drop, inl, inr, ap, arith, length-drop}
 use Rattle.std.proofs.lemmas.List.{take_all}
-use Rattle.fuse_grammar.specs.Listing.{Listing}
+use Rattle.vfs_grammar.specs.Listing.{Listing}
 use Rattle.door_answer.specs.Told.{IsUnlisted}
 use Rattle.door_answer.proofs.uses.list_and_rest.Goals as goal
 

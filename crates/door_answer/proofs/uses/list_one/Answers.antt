@@ -1,6 +1,6 @@
 use Rattle.std.proofs.Common.{◌≡◌, ◌-◌, [], ◌∷◌, length, Some, pos, refl, ap, arith}
-use Rattle.fs_trait.specs.Values.{name_of}
-use Rattle.fuse_grammar.specs.Listing.{Listing}
+use Rattle.vfs_files.specs.Values.{name_of}
+use Rattle.vfs_grammar.specs.Listing.{Listing}
 use Rattle.door_calls.specs.declared.data.ItemData.{ItemData}
 use Rattle.door_answer.proofs.One.{one_listed, listed_so}
 use Rattle.door_answer.proofs.uses.list_one.Goals as goal

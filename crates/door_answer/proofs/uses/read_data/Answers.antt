@@ -1,5 +1,5 @@
 use Rattle.std.proofs.Common.{[], arith}
-use Rattle.fs_trait.specs.Calls.{Read}
+use Rattle.vfs_files.specs.Calls.{Read}
 use Rattle.door_answer.proofs.Using.{in_room, in_each}
 use Rattle.door_answer.proofs.uses.read_data.Goals as goal
 

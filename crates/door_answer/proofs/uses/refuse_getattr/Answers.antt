@@ -1,5 +1,5 @@
 use Rattle.std.proofs.Common.{[], pos, refl, arith}
-use Rattle.fs_trait.specs.Calls.{Getattr}
+use Rattle.vfs_files.specs.Calls.{Getattr}
 use Rattle.door_answer.proofs.Using.{in_room, in_each, refused}
 use Rattle.door_answer.proofs.uses.refuse_getattr.Goals as goal
 

@@ -1,7 +1,7 @@
 use Rattle.std.proofs.Common.{◌≡◌, ◌++◌, length, arith, length-append}
 use Rattle.std.specs.Prelude.{⊤}
-use Rattle.fuse_flags.specs.Flags.{fs_options_bits}
-use Rattle.fuse_grammar.specs.Ask.{ask}
+use Rattle.vfs_flags.specs.Flags.{fs_options_bits}
+use Rattle.vfs_grammar.specs.Ask.{ask}
 use Rattle.door_ask.specs.Asked.{Tells, interrupted_by}
 use Rattle.door_ask.specs.Memory.{MayWant}
 use Rattle.door_ask.proofs.Memory.{lacks_no_memory, tells_less}

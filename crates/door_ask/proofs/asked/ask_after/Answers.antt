@@ -1,8 +1,8 @@
 use Rattle.std.proofs.Common.{◌≡◌, ◌==◌, ◌≤◌, ◌∙◌, ℕ, true, false, nat_lt, arith, ap, refl, sym, Some}
 use Rattle.std.proofs.lemmas.Bool.Decides.{nat_tests}
-use Rattle.fuse_flags.specs.Numbers.{opcode_of}
-use Rattle.fuse_flags.specs.declared.opcode.Opcode.TheVariants.{Init, Interrupt, Readdir, Readdirplus}
-use Rattle.fuse_grammar.specs.Limits.{max_len}
+use Rattle.vfs_flags.specs.Numbers.{opcode_of}
+use Rattle.vfs_flags.specs.declared.opcode.Opcode.TheVariants.{Init, Interrupt, Readdir, Readdirplus}
+use Rattle.vfs_grammar.specs.Limits.{max_len}
 use Rattle.door_ask.proofs.asked.ask_after.Goals as goal
 
 interrupt : opcode_of 36 ≡ Some Interrupt

@@ -1,5 +1,5 @@
 use Rattle.std.proofs.Common.{◌∙◌, sym}
-use Rattle.fuse_flags.specs.Flags.{fs_options_bits}
+use Rattle.vfs_flags.specs.Flags.{fs_options_bits}
 use Rattle.door_ask.proofs.Placing.{header_fits, told_by_opcode}
 use Rattle.door_ask.proofs.Telling.{tells_noted}
 use Rattle.door_ask.proofs.asked.ask_of_opcode.Goals as goal

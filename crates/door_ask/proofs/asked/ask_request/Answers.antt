@@ -1,8 +1,8 @@
 use Rattle.std.proofs.Common.{rules}
-use Rattle.fuse_flags.specs.Flags.{fs_options_bits}
-use Rattle.fuse_flags.specs.Numbers.{opcode_of}
-use Rattle.fuse_grammar.specs.Ask.{ask}
-use Rattle.fuse_server.specs.MemoryByPieces.{MayWantAfter}
+use Rattle.vfs_flags.specs.Flags.{fs_options_bits}
+use Rattle.vfs_flags.specs.Numbers.{opcode_of}
+use Rattle.vfs_grammar.specs.Ask.{ask}
+use Rattle.vfs_server.specs.MemoryByPieces.{MayWantAfter}
 use Rattle.door_ask.specs.Asked.{Tells, interrupted_by}
 use Rattle.door_ask.specs.Memory.{MayWant}
 use Rattle.door_ask.proofs.Memory.{read_header_is, tells_less}

@@ -1,4 +1,4 @@
-use Rattle.fuse_flags.specs.Flags.{fs_options_bits}
+use Rattle.vfs_flags.specs.Flags.{fs_options_bits}
 use Rattle.door_ask.proofs.Holding.{context_wants_memory, held_by_opcode, refused_with_tail, tells_held}
 use Rattle.door_ask.proofs.Placing.{header_fits}
 use Rattle.door_ask.proofs.asked.ask_with_context.Goals as goal

@@ -1,7 +1,7 @@
 use Rattle.std.proofs.Common.{◌≡◌, arith, false, nat_lt}
 use Rattle.std.proofs.lemmas.Bool.Decides.{nat_tests}
-use Rattle.fuse_flags.specs.Flags.{fs_options_bits}
-use Rattle.fuse_grammar.specs.Limits.{max_len}
+use Rattle.vfs_flags.specs.Flags.{fs_options_bits}
+use Rattle.vfs_grammar.specs.Limits.{max_len}
 use Rattle.door_ask.proofs.InRoom.{noted_in_room}
 use Rattle.door_ask.proofs.asked.note_opcode.Goals as goal
 

@@ -1,5 +1,5 @@
 use Rattle.std.proofs.Common.{◌++◌, ◌+◌, ◌∙◌, ap, length, length-append, sym}
-use Rattle.fuse_flags.specs.Flags.{fs_options_bits}
+use Rattle.vfs_flags.specs.Flags.{fs_options_bits}
 use Rattle.door_ask.proofs.AtOnce.{asks_of_whole, front_header, front_rest}
 use Rattle.door_ask.proofs.at_once.ask_at_once.Goals as goal
 

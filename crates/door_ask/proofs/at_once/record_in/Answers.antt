@@ -1,6 +1,6 @@
 use Rattle.std.proofs.Common.{◌≡◌, ◌≤◌, ◌<◌, true, false, length, nat_lt, arith, refl}
 use Rattle.std.proofs.lemmas.Bool.Decides.{nat_tests}
-use Rattle.fuse_grammar.specs.Records.{size_of}
+use Rattle.vfs_grammar.specs.Records.{size_of}
 use Rattle.door_ask.proofs.at_once.record_in.Goals as goal
 
 pub returns-then-rest-SIZE : goal.returns-then-rest-SIZE

@@ -1,6 +1,6 @@
 use Rattle.std.proofs.Common.{◌≡◌, ◌==◌, false, length, nat_lt, ap}
-use Rattle.fuse_flags.specs.Flags.{fs_options_bits}
-use Rattle.fuse_grammar.specs.Limits.{max_len}
+use Rattle.vfs_flags.specs.Flags.{fs_options_bits}
+use Rattle.vfs_grammar.specs.Limits.{max_len}
 use Rattle.door_ask.proofs.Checking.{ends_short, above_it, judges_after, no_interrupt, not_above}
 use Rattle.door_ask.proofs.checked.check_after.Goals as goal
 

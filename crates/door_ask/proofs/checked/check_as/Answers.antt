@@ -1,10 +1,10 @@
 use Rattle.std.proofs.Common.{◌≡◌, ◌≤◌, ◌∙◌, length, drop, refl, arith, rules, subst, sym}
-use Rattle.fuse_flags.specs.Flags.{fs_options_bits}
-use Rattle.fuse_flags.specs.Numbers.{opcode_of}
-use Rattle.fuse_wire.specs.declared.headers.InHeader.{InHeader}
-use Rattle.fuse_segments.specs.Lengths.{lengths_from}
-use Rattle.fuse_grammar.specs.Ask.{ask}
-use Rattle.fuse_server.specs.MemoryByPieces.{MayWantAfter}
+use Rattle.vfs_flags.specs.Flags.{fs_options_bits}
+use Rattle.vfs_flags.specs.Numbers.{opcode_of}
+use Rattle.vfs_wire.specs.declared.headers.InHeader.{InHeader}
+use Rattle.vfs_segments.specs.Lengths.{lengths_from}
+use Rattle.vfs_grammar.specs.Ask.{ask}
+use Rattle.vfs_server.specs.MemoryByPieces.{MayWantAfter}
 use Rattle.door_ask.specs.Asked.{interrupted_by}
 use Rattle.door_ask.specs.Checked.{Judges}
 use Rattle.door_ask.specs.Memory.{MayWant}

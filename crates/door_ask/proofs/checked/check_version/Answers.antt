@@ -1,6 +1,6 @@
 use Rattle.std.proofs.Common.{length, ap}
-use Rattle.fuse_flags.specs.Flags.{fs_options_bits}
-use Rattle.fuse_flags.specs.declared.constants.TheConstants.{KERNEL_VERSION}
+use Rattle.vfs_flags.specs.Flags.{fs_options_bits}
+use Rattle.vfs_flags.specs.declared.constants.TheConstants.{KERNEL_VERSION}
 use Rattle.door_ask.proofs.Checking.{is_later, judges_later, judges_version, not_above}
 use Rattle.door_ask.proofs.checked.check_version.Goals as goal
 

@@ -1,9 +1,9 @@
 use Rattle.std.proofs.Common.{◌≡◌, ◌∙◌, ◌≤◌, ℕ, List, drop, length, take, ◌-◌, arith, refl, ap, subst, sym, length-drop}
 use Rattle.std.proofs.lemmas.List.{drop-drop, take_all}
-use Rattle.fuse_wire.specs.Records.{ext_header}
-use Rattle.fuse_wire.specs.Fields.{value_of}
-use Rattle.fuse_wire.specs.declared.extensions.ExtHeader.{ExtHeader}
-use Rattle.fuse_grammar.specs.Words.{block_size}
+use Rattle.vfs_wire.specs.Records.{ext_header}
+use Rattle.vfs_wire.specs.Fields.{value_of}
+use Rattle.vfs_wire.specs.declared.extensions.ExtHeader.{ExtHeader}
+use Rattle.vfs_grammar.specs.Words.{block_size}
 use Rattle.door_ask.proofs.Blocks.{Left, all_left, next, skipped, stands_here}
 use Rattle.door_ask.proofs.contexts.context_place.Goals as goal
 use Rattle.door_ask.proofs.contexts.context_place.Goals.{then-size-lt-SIZE-via-then-size-lt-SIZE, then-size-lt-SIZE-via-else-size-lt-SIZE+then-left-size}

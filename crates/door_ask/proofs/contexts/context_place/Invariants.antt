@@ -1,6 +1,6 @@
 use Rattle.std.proofs.Common.{◌≡◌, ◌+◌, ℕ, List, Ok, Some, drop, length}
-use Rattle.fs_trait.specs.Values.{ExtensionValues}
-use Rattle.fuse_grammar.specs.Extensions.{extensions_in}
+use Rattle.vfs_files.specs.Values.{ExtensionValues}
+use Rattle.vfs_grammar.specs.Extensions.{extensions_in}
 use Rattle.door_ask.proofs.Blocks.{Left}
 use Rattle.door_ask.proofs.contexts.context_place.Given as goal
 

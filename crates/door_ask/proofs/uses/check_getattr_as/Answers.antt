@@ -1,5 +1,5 @@
-use Rattle.fuse_flags.specs.Numbers.{opcode_of}
-use Rattle.fuse_wire.specs.Fields.{little, number}
+use Rattle.vfs_flags.specs.Numbers.{opcode_of}
+use Rattle.vfs_wire.specs.Fields.{little, number}
 use Rattle.door_ask.proofs.uses.check_getattr_as.Goals as goal
 
 pub returns-clause-result : goal.returns-clause-result

@@ -1,7 +1,7 @@
 use Rattle.std.proofs.Common.{ap, inl, inr}
-use Rattle.fuse_flags.specs.Flags.{fs_options_bits}
-use Rattle.fuse_flags.specs.Numbers.{opcode_of}
-use Rattle.fuse_wire.specs.Fields.{number}
+use Rattle.vfs_flags.specs.Flags.{fs_options_bits}
+use Rattle.vfs_flags.specs.Numbers.{opcode_of}
+use Rattle.vfs_wire.specs.Fields.{number}
 use Rattle.door_calls.specs.declared.call.CallData.{CallData}
 use Rattle.door_ask.proofs.Short.{usual, told_in_all}
 use Rattle.door_ask.proofs.uses.forget_two.Goals as goal

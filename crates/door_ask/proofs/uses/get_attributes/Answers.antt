@@ -1,4 +1,4 @@
-use Rattle.fuse_flags.specs.Numbers.{opcode_of}
+use Rattle.vfs_flags.specs.Numbers.{opcode_of}
 use Rattle.door_ask.proofs.uses.get_attributes.Goals as goal
 
 pub returns : goal.returns

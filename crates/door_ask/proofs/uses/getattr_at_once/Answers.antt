@@ -1,10 +1,10 @@
 use Rattle.std.proofs.Common.{◌≡◌, false, length, nat_lt, inl, inr, refl, arith}
 use Rattle.std.proofs.lemmas.Bool.Decides.{nat_tests}
-use Rattle.fuse_flags.specs.Flags.{fs_options_bits}
-use Rattle.fuse_flags.specs.Numbers.{opcode_of}
-use Rattle.fuse_wire.specs.Fields.{number, value_of}
-use Rattle.fuse_wire.specs.Records.{in_header}
-use Rattle.fuse_grammar.specs.Samples.{header_9}
+use Rattle.vfs_flags.specs.Flags.{fs_options_bits}
+use Rattle.vfs_flags.specs.Numbers.{opcode_of}
+use Rattle.vfs_wire.specs.Fields.{number, value_of}
+use Rattle.vfs_wire.specs.Records.{in_header}
+use Rattle.vfs_grammar.specs.Samples.{header_9}
 use Rattle.door_ask.proofs.AtOnce.{asks_whole}
 use Rattle.door_ask.proofs.Short.{usual}
 use Rattle.door_ask.proofs.uses.getattr_at_once.Goals as goal

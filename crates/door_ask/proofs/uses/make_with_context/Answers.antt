@@ -1,8 +1,8 @@
 use Rattle.std.proofs.Common.{inl, inr}
-use Rattle.fuse_flags.specs.Flags.{fs_options_bits}
-use Rattle.fuse_flags.specs.Numbers.{opcode_of}
-use Rattle.fuse_wire.specs.Fields.{number}
-use Rattle.fuse_grammar.specs.Extensions.{cut_of, extensions_in}
+use Rattle.vfs_flags.specs.Flags.{fs_options_bits}
+use Rattle.vfs_flags.specs.Numbers.{opcode_of}
+use Rattle.vfs_wire.specs.Fields.{number}
+use Rattle.vfs_grammar.specs.Extensions.{cut_of, extensions_in}
 use Rattle.door_ask.proofs.Short.{usual, told_in_all}
 use Rattle.door_ask.proofs.uses.make_with_context.Goals as goal
 

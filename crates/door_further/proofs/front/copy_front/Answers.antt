@@ -2,7 +2,7 @@ use Rattle.std.proofs.Common.{rules, ◌≡◌, ◌<◌, ◌-◌, ◌∙◌, ℕ
 use Rattle.std.specs.Prelude.{min}
 use Rattle.std.proofs.lemmas.List.{get_or-map, length-map, take_all}
 use Rattle.std.specs.Borrow.{Bor}
-use Rattle.fuse_segments.specs.Segments.{segments_of}
+use Rattle.vfs_segments.specs.Segments.{segments_of}
 use Rattle.door_further.proofs.Gathering.{copied_more, count_more, full_copied, full_count}
 use Rattle.door_further.proofs.front.copy_front.Goals as goal
 

@@ -1,7 +1,7 @@
 use Rattle.std.proofs.Common.{◌≡◌, ◌++◌, length, take, drop}
 use Rattle.std.specs.Prelude.{min}
 use Rattle.std.specs.List.{concat}
-use Rattle.fuse_segments.specs.Segments.{segments_of}
+use Rattle.vfs_segments.specs.Segments.{segments_of}
 use Rattle.door_further.proofs.front.copy_front.Given as goal
 
 abbrev pub invariant-loop-i : goal.invariant-loop-i

@@ -1,7 +1,7 @@
 use Rattle.std.proofs.Common.{◌<◌, ℕ, List, [], length}
 use Rattle.std.proofs.lemmas.List.{get_or-map, length-map}
 use Rattle.std.specs.Borrow.{Bor}
-use Rattle.fuse_segments.specs.Segments.{segments_of}
+use Rattle.vfs_segments.specs.Segments.{segments_of}
 use Rattle.door_further.proofs.Gathering.{none_wanted, wanted_less}
 use Rattle.door_further.proofs.front.is_as_long.Goals as goal
 

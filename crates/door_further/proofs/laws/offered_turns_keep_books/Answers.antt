@@ -1,5 +1,5 @@
 use Rattle.std.proofs.Common.{ap}
-use Rattle.fuse_grammar.specs.Books.{answered}
+use Rattle.vfs_grammar.specs.Books.{answered}
 use Rattle.std.proofs.lemmas.List.{append-nil}
 use Rattle.door_further.proofs.Books.{keep_books, keep_books_in_order}
 use Rattle.door_further.proofs.laws.offered_turns_keep_books.Goals as goal

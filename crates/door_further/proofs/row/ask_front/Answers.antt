@@ -1,12 +1,12 @@
 use Rattle.std.proofs.Common.{◌≡◌, ◌-◌, ◌∙◌, false, length, take, drop, nat_lt, Result, Ok, refl, ap, sym, subst, arith, length-drop}
 use Rattle.std.proofs.lemmas.List.{take_all}
 use Rattle.std.proofs.lemmas.Bool.Decides.{nat_tests}
-use Rattle.fuse_wire.specs.Records.{in_header}
-use Rattle.fuse_wire.specs.declared.headers.InHeader.{InHeader}
-use Rattle.fuse_segments.specs.Segments.{segments_of, flat_bytes}
-use Rattle.fuse_grammar.specs.Limits.{max_len}
-use Rattle.fuse_grammar.specs.Records.{record_of}
-use Rattle.fuse_grammar.specs.declared.error.Error.{Error}
+use Rattle.vfs_wire.specs.Records.{in_header}
+use Rattle.vfs_wire.specs.declared.headers.InHeader.{InHeader}
+use Rattle.vfs_segments.specs.Segments.{segments_of, flat_bytes}
+use Rattle.vfs_grammar.specs.Limits.{max_len}
+use Rattle.vfs_grammar.specs.Records.{record_of}
+use Rattle.vfs_grammar.specs.declared.error.Error.{Error}
 use Rattle.door_further.specs.Further.{What, Tells, row_of, what_after}
 use Rattle.door_further.proofs.row.ask_front.Goals as goal
 

@@ -1,5 +1,5 @@
 use Rattle.std.proofs.Common.{drop, replicate, subst}
-use Rattle.fuse_segments.specs.Segments.{segments_of, flat_bytes}
+use Rattle.vfs_segments.specs.Segments.{segments_of, flat_bytes}
 use Rattle.door_further.specs.Further.{What, Tells}
 use Rattle.door_further.proofs.Beginning.{front}
 use Rattle.door_further.proofs.row.ask_offered.Goals as goal

@@ -1,5 +1,5 @@
-use Rattle.fuse_flags.specs.Flags.{fs_options_bits}
-use Rattle.fuse_segments.specs.Segments.{segments_of, flat_bytes}
+use Rattle.vfs_flags.specs.Flags.{fs_options_bits}
+use Rattle.vfs_segments.specs.Segments.{segments_of, flat_bytes}
 use Rattle.door_further.specs.Further.{told_under, what_of}
 use Rattle.door_further.proofs.Beginning.{tells_none, tells_row}
 use Rattle.door_further.proofs.row.what.Goals as goal

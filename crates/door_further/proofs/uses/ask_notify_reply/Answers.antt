@@ -1,4 +1,4 @@
-use Rattle.fuse_wire.specs.Fields.{number}
+use Rattle.vfs_wire.specs.Fields.{number}
 use Rattle.door_further.proofs.uses.ask_notify_reply.Goals as goal
 
 pub returns : goal.returns

@@ -1,5 +1,5 @@
 use Rattle.std.proofs.Common.{[], ◌∷◌, ◌++◌, subst}
-use Rattle.fuse_grammar.specs.Books.{KeepsBooks}
+use Rattle.vfs_grammar.specs.Books.{KeepsBooks}
 use Rattle.door_further.specs.Further.{What}
 use Rattle.door_further.specs.Turns.{seen_of}
 use Rattle.door_further.proofs.uses_turns.a_tmpfile_in_order_is_counted.Goals as goal

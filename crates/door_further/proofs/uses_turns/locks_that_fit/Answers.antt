@@ -1,6 +1,6 @@
 use Rattle.std.proofs.Common.{◌≡◌, ◌==◌, ℕ, true, List, length, arith}
 use Rattle.std.proofs.lemmas.Bool.Decides.{nat_tests}
-use Rattle.fs_trait.specs.Calls.{Text, Texts}
+use Rattle.vfs_files.specs.Calls.{Text, Texts}
 use Rattle.door_further.specs.Fitting.{IsFit}
 use Rattle.door_further.specs.Uses.{getlk_asked}
 use Rattle.door_further.proofs.uses_turns.locks_that_fit.Goals as goal

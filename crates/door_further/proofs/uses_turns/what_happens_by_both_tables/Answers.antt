@@ -1,5 +1,5 @@
 use Rattle.std.proofs.Common.{subst}
-use Rattle.fuse_grammar.specs.Forms.{Ask}
+use Rattle.vfs_grammar.specs.Forms.{Ask}
 use Rattle.laws_flight.specs.OneTurn.{HappenedBetween}
 use Rattle.door_further.proofs.uses_turns.what_happens_by_both_tables.Goals as goal
 

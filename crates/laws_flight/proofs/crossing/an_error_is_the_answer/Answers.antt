@@ -1,8 +1,8 @@
 use Rattle.std.proofs.Common.{◌≡◌, ◌≢◌, ◌∙◌, ℕ, pos, List, [], ◌∷◌, Option, None, inl, inr, refl, ap, subst, sym, unwrap_or}
-use Rattle.fs_trait.specs.Calls.{Getattr, TimedAttributes, Answer, Done, Failed, Options, Found, Attributes, Put, Opened, Created, Statistics, Text, Count, Offset, Wrote}
-use Rattle.fs_trait.specs.Runs.{Called}
-use Rattle.fuse_grammar.specs.Forms.{Ask}
-use Rattle.fuse_grammar.specs.Listing.{given_back}
+use Rattle.vfs_files.specs.Calls.{Getattr, TimedAttributes, Answer, Done, Failed, Options, Found, Attributes, Put, Opened, Created, Statistics, Text, Count, Offset, Wrote}
+use Rattle.vfs_files.specs.Runs.{Called}
+use Rattle.vfs_grammar.specs.Forms.{Ask}
+use Rattle.vfs_grammar.specs.Listing.{given_back}
 use Rattle.door_calls.specs.declared.data.AnswerData.{AnswerData}
 use Rattle.door_answer.specs.Said.{IsSaid, IsFailed}
 use Rattle.laws_flight.specs.OneTurn.{HappenedBetween}

@@ -1,6 +1,6 @@
 use Rattle.std.proofs.Common.{ap}
 use Rattle.door_calls.specs.declared.call.CallData.{CallData}
-use Rattle.fs_trait.specs.Calls.{Bmap, Destroy, Getlk, Init, Ioctl, NotifyReply, Poll, Setlk, Setlkw, Tmpfile}
+use Rattle.vfs_files.specs.Calls.{Bmap, Destroy, Getlk, Init, Ioctl, NotifyReply, Poll, Setlk, Setlkw, Tmpfile}
 use Rattle.laws_flight.proofs.numbers.calls_that_are_told_by_number.Goals as goal
 
 pub returns-clause-init : goal.returns-clause-init

@@ -1,8 +1,8 @@
 use Rattle.std.proofs.Common.{◌≤◌, List, [], ◌∷◌, length, Some, refl, inl, inr, arith, subst, sym}
 use Rattle.std.proofs.lemmas.List.{take_all}
-use Rattle.fs_trait.specs.Calls.{Done, Forget, Found, Lookup}
-use Rattle.fs_trait.specs.Runs.{Event, Called, OpenedDirectory, Taken}
-use Rattle.fuse_grammar.specs.Books.{answered, sent}
+use Rattle.vfs_files.specs.Calls.{Done, Forget, Found, Lookup}
+use Rattle.vfs_files.specs.Runs.{Event, Called, OpenedDirectory, Taken}
+use Rattle.vfs_grammar.specs.Books.{answered, sent}
 use Rattle.laws_flight.specs.Flight.{Waiting}
 use Rattle.laws_flight.specs.Made.{Going, Point, AreSeenOf, events_seen, ForgetsWhatItWasTold}
 use Rattle.laws_flight.proofs.uses.a_lookup_beside_a_turn_is_seen.Goals as goal

@@ -1,4 +1,4 @@
-use Rattle.fs_trait.specs.Calls.{Read}
+use Rattle.vfs_files.specs.Calls.{Read}
 use Rattle.laws_flight.proofs.uses.a_read_by_its_row.Goals as goal
 
 pub returns-clause-told : goal.returns-clause-told

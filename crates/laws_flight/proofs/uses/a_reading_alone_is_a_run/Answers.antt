@@ -1,5 +1,5 @@
 use Rattle.std.proofs.Common.{[], ◌∷◌}
-use Rattle.fs_trait.specs.Runs.{OpenedDirectory, Taken}
+use Rattle.vfs_files.specs.Runs.{OpenedDirectory, Taken}
 use Rattle.laws_flight.specs.Made.{Began, Completed, Seen}
 use Rattle.laws_flight.proofs.uses.a_reading_alone_is_a_run.Goals as goal
 

@@ -1,6 +1,6 @@
 use Rattle.std.proofs.Common.{subst}
-use Rattle.fuse_flags.specs.Flags.{fs_options_bits}
-use Rattle.fuse_messages.specs.Rooms.{with_after}
+use Rattle.vfs_flags.specs.Flags.{fs_options_bits}
+use Rattle.vfs_messages.specs.Rooms.{with_after}
 use Rattle.door_ask.specs.Asked.{IsAsked}
 use Rattle.door_ask.specs.declared.asked.Asked.{Asked}
 use Rattle.laws_flight.proofs.uses.ask_alone.Goals as goal

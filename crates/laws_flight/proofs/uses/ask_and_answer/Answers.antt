@@ -1,7 +1,7 @@
 use Rattle.std.proofs.Common.{◌≡◌, ◌≤◌, ◌+◌, ◌-◌, ◌∙◌, ℕ, List, length, replicate, inl, inr, arith, sym, subst, length-append}
 use Rattle.std.proofs.lemmas.List.{length-replicate}
-use Rattle.fuse_flags.specs.Flags.{fs_options_bits}
-use Rattle.fuse_messages.specs.Rooms.{with_after}
+use Rattle.vfs_flags.specs.Flags.{fs_options_bits}
+use Rattle.vfs_messages.specs.Rooms.{with_after}
 use Rattle.door_ask.specs.Asked.{IsAsked, IsEnough}
 use Rattle.door_ask.specs.declared.asked.Asked.{Asked}
 use Rattle.laws_flight.proofs.OneTurn.{answered_turn}

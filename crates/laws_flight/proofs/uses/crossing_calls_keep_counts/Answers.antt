@@ -1,7 +1,7 @@
 use Rattle.std.proofs.Common.{List, [], ◌∷◌, refl, arith}
 use Rattle.std.proofs.lemmas.List.Sums.{sum_by-cons}
-use Rattle.fs_trait.specs.Runs.{Event}
-use Rattle.fuse_grammar.specs.Books.{delivered}
+use Rattle.vfs_files.specs.Runs.{Event}
+use Rattle.vfs_grammar.specs.Books.{delivered}
 use Rattle.laws_flight.specs.Flight.{Waiting}
 use Rattle.laws_flight.specs.Made.{Going, Point, Began, Seen, Completed}
 use Rattle.laws_flight.proofs.Made.{are_seen}

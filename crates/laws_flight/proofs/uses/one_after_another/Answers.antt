@@ -1,5 +1,5 @@
 use Rattle.std.proofs.Common.{[], ◌∷◌, refl}
-use Rattle.fuse_grammar.specs.Turn.{Turn}
+use Rattle.vfs_grammar.specs.Turn.{Turn}
 use Rattle.laws_flight.specs.Flight.{Begins, Completes, IsAlone}
 use Rattle.laws_flight.proofs.uses.one_after_another.Goals as goal
 

@@ -1,7 +1,7 @@
 use Rattle.std.proofs.Common.{◌≡◌, ◌≤◌, List, true, length, take, None, arith, subst, sym}
 use Rattle.std.proofs.lemmas.List.{take_all}
 use Rattle.laws_flight.specs.Made.{Point, events_seen, ForgetsWhatItWasTold}
-use Rattle.fuse_grammar.specs.Books.{answered, sent}
+use Rattle.vfs_grammar.specs.Books.{answered, sent}
 use Rattle.laws_flight.proofs.Running.{run_keeps}
 use Rattle.laws_flight.proofs.uses.what_calls_keep_flights_keep.Goals as goal
 

@@ -1,5 +1,5 @@
 use Rattle.std.specs.Vec.Iter.{into_iter_items}
-use Rattle.fuse_server.proofs.Sessions.{passed_on}
+use Rattle.vfs_server.proofs.Sessions.{passed_on}
 use Rattle.laws_history.proofs.Calling.{handles_none, handles_more}
 use Rattle.laws_history.proofs.uses.handle_each.Goals as goal
 

@@ -1,6 +1,6 @@
 use Rattle.std.proofs.Common.{◌≡◌, ◌++◌, map}
 use Rattle.std.specs.Vec.Iter.{into_iter_items}
-use Rattle.fuse_segments.specs.Unread.{Unread}
+use Rattle.vfs_segments.specs.Unread.{Unread}
 use Rattle.laws_history.specs.Calls.{HandlesEach}
 use Rattle.laws_history.proofs.uses.handle_each.Given as goal
 

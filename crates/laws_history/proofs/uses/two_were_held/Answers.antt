@@ -1,8 +1,8 @@
 use Rattle.std.proofs.Common.{◌≤◌, ◌+◌, List, length, subst, arith}
 use Rattle.std.proofs.Math.Seq.{take-length}
-use Rattle.fs_trait.specs.Runs.{Event}
-use Rattle.fuse_grammar.specs.Books.{answered, sent}
-use Rattle.fuse_grammar.specs.Turn.{events_in}
+use Rattle.vfs_files.specs.Runs.{Event}
+use Rattle.vfs_grammar.specs.Books.{answered, sent}
+use Rattle.vfs_grammar.specs.Turn.{events_in}
 use Rattle.laws_history.specs.History.{turns_in}
 use Rattle.laws_history.proofs.uses.two_were_held.Goals as goal
 

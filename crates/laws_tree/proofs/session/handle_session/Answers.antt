@@ -1,5 +1,5 @@
 use Rattle.std.proofs.Common.{List, map, subst}
-use Rattle.fuse_grammar.specs.Turn.{Turn}
+use Rattle.vfs_grammar.specs.Turn.{Turn}
 use Rattle.laws_history.specs.History.{Handled}
 use Rattle.laws_history.proofs.Going.{turns_of_handled}
 use Rattle.laws_tree.specs.Runs.{KeepsTree, LeavesNone}

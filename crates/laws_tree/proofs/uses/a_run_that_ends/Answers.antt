@@ -1,7 +1,7 @@
 use Rattle.std.proofs.Common.{◌≤◌, ℕ, zero, suc, [], ◌∷◌, None, take, arith}
-use Rattle.fs_trait.specs.Calls.{Destroy}
-use Rattle.fs_trait.specs.Runs.{Called}
-use Rattle.fuse_grammar.specs.Books.{answered, sent}
+use Rattle.vfs_files.specs.Calls.{Destroy}
+use Rattle.vfs_files.specs.Runs.{Called}
+use Rattle.vfs_grammar.specs.Books.{answered, sent}
 use Rattle.laws_tree.proofs.uses.a_run_that_ends.Goals as goal
 
 none_sent : (n k : ℕ) → sent n (take k []) ≤ answered n (take k [])

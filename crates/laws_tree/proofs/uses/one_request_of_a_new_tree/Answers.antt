@@ -1,5 +1,5 @@
 use Rattle.std.proofs.Common.{◌≡◌, ◌≤◌, ℕ, zero, suc, false, [], ◌∷◌, take, sum_by, arith, refl}
-use Rattle.fuse_grammar.specs.Books.{accepted, delivered}
+use Rattle.vfs_grammar.specs.Books.{accepted, delivered}
 use Rattle.laws_history.specs.History.{Handled}
 use Rattle.laws_tree.specs.Runs.{last_turns}
 use Rattle.laws_tree.proofs.uses.one_request_of_a_new_tree.Goals as goal

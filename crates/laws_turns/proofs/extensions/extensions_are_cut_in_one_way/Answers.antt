@@ -1,4 +1,4 @@
-use Rattle.fuse_grammar.proofs.Blocks.{extensions_in-cut}
+use Rattle.vfs_grammar.proofs.Blocks.{extensions_in-cut}
 use Rattle.laws_turns.proofs.OneCut.{cut_of-is, cut-only}
 use Rattle.laws_turns.proofs.extensions.extensions_are_cut_in_one_way.Goals as goal
 

@@ -1,5 +1,5 @@
 use Rattle.std.proofs.Common.{arith}
-use Rattle.fuse_grammar.proofs.Listings.{length-listing, listing_within}
+use Rattle.vfs_grammar.proofs.Listings.{length-listing, listing_within}
 use Rattle.laws_turns.proofs.listings.records_are_counted.Goals as goal
 
 pub returns : goal.returns

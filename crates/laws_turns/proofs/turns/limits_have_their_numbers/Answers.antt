@@ -1,5 +1,5 @@
 use Rattle.std.proofs.Common.{lit<, arith}
-use Rattle.fuse_grammar.specs.Limits.{default_limits}
+use Rattle.vfs_grammar.specs.Limits.{default_limits}
 use Rattle.laws_turns.proofs.Said.{max_write_said}
 use Rattle.laws_turns.proofs.Sizes.{len_within, len_above, pairs_within, pairs_above}
 use Rattle.laws_turns.proofs.turns.limits_have_their_numbers.Goals as goal

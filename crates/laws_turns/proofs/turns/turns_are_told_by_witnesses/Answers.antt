@@ -1,4 +1,4 @@
-use Rattle.fuse_grammar.specs.Witnesses.{follows_plainly, follows_as_told}
+use Rattle.vfs_grammar.specs.Witnesses.{follows_plainly, follows_as_told}
 use Rattle.laws_turns.proofs.turns.turns_are_told_by_witnesses.Goals as goal
 
 pub returns-clause-plainly : goal.returns-clause-plainly

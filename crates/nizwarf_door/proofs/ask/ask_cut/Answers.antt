@@ -1,5 +1,5 @@
 use Rattle.std.proofs.Common.{◌<◌, ◌≤◌, ◌^◌, ℕ, length, arith, inl, inr, refl, rules}
-use Rattle.fuse_segments.specs.Segments.{flat_bytes, segments_of}
+use Rattle.vfs_segments.specs.Segments.{flat_bytes, segments_of}
 use Rattle.nizwarf_door.proofs.Leaving.{nothing_shown}
 use Rattle.nizwarf_door.proofs.ask.ask_cut.Goals as goal
 

@@ -1,8 +1,8 @@
 use Rattle.std.proofs.Common.{◌≡◌, ◌∷◌, List, ℕ, [], length, rules, subst, sym}
-use Rattle.fuse_flags.specs.Flags.{fs_options_bits}
-use Rattle.fuse_segments.specs.Lengths.{lengths_from}
-use Rattle.fuse_segments.specs.Segments.{flat_bytes, segments_of}
-use Rattle.fuse_grammar.specs.Ask.{ask}
+use Rattle.vfs_flags.specs.Flags.{fs_options_bits}
+use Rattle.vfs_segments.specs.Lengths.{lengths_from}
+use Rattle.vfs_segments.specs.Segments.{flat_bytes, segments_of}
+use Rattle.vfs_grammar.specs.Ask.{ask}
 use Rattle.door_ask.specs.Memory.{MayWantAfterHeader}
 use Rattle.c_rooms.specs.Codes.{no_memory}
 use Rattle.nizwarf_door.specs.Kept.{HasFor}

@@ -1,7 +1,7 @@
 use Rattle.std.proofs.Common.{◌≡◌, ◌∙◌, List, [], ◌∷◌, ℕ, length, ap, arith, length-append}
 use Rattle.std.specs.Borrow.{Bor}
-use Rattle.fuse_segments.specs.Lengths.{lengths_from}
-use Rattle.fuse_segments.specs.Segments.{segments_of, flat_bytes, lengths_of}
+use Rattle.vfs_segments.specs.Lengths.{lengths_from}
+use Rattle.vfs_segments.specs.Segments.{segments_of, flat_bytes, lengths_of}
 use Rattle.nizwarf_door.proofs.check.reader_of.Goals as goal
 
 -- one piece has all bytes

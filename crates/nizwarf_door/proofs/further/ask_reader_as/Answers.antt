@@ -1,5 +1,5 @@
 use Rattle.std.proofs.Common.{◌≡◌, ◌≤◌, true, length, rules}
-use Rattle.fuse_flags.specs.Flags.{fs_options_bits}
+use Rattle.vfs_flags.specs.Flags.{fs_options_bits}
 use Rattle.c_rooms.specs.Codes.{is_asked, no_memory, outcome_code}
 use Rattle.door_further.specs.Turns.{as_create}
 use Rattle.nizwarf_door.proofs.Asking.{finished_room, kept_for, no_call, other_number, told_call, told_finished, told_has, told_or_not}

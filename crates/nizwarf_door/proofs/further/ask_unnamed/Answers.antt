@@ -1,6 +1,6 @@
 use Rattle.std.proofs.Common.{refl, rules}
-use Rattle.fuse_flags.specs.Flags.{fs_options_bits}
-use Rattle.fuse_segments.specs.Segments.{flat_bytes, segments_of}
+use Rattle.vfs_flags.specs.Flags.{fs_options_bits}
+use Rattle.vfs_segments.specs.Segments.{flat_bytes, segments_of}
 use Rattle.nizwarf_door.proofs.Leaving.{held_on}
 use Rattle.nizwarf_door.proofs.OfferedAsks.{named_room, none_unnamed}
 use Rattle.nizwarf_door.proofs.further.ask_unnamed.Goals as goal

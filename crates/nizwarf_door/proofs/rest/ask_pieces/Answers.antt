@@ -1,9 +1,9 @@
 use Rattle.std.proofs.Common.{◌≡◌, ◌≤◌, ◌+◌, ◌++◌, ◌∙◌, List, ℕ, [], ◌∷◌, true, length, append-nil, ap, rules, subst}
-use Rattle.fuse_segments.specs.Lengths.{lengths_from}
-use Rattle.fuse_messages.specs.Rooms.{with_after}
+use Rattle.vfs_segments.specs.Lengths.{lengths_from}
+use Rattle.vfs_messages.specs.Rooms.{with_after}
 use Rattle.door_ask.specs.Asked.{IsAsked}
 use Rattle.door_ask.specs.Memory.{MayWantAfterHeader}
-use Rattle.fuse_flags.specs.Flags.{fs_options_bits}
+use Rattle.vfs_flags.specs.Flags.{fs_options_bits}
 use Rattle.c_rooms.specs.Codes.{is_asked, no_memory, outcome_code}
 use Rattle.nizwarf_door.proofs.Asking.{finished_room, kept_for, no_call, other_number, told_call, told_finished, told_has, told_or_not}
 use Rattle.nizwarf_door.proofs.Leaving.{keeps_room, nothing_shown}

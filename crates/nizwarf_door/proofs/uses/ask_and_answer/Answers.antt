@@ -1,7 +1,7 @@
 use Rattle.std.proofs.Common.{◌≡◌, ◌≢◌, rules, subst}
 use Rattle.std.specs.Prelude.{ℤ}
 use Rattle.c_rooms.specs.Codes.{is_asked, no_memory, not_asked}
-use Rattle.fuse_segments.specs.Segments.{flat_bytes, segments_of}
+use Rattle.vfs_segments.specs.Segments.{flat_bytes, segments_of}
 use Rattle.nizwarf_door.specs.Session.{limits_of, options_of}
 use Rattle.nizwarf_door.specs.Shown.{shown_in}
 use Rattle.nizwarf_door.specs.Uses.{IsOneTurn}

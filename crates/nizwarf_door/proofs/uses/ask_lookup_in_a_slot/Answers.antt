@@ -1,8 +1,8 @@
 use Rattle.std.proofs.Common.{◌≡◌, ◌≢◌, ◌≤◌, List, ℕ, length, ap, arith, rules}
-use Rattle.fuse_flags.specs.Numbers.{opcode_of}
-use Rattle.fuse_wire.specs.Fields.{number}
-use Rattle.fuse_grammar.specs.Samples.{lookup_of_a}
-use Rattle.fuse_segments.specs.Segments.{flat_bytes, segments_of}
+use Rattle.vfs_flags.specs.Numbers.{opcode_of}
+use Rattle.vfs_wire.specs.Fields.{number}
+use Rattle.vfs_grammar.specs.Samples.{lookup_of_a}
+use Rattle.vfs_segments.specs.Segments.{flat_bytes, segments_of}
 use Rattle.c_rooms.specs.Codes.{no_memory}
 use Rattle.nizwarf_door.proofs.Lookup.{are_limits, asked_for, looked_up}
 use Rattle.nizwarf_door.proofs.uses.ask_lookup_in_a_slot.Goals as goal

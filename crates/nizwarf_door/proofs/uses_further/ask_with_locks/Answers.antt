@@ -1,5 +1,5 @@
 use Rattle.std.proofs.Common.{◌≡◌, ap, arith, refl, rules, subst}
-use Rattle.fuse_wire.specs.Fields.{little, number}
+use Rattle.vfs_wire.specs.Fields.{little, number}
 use Rattle.door_calls.specs.declared.call.CallData.{CallData}
 use Rattle.nizwarf_door.specs.Kept.{HoldsAnswer, put_of}
 use Rattle.nizwarf_door.proofs.Asking.{call_of_tells, code_of_tells}

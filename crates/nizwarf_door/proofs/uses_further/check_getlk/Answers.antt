@@ -1,5 +1,5 @@
 use Rattle.std.proofs.Common.{◌≡◌, rules}
-use Rattle.fuse_wire.specs.Fields.{number}
+use Rattle.vfs_wire.specs.Fields.{number}
 use Rattle.c_rooms.specs.Codes.{is_asked}
 use Rattle.nizwarf_door.proofs.Lookup.{are_limits}
 use Rattle.nizwarf_door.proofs.uses_further.check_getlk.Goals as goal

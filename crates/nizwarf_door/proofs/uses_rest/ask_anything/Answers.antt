@@ -1,6 +1,6 @@
 use Rattle.std.proofs.Common.{◌≡◌, ◌∙◌, rules, sym}
-use Rattle.fuse_flags.specs.Numbers.{opcode_of}
-use Rattle.fuse_segments.specs.Segments.{segments_of}
+use Rattle.vfs_flags.specs.Numbers.{opcode_of}
+use Rattle.vfs_segments.specs.Segments.{segments_of}
 use Rattle.door_ask.specs.Memory.{MayWant}
 use Rattle.c_rooms.specs.Codes.{no_memory, too_long}
 use Rattle.nizwarf_door.specs.Asking.{unread_in}

@@ -1,7 +1,7 @@
 use Rattle.std.proofs.Common.{◌<◌, ◌∙◌, ℕ, List, [], length, ap, arith, length-drop}
 use Rattle.std.proofs.lemmas.List.{get_or-map, length-map, take_all}
 use Rattle.std.specs.Borrow.{Bor}
-use Rattle.fuse_segments.specs.Segments.{flat_bytes, segments_of}
+use Rattle.vfs_segments.specs.Segments.{flat_bytes, segments_of}
 use Rattle.nizwarf_tree.proofs.Offering.{after_more, less, pushed}
 use Rattle.nizwarf_tree.proofs.offered.push_after.Goals as goal
 

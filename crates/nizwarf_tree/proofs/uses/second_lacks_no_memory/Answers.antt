@@ -1,5 +1,5 @@
 use Rattle.std.proofs.Common.{◌≡◌, ◌≢◌, ◌≤◌, length, rules}
-use Rattle.fuse_segments.specs.Segments.{segments_of}
+use Rattle.vfs_segments.specs.Segments.{segments_of}
 use Rattle.c_rooms.specs.Codes.{no_memory, ok, too_long}
 use Rattle.nizwarf_tree.proofs.Keeping.{next_lacks_none}
 use Rattle.nizwarf_tree.proofs.uses.second_lacks_no_memory.Goals as goal

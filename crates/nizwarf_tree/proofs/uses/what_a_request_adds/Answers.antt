@@ -1,5 +1,5 @@
 use Rattle.std.proofs.Common.{◌∙◌, ℕ, List, [], ◌∷◌, map, ap}
-use Rattle.fuse_grammar.specs.Turn.{Turn}
+use Rattle.vfs_grammar.specs.Turn.{Turn}
 use Rattle.laws_history.specs.History.{Moment, turns_in}
 use Rattle.nizwarf_tree.specs.Files.{State}
 use Rattle.nizwarf_tree.proofs.uses.what_a_request_adds.Goals as goal

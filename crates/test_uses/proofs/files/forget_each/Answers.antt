@@ -1,6 +1,6 @@
 use Rattle.std.proofs.Common.{rules, ◌≡◌, ◌∷◌, [], List, length, refl, ap, arith, sym, ◌∙◌, append_assoc, append-nil}
 use Rattle.std.specs.Vec.Iter.{into_iter_items}
-use Rattle.fs_trait.proofs.Forgetting.{forgets_more}
+use Rattle.vfs_files.proofs.Forgetting.{forgets_more}
 use Rattle.test_uses.proofs.files.forget_each.Goals as goal
 
 -- a list of no length is empty

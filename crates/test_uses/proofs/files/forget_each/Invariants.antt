@@ -1,6 +1,6 @@
 use Rattle.std.proofs.Common.{◌≡◌, ◌++◌, length, map}
 use Rattle.std.specs.Vec.Iter.{into_iter_items, into_iter_len}
-use Rattle.fs_trait.specs.Runs.{ForgetsEach}
+use Rattle.vfs_files.specs.Runs.{ForgetsEach}
 use Rattle.test_uses.proofs.files.forget_each.Given as goal
 
 abbrev pub invariant-loop-inode : goal.invariant-loop-inode

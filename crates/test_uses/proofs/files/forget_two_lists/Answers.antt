@@ -1,8 +1,8 @@
 use Rattle.std.proofs.Common.{ℕ, List, None, map, sym, subst}
 use Rattle.std.proofs.lemmas.List.{map-append}
-use Rattle.fs_trait.specs.Calls.{Forget, Done}
-use Rattle.fs_trait.specs.Runs.{Event, Called, IsRun}
-use Rattle.fs_trait.proofs.Forgetting.{pairs_of}
+use Rattle.vfs_files.specs.Calls.{Forget, Done}
+use Rattle.vfs_files.specs.Runs.{Event, Called, IsRun}
+use Rattle.vfs_files.proofs.Forgetting.{pairs_of}
 use Rattle.test_uses.proofs.files.forget_two_lists.Goals as goal
 
 pub returns : goal.returns

@@ -1,5 +1,5 @@
 use Rattle.std.proofs.Common.{◌≡◌, ◌<◌, ◌+◌, ◌^◌, ◌-◌, ℕ, Option, Result, Ok, Err, IfOk, arith}
-use Rattle.fs_trait.specs.TransferLaws.{transfer_below}
+use Rattle.vfs_files.specs.TransferLaws.{transfer_below}
 use Rattle.test_uses.proofs.files.from_the_last_position.Goals as goal
 
 -- a number after the last position is 0

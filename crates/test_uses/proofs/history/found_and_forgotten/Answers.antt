@@ -1,5 +1,5 @@
 use Rattle.std.proofs.Common.{◌≡◌, ◌∙◌, ◌∷◌, ◌++◌, ℕ, List, [], length, ap}
-use Rattle.fuse_segments.specs.Lengths.{lengths_from}
+use Rattle.vfs_segments.specs.Lengths.{lengths_from}
 use Rattle.test_uses.proofs.HistoryCallers.{both, lookup_wants_none}
 use Rattle.test_uses.proofs.history.found_and_forgotten.Goals as goal
 

@@ -1,7 +1,7 @@
 use Rattle.std.proofs.Common.{[], ◌∷◌, Some, None, false}
 use Rattle.std.proofs.lemmas.List.Elements.{All-cons, All-nil}
-use Rattle.fs_trait.specs.Runs.{Taken}
-use Rattle.fuse_grammar.specs.Directories.{GoesOn}
+use Rattle.vfs_files.specs.Runs.{Taken}
+use Rattle.vfs_grammar.specs.Directories.{GoesOn}
 use Rattle.test_uses.proofs.laws.any_name_is_whole.Goals as goal
 
 pub returns : goal.returns

@@ -1,9 +1,9 @@
 use Rattle.std.proofs.Common.{◌≡◌, ◌∙◌, ℕ, List, None, arith, ap, codes, length, refl}
-use Rattle.fuse_segments.specs.Written.{wrote}
-use Rattle.fuse_wire.specs.Fields.{little}
-use Rattle.fuse_grammar.specs.Listing.{dirent_bytes}
-use Rattle.fuse_grammar.specs.Words.{record_bytes}
-use Rattle.fuse_grammar.specs.Samples.{record_of_dot}
+use Rattle.vfs_segments.specs.Written.{wrote}
+use Rattle.vfs_wire.specs.Fields.{little}
+use Rattle.vfs_grammar.specs.Listing.{dirent_bytes}
+use Rattle.vfs_grammar.specs.Words.{record_bytes}
+use Rattle.vfs_grammar.specs.Samples.{record_of_dot}
 use Rattle.test_uses.proofs.SmallCallers.{put_whole}
 use Rattle.test_uses.proofs.listings.add_dot.Goals as goal
 

@@ -1,5 +1,5 @@
 use Rattle.std.proofs.Common.{None, arith}
-use Rattle.fs_trait.specs.Values.{item}
+use Rattle.vfs_files.specs.Values.{item}
 use Rattle.test_uses.proofs.SmallCallers.{cut_fills}
 use Rattle.test_uses.proofs.listings.add_past_the_room.Goals as goal
 

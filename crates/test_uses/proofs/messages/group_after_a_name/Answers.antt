@@ -1,9 +1,9 @@
 use Rattle.std.proofs.Common.{Some, None, Ok, refl}
 use Rattle.std.proofs.lemmas.Result.{MatchResult-weaker}
-use Rattle.fuse_wire.specs.Fields.{number}
-use Rattle.fs_trait.specs.Values.{ExtensionValues, extension_values_of}
-use Rattle.fuse_grammar.specs.Extensions.{extensions_in, cut_of}
-use Rattle.fuse_messages.proofs.Blocks.{GivesValue-at_ok}
+use Rattle.vfs_wire.specs.Fields.{number}
+use Rattle.vfs_files.specs.Values.{ExtensionValues, extension_values_of}
+use Rattle.vfs_grammar.specs.Extensions.{extensions_in, cut_of}
+use Rattle.vfs_messages.proofs.Blocks.{GivesValue-at_ok}
 use Rattle.test_uses.proofs.messages.group_after_a_name.Goals as goal
 
 pub returns : goal.returns

@@ -1,5 +1,5 @@
 use Rattle.std.proofs.Common.{sym}
-use Rattle.fuse_wire.specs.Fields.{number}
+use Rattle.vfs_wire.specs.Fields.{number}
 use Rattle.test_uses.proofs.messages.group_of_a_body.Goals as goal
 
 pub returns : goal.returns

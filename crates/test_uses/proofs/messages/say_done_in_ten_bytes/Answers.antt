@@ -1,7 +1,7 @@
 use Rattle.std.proofs.Common.{◌<◌, ◌∙◌, ◌++◌, ℕ, List, [], length, take, ap, arith}
-use Rattle.fuse_wire.specs.Fields.{little}
-use Rattle.fuse_grammar.specs.Reply.{body_reply}
-use Rattle.fuse_grammar.proofs.Rooms.{put_outcome-full, put_room-full, length-body_reply}
+use Rattle.vfs_wire.specs.Fields.{little}
+use Rattle.vfs_grammar.specs.Reply.{body_reply}
+use Rattle.vfs_grammar.proofs.Rooms.{put_outcome-full, put_room-full, length-body_reply}
 use Rattle.test_uses.proofs.messages.say_done_in_ten_bytes.Goals as goal
 
 pub returns-clause-outcome : goal.returns-clause-outcome

@@ -1,7 +1,7 @@
 use Rattle.std.proofs.Common.{◌∙◌, ◌++◌, ℕ, List, ap}
-use Rattle.fuse_wire.specs.Fields.{little}
-use Rattle.fuse_grammar.specs.Samples.{not_served_reply}
-use Rattle.fuse_grammar.proofs.Rooms.{put_outcome-fits, put_room-fits}
+use Rattle.vfs_wire.specs.Fields.{little}
+use Rattle.vfs_grammar.specs.Samples.{not_served_reply}
+use Rattle.vfs_grammar.proofs.Rooms.{put_outcome-fits, put_room-fits}
 use Rattle.test_uses.proofs.messages.say_not_served.Goals as goal
 
 pub returns-clause-outcome : goal.returns-clause-outcome

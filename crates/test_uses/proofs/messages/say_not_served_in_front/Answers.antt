@@ -1,6 +1,6 @@
 use Rattle.std.proofs.Common.{ap}
-use Rattle.fuse_wire.specs.Fields.{little}
-use Rattle.fuse_segments.specs.Written.{Written}
+use Rattle.vfs_wire.specs.Fields.{little}
+use Rattle.vfs_segments.specs.Written.{Written}
 use Rattle.test_uses.proofs.messages.say_not_served_in_front.Goals as goal
 
 pub returns-clause-bytes : goal.returns-clause-bytes

@@ -1,8 +1,8 @@
 use Rattle.std.proofs.Common.{◌≡◌, ℕ, List, [], ◌∷◌, ◌++◌, map, None, refl, ap, ◌∙◌}
-use Rattle.fs_trait.specs.Calls.{Forget, Done}
-use Rattle.fs_trait.specs.Runs.{Called}
-use Rattle.fs_trait.specs.declared.entry.Context.{Context}
-use Rattle.fs_mock.specs.Notes.{notes_of, unanswered}
+use Rattle.vfs_files.specs.Calls.{Forget, Done}
+use Rattle.vfs_files.specs.Runs.{Called}
+use Rattle.vfs_files.specs.declared.entry.Context.{Context}
+use Rattle.vfs_bench.specs.Notes.{notes_of, unanswered}
 use Rattle.test_uses.proofs.mock.forgets_are_noted.Goals as goal
 
 -- the notes of these calls of `forget`

@@ -1,5 +1,5 @@
 use Rattle.std.proofs.Common.{◌≡◌, List, [], ◌∷◌}
-use Rattle.fs_trait.specs.Values.{Item}
+use Rattle.vfs_files.specs.Values.{Item}
 use Rattle.test_uses.proofs.mock_more.items_come_in_order.Goals as goal
 
 first_same : (a b : Item) (xs ys : List Item) → a ∷ xs ≡ b ∷ ys → (b ≡ a) × (ys ≡ xs)

@@ -1,8 +1,8 @@
 use Rattle.std.proofs.Common.{ℕ, Option, Some, None, Result, Err, subst}
-use Rattle.fs_trait.specs.Answers.{Answer, Count}
-use Rattle.fs_mock.specs.Directories.{Reading}
-use Rattle.fs_mock.specs.Scripts.{MayCopy, MayOpen, WritesFile}
-use Rattle.fs_mock.specs.declared.file.ScriptFile.{ScriptFile}
+use Rattle.vfs_files.specs.Answers.{Answer, Count}
+use Rattle.vfs_bench.specs.Directories.{Reading}
+use Rattle.vfs_bench.specs.Scripts.{MayCopy, MayOpen, WritesFile}
+use Rattle.vfs_bench.specs.declared.file.ScriptFile.{ScriptFile}
 use Rattle.test_uses.proofs.mock_more.scripts_hand_back_what_was_set.Goals as goal
 
 pub returns-clause-count : goal.returns-clause-count

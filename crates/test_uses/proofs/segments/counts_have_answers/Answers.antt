@@ -1,5 +1,5 @@
 use Rattle.std.proofs.Common.{[], ◌∷◌}
-use Rattle.fuse_segments.specs.Answers.{Available, Taken}
+use Rattle.vfs_segments.specs.Answers.{Available, Taken}
 use Rattle.test_uses.proofs.segments.counts_have_answers.Goals as goal
 
 pub returns : goal.returns

@@ -1,6 +1,6 @@
 use Rattle.std.proofs.Common.{ap, ◌∙◌, length, take}
-use Rattle.fuse_segments.specs.SegmentLaws.{passed-held_filled}
-use Rattle.fuse_segments.specs.Written.{Written, wrote, held_filled}
+use Rattle.vfs_segments.specs.SegmentLaws.{passed-held_filled}
+use Rattle.vfs_segments.specs.Written.{Written, wrote, held_filled}
 use Rattle.test_uses.proofs.segments.header_before_body.Goals as goal
 
 pub returns-clause-wrote : goal.returns-clause-wrote

@@ -1,7 +1,7 @@
 use Rattle.std.proofs.Common.{◌≡◌, ◌∙◌, ◌+◌, ◌≤◌, ℕ, List, [], ◌∷◌, ◌++◌, ap, arith, drop, length, length-append, take, take_all}
-use Rattle.fuse_segments.specs.Written.{Written, wrote}
-use Rattle.fuse_wire.specs.Fields.{bytes_of, lone_number}
-use Rattle.fuse_wire.specs.FieldLaws.{length-bytes_of}
+use Rattle.vfs_segments.specs.Written.{Written, wrote}
+use Rattle.vfs_wire.specs.Fields.{bytes_of, lone_number}
+use Rattle.vfs_wire.specs.FieldLaws.{length-bytes_of}
 use Rattle.test_uses.proofs.segments.number_and_two_bytes.Goals as goal
 
 -- what fits is put

@@ -1,5 +1,5 @@
 use Rattle.std.proofs.Common.{arith, ◌<◌, ◌^◌, [], ◌∷◌, length}
-use Rattle.fuse_segments.proofs.Totals.{never_falls}
+use Rattle.vfs_segments.proofs.Totals.{never_falls}
 use Rattle.test_uses.proofs.segments.place_among_four_segments.Goals as goal
 
 pub find_segment-segment-requires-clause-ordered : goal.find_segment-segment-requires-clause-ordered

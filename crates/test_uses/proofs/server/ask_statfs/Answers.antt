@@ -1,6 +1,6 @@
 use Rattle.std.proofs.Common.{◌≡◌, ◌∙◌, ◌++◌, ℕ, List, [], ap}
-use Rattle.fs_trait.specs.Answers.{Plain}
-use Rattle.fs_trait.specs.Calls.{default_answer}
+use Rattle.vfs_files.specs.Answers.{Plain}
+use Rattle.vfs_files.specs.Calls.{default_answer}
 use Rattle.test_uses.proofs.Callers.{step-statfs}
 use Rattle.test_uses.proofs.server.ask_statfs.Goals as goal
 

@@ -1,6 +1,6 @@
 use Rattle.std.proofs.Common.{◌≡◌, ◌∙◌, ◌++◌, ℕ, List, [], Some, ap, refl}
 use Rattle.std.specs.Result.{result_ok}
-use Rattle.fuse_grammar.specs.declared.limits.Limits.{Limits}
+use Rattle.vfs_grammar.specs.declared.limits.Limits.{Limits}
 use Rattle.test_uses.proofs.Callers.{step-long}
 use Rattle.test_uses.proofs.server.len_above_a_chosen_limit.Goals as goal
 

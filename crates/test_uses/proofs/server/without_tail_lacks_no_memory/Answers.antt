@@ -1,5 +1,5 @@
 use Rattle.std.proofs.Common.{length}
-use Rattle.fuse_grammar.specs.Memory.{header_of}
+use Rattle.vfs_grammar.specs.Memory.{header_of}
 use Rattle.test_uses.proofs.Callers.{without_tail}
 use Rattle.test_uses.proofs.server.without_tail_lacks_no_memory.Goals as goal
 

@@ -1,7 +1,7 @@
 use Rattle.std.proofs.Common.{◌∙◌, [], ◌∷◌, Option, Some, is_some, if◌then◌else◌, ap}
-use Rattle.fuse_flags.specs.Numbers.{enoent, enotdir}
-use Rattle.fuse_wire.specs.declared.attributes.Attr.{Attr}
-use Rattle.fs_trait.specs.Answers.{Failed}
+use Rattle.vfs_flags.specs.Numbers.{enoent, enotdir}
+use Rattle.vfs_wire.specs.declared.attributes.Attr.{Attr}
+use Rattle.vfs_files.specs.Answers.{Failed}
 use Rattle.fs_small.specs.ReadOnly.{refusal_of}
 use Rattle.test_uses.proofs.SmallFiles.{items_left, no_items, items_alone}
 use Rattle.test_uses.proofs.small_files.a_directory_in_a_tree.Goals as goal

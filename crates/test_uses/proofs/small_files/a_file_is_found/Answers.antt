@@ -1,5 +1,5 @@
 use Rattle.std.proofs.Common.{codes, ap}
-use Rattle.fuse_wire.specs.declared.attributes.Attr.{Attr}
+use Rattle.vfs_wire.specs.declared.attributes.Attr.{Attr}
 use Rattle.fs_small.specs.MemFs.{Stored, file_attr}
 use Rattle.test_uses.proofs.SmallFiles.{found_as, not_found, attributes_are, no_attributes, attributes_alone}
 use Rattle.test_uses.proofs.small_files.a_file_is_found.Goals as goal

@@ -1,6 +1,6 @@
 use Rattle.std.proofs.Common.{◌∙◌, ℕ, List, [], codes, ap, arith}
-use Rattle.fuse_views.specs.Segments.{with_bytes_at}
-use Rattle.fs_trait.specs.Bytes.{most_put}
+use Rattle.vfs_views.specs.Segments.{with_bytes_at}
+use Rattle.vfs_files.specs.Bytes.{most_put}
 use Rattle.fs_small.specs.MemFs.{Stock, with_contents}
 use Rattle.test_uses.specs.Files.{one_file}
 use Rattle.test_uses.proofs.SmallFiles.{was_written, not_written, written_alone, none_written, none_read}

@@ -1,6 +1,6 @@
 use Rattle.std.proofs.Common.{◌∙◌, List, codes, Option, Some, None, is_some, if◌then◌else◌, ap}
-use Rattle.fuse_flags.specs.Numbers.{enoent, enotdir}
-use Rattle.fs_trait.specs.Answers.{Done, Failed, Found}
+use Rattle.vfs_flags.specs.Numbers.{enoent, enotdir}
+use Rattle.vfs_files.specs.Answers.{Done, Failed, Found}
 use Rattle.fs_small.specs.ReadOnly.{refusal_of}
 use Rattle.fs_small.specs.Tables.{Named}
 use Rattle.test_uses.proofs.SmallFiles.{entry_of, no_entry, entry_alone, looked_up, no_child}

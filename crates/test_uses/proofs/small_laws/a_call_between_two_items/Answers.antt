@@ -1,5 +1,5 @@
 use Rattle.std.proofs.Common.{sym, subst}
-use Rattle.fs_trait.specs.Calls.{Plain}
+use Rattle.vfs_files.specs.Calls.{Plain}
 use Rattle.test_uses.proofs.small_laws.a_call_between_two_items.Goals as goal
 
 pub returns : goal.returns

@@ -1,4 +1,4 @@
-use Rattle.fs_trait.specs.Calls.{Lookup}
+use Rattle.vfs_files.specs.Calls.{Lookup}
 use Rattle.test_uses.proofs.small_laws.an_unserved_lookup_is_answered.Goals as goal
 
 pub returns : goal.returns

@@ -1,8 +1,8 @@
 use Rattle.std.proofs.Common.{◌≡◌, ◌<◌, ◌⊎◌, ℕ, length, Ok, Vec, refl, inl, inr}
 use Rattle.std.specs.declared.alloc.Global.{Global}
-use Rattle.fs_trait.specs.Answers.{Kind, Quiet, Told, Untold, Data, Agreements, Entries, TimedAttributes, Openings, Creations, Capacities, Texts, TextsOrCounts, Offsets, Writes, Iterators, Faults}
-use Rattle.fs_trait.specs.CallValue.{IsOfKind}
-use Rattle.fs_trait.specs.declared.call_value.Given.TheVariants as given
+use Rattle.vfs_files.specs.Answers.{Kind, Quiet, Told, Untold, Data, Agreements, Entries, TimedAttributes, Openings, Creations, Capacities, Texts, TextsOrCounts, Offsets, Writes, Iterators, Faults}
+use Rattle.vfs_files.specs.CallValue.{IsOfKind}
+use Rattle.vfs_files.specs.declared.call_value.Given.TheVariants as given
 use Rattle.test_uses.proofs.trait_values.kinds_of_values.Goals as goal
 
 of_done : (kind : Kind) → IsOfKind kind (Ok given.Done)

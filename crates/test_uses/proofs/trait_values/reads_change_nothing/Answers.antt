@@ -1,4 +1,4 @@
-use Rattle.fs_trait.specs.ReadingLaws.{read_transfer}
+use Rattle.vfs_files.specs.ReadingLaws.{read_transfer}
 use Rattle.test_uses.proofs.trait_values.reads_change_nothing.Goals as goal
 
 pub returns-clause-bytes : goal.returns-clause-bytes

@@ -1,6 +1,6 @@
 use Rattle.std.proofs.Common.{◌≡◌, ◌≤◌, ◌+◌, ℕ, List, length, Option, Result, Ok, Err, IfOk, arith, ap, length-append}
-use Rattle.fuse_segments.specs.Written.{Written, Moves}
-use Rattle.fs_trait.specs.TransferLaws.{transfer_tells}
+use Rattle.vfs_segments.specs.Written.{Written, Moves}
+use Rattle.vfs_files.specs.TransferLaws.{transfer_tells}
 use Rattle.test_uses.proofs.transfers.as_told_was_put.Goals as goal
 
 -- as many bytes were put as a number tells

@@ -1,7 +1,7 @@
 use Rattle.std.proofs.Common.{◌≡◌, ◌≤◌, ◌+◌, ℕ, List, length, drop, Option, Result, Ok, Err, IfOk, sym, ap, ◌∙◌, drop_at, arith}
-use Rattle.fuse_segments.specs.Unread.{Unread}
-use Rattle.fs_trait.specs.TransferLaws.{transfer_tells}
-use Rattle.fuse_server.specs.Takes.{Takes}
+use Rattle.vfs_segments.specs.Unread.{Unread}
+use Rattle.vfs_files.specs.TransferLaws.{transfer_tells}
+use Rattle.vfs_server.specs.Takes.{Takes}
 use Rattle.test_uses.proofs.transfers.as_told_was_taken.Goals as goal
 
 -- as many bytes were taken as a number tells

@@ -1,5 +1,5 @@
 use Rattle.std.proofs.Common.{arith}
-use Rattle.fs_trait.specs.TransferLaws.{transfer_of_nothing}
+use Rattle.vfs_files.specs.TransferLaws.{transfer_of_nothing}
 use Rattle.test_uses.proofs.transfers.nothing_is_taken.Goals as goal
 
 pub returns-clause-answer : goal.returns-clause-answer

@@ -1,5 +1,5 @@
-use Rattle.fs_trait.specs.Calls.{Lookup, entry_answer}
-use Rattle.fs_trait.specs.Values.{name_text}
+use Rattle.vfs_files.specs.Calls.{Lookup, entry_answer}
+use Rattle.vfs_files.specs.Values.{name_text}
 use Rattle.test_uses.proofs.TreeCallers.{one_more}
 use Rattle.test_uses.proofs.tree_laws.any_lookup.Goals as goal
 

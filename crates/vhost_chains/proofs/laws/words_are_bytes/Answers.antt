@@ -1,8 +1,8 @@
 use Rattle.std.proofs.Common.{◌≡◌, ◌≤◌, ◌<◌, ◌+◌, ◌*◌, ◌/◌, ◌%◌, ◌∙◌, ℕ, List, [], ◌∷◌, length, drop, ap, arith, length-drop}
 use Rattle.std.proofs.lemmas.List.{drop-drop}
 use Rattle.std.proofs.lemmas.Nat.{mod-mul-add, div-mul-add}
-use Rattle.fuse_wire.specs.Fields.{AreBytes, number}
-use Rattle.fuse_wire.specs.FieldLaws.{AreBytes-drop, number-lt}
+use Rattle.vfs_wire.specs.Fields.{AreBytes, number}
+use Rattle.vfs_wire.specs.FieldLaws.{AreBytes-drop, number-lt}
 use Rattle.vhost_chains.specs.declared.descriptor.Descriptor.{Descriptor}
 use Rattle.vhost_chains.proofs.laws.words_are_bytes.Goals as goal
 

@@ -1,5 +1,5 @@
 use Rattle.std.proofs.Common.{◌≡◌, length, sym, ap, ◌∙◌, arith}
-use Rattle.fs_trait.specs.Bytes.{part_of, most_put}
+use Rattle.vfs_files.specs.Bytes.{part_of, most_put}
 use Rattle.fs_contents.specs.Contents.{Contents}
 use Rattle.fs_contents.proofs.Moves.{moves_all}
 use Rattle.fs_contents.proofs.Shown.{shown_part, length-bytes_of}

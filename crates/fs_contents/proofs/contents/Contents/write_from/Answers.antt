@@ -1,6 +1,6 @@
 use Rattle.std.proofs.Common.{◌≡◌, ◌+◌, ◌-◌, ◌/◌, ℕ, List, [], length, take, min, max, sym, ap, ◌∙◌, arith, length-take}
 use Rattle.std.specs.Map.{keys_of}
-use Rattle.fs_trait.specs.Bytes.{fitting}
+use Rattle.vfs_files.specs.Bytes.{fitting}
 use Rattle.fs_contents.specs.Pages.{byte_at, byte_over, holds, with_pages}
 use Rattle.fs_contents.specs.Contents.{Contents, written, contents_of, pages_over}
 use Rattle.fs_contents.proofs.Fills.{pages_in}

@@ -3,8 +3,8 @@ use Rattle.std.specs.Int.{from_bool}
 use Rattle.std.specs.Cmp.Lexicographic.{slice_cmp}
 use Rattle.std.specs.Ordering.{nat_cmp}
 use Rattle.std.specs.BTreeMap.{UpdatesBy, insert_entry}
-use Rattle.fs_trait.proofs.Indexes.{mapped_none}
-use Rattle.fs_trait.specs.Values.{name_text}
+use Rattle.vfs_files.proofs.Indexes.{mapped_none}
+use Rattle.vfs_files.specs.Values.{name_text}
 use Rattle.fs_nodes.specs.Children.{Children, Link, child_named, leading, is_named}
 use Rattle.fs_nodes.specs.Index.{AreIndexed}
 use Rattle.fs_nodes.proofs.Index.{one_for}

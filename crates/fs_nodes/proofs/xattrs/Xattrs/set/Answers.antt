@@ -1,5 +1,5 @@
 use Rattle.std.proofs.Common.{sym, ap, ◌∙◌}
-use Rattle.fs_trait.specs.Values.{name_text}
+use Rattle.vfs_files.specs.Values.{name_text}
 use Rattle.fs_nodes.specs.Xattrs.{xattr_bytes, with_xattr}
 use Rattle.fs_nodes.proofs.Attributes.{put_in, in_order}
 use Rattle.fs_nodes.proofs.Results.{ok_clause}

@@ -1,5 +1,5 @@
 use Rattle.std.proofs.Common.{arith}
-use Rattle.fs_trait.specs.WritingLaws.{length-Writes}
+use Rattle.vfs_files.specs.WritingLaws.{length-Writes}
 use Rattle.fs_small.specs.MemFile.{most_bytes}
 use Rattle.fs_small.proofs.memfile.MemFile.write_from.Goals as goal
 

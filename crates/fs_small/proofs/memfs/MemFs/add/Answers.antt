@@ -3,7 +3,7 @@ use Rattle.std.specs.Cmp.Lexicographic.{slice_cmp}
 use Rattle.std.specs.Ordering.{nat_cmp}
 use Rattle.std.specs.BTreeMap.{UpdatesBy}
 use Rattle.std.proofs.lemmas.Grind.{common_steps}
-use Rattle.fs_trait.specs.Values.{name_text}
+use Rattle.vfs_files.specs.Values.{name_text}
 use Rattle.fs_small.specs.MemFs.{Stock, Stored}
 use Rattle.fs_small.specs.Index.{AreIndexed, file_place}
 use Rattle.fs_small.proofs.Indexed.{indexed_same, indexed_added}

@@ -1,5 +1,5 @@
 use Rattle.std.proofs.Common.{◌++◌, take, ap, ◌∙◌}
-use Rattle.fs_trait.specs.Values.{item}
+use Rattle.vfs_files.specs.Values.{item}
 use Rattle.fs_small.specs.MemFs.{root_items}
 use Rattle.fs_small.proofs.RootItems.{items_more, items_whole}
 use Rattle.fs_small.proofs.memfs.entries.root_entries.Goals as goal

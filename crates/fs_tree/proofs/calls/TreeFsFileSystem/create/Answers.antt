@@ -1,9 +1,9 @@
 use Rattle.std.proofs.Common.{◌≡◌, false, [], Some, None, Err, sym, ap, ◌∙◌, rules, if◌then◌else◌}
-use Rattle.fuse_flags.specs.Flags.{open_options_bits}
-use Rattle.fuse_flags.specs.Numbers.{enosys}
-use Rattle.fs_trait.specs.Values.{name_text}
-use Rattle.fs_trait.specs.Calls.{Answer, Created, Failed, Plain}
-use Rattle.fs_trait.specs.declared.entry.Entry.{Entry}
+use Rattle.vfs_flags.specs.Flags.{open_options_bits}
+use Rattle.vfs_flags.specs.Numbers.{enosys}
+use Rattle.vfs_files.specs.Values.{name_text}
+use Rattle.vfs_files.specs.Calls.{Answer, Created, Failed, Plain}
+use Rattle.vfs_files.specs.declared.entry.Entry.{Entry}
 use Rattle.fs_nodes.specs.Node.{entry_of}
 use Rattle.fs_nodes.specs.declared.kind.Kind.TheVariants as kind
 use Rattle.fs_tree.specs.Naming.{new_in, asks_nameless}

@@ -1,5 +1,5 @@
 use Rattle.std.proofs.Common.{◌≡◌, ◌<◌, ◌+◌, ◌^◌, ◌-◌, min, ℕ, List, Option, None, IsSome, IfSome, refl, sym, ap, ◌∙◌, subst}
-use Rattle.fs_trait.specs.Values.{name_text}
+use Rattle.vfs_files.specs.Values.{name_text}
 use Rattle.fs_tree.specs.Outcome.{refusal_of}
 use Rattle.fs_tree.specs.State.{State, node_at}
 use Rattle.fs_tree.specs.Tree.{link_refusal}

@@ -1,5 +1,5 @@
 use Rattle.std.proofs.Common.{arith, sym, rules}
-use Rattle.fs_trait.specs.Values.{name_text}
+use Rattle.vfs_files.specs.Values.{name_text}
 use Rattle.fs_nodes.proofs.Weights.{without_xattr_bytes}
 use Rattle.fs_tree.proofs.Noting.{sound_same}
 use Rattle.fs_tree.proofs.calls.TreeFsFileSystem.removexattr.Goals as goal

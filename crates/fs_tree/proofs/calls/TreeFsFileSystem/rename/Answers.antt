@@ -1,6 +1,6 @@
 use Rattle.std.proofs.Common.{◌≡◌, ◌||◌, false, Option, Some, None, is_none, subst, rules, nat_le}
-use Rattle.fs_trait.specs.Calls.{Plain, done_answer}
-use Rattle.fs_trait.specs.Values.{name_text}
+use Rattle.vfs_files.specs.Calls.{Plain, done_answer}
+use Rattle.vfs_files.specs.Values.{name_text}
 use Rattle.fs_nodes.specs.declared.children.Child.{Child}
 use Rattle.fs_tree.specs.Naming.{directory_refusal}
 use Rattle.fs_tree.specs.Outcome.{HandsBack}

@@ -1,5 +1,5 @@
 use Rattle.std.proofs.Common.{◌∙◌, false, sym, ap, arith, rules}
-use Rattle.fuse_flags.specs.Flags.{setattr_valid_bits}
+use Rattle.vfs_flags.specs.Flags.{setattr_valid_bits}
 use Rattle.fs_nodes.specs.Node.{weight}
 use Rattle.fs_nodes.proofs.Weights.{set_attr_weighs}
 use Rattle.fs_tree.specs.Holding.{IsSound, is_idle}

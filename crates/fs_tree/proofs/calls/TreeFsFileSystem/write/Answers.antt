@@ -1,6 +1,6 @@
 use Rattle.std.proofs.Common.{◌≡◌, ℕ, Bool, true, List, [], ◌∷◌, Some, arith, rules, sym, ap, ◌∙◌}
 use Rattle.std.proofs.lemmas.Grind.{common_steps}
-use Rattle.fuse_flags.specs.Numbers.{enospc}
+use Rattle.vfs_flags.specs.Numbers.{enospc}
 use Rattle.fs_tree.specs.State.{node_at}
 use Rattle.fs_tree.proofs.Answering.{refused_ends, write_refusal, writes}
 use Rattle.std.proofs.lemmas.Option.{same_Some}

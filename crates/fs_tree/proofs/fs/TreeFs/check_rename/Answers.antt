@@ -1,7 +1,7 @@
 use Rattle.std.proofs.Common.{◌==◌, ◌&&◌, ◌||◌, not, [], ◌∷◌, length, bit_and, None, is_some, is_none, false, if◌then◌else◌, arith, nat_le}
 use Rattle.std.proofs.lemmas.Grind.{common_steps}
 use Rattle.std.specs.Option.{option_map_or}
-use Rattle.fuse_flags.specs.Numbers.{enoent, eexist, enotdir, eisdir, enospc, enotempty, einval}
+use Rattle.vfs_flags.specs.Numbers.{enoent, eexist, enotdir, eisdir, enospc, enotempty, einval}
 use Rattle.fs_tree.specs.Naming.{is_directory_at, is_improper, is_nameless, is_crowded, has_no_number}
 use Rattle.fs_tree.specs.Rename.{is_own_child, is_served, same_node}
 use Rattle.fs_tree.specs.State.{node_at, node_of}

@@ -1,5 +1,5 @@
 use Rattle.std.proofs.Common.{◌≡◌, false, length, Some, None, ap, ◌∙◌, rules}
-use Rattle.fs_trait.specs.Values.{name_text}
+use Rattle.vfs_files.specs.Values.{name_text}
 use Rattle.fs_nodes.specs.Node.{entry_of}
 use Rattle.fs_tree.specs.Naming.{new_in}
 use Rattle.fs_tree.specs.State.{State, lead, with_new}

@@ -1,5 +1,5 @@
 use Rattle.std.proofs.Common.{◌≡◌, ◌==◌, bit_and, false, [], None, ap, ◌∙◌, rules}
-use Rattle.fs_trait.specs.Values.{name_text}
+use Rattle.vfs_files.specs.Values.{name_text}
 use Rattle.fs_nodes.specs.Node.{entry_of}
 use Rattle.fs_nodes.specs.declared.kind.Kind.TheVariants as kind
 use Rattle.fs_nodes.specs.declared.node.Node.{Node}

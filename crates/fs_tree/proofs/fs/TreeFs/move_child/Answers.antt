@@ -1,5 +1,5 @@
 use Rattle.std.proofs.Common.{◌≡◌, true}
-use Rattle.fs_trait.specs.Values.{name_text}
+use Rattle.vfs_files.specs.Values.{name_text}
 use Rattle.fs_tree.specs.State.{lead}
 use Rattle.fs_tree.proofs.Renaming.{renamed_by}
 use Rattle.fs_tree.proofs.fs.TreeFs.move_child.Goals as goal

@@ -1,5 +1,5 @@
 use Rattle.std.proofs.Common.{refl, arith}
-use Rattle.fuse_flags.specs.declared.opcode.Opcode.TheVariants.{Symlink, Mknod, Mkdir, Link}
+use Rattle.vfs_flags.specs.declared.opcode.Opcode.TheVariants.{Symlink, Mknod, Mkdir, Link}
 use Rattle.laws_turns.proofs.BookCallers.{reply_was_answered}
 use Rattle.laws_turns.proofs.uses.books.a_replied_entry_was_answered.Goals as goal
 

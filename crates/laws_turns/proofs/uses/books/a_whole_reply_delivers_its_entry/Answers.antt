@@ -1,5 +1,5 @@
 use Rattle.std.proofs.Common.{refl, arith, zero-add}
-use Rattle.fs_trait.specs.Calls.{Lookup}
+use Rattle.vfs_files.specs.Calls.{Lookup}
 use Rattle.laws_turns.proofs.BookCallers.{delivers_once}
 use Rattle.laws_turns.proofs.uses.books.a_whole_reply_delivers_its_entry.Goals as goal
 

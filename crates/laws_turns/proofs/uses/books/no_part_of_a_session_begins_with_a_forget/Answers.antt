@@ -1,6 +1,6 @@
 use Rattle.std.proofs.Common.{◌≤◌, ◌++◌, List, take, refl, arith, subst}
-use Rattle.fs_trait.specs.Runs.{Event}
-use Rattle.fuse_grammar.specs.Books.{answered, sent}
+use Rattle.vfs_files.specs.Runs.{Event}
+use Rattle.vfs_grammar.specs.Books.{answered, sent}
 use Rattle.laws_turns.proofs.uses.books.no_part_of_a_session_begins_with_a_forget.Goals as goal
 
 pub returns : goal.returns

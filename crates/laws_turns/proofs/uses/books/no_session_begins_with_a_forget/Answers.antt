@@ -1,7 +1,7 @@
 use Rattle.std.proofs.Common.{◌≤◌, List, take, arith, subst}
-use Rattle.fs_trait.specs.Runs.{Event}
-use Rattle.fuse_grammar.specs.Books.{answered, sent}
-use Rattle.fuse_grammar.proofs.Keeping.{never_below_over}
+use Rattle.vfs_files.specs.Runs.{Event}
+use Rattle.vfs_grammar.specs.Books.{answered, sent}
+use Rattle.vfs_grammar.proofs.Keeping.{never_below_over}
 use Rattle.laws_turns.proofs.uses.books.no_session_begins_with_a_forget.Goals as goal
 
 pub returns : goal.returns

@@ -1,6 +1,6 @@
 use Rattle.std.proofs.Common.{[], ◌∷◌, refl, arith, zero-add}
-use Rattle.fs_trait.specs.Calls.{Lookup}
-use Rattle.fuse_grammar.proofs.Keeping.{never_below_over}
+use Rattle.vfs_files.specs.Calls.{Lookup}
+use Rattle.vfs_grammar.proofs.Keeping.{never_below_over}
 use Rattle.laws_turns.proofs.BookCallers.{delivers_once, sends_what_they_say, gives_back}
 use Rattle.laws_turns.proofs.uses.books.what_was_replied_is_given_back.Goals as goal
 

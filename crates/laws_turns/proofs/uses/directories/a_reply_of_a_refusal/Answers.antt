@@ -1,5 +1,5 @@
 use Rattle.std.proofs.Common.{false, length}
-use Rattle.fuse_grammar.specs.Limits.{default_limits}
+use Rattle.vfs_grammar.specs.Limits.{default_limits}
 use Rattle.laws_turns.proofs.DirectoryCallers.{echo, listing, asks_readdir, refusal_replied}
 use Rattle.laws_turns.proofs.uses.directories.a_reply_of_a_refusal.Goals as goal
 

@@ -1,8 +1,8 @@
 use Rattle.std.proofs.Common.{[], ◌∷◌, Some, None, false, length, arith}
-use Rattle.fs_trait.specs.Runs.{Taken}
-use Rattle.fuse_grammar.specs.Samples.{file_a}
+use Rattle.vfs_files.specs.Runs.{Taken}
+use Rattle.vfs_grammar.specs.Samples.{file_a}
 use Rattle.laws_turns.proofs.Lines.{one_file_goes_on}
-use Rattle.fuse_grammar.specs.Limits.{default_limits}
+use Rattle.vfs_grammar.specs.Limits.{default_limits}
 use Rattle.laws_turns.proofs.DirectoryCallers.{echo, listing, asks_readdir, one_file_replied}
 use Rattle.laws_turns.proofs.uses.directories.a_reply_of_one_file.Goals as goal
 

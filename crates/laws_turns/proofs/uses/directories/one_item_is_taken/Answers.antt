@@ -1,5 +1,5 @@
 use Rattle.std.proofs.Common.{false, true, length}
-use Rattle.fuse_grammar.specs.Limits.{default_limits}
+use Rattle.vfs_grammar.specs.Limits.{default_limits}
 use Rattle.laws_turns.proofs.DirectoryCallers.{echo, listing, asks_small_readdir, asks_small_readdirplus, not_two, not_two_with_entries}
 use Rattle.laws_turns.proofs.uses.directories.one_item_is_taken.Goals as goal
 

@@ -1,5 +1,5 @@
 use Rattle.std.proofs.Common.{[], ◌∷◌, refl, lit<}
-use Rattle.fuse_wire.specs.Fields.{little}
+use Rattle.vfs_wire.specs.Fields.{little}
 use Rattle.laws_turns.proofs.uses.extensions.a_group_as_written.Goals as goal
 
 pub returns-clause-bytes : goal.returns-clause-bytes

@@ -1,7 +1,7 @@
 use Rattle.std.proofs.Common.{◌≢◌, ◌<◌, ℕ, zero, suc, [], ◌∷◌, slice_index, refl, arith, lit<}
-use Rattle.fuse_wire.specs.Fields.{little}
+use Rattle.vfs_wire.specs.Fields.{little}
 use Rattle.laws_turns.specs.Extensions.{FitExtensions}
-use Rattle.fuse_grammar.specs.Samples.{context_and_group}
+use Rattle.vfs_grammar.specs.Samples.{context_and_group}
 use Rattle.laws_turns.proofs.uses.extensions.extensions_as_written.Goals as goal
 
 pub returns-clause-bytes : goal.returns-clause-bytes

@@ -1,5 +1,5 @@
 use Rattle.std.proofs.Common.{◌∙◌, ap}
-use Rattle.fuse_grammar.specs.Extensions.{cut_of}
+use Rattle.vfs_grammar.specs.Extensions.{cut_of}
 use Rattle.laws_turns.specs.Extensions.{error_left}
 use Rattle.laws_turns.proofs.uses.extensions.the_only_cut.Goals as goal
 

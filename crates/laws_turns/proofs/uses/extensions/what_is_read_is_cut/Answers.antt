@@ -1,5 +1,5 @@
 use Rattle.std.proofs.Common.{◌≡◌, ◌∙◌, Bool, true, false, if◌then◌else◌, refl}
-use Rattle.fuse_grammar.specs.Words.{reads_extensions}
+use Rattle.vfs_grammar.specs.Words.{reads_extensions}
 use Rattle.laws_turns.proofs.uses.extensions.what_is_read_is_cut.Goals as goal
 
 reads : {A : Type 0} (b : Bool) (x y : A) → b ≡ true → (if b then x else y) ≡ x

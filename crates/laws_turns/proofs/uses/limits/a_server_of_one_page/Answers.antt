@@ -1,10 +1,10 @@
 use Rattle.std.proofs.Common.{◌∙◌, ℕ, drop, ap, arith}
-use Rattle.fs_trait.specs.Calls.{BatchForget}
-use Rattle.fs_trait.specs.Values.{context_of}
-use Rattle.fuse_grammar.specs.Forms.{Asks, WithMemory, refused_or, pairs_in}
-use Rattle.fuse_grammar.specs.Limits.{AreLimits}
-use Rattle.fuse_grammar.specs.Memory.{header_of}
-use Rattle.fuse_grammar.specs.Reply.{echo_of}
+use Rattle.vfs_files.specs.Calls.{BatchForget}
+use Rattle.vfs_files.specs.Values.{context_of}
+use Rattle.vfs_grammar.specs.Forms.{Asks, WithMemory, refused_or, pairs_in}
+use Rattle.vfs_grammar.specs.Limits.{AreLimits}
+use Rattle.vfs_grammar.specs.Memory.{header_of}
+use Rattle.vfs_grammar.specs.Reply.{echo_of}
 use Rattle.laws_turns.specs.Limits.{one_page}
 use Rattle.laws_turns.proofs.uses.limits.a_server_of_one_page.Goals as goal
 

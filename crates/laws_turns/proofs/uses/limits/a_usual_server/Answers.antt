@@ -1,9 +1,9 @@
 use Rattle.std.proofs.Common.{◌∙◌, ℕ, drop, ap, arith}
-use Rattle.fs_trait.specs.Calls.{BatchForget}
-use Rattle.fs_trait.specs.Values.{context_of}
-use Rattle.fuse_grammar.specs.Forms.{Asks, WithMemory, refused_or, pairs_in}
-use Rattle.fuse_grammar.specs.Memory.{header_of}
-use Rattle.fuse_grammar.specs.Reply.{echo_of}
+use Rattle.vfs_files.specs.Calls.{BatchForget}
+use Rattle.vfs_files.specs.Values.{context_of}
+use Rattle.vfs_grammar.specs.Forms.{Asks, WithMemory, refused_or, pairs_in}
+use Rattle.vfs_grammar.specs.Memory.{header_of}
+use Rattle.vfs_grammar.specs.Reply.{echo_of}
 use Rattle.laws_turns.proofs.uses.limits.a_usual_server.Goals as goal
 
 pub returns-clause-largest_len : goal.returns-clause-largest_len

@@ -2,9 +2,9 @@ use Rattle.std.proofs.Common.{ℕ, List, [], ◌∷◌, ◌++◌, Some, ap, sym,
 use Rattle.std.proofs.lemmas.List.Elements.{All-nil, All-cons}
 use Rattle.std.specs.List.{All}
 use Rattle.laws_turns.specs.Listings.{IsRow}
-use Rattle.fuse_grammar.specs.Nodes.{nodes_in}
-use Rattle.fuse_grammar.specs.Words.{record_bytes}
-use Rattle.fuse_grammar.specs.Samples.{file_a, root_dot}
+use Rattle.vfs_grammar.specs.Nodes.{nodes_in}
+use Rattle.vfs_grammar.specs.Words.{record_bytes}
+use Rattle.vfs_grammar.specs.Samples.{file_a, root_dot}
 use Rattle.laws_turns.proofs.uses.listings.nodes_of_two_records.Goals as goal
 
 pub returns : goal.returns

@@ -1,5 +1,5 @@
 use Rattle.std.proofs.Common.{ℕ, subst}
-use Rattle.fuse_grammar.specs.Turn.{AreTurns}
+use Rattle.vfs_grammar.specs.Turn.{AreTurns}
 use Rattle.laws_turns.proofs.uses.refusals.a_refused_request_may_be_left_out.Goals as goal
 
 pub returns-clause-unseen : goal.returns-clause-unseen

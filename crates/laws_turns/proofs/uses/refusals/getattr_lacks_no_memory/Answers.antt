@@ -1,6 +1,6 @@
 use Rattle.std.proofs.Common.{Option, drop, length, subst}
-use Rattle.fuse_flags.specs.declared.opcode.Opcode.{Opcode}
-use Rattle.fuse_grammar.specs.Memory.{header_of}
+use Rattle.vfs_flags.specs.declared.opcode.Opcode.{Opcode}
+use Rattle.vfs_grammar.specs.Memory.{header_of}
 use Rattle.laws_turns.specs.Turns.{WantsMemoryAfter}
 use Rattle.laws_turns.proofs.uses.refusals.getattr_lacks_no_memory.Goals as goal
 

@@ -1,8 +1,8 @@
 use Rattle.std.proofs.Common.{◌≡◌, ◌++◌, ◌∙◌, ℕ, List, [], take, drop, sym, ap, arith, append_assoc, append-nil, length-append}
 use Rattle.std.proofs.lemmas.List.{take_at, drop_at, take-take, drop-take}
 use Rattle.std.specs.Int.{w32, cast_unsigned}
-use Rattle.fuse_wire.specs.Fields.{little}
-use Rattle.fuse_wire.specs.FieldLaws.{length-little}
+use Rattle.vfs_wire.specs.Fields.{little}
+use Rattle.vfs_wire.specs.FieldLaws.{length-little}
 use Rattle.laws_turns.specs.Turns.{BeginsWithHeader}
 use Rattle.laws_turns.proofs.uses.turns.front_of_a_reply.Goals as goal
 

@@ -1,7 +1,7 @@
 use Rattle.std.proofs.Common.{Some, ap}
-use Rattle.fuse_wire.specs.declared.entries.EntryOut.{EntryOut}
-use Rattle.fuse_wire_more.specs.declared.files.OpenOut.{OpenOut}
-use Rattle.fs_trait.specs.Calls.{Open, Write, Getxattr, Create, Opened, Created, Count, Wrote}
+use Rattle.vfs_wire.specs.declared.entries.EntryOut.{EntryOut}
+use Rattle.vfs_wire_more.specs.declared.files.OpenOut.{OpenOut}
+use Rattle.vfs_files.specs.Calls.{Open, Write, Getxattr, Create, Opened, Created, Count, Wrote}
 use Rattle.laws_turns.specs.Turns.{AnswersWhole}
 use Rattle.laws_turns.proofs.uses.turns.handles_and_counts_in_replies.Goals as goal
 

@@ -1,7 +1,7 @@
 use Rattle.std.proofs.Common.{◌≡◌, ℕ, List, ap, sym, subst, arith}
-use Rattle.fuse_flags.specs.Numbers.{opcode_of}
-use Rattle.fuse_wire.specs.Fields.{number}
-use Rattle.fuse_grammar.specs.Books.{opcode_in}
+use Rattle.vfs_flags.specs.Numbers.{opcode_of}
+use Rattle.vfs_wire.specs.Fields.{number}
+use Rattle.vfs_grammar.specs.Books.{opcode_in}
 use Rattle.laws_turns.specs.Turns.{CarriesData, size_asked}
 use Rattle.laws_turns.proofs.uses.turns.lengths_of_data.Goals as goal
 

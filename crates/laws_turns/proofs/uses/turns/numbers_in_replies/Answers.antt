@@ -1,11 +1,11 @@
 use Rattle.std.proofs.Common.{◌≡◌, ◌++◌, ◌∙◌, ℕ, List, [], length, drop, ap, refl, sym}
 use Rattle.std.proofs.lemmas.List.{take-append-drop}
-use Rattle.fuse_wire.specs.Fields.{bytes_of, value_of}
-use Rattle.fuse_wire.specs.FieldLaws.{value_of-bytes_of-then}
-use Rattle.fuse_wire.specs.Records.{kstatfs, kstatfs_of}
-use Rattle.fuse_wire.specs.declared.attributes.AttrOut.{AttrOut}
-use Rattle.fuse_wire.specs.declared.entries.EntryOut.{EntryOut}
-use Rattle.fs_trait.specs.Calls.{Lookup, Getattr, Readlink, Statfs, Found, Attributes, Statistics, Text}
+use Rattle.vfs_wire.specs.Fields.{bytes_of, value_of}
+use Rattle.vfs_wire.specs.FieldLaws.{value_of-bytes_of-then}
+use Rattle.vfs_wire.specs.Records.{kstatfs, kstatfs_of}
+use Rattle.vfs_wire.specs.declared.attributes.AttrOut.{AttrOut}
+use Rattle.vfs_wire.specs.declared.entries.EntryOut.{EntryOut}
+use Rattle.vfs_files.specs.Calls.{Lookup, Getattr, Readlink, Statfs, Found, Attributes, Statistics, Text}
 use Rattle.laws_turns.specs.Turns.{AnswersWhole}
 use Rattle.laws_turns.proofs.uses.turns.numbers_in_replies.Goals as goal
 

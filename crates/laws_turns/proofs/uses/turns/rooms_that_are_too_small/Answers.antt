@@ -1,20 +1,20 @@
 use Rattle.std.proofs.Common.{◌≡◌, ◌<◌, ℕ, List, [], ◌∷◌, length, take, None, ap, sym, subst, ◌∙◌, inl, inr, refl, arith, pos}
-use Rattle.fuse_flags.specs.Numbers.{opcode_of}
-use Rattle.fuse_wire.specs.Fields.{number, little}
-use Rattle.fs_trait.specs.Calls.{Call, Lookup, Read, Answer, Entries, Found}
-use Rattle.fs_trait.specs.Runs.{Event, Called}
-use Rattle.fs_trait.specs.declared.entry.Context.{Context}
-use Rattle.fuse_grammar.specs.Ask.{ask}
-use Rattle.fuse_grammar.specs.Forms.{Ask, Asks, WithMemory}
-use Rattle.fuse_grammar.specs.Words.{refused, reply_to}
-use Rattle.fuse_grammar.specs.Books.{opcode_in}
+use Rattle.vfs_flags.specs.Numbers.{opcode_of}
+use Rattle.vfs_wire.specs.Fields.{number, little}
+use Rattle.vfs_files.specs.Calls.{Call, Lookup, Read, Answer, Entries, Found}
+use Rattle.vfs_files.specs.Runs.{Event, Called}
+use Rattle.vfs_files.specs.declared.entry.Context.{Context}
+use Rattle.vfs_grammar.specs.Ask.{ask}
+use Rattle.vfs_grammar.specs.Forms.{Ask, Asks, WithMemory}
+use Rattle.vfs_grammar.specs.Words.{refused, reply_to}
+use Rattle.vfs_grammar.specs.Books.{opcode_in}
 use Rattle.laws_turns.specs.Turns.{CarriesData, cut_turn_tells, CutsOff}
-use Rattle.fuse_grammar.specs.Limits.{default_limits}
-use Rattle.fuse_grammar.specs.Reply.{Reply, Echo, Bytes}
-use Rattle.fuse_grammar.specs.Turn.{Turn}
-use Rattle.fuse_grammar.specs.Witnesses.{FollowsFor}
-use Rattle.fuse_grammar.specs.Samples.{request_for_data, node_5, node_5_reply}
-use Rattle.fuse_grammar.specs.declared.error.Error.TheVariants.{EncodeMessage}
+use Rattle.vfs_grammar.specs.Limits.{default_limits}
+use Rattle.vfs_grammar.specs.Reply.{Reply, Echo, Bytes}
+use Rattle.vfs_grammar.specs.Turn.{Turn}
+use Rattle.vfs_grammar.specs.Witnesses.{FollowsFor}
+use Rattle.vfs_grammar.specs.Samples.{request_for_data, node_5, node_5_reply}
+use Rattle.vfs_grammar.specs.declared.error.Error.TheVariants.{EncodeMessage}
 use Rattle.laws_turns.proofs.uses.turns.rooms_that_are_too_small.Goals as goal
 
 abbrev nobody : Context

@@ -1,5 +1,5 @@
 use Rattle.std.proofs.Common.{[], Some}
-use Rattle.fs_trait.specs.Calls.{Access, Init, Failed, Options}
+use Rattle.vfs_files.specs.Calls.{Access, Init, Failed, Options}
 use Rattle.laws_turns.proofs.uses.turns.widths_of_answers.Goals as goal
 
 pub returns-clause-fault : goal.returns-clause-fault

@@ -1,5 +1,5 @@
 use Rattle.std.proofs.Common.{◌≤◌, ◌^◌, ℕ, length, rules}
-use Rattle.fuse_segments.specs.Segments.{flat_bytes, segments_of}
+use Rattle.vfs_segments.specs.Segments.{flat_bytes, segments_of}
 use Rattle.nizwarf_tree.proofs.Keeping.{not_less, wants_same}
 use Rattle.nizwarf_tree.proofs.instance.Instance.answer_bytes.Goals as goal
 

@@ -1,7 +1,7 @@
 use Rattle.std.proofs.Common.{◌≡◌, ◌∙◌, ℕ, rules, subst, sym}
 use Rattle.c_rooms.specs.Codes.{no_memory, outcome_code}
-use Rattle.fuse_server.specs.Memory.{WantsNoMemory}
-use Rattle.fuse_server.specs.Step.{ServerState}
+use Rattle.vfs_server.specs.Memory.{WantsNoMemory}
+use Rattle.vfs_server.specs.Step.{ServerState}
 use Rattle.nizwarf_tree.specs.Files.{State}
 use Rattle.nizwarf_tree.proofs.Keeping.{back, left_within, none_some, other_number, whole_stays}
 use Rattle.nizwarf_tree.proofs.Steps.{stepped}

@@ -1,5 +1,5 @@
 use Rattle.std.proofs.Common.{◌∙◌, ap, inl, length, rules, sym}
-use Rattle.fuse_server.specs.Step.{ServerState}
+use Rattle.vfs_server.specs.Step.{ServerState}
 use Rattle.nizwarf_tree.specs.Files.{State}
 use Rattle.nizwarf_tree.specs.Offered.{row_limits}
 use Rattle.nizwarf_tree.proofs.Keeping.{back, left_within}

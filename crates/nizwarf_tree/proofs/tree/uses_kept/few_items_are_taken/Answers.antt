@@ -1,6 +1,6 @@
 use Rattle.std.proofs.Common.{◌≡◌, drop, rules, subst, IfSome, MatchOption}
 use Rattle.std.specs.Prelude.{ℤ}
-use Rattle.fuse_segments.specs.Segments.{flat_bytes, segments_of}
+use Rattle.vfs_segments.specs.Segments.{flat_bytes, segments_of}
 use Rattle.nizwarf_tree.specs.TreeUses.{TakesFewItems}
 use Rattle.nizwarf_tree.proofs.TreeKept.{few_of}
 use Rattle.nizwarf_tree.proofs.tree.uses_kept.few_items_are_taken.Goals as goal

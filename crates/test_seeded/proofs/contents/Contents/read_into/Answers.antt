@@ -1,5 +1,5 @@
 use Rattle.std.proofs.Common.{◌++◌, arith, length-append}
-use Rattle.fs_trait.specs.TransferLaws.{transfer_counts, transfer_tells}
+use Rattle.vfs_files.specs.TransferLaws.{transfer_counts, transfer_tells}
 use Rattle.test_seeded.proofs.contents.Contents.read_into.Goals as goal
 
 pub returns-then-self-eq0 : goal.returns-then-self-eq0

@@ -1,5 +1,5 @@
 use Rattle.std.proofs.Common.{◌++◌, ◌≡◌, ◌≤◌, IfOk, Result, Ok, Err, Option, ℕ, arith}
-use Rattle.fs_trait.specs.TransferLaws.{transfer_tells}
+use Rattle.vfs_files.specs.TransferLaws.{transfer_tells}
 use Rattle.test_seeded.proofs.contents.Contents.write_from.Goals as goal
 
 -- a number that is told is within the count

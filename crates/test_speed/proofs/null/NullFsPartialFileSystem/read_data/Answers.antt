@@ -1,5 +1,5 @@
 use Rattle.std.proofs.Common.{arith}
-use Rattle.fs_trait.specs.TransferLaws.{transfer_counts}
+use Rattle.vfs_files.specs.TransferLaws.{transfer_counts}
 use Rattle.test_speed.proofs.null.NullFsPartialFileSystem.read_data.Goals as goal
 
 pub returns : goal.returns

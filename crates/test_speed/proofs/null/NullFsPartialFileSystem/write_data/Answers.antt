@@ -1,5 +1,5 @@
 use Rattle.std.proofs.Common.{arith}
-use Rattle.fs_trait.specs.TransferLaws.{transfer_tells}
+use Rattle.vfs_files.specs.TransferLaws.{transfer_tells}
 use Rattle.test_speed.proofs.null.NullFsPartialFileSystem.write_data.Goals as goal
 
 pub overflow_cast-result : goal.overflow_cast-result

@@ -1,5 +1,5 @@
 use Rattle.std.proofs.Common.{◌+◌, ◌∙◌, ℕ, ap, sym}
-use Rattle.fuse_flags.specs.declared.constants.TheConstants.{RENAME_EXCHANGE, RENAME_NOREPLACE}
+use Rattle.vfs_flags.specs.declared.constants.TheConstants.{RENAME_EXCHANGE, RENAME_NOREPLACE}
 use Rattle.test_uses.proofs.clauses.flags.three_flags_of_a_rename.Goals as goal
 
 pub returns : goal.returns

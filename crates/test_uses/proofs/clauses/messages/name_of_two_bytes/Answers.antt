@@ -1,11 +1,11 @@
 use Rattle.std.proofs.Common.{◌≡◌, ℕ, List, [], ◌∷◌, Result, Ok, Err, IfOk, IfErr, IsOk, true, refl, subst, inl, inr}
-use Rattle.fuse_wire.specs.declared.headers.InHeader.{InHeader}
-use Rattle.fuse_segments.specs.Lengths.{lie_together}
-use Rattle.fuse_grammar.specs.Forms.{tail_of}
-use Rattle.fuse_grammar.specs.Words.{name_in}
-use Rattle.fuse_grammar.specs.declared.error.Error.{Error}
-use Rattle.fuse_grammar.specs.declared.error.Error.TheVariants.{OutOfMemory}
-use Rattle.fuse_messages.specs.Parts.{GivesPart, TailIsCut}
+use Rattle.vfs_wire.specs.declared.headers.InHeader.{InHeader}
+use Rattle.vfs_segments.specs.Lengths.{lie_together}
+use Rattle.vfs_grammar.specs.Forms.{tail_of}
+use Rattle.vfs_grammar.specs.Words.{name_in}
+use Rattle.vfs_grammar.specs.declared.error.Error.{Error}
+use Rattle.vfs_grammar.specs.declared.error.Error.TheVariants.{OutOfMemory}
+use Rattle.vfs_messages.specs.Parts.{GivesPart, TailIsCut}
 use Rattle.test_uses.proofs.clauses.messages.name_of_two_bytes.Goals as goal
 
 -- of a tail that is whole and is this name

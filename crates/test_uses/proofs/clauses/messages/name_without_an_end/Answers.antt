@@ -1,6 +1,6 @@
 use Rattle.std.proofs.Common.{◌≡◌, ℕ, List, Result, Ok, Err, MatchResult, refl}
-use Rattle.fuse_grammar.specs.declared.error.Error.{Error}
-use Rattle.fuse_grammar.specs.declared.error.Error.TheVariants.{InvalidCString}
+use Rattle.vfs_grammar.specs.declared.error.Error.{Error}
+use Rattle.vfs_grammar.specs.declared.error.Error.TheVariants.{InvalidCString}
 use Rattle.test_uses.proofs.clauses.messages.name_without_an_end.Goals as goal
 
 is_none : (result found : Result (List ℕ) Error) → found ≡ Err InvalidCString

@@ -1,8 +1,8 @@
 use Rattle.std.proofs.Common.{◌≡◌, ℕ, List, [], Option, Result, Ok, Err, refl, inl, inr}
-use Rattle.fs_trait.specs.declared.extensions.SecContext.{SecContext}
-use Rattle.fuse_grammar.specs.declared.error.Error.{Error}
-use Rattle.fuse_grammar.specs.declared.error.Error.TheVariants.{DecodeMessage}
-use Rattle.fuse_messages.specs.Parts.{GivesValue, HoldsContext}
+use Rattle.vfs_files.specs.declared.extensions.SecContext.{SecContext}
+use Rattle.vfs_grammar.specs.declared.error.Error.{Error}
+use Rattle.vfs_grammar.specs.declared.error.Error.TheVariants.{DecodeMessage}
+use Rattle.vfs_messages.specs.Parts.{GivesValue, HoldsContext}
 use Rattle.test_uses.proofs.clauses.messages.no_body_is_no_context.Goals as goal
 
 is_refused : {B : Type 0} (wanted : Type 0) (never : wanted → ⊥) (value : Option SecContext → B) (error : Error)

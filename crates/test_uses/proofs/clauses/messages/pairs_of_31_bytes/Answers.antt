@@ -1,10 +1,10 @@
 use Rattle.std.proofs.Common.{◌≡◌, ℕ, List, Result, Ok, Err, length, refl, inl, inr}
 use Rattle.std.specs.declared.alloc.Global.{Global}
 use Rattle.std.specs.declared.vec.Vec.{Vec}
-use Rattle.fuse_grammar.specs.Forms.{pairs_in}
-use Rattle.fuse_grammar.specs.declared.error.Error.{Error}
-use Rattle.fuse_grammar.specs.declared.error.Error.TheVariants.{DecodeMessage}
-use Rattle.fuse_messages.specs.Parts.{GivesPairs}
+use Rattle.vfs_grammar.specs.Forms.{pairs_in}
+use Rattle.vfs_grammar.specs.declared.error.Error.{Error}
+use Rattle.vfs_grammar.specs.declared.error.Error.TheVariants.{DecodeMessage}
+use Rattle.vfs_messages.specs.Parts.{GivesPairs}
 use Rattle.test_uses.proofs.clauses.messages.pairs_of_31_bytes.Goals as goal
 
 is_refused : {I : Type 0} (value : I → ℕ) (error : Error) (result : Result (Vec (I × ℕ) Global) Error)

@@ -1,7 +1,7 @@
 use Rattle.std.proofs.Common.{◌≢◌, ◌∙◌, arith}
-use Rattle.fuse_wire.specs.Fields.{little}
-use Rattle.fuse_grammar.specs.Samples.{not_served_reply}
-use Rattle.fuse_grammar.proofs.Rooms.{put_outcome-fits}
+use Rattle.vfs_wire.specs.Fields.{little}
+use Rattle.vfs_grammar.specs.Samples.{not_served_reply}
+use Rattle.vfs_grammar.proofs.Rooms.{put_outcome-fits}
 use Rattle.test_uses.proofs.clauses.messages.say_not_served_alone.Goals as goal
 
 pub returns : goal.returns

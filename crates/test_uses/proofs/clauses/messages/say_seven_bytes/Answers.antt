@@ -1,6 +1,6 @@
 use Rattle.std.proofs.Common.{◌∙◌, ℕ, List, [], ◌∷◌}
-use Rattle.fuse_wire.specs.Fields.{little}
-use Rattle.fuse_grammar.proofs.Rooms.{put_outcome-fits}
+use Rattle.vfs_wire.specs.Fields.{little}
+use Rattle.vfs_grammar.proofs.Rooms.{put_outcome-fits}
 use Rattle.test_uses.proofs.clauses.messages.say_seven_bytes.Goals as goal
 
 -- a header of a reply of 24 bytes to request 9, and the number 7

@@ -1,10 +1,10 @@
 use Rattle.std.proofs.Common.{◌≡◌, ℕ, List, Result, Ok, Err, IfOk, IfErr, IsOk, length, take, true, refl, inl, inr}
-use Rattle.fuse_wire.specs.declared.headers.InHeader.{InHeader}
-use Rattle.fuse_segments.specs.Lengths.{lie_together}
-use Rattle.fuse_grammar.specs.Forms.{tail_of}
-use Rattle.fuse_grammar.specs.declared.error.Error.{Error}
-use Rattle.fuse_grammar.specs.declared.error.Error.TheVariants.{OutOfMemory}
-use Rattle.fuse_messages.specs.Parts.{GivesTail, TailIsCut}
+use Rattle.vfs_wire.specs.declared.headers.InHeader.{InHeader}
+use Rattle.vfs_segments.specs.Lengths.{lie_together}
+use Rattle.vfs_grammar.specs.Forms.{tail_of}
+use Rattle.vfs_grammar.specs.declared.error.Error.{Error}
+use Rattle.vfs_grammar.specs.declared.error.Error.TheVariants.{OutOfMemory}
+use Rattle.vfs_messages.specs.Parts.{GivesTail, TailIsCut}
 use Rattle.test_uses.proofs.clauses.messages.tail_of_three_bytes.Goals as goal
 
 module _ (wanted : Type 0) (bytes : List ℕ) where

@@ -1,9 +1,9 @@
 use Rattle.std.proofs.Common.{◌≡◌, ℕ, List, Result, Ok, Err, length, refl, inl, inr}
-use Rattle.fuse_wire.specs.declared.headers.InHeader.{InHeader}
-use Rattle.fuse_grammar.specs.Forms.{tail_of}
-use Rattle.fuse_grammar.specs.declared.error.Error.{Error}
-use Rattle.fuse_grammar.specs.declared.error.Error.TheVariants.{DecodeMessage}
-use Rattle.fuse_messages.specs.Parts.{GivesTail}
+use Rattle.vfs_wire.specs.declared.headers.InHeader.{InHeader}
+use Rattle.vfs_grammar.specs.Forms.{tail_of}
+use Rattle.vfs_grammar.specs.declared.error.Error.{Error}
+use Rattle.vfs_grammar.specs.declared.error.Error.TheVariants.{DecodeMessage}
+use Rattle.vfs_messages.specs.Parts.{GivesTail}
 use Rattle.test_uses.proofs.clauses.messages.tail_of_two_bytes.Goals as goal
 
 is_refused : (wanted : Type 0) (error : Error) (result tail : Result (List ℕ) Error) → tail ≡ Err error

@@ -1,10 +1,10 @@
 use Rattle.std.proofs.Common.{◌≡◌, ℕ, List, Result, Ok, Err, IfErr, length, refl, inl, inr}
 use Rattle.std.specs.declared.alloc.Global.{Global}
 use Rattle.std.specs.declared.vec.Vec.{Vec}
-use Rattle.fuse_grammar.specs.Forms.{pairs_in, pairs_of}
-use Rattle.fuse_grammar.specs.declared.error.Error.{Error}
-use Rattle.fuse_grammar.specs.declared.error.Error.TheVariants.{OutOfMemory}
-use Rattle.fuse_messages.specs.Parts.{GivesPairs}
+use Rattle.vfs_grammar.specs.Forms.{pairs_in, pairs_of}
+use Rattle.vfs_grammar.specs.declared.error.Error.{Error}
+use Rattle.vfs_grammar.specs.declared.error.Error.TheVariants.{OutOfMemory}
+use Rattle.vfs_messages.specs.Parts.{GivesPairs}
 use Rattle.test_uses.proofs.clauses.messages.two_pairs.Goals as goal
 
 is_memory : {I : Type 0} (value : I → ℕ) (result : Result (Vec (I × ℕ) Global) Error) (all : List (ℕ × ℕ))

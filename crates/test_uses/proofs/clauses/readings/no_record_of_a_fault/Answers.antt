@@ -1,7 +1,7 @@
 use Rattle.std.proofs.Common.{◌≡◌, ℕ, List, [], ◌∷◌, Option, Result, inl, inr}
-use Rattle.fs_trait.specs.Calls.{Failed, Readdir}
-use Rattle.fs_trait.specs.Runs.{Called, Event}
-use Rattle.fuse_grammar.specs.Listing.{IsDirectory, Listing}
+use Rattle.vfs_files.specs.Calls.{Failed, Readdir}
+use Rattle.vfs_files.specs.Runs.{Called, Event}
+use Rattle.vfs_grammar.specs.Listing.{IsDirectory, Listing}
 use Rattle.test_uses.proofs.clauses.readings.no_record_of_a_fault.Goals as goal
 
 none : (l : Listing) (events : List Event) (records : List ℕ) (result : Result ℕ (Option ℕ)) (fault : Option ℕ)

@@ -1,9 +1,9 @@
 use Rattle.std.proofs.Common.{◌≡◌, ℕ, inl, inr}
-use Rattle.fuse_grammar.specs.Forms.{Ends, WithMemory}
-use Rattle.fuse_grammar.specs.Reply.{Reply}
-use Rattle.fuse_grammar.specs.Turn.{Turn}
-use Rattle.fuse_grammar.specs.Witnesses.{FollowsFor, turn_tells}
-use Rattle.fuse_grammar.specs.declared.limits.Limits.{Limits}
+use Rattle.vfs_grammar.specs.Forms.{Ends, WithMemory}
+use Rattle.vfs_grammar.specs.Reply.{Reply}
+use Rattle.vfs_grammar.specs.Turn.{Turn}
+use Rattle.vfs_grammar.specs.Witnesses.{FollowsFor, turn_tells}
+use Rattle.vfs_grammar.specs.declared.limits.Limits.{Limits}
 use Rattle.test_uses.proofs.clauses.readings.options_stay.Goals as goal
 
 either : (t : Turn) (limits : Limits) (options after : ℕ) (reply : Reply)

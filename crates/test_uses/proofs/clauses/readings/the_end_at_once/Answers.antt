@@ -1,10 +1,10 @@
 use Rattle.std.proofs.Common.{◌≡◌, ℕ, List, [], ◌∷◌, Option, Some, None, Result, false, subst}
-use Rattle.fuse_segments.specs.Written.{Written}
-use Rattle.fs_trait.specs.Calls.{Call, Handed}
-use Rattle.fs_trait.specs.Runs.{Event, IsRun, Taken}
-use Rattle.fs_trait.specs.Values.{Item}
-use Rattle.fs_trait.specs.declared.entry.Context.{Context}
-use Rattle.fuse_listings.specs.Reading.{ReadsItems}
+use Rattle.vfs_segments.specs.Written.{Written}
+use Rattle.vfs_files.specs.Calls.{Call, Handed}
+use Rattle.vfs_files.specs.Runs.{Event, IsRun, Taken}
+use Rattle.vfs_files.specs.Values.{Item}
+use Rattle.vfs_files.specs.declared.entry.Context.{Context}
+use Rattle.vfs_listings.specs.Reading.{ReadsItems}
 use Rattle.test_uses.proofs.clauses.readings.the_end_at_once.Goals as goal
 
 stays : {S I : Type 0} (allows : S → Call → Handed I → S → Type 0) (gives : I → Option Item → I → Type 0) (ctx : Context)

@@ -1,6 +1,6 @@
 use Rattle.std.proofs.Common.{List, [], ◌∷◌, length, subst}
-use Rattle.fuse_segments.specs.Answers.{Answers, AreAnswers, Available, Count, ReaderAnswer}
-use Rattle.fuse_segments.specs.Unread.{Unread}
+use Rattle.vfs_segments.specs.Answers.{Answers, AreAnswers, Available, Count, ReaderAnswer}
+use Rattle.vfs_segments.specs.Unread.{Unread}
 use Rattle.test_uses.proofs.clauses.segments.one_question_has_one_answer.Goals as goal
 
 its_count : (u v : Unread) (answers : List ReaderAnswer) → AreAnswers u (Available ∷ []) answers v

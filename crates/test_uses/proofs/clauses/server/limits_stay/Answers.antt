@@ -1,4 +1,4 @@
-use Rattle.fuse_server.specs.Handling.{Serves}
+use Rattle.vfs_server.specs.Handling.{Serves}
 use Rattle.test_uses.proofs.clauses.server.limits_stay.Goals as goal
 
 pub returns : goal.returns

@@ -1,8 +1,8 @@
 use Rattle.std.proofs.Common.{Option, subst}
-use Rattle.fuse_flags.specs.declared.opcode.Opcode.{Opcode}
-use Rattle.fuse_segments.specs.Lengths.{lengths_from}
-use Rattle.fuse_grammar.specs.Memory.{header_of}
-use Rattle.fuse_server.specs.MemoryByPieces.{MayWantAfter}
+use Rattle.vfs_flags.specs.declared.opcode.Opcode.{Opcode}
+use Rattle.vfs_segments.specs.Lengths.{lengths_from}
+use Rattle.vfs_grammar.specs.Memory.{header_of}
+use Rattle.vfs_server.specs.MemoryByPieces.{MayWantAfter}
 use Rattle.test_uses.proofs.clauses.server.memory_is_for_opcodes.Goals as goal
 
 pub returns : goal.returns

@@ -1,8 +1,8 @@
 use Rattle.std.proofs.Common.{ap}
-use Rattle.fuse_wire_more.specs.declared.FallocateIn.{FallocateIn}
-use Rattle.fuse_wire_more.specs.declared.LseekIn.{LseekIn}
-use Rattle.fuse_wire_more.specs.declared.LseekOut.{LseekOut}
-use Rattle.fuse_wire_more.specs.declared.SyncfsIn.{SyncfsIn}
+use Rattle.vfs_wire_more.specs.declared.FallocateIn.{FallocateIn}
+use Rattle.vfs_wire_more.specs.declared.LseekIn.{LseekIn}
+use Rattle.vfs_wire_more.specs.declared.LseekOut.{LseekOut}
+use Rattle.vfs_wire_more.specs.declared.SyncfsIn.{SyncfsIn}
 use Rattle.test_uses.proofs.clauses.wire.last_of_ranges.Goals as goal
 
 pub returns-clause-lseek_in : goal.returns-clause-lseek_in

@@ -1,9 +1,9 @@
 use Rattle.std.proofs.Common.{◌≡◌, ◌∙◌, ◌+◌, ℕ, length, Some, Ok, ap, arith, refl}
-use Rattle.fuse_wire.specs.Fields.{bytes_of, little}
-use Rattle.fuse_wire.specs.Records.{init_out}
-use Rattle.fuse_grammar.specs.Reply.{body_reply, version_out}
-use Rattle.fuse_grammar.proofs.Rooms.{length-body_reply}
-use Rattle.fuse_messages.proofs.Versions.{version_ends}
+use Rattle.vfs_wire.specs.Fields.{bytes_of, little}
+use Rattle.vfs_wire.specs.Records.{init_out}
+use Rattle.vfs_grammar.specs.Reply.{body_reply, version_out}
+use Rattle.vfs_grammar.proofs.Rooms.{length-body_reply}
+use Rattle.vfs_messages.proofs.Versions.{version_ends}
 use Rattle.test_uses.proofs.messages.versions.reply_to_major_8.Goals as goal
 
 pub returns : goal.returns

@@ -1,8 +1,8 @@
 use Rattle.std.proofs.Common.{◌∙◌, ℕ, Some, Ok, ap, arith, refl}
-use Rattle.fuse_flags.specs.Numbers.{eproto}
-use Rattle.fuse_grammar.specs.Reply.{fault_reply}
-use Rattle.fuse_grammar.proofs.Rooms.{length-fault_reply}
-use Rattle.fuse_messages.proofs.Versions.{version_ends}
+use Rattle.vfs_flags.specs.Numbers.{eproto}
+use Rattle.vfs_grammar.specs.Reply.{fault_reply}
+use Rattle.vfs_grammar.proofs.Rooms.{length-fault_reply}
+use Rattle.vfs_messages.proofs.Versions.{version_ends}
 use Rattle.test_uses.proofs.messages.versions.reply_to_minor_26.Goals as goal
 
 pub returns : goal.returns

@@ -1,5 +1,5 @@
 use Rattle.std.proofs.Common.{refl}
-use Rattle.fuse_messages.proofs.Versions.{version_asks}
+use Rattle.vfs_messages.proofs.Versions.{version_asks}
 use Rattle.test_uses.proofs.messages.versions.reply_to_minor_27.Goals as goal
 
 pub returns-clause-none : goal.returns-clause-none

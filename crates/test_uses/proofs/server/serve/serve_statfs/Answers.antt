@@ -1,6 +1,6 @@
 use Rattle.std.proofs.Common.{◌≡◌}
-use Rattle.fs_trait.specs.Answers.{Plain}
-use Rattle.fs_trait.specs.Calls.{default_answer}
+use Rattle.vfs_files.specs.Answers.{Plain}
+use Rattle.vfs_files.specs.Calls.{default_answer}
 use Rattle.test_uses.proofs.ServeCallers.{served-statfs}
 use Rattle.test_uses.proofs.server.serve.serve_statfs.Goals as goal
 

@@ -1,6 +1,6 @@
 use Rattle.std.proofs.Common.{◌≡◌, ◌∙◌, refl}
-use Rattle.fs_trait.specs.Answers.{Plain}
-use Rattle.fs_trait.specs.Calls.{default_answer}
+use Rattle.vfs_files.specs.Answers.{Plain}
+use Rattle.vfs_files.specs.Calls.{default_answer}
 use Rattle.test_uses.proofs.SessionCallers.{limits_of_new, session-begun}
 use Rattle.test_uses.proofs.server.session.begin_a_session.Goals as goal
 

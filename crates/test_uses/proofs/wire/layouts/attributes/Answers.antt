@@ -1,5 +1,5 @@
 use Rattle.std.proofs.Common.{ap}
-use Rattle.fuse_wire.specs.declared.attributes.SetattrIn.{SetattrIn}
+use Rattle.vfs_wire.specs.declared.attributes.SetattrIn.{SetattrIn}
 use Rattle.test_uses.proofs.wire.layouts.attributes.Goals as goal
 
 pub returns-clause-setattr_in : goal.returns-clause-setattr_in

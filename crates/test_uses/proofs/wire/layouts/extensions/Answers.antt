@@ -1,5 +1,5 @@
 use Rattle.std.proofs.Common.{ap}
-use Rattle.fuse_wire.specs.declared.extensions.Secctx.{Secctx}
+use Rattle.vfs_wire.specs.declared.extensions.Secctx.{Secctx}
 use Rattle.test_uses.proofs.wire.layouts.extensions.Goals as goal
 
 pub returns-clause-secctx : goal.returns-clause-secctx

@@ -1,6 +1,6 @@
 use Rattle.std.proofs.Common.{ap}
-use Rattle.fuse_wire_more.specs.declared.devices.IoctlOut.{IoctlOut}
-use Rattle.fuse_wire_more.specs.declared.devices.StatxIn.{StatxIn}
+use Rattle.vfs_wire_more.specs.declared.devices.IoctlOut.{IoctlOut}
+use Rattle.vfs_wire_more.specs.declared.devices.StatxIn.{StatxIn}
 use Rattle.test_uses.proofs.wire_more.records.last_of_devices.Goals as goal
 
 pub returns-clause-ioctl_out : goal.returns-clause-ioctl_out

@@ -1,8 +1,8 @@
 use Rattle.std.proofs.Common.{ap}
-use Rattle.fuse_wire_more.specs.declared.files.FlushIn.{FlushIn}
-use Rattle.fuse_wire_more.specs.declared.files.FsyncIn.{FsyncIn}
-use Rattle.fuse_wire_more.specs.declared.files.WriteIn.{WriteIn}
-use Rattle.fuse_wire_more.specs.declared.files.WriteOut.{WriteOut}
+use Rattle.vfs_wire_more.specs.declared.files.FlushIn.{FlushIn}
+use Rattle.vfs_wire_more.specs.declared.files.FsyncIn.{FsyncIn}
+use Rattle.vfs_wire_more.specs.declared.files.WriteIn.{WriteIn}
+use Rattle.vfs_wire_more.specs.declared.files.WriteOut.{WriteOut}
 use Rattle.test_uses.proofs.wire_more.records.last_of_files.Goals as goal
 
 pub returns-clause-flush_in : goal.returns-clause-flush_in

@@ -1,5 +1,5 @@
 use Rattle.std.proofs.Common.{ap}
-use Rattle.fuse_wire_more.specs.declared.locks.LkOut.{LkOut}
+use Rattle.vfs_wire_more.specs.declared.locks.LkOut.{LkOut}
 use Rattle.test_uses.proofs.wire_more.records.last_of_locks.Goals as goal
 
 pub returns-clause-lk_out : goal.returns-clause-lk_out

@@ -1,8 +1,8 @@
 use Rattle.std.proofs.Common.{ap}
-use Rattle.fuse_wire_more.specs.declared.names.AccessIn.{AccessIn}
-use Rattle.fuse_wire_more.specs.declared.names.CreateIn.{CreateIn}
-use Rattle.fuse_wire_more.specs.declared.names.LinkIn.{LinkIn}
-use Rattle.fuse_wire_more.specs.declared.names.Rename2In.{Rename2In}
+use Rattle.vfs_wire_more.specs.declared.names.AccessIn.{AccessIn}
+use Rattle.vfs_wire_more.specs.declared.names.CreateIn.{CreateIn}
+use Rattle.vfs_wire_more.specs.declared.names.LinkIn.{LinkIn}
+use Rattle.vfs_wire_more.specs.declared.names.Rename2In.{Rename2In}
 use Rattle.test_uses.proofs.wire_more.records.last_of_names.Goals as goal
 
 pub returns-clause-rename2_in : goal.returns-clause-rename2_in

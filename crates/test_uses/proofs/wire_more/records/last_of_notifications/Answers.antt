@@ -1,5 +1,5 @@
 use Rattle.std.proofs.Common.{ap}
-use Rattle.fuse_wire_more.specs.declared.notifications.NotifyStoreOut.{NotifyStoreOut}
+use Rattle.vfs_wire_more.specs.declared.notifications.NotifyStoreOut.{NotifyStoreOut}
 use Rattle.test_uses.proofs.wire_more.records.last_of_notifications.Goals as goal
 
 pub returns-clause-notify_store_out : goal.returns-clause-notify_store_out

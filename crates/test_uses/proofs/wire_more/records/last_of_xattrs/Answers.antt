@@ -1,6 +1,6 @@
 use Rattle.std.proofs.Common.{ap}
-use Rattle.fuse_wire_more.specs.declared.xattrs.GetxattrIn.{GetxattrIn}
-use Rattle.fuse_wire_more.specs.declared.xattrs.GetxattrOut.{GetxattrOut}
+use Rattle.vfs_wire_more.specs.declared.xattrs.GetxattrIn.{GetxattrIn}
+use Rattle.vfs_wire_more.specs.declared.xattrs.GetxattrOut.{GetxattrOut}
 use Rattle.test_uses.proofs.wire_more.records.last_of_xattrs.Goals as goal
 
 pub returns-clause-getxattr_in : goal.returns-clause-getxattr_in

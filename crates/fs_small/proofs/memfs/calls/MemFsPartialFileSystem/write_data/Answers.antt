@@ -1,5 +1,5 @@
 use Rattle.std.proofs.Common.{◌≡◌, ◌<◌, List, [], length, get_or, Some, None, refl, sym, ap, ◌∙◌, arith}
-use Rattle.fs_trait.specs.Calls.{Failed}
+use Rattle.vfs_files.specs.Calls.{Failed}
 use Rattle.fs_small.specs.MemFs.{Stored, Stock, node_place}
 use Rattle.fs_small.proofs.FilesAt.{writes_into}
 use Rattle.fs_small.proofs.Indexed.{indexed_written}

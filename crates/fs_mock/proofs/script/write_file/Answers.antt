@@ -1,9 +1,0 @@
-use Rattle.std.proofs.Common.{arith}
-use Rattle.fs_trait.specs.TransferLaws.{transfer_tells}
-use Rattle.fs_mock.proofs.script.write_file.Goals as goal
-
-pub overflow_cast-result : goal.overflow_cast-result
-overflow_cast-result g c =
-    let t = c.in-Ok.ensures in
-    let tells = transfer_tells _ _ _ _ _ _ _ _ t.2 in
-    omega (arith, tells.1, c.ranges.size)

@@ -1,5 +1,0 @@
-use Rattle.fs_trait.specs.RunLaws.{run-join}
-use Rattle.fs_trait.proofs.laws.runs_join.Goals as goal
-
-pub returns : goal.returns
-returns g c = run-join g.F.FileSystem.allows g.F.DirIter.DirectoryIterator.gives

@@ -1,5 +1,0 @@
-use Rattle.std.proofs.Common.{rules}
-use Rattle.fs_trait.proofs.number.U64Number.from_number.Goals as goal
-
-pub returns : goal.returns
-returns c = search rules

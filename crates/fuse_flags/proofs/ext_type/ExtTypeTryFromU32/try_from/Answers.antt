@@ -1,5 +1,0 @@
-use Rattle.std.proofs.Common.{rules}
-use Rattle.fuse_flags.proofs.ext_type.ExtTypeTryFromU32.try_from.Goals as goal
-
-pub returns-in-32 : goal.returns-in-32
-returns-in-32 c = search rules

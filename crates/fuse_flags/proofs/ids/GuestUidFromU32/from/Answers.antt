@@ -1,5 +1,0 @@
-use Rattle.std.proofs.Common.{rules}
-use Rattle.fuse_flags.proofs.ids.GuestUidFromU32.from.Goals as goal
-
-pub returns : goal.returns
-returns c = search rules

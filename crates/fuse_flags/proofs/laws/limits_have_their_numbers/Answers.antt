@@ -1,5 +1,0 @@
-use Rattle.std.proofs.Common.{rules}
-use Rattle.fuse_flags.proofs.laws.limits_have_their_numbers.Goals as goal
-
-pub returns-clause-default : goal.returns-clause-default
-returns-clause-default c = search rules

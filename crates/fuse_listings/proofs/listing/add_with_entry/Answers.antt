@@ -1,5 +1,0 @@
-use Rattle.std.proofs.Common.{rules}
-use Rattle.fuse_listings.proofs.listing.add_with_entry.Goals as goal
-
-pub returns : goal.returns
-returns c = search rules

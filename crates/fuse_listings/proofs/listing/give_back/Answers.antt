@@ -1,5 +1,0 @@
-use Rattle.std.proofs.Common.{rules}
-use Rattle.fuse_listings.proofs.listing.give_back.Goals as goal
-
-pub returns : goal.returns
-returns c = search rules

@@ -1,5 +1,0 @@
-use Rattle.std.proofs.Common.{rules}
-use Rattle.fuse_messages.proofs.reply.outcome_of.Goals as goal
-
-pub returns-else-len-room : goal.returns-else-len-room
-returns-else-len-room c = search rules

@@ -1,5 +1,0 @@
-use Rattle.std.proofs.Common.{rules}
-use Rattle.fuse_messages.proofs.reply.put_header.Goals as goal
-
-pub returns : goal.returns
-returns c = search rules

@@ -1,7 +1,0 @@
-use Rattle.std.proofs.Common.{◌-◌, map}
-use Rattle.fuse_grammar.specs.Forms.{pairs_of}
-use Rattle.fuse_messages.proofs.Pairs.{Copied}
-use Rattle.fuse_messages.proofs.request.pairs_in_bytes.Given as goal
-
-abbrev pub invariant-loop-i : goal.invariant-loop-i
-invariant-loop-i g l = Copied (map (λ p. (g.I.Number.value p.0, p.1)) l.pairs.items) (pairs_of l.count l.bytes) (l.count - l.i) l.rest

@@ -1,5 +1,0 @@
-use Rattle.std.proofs.Common.{rules}
-use Rattle.fuse_messages.proofs.request.read_tail.Goals as goal
-
-pub take_tail-requires : goal.take_tail-requires
-take_tail-requires c = search rules

@@ -1,5 +1,0 @@
-use Rattle.fuse_print.proofs.TextLemmas.{quoted_once}
-use Rattle.fuse_print.proofs.laws.texts_differ.Goals as goal
-
-pub returns : goal.returns
-returns c = quoted_once

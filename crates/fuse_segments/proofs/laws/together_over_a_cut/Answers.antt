@@ -1,5 +1,0 @@
-use Rattle.fuse_segments.proofs.Together.{together-cut}
-use Rattle.fuse_segments.proofs.laws.together_over_a_cut.Goals as goal
-
-pub returns : goal.returns
-returns c = together-cut

@@ -1,6 +1,0 @@
-use Rattle.std.proofs.Common.{arith}
-use Rattle.fuse_segments.proofs.Flat.{segments}
-use Rattle.fuse_segments.proofs.segments.sum_of.Goals as goal
-
-pub returns-in_default : goal.returns-in_default
-returns-in_default g c = grind (arith, segments)

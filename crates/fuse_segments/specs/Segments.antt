@@ -1,3 +1,0 @@
--- Memory that is cut into segments, seen as one list of bytes.
-pub use Rattle.fuse_views.specs.Segments.{segments_of, contents, flat_bytes, lengths_of}
-unfoldable pub use Rattle.fuse_views.specs.Segments.{with_bytes_at}

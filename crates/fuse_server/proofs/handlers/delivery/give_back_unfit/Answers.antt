@@ -1,5 +1,0 @@
-use Rattle.std.proofs.Common.{rules}
-use Rattle.fuse_server.proofs.handlers.delivery.give_back_unfit.Goals as goal
-
-pub returns-then-is_counted : goal.returns-then-is_counted
-returns-then-is_counted g c = search rules

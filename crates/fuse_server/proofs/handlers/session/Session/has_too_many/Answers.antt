@@ -1,5 +1,0 @@
-use Rattle.std.proofs.Common.{rules}
-use Rattle.fuse_server.proofs.handlers.session.Session.has_too_many.Goals as goal
-
-pub returns : goal.returns
-returns c = search rules

@@ -1,5 +1,0 @@
-use Rattle.std.proofs.Common.{rules}
-use Rattle.fuse_server.proofs.server.Server.destroy.Goals as goal
-
-pub returns-clause-called : goal.returns-clause-called
-returns-clause-called g c = search rules

@@ -1,5 +1,0 @@
-use Rattle.std.proofs.Common.{rules}
-use Rattle.fuse_server.proofs.server.Server.with_limit.Goals as goal
-
-pub returns : goal.returns
-returns g c = search rules

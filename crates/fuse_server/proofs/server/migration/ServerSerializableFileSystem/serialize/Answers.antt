@@ -1,5 +1,0 @@
-use Rattle.std.proofs.Common.{rules}
-use Rattle.fuse_server.proofs.server.migration.ServerSerializableFileSystem.serialize.Goals as goal
-
-pub returns : goal.returns
-returns c = search rules

@@ -1,6 +1,0 @@
-//! Readers and writers over memory that is cut into segments, and files, with which they exchange
-//! bytes; and the search by which a reader and a writer find their place.
-
-pub use fuse_segments::laws::{Counted, Totals, find_segment};
-pub use fuse_segments::{DescriptorType, Error, Reader, Result, Writer};
-pub use fuse_views::{PositionedFile, Slices, SlicesMut, WritevFlags};

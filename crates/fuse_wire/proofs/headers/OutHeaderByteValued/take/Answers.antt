@@ -1,5 +1,0 @@
-use Rattle.std.proofs.Common.{rules}
-use Rattle.fuse_wire.proofs.headers.OutHeaderByteValued.take.Goals as goal
-
-pub returns-clause-read : goal.returns-clause-read
-returns-clause-read c = search rules

@@ -1,9 +1,0 @@
-use Rattle.std.proofs.Common.{ap, sym, ◌∙◌}
-use Rattle.fuse_wire.specs.Fields.{row}
-use Rattle.fuse_wire.specs.FieldLaws.{row-numbers}
-use Rattle.fuse_wire.proofs.laws.put_after_take.Goals as goal
-
-pub returns : goal.returns
-returns g c = λ b bytes len.
-    let again = g.met.T.ByteValued.fields_made b bytes in
-    ap (row g.T.ByteValued.table.widths) again ∙ row-numbers g.T.ByteValued.table.widths b bytes (len ∙ sym g.met.T.ByteValued.size_is)

@@ -1,5 +1,0 @@
-use Rattle.std.proofs.Common.{rules}
-use Rattle.fuse_wire.proofs.numbers.U16ByteValued.put.Goals as goal
-
-pub returns-clause-written : goal.returns-clause-written
-returns-clause-written c = search rules

@@ -1,5 +1,0 @@
-use Rattle.std.proofs.Common.{rules}
-use Rattle.fuse_wire.proofs.stat.KstatfsFromStatvfs64.from.Goals as goal
-
-pub returns : goal.returns
-returns c = search rules

@@ -1,6 +1,0 @@
-use Rattle.std.proofs.Common.{◌≡◌, Some, map, take}
-use Rattle.text_run.specs.Lines.{length_of, values_of}
-use Rattle.text_run.proofs.line.parse_rooms.Given as goal
-
-abbrev pub invariant-loop-piece : goal.invariant-loop-piece
-invariant-loop-piece l = values_of length_of (take l.piece-index (map (λ x. x.now) l.piece-items)) ≡ Some l.rooms.items

@@ -1,7 +1,0 @@
-use Rattle.std.proofs.Common.{◌≡◌, map, take}
-use Rattle.fuse_segments.specs.Segments.{contents}
-use Rattle.text_run.specs.Session.{zeros}
-use Rattle.text_run.proofs.session.empty_rooms.Given as goal
-
-abbrev pub invariant-loop-length : goal.invariant-loop-length
-invariant-loop-length l = contents l.rooms.items ≡ map zeros (take l.length-index l.lengths)

@@ -1,0 +1,12 @@
+use Rattle.std.proofs.Common.{◌≡◌, take, length}
+use Rattle.std.specs.Prelude.{replicate}
+use Rattle.std.specs.List.{concat}
+use Rattle.vfs_views.specs.Views.{IsSameRoom}
+use Rattle.vfs_bench.proofs.file.fill.Given as goal
+
+abbrev pub invariant-loop-i : goal.invariant-loop-i
+invariant-loop-i l = record {
+  same_room : IsSameRoom l.fn.view l.view;
+  filled : concat (take l.i l.view.pieces) ≡ replicate
+      (length (concat (take l.i l.view.pieces))) l.byte;
+}

@@ -1,0 +1,5 @@
+use Rattle.std.proofs.Common.{rules}
+use Rattle.vfs_listings.proofs.listing.add_with_entry.Goals as goal
+
+pub returns : goal.returns
+returns c = search rules

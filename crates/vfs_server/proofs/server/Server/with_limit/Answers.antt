@@ -1,0 +1,5 @@
+use Rattle.std.proofs.Common.{rules}
+use Rattle.vfs_server.proofs.server.Server.with_limit.Goals as goal
+
+pub returns : goal.returns
+returns g c = search rules

@@ -1,0 +1,13 @@
+use Rattle.std.proofs.Common.{◌-◌}
+use Rattle.vfs_files.specs.Transfers.{writes_of}
+use Rattle.vfs_server.proofs.Going.{Going}
+use Rattle.vfs_server.proofs.Sides.{unread}
+use Rattle.vfs_server.proofs.transfers.reader.ZcReaderZeroCopyReader.write_to_file_at.Given as goal
+
+abbrev pub invariant-loop-moved : goal.invariant-loop-moved
+invariant-loop-moved g l =
+    Going unread (writes_of g.P.PositionedFile.write_gives l.fn.self.0.left l.flags)
+    l.count l.off l.fn.f l.fn.self.0 l.moved l.place l.f l.self.0
+
+abbrev pub decreases-loop-moved : goal.decreases-loop-moved
+decreases-loop-moved g l = l.count - l.moved
