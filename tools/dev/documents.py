@@ -216,7 +216,7 @@ def check_line(fault, document, crates, line):
         elif re.fullmatch(r"[\w./*-]+", path) and ("/" in path or ENDING.search(path)):
             if not OUTSIDE.fullmatch(path) and not path.endswith(".a"):
                 beside = check_path(fault, document, path, beside)
-        elif re.fullmatch(r"[A-Za-z_]\w*(::\w+)*", code) and document != "docs/DIFFERENCES.md":
+        elif re.fullmatch(r"[A-Za-z_]\w*(::\w+)*", code) and document not in ("docs/DIFFERENCES.md", "CHANGELOG.md"):
             for word in code.split("::"):
                 if word not in words and word[0] != "_":
                     fault(f"no source has the name {word}")
@@ -373,11 +373,6 @@ trusted = read("README.md").partition("**Trusted**")[2]
 kit_crates = {name for line in re.findall(r"^\w+.*: (.*)", read("crates.txt"), re.M) for name in line.split()}
 for name in sorted(kit_crates - CRATE_NAMES - {"core", "std_alloc"} - set(CODE.findall(trusted))):
     faults.append(f"README.md: the crate {name} of the kit is not named as trusted")
-# How many words a set of pages may have.
-for pages, most in ((["README.md"], 750), (COUNTED, 15000), (sorted(glob.glob("docs/generated/*.md")), 8000)):
-    found = sum(len(read(page).split()) for page in pages)
-    if found > most:
-        faults.append(f"{pages[0]}{' and the others' * (len(pages) > 1)}: {found} words, and {most} are enough")
 HEADERS = "".join(text for path, text in sources.items() if path.startswith("include/"))
 # The fields of each struct, and the names of all fields and parameters.
 FIELDS = {name or short: set(re.findall(r"(\w+)(?=[,;]|\)\()", body)) for name, body, short in re.findall(

@@ -24,7 +24,6 @@
 #   counts              of opcodes, calls of a file system, records, stored requests and hostile forms are those
 #                       of the sources; others that several pages say are the same on each
 #   what is trusted     README.md names each crate of the kit that crates.txt does
-#   words               README.md has at most 750, all pages but those of docs/generated 15,000, and these 8,000
 #   the promise         in the table of PROMISE.md, the words are those of the promise above it
 #   the toolchain       README.md's has the logic of `rt version`, whose kits have several letters for one
 #                       logic; figures keep the one that they were made with
