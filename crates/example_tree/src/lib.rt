@@ -2,6 +2,7 @@
 //! in the root, and `a.txt` in the directory `docs`.
 #![tactic(auto)]
 
+ghost use Rattle.std.proofs.Common.{rules};
 ghost use Rattle.example_tree.specs.Docs.{docs};
 
 mod uses;
@@ -15,6 +16,12 @@ pub struct Docs;
 
 impl ReadTree for Docs {
     ghost tables = { λ tree. docs };
+
+    ghost sizes_agree = { Prim.search rules };
+
+    ghost items_agree = { Prim.search rules };
+
+    ghost children_agree = { Prim.search rules };
 
     fn attr(&self, node: u64) -> Option<Attr> {
         match node {

@@ -1,5 +1,6 @@
 -- What a tree that is only read holds.
-use Rattle.std.specs.Prelude.{ℕ, List, [], Option, Some, None}
+use Rattle.std.specs.Prelude.{◌≡◌, ⊤, ℕ, Bool, true, false, List, [], ◌∷◌, length, codes, Option, Some, None, IsSome}
+use Rattle.std.specs.Str.{bytes_eq}
 use Rattle.vfs_wire.specs.declared.attributes.Attr.{Attr}
 use Rattle.vfs_files.specs.Values.{name_text}
 use Rattle.fs_small.specs.declared.tree.TreeItem.{TreeItem}
@@ -32,3 +33,30 @@ abbrev pub found_item : Option TreeItem → Option Named
 found_item None = None
 found_item (Some item) =
     Some (record { node = item.node; kind = item.kind; name = name_text item.name })
+
+-- the file at a node has as many bytes as its attributes say
+abbrev pub SizesAgree : Tables → Type 0
+SizesAgree t =
+    (node : ℕ) (attr : Attr) (bytes : List ℕ)
+    → t.attr node ≡ Some attr → t.contents node ≡ Some bytes → attr.size ≡ length bytes
+
+-- an item is `.` or `..` (the first two booleans), or a name of the directory whose node has attributes
+abbrev pub IsListed : Bool → Bool → Tables → (parent : ℕ) → Named → Type 0
+IsListed false false t parent item = (t.child parent item.name ≡ Some item.node) × IsSome (t.attr item.node)
+IsListed _ _ t parent item = ⊤
+
+abbrev pub AreListed : Tables → (parent : ℕ) → List Named → Type 0
+AreListed t parent [] = ⊤
+AreListed t parent (item ∷ items) =
+    IsListed (bytes_eq item.name (codes ".")) (bytes_eq item.name (codes "..")) t parent item
+    × AreListed t parent items
+
+-- each item of a directory leads to a node of the tree by its name
+abbrev pub ItemsAgree : Tables → Type 0
+ItemsAgree t = (parent : ℕ) (items : List Named) → t.items parent ≡ Some items → AreListed t parent items
+
+-- a name is found in directories only, and leads to a node that has attributes
+abbrev pub ChildrenAgree : Tables → Type 0
+ChildrenAgree t =
+    (parent : ℕ) (name : List ℕ) (node : ℕ)
+    → t.child parent name ≡ Some node → IsSome (t.items parent) × IsSome (t.attr node)

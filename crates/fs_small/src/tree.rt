@@ -2,7 +2,7 @@
 
 ghost use Rattle.std.specs.Prelude.{◌≡◌, ◌↔◌, ◌-◌, ◌<◌, ◌^◌, IsSome, IfSome, IsTrue, slice_get};
 ghost use Rattle.std.specs.Option.{option_copied};
-ghost use Rattle.fs_small.specs.Tables.{Tables, items_of, found_item};
+ghost use Rattle.fs_small.specs.Tables.{Tables, SizesAgree, ItemsAgree, ChildrenAgree, items_of, found_item};
 
 use vfs_files::CStr;
 use vfs_wire::Attr;
@@ -21,8 +21,10 @@ pub struct TreeItem<'a> {
 
 /// A tree that is only read: directories and files, each a node with a number. Node 1 is the root.
 ///
-/// Its tables say what it holds, and each function is a lookup in one of them. The tables are those
-/// of a value, and never change. A tree is copied into each reading of a directory; for a large one
+/// Its tables say what it holds, and each function is a lookup in one of them. An implementation
+/// also proves that the tables agree: the size in a file's attributes is the length of its contents,
+/// each item but `.` and `..` is a child with attributes, and only directories have children. The
+/// tables are those of a value, and never change. A tree is copied into each reading of a directory; for a large one
 /// that is a reference to it.
 pub trait ReadTree: Copy {
     /// What it holds.
@@ -49,4 +51,10 @@ pub trait ReadTree: Copy {
     fn item(&self, node: u64, place: u64) -> Option<TreeItem<'_>>
         ensures item { found_item result ≡ slice_get (items_of (tables self.now) node) place }
         ensures few { IfSome result (λ _. place < 2 ^ 64 - 1) };
+
+    ghost sizes_agree: { (tree : Self) → SizesAgree (tables tree) };
+
+    ghost items_agree: { (tree : Self) → ItemsAgree (tables tree) };
+
+    ghost children_agree: { (tree : Self) → ChildrenAgree (tables tree) };
 }

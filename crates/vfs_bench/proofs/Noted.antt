@@ -1,11 +1,10 @@
 -- The notes of a recorder over a run.
-use Rattle.std.proofs.Common.{◌≡◌, ℕ, Bool, true, false, cond, List, [], ◌∷◌, ◌++◌, Option, Some, length, nat_lt, ap, subst, sym, ◌∙◌, append-nil, append_assoc}
+use Rattle.std.proofs.Common.{◌≡◌, Bool, true, false, cond, List, [], ◌∷◌, ◌++◌, Option, Some, length, nat_lt, ap, sym, ◌∙◌, append-nil, append_assoc}
 use Rattle.vfs_files.specs.Values.{Item}
-use Rattle.vfs_files.specs.Answers.{Answer, Kind}
-use Rattle.vfs_files.specs.Calls.{Call, Handed, Plain, Iterator, first_node_of, kind_of, opcode_number_of}
+use Rattle.vfs_files.specs.Calls.{Call, Handed, Plain, Iterator}
 use Rattle.vfs_files.specs.Runs.{Event, Called, OpenedDirectory, Taken, IsRun}
 use Rattle.vfs_bench.specs.declared.note.Note.{Note}
-use Rattle.vfs_bench.specs.Notes.{count_noted, kind_noted, note_of, note_of_handed, notes_of, value_noted}
+use Rattle.vfs_bench.specs.Notes.{note_of_handed, notes_of}
 use Rattle.vfs_bench.specs.Recorded.{Recorded, IsNoted, recorded}
 
 -- where no call is missed, there was a place for its note
@@ -37,27 +36,3 @@ module _ {S I : Type 0} (allows : S → Call → Handed I → S → Type 0) (giv
       let r = notes-run (Some h.1) h.0 es t h.3 unset in
       noted s h.0 t (note_of_handed call (Iterator h.1)) (notes_of es) h.2.1 r.0 r.1
   notes-run it s (Taken item ∷ es) t h unset = notes-run (Some h.1) s es t h.4 unset
-
--- a note by the number, the node, the count and the kind of a call
-abbrev pub note_with : (number node count : ℕ) → Kind → Answer → Note
-note_with number node count kind answer = record {
-  call = number;
-  node = node;
-  count = count;
-  kind = kind_noted kind answer;
-  value = value_noted kind answer;
-}
-
--- is that of the call
-pub noted_so : {S : Type 0} (old new : Recorded S) (call : Call) (answer : Answer) (number node count : ℕ) (kind : Kind)
-    → number ≡ opcode_number_of call → node ≡ first_node_of call → count ≡ count_noted call → kind ≡ kind_of call
-    → IsNoted old (note_with number node count kind answer) new → IsNoted old (note_of call answer) new
-noted_so old new call answer number node count kind is_number is_node is_count is_kind noted =
-    subst (λ (k : Kind). IsNoted old (note_with (opcode_number_of call) (first_node_of call) (count_noted call) k answer) new) is_kind
-    (subst (λ (n : ℕ). IsNoted old (note_with (opcode_number_of call) (first_node_of call) n kind answer) new) is_count
-    (subst (λ (n : ℕ). IsNoted old (note_with (opcode_number_of call) n count kind answer) new) is_node
-    (subst (λ (n : ℕ). IsNoted old (note_with n node count kind answer) new) is_number noted)))
-
--- a note is added to a recorder that is the same
-pub noted_at : {S : Type 0} (was old new : Recorded S) (note : Note) → was ≡ old → IsNoted was note new → IsNoted old note new
-noted_at {S = S} was old new note same noted = subst (λ (r : Recorded S). IsNoted r note new) same noted

@@ -19,6 +19,16 @@ value_said (Created entry handle options) = entry.inode
 value_said (Failed fault) = unwrap_or fault 0
 value_said _ = 0
 
+-- the note of a call of this number that answers, about this node
+abbrev pub asked : ℕ → ℕ → Answer → Note
+asked call node answer = record {
+  call = call;
+  node = node;
+  count = 0;
+  kind = kind_said answer;
+  value = value_said answer;
+}
+
 -- the note of a call of this number that has no answer, about this node, with a count
 abbrev pub unanswered : ℕ → ℕ → ℕ → Note
 unanswered call node count = record {

@@ -1,15 +1,12 @@
 //! How a call ended, as a note says it.
 
 ghost use Rattle.std.specs.Prelude.{◌≡◌};
-ghost use Rattle.vfs_files.specs.Answers.{Failed};
-ghost use Rattle.vfs_files.specs.CallValue.{answer_of, kind_as};
-ghost use Rattle.vfs_bench.specs.Notes.{kind_noted, value_noted};
+ghost use Rattle.vfs_files.specs.Answers.{Failed, entry_answer, created_answer};
 ghost use Rattle.vfs_bench.specs.Outcomes.{outcome_of, plain_outcome};
-ghost use Rattle.vfs_bench.specs.declared.note.NoteKind.TheVariants.{Ok};
 
 use crate::note::NoteKind;
-use vfs_files::{AnswerKind, Given};
-use vfs_flags::Fault;
+use vfs_files::{Entry, Number};
+use vfs_flags::{Fault, OpenOptions};
 
 /// The kind and the value of a note.
 #[derive(Clone, Copy)]
@@ -55,36 +52,31 @@ impl Outcome {
         }
     }
 
-    /// The outcome of a call with an answer of this kind, or a fault.
-    pub(crate) fn of_given(kind: AnswerKind, answer: &Result<Given, Fault>) -> Outcome
-        ensures kind { result.kind ≡ kind_noted (kind_as kind) (answer_of answer.now) }
-        ensures value { result.value ≡ value_noted (kind_as kind) (answer_of answer.now) }
-    {
-        match kind {
-            AnswerKind::Quiet => Outcome::NOTHING,
-            _ => Outcome::of_any(answer),
-        }
-    }
-
-    // That of a call that answers.
-    fn of_any(answer: &Result<Given, Fault>) -> Outcome
-        ensures { result ≡ outcome_of (answer_of answer.now) }
+    /// The outcome of a call that answers an entry.
+    pub(crate) fn of_entry(answer: &Result<Entry, Fault>) -> Outcome
+        ensures { result ≡ outcome_of (entry_answer answer.now) }
     {
         match answer {
-            Ok(Given::Found(entry)) => Outcome::of_node(entry.inode),
-            Ok(Given::Created(entry, _, _)) => Outcome::of_node(entry.inode),
-            Ok(_) => Outcome::of_node(0),
+            Ok(entry) => Outcome {
+                kind: NoteKind::Ok,
+                value: entry.inode,
+            },
             Err(fault) => Outcome::of_fault(fault),
         }
     }
 
-    // That of a call that answered this node, or 0.
-    fn of_node(node: u64) -> Outcome
-        ensures { result ≡ record { kind = Ok; value = node } }
+    /// The outcome of `create`.
+    pub(crate) fn of_created<H: Number>(
+        answer: &Result<(Entry, Option<H>, OpenOptions), Fault>,
+    ) -> Outcome
+        ensures { result ≡ outcome_of (created_answer H.value answer.now) }
     {
-        Outcome {
-            kind: NoteKind::Ok,
-            value: node,
+        match answer {
+            Ok((entry, _, _)) => Outcome {
+                kind: NoteKind::Ok,
+                value: entry.inode,
+            },
+            Err(fault) => Outcome::of_fault(fault),
         }
     }
 }
