@@ -216,16 +216,13 @@ def check_line(fault, document, crates, line):
         elif re.fullmatch(r"[\w./*-]+", path) and ("/" in path or ENDING.search(path)):
             if not OUTSIDE.fullmatch(path) and not path.endswith(".a"):
                 beside = check_path(fault, document, path, beside)
+        elif re.fullmatch(r"[0-9a-f]{16}", code):
+            if code not in KIT:
+                fault(f"this toolchain is {KIT}, and the proofs were last checked with the logic {code}")
         elif re.fullmatch(r"[A-Za-z_]\w*(::\w+)*", code) and document not in ("docs/DIFFERENCES.md", "CHANGELOG.md"):
             for word in code.split("::"):
                 if word not in words and word[0] != "_":
                     fault(f"no source has the name {word}")
-        elif document == "README.md" and code.startswith("rattle-kit") and logic_of(code) != logic_of(KIT):
-            fault(f"this toolchain is {KIT}, and the proofs were last checked with {code}")
-
-
-def logic_of(kit):
-    return kit.partition(" logic ")[2]
 
 
 def check_block(fault, language, comment, block):

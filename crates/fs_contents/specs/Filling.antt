@@ -3,12 +3,14 @@ use Rattle.std.specs.Prelude.{◌≡◌, ◌≤◌, ◌<◌, ◌+◌, ◌^◌, �
 use Rattle.std.specs.Map.{keys_of}
 use Rattle.fs_contents.specs.Pages.{Pages, byte_at, byte_over, holds}
 
--- a write: of these bytes some are written, and all in one call where their pages are held
+-- A write of these bytes: as many as `count` are written, at least one if the page of the first byte is held, and all
+-- if the pages of all bytes are held.
 pub record Fills (old : Pages) (bytes : List ℕ) (off : ℕ) (answer : Result ℕ (Option ℕ)) (new : Pages)
     : Type 0 where
   pub count : ℕ
   pub answered : answer ≡ Ok count
   pub within : count ≤ length bytes
+  pub some : holds (keys_of old) (off / 4096) ≡ true → 0 < length bytes → 0 < count
   pub all :
       ((place : ℕ) → off ≤ place → place < off + length bytes → holds (keys_of old) (place / 4096) ≡ true)
       → off + length bytes ≤ 2 ^ 64 → count ≡ length bytes

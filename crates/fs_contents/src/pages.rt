@@ -196,6 +196,7 @@ impl Pages {
     /// answers how many.
     pub(crate) fn put_all(&mut self, at: u64, bytes: &[u8]) -> usize
         ensures within { result ≤ length bytes.now }
+        ensures some { holds (keys_of self.old) (at / 4096) ≡ true → 0 < length bytes.now → 0 < result }
         ensures all { ((place : ℕ) → at ≤ place → place < at + length bytes.now
             → holds (keys_of self.old) (place / 4096) ≡ true)
             → at + length bytes.now ≤ 2 ^ 64 → result ≡ length bytes.now }

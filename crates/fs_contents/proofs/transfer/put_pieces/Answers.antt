@@ -1,5 +1,7 @@
-use Rattle.std.proofs.Common.{◌≡◌, ◌≤◌, ◌<◌, ◌+◌, ◌/◌, ℕ, List, ◌++◌, length, take, refl, sym, ap, ◌∙◌, arith, length-append}
+use Rattle.std.proofs.Common.{◌≡◌, ◌≤◌, ◌<◌, ◌+◌, ◌/◌, ℕ, List, ◌++◌, length, take, refl, sym, ap, ◌∙◌, ⊎_elim, arith, length-append}
 use Rattle.std.specs.List.{concat}
+use Rattle.std.specs.Map.{keys_of}
+use Rattle.std.proofs.lemmas.Bool.{cases_lt}
 use Rattle.std.proofs.lemmas.List.{take_all}
 use Rattle.vfs_views.specs.ViewLaws.{concat-take_more}
 use Rattle.fs_contents.specs.Pages.{byte_at, byte_over, holds}
@@ -31,6 +33,7 @@ returns-in_default c =
       count = c.pieces.done;
       answered = refl;
       within = omega (arith, long, less);
+      some = λ held more. omega (arith, c.in_default.ensures, c.args.off.type_inv);
       all = λ held small. omega (arith, long, less, small, c.in_default.ensures);
       keys = c.pieces.invariant.keys;
       bytes_are = λ place.
@@ -86,6 +89,19 @@ returns-then-count-piece c =
       count = c.pieces.done + n;
       answered = refl;
       within = omega (arith, long, size, within);
+      some = λ held more.
+          ⊎_elim
+          (λ (some : 0 < c.pieces.done). omega (arith, some))
+          (λ (none : c.pieces.done ≤ 0).
+          let here : c.in-Some.place ≡ off = omega (arith, c.in-Some.ensures.1, none) in
+          omega (
+            arith,
+            c.put_all-count.ensures.some
+                (ap (λ (ks : List ℕ). holds ks (c.in-Some.place / 4096)) c.pieces.invariant.keys
+                ∙ ap (λ (k : ℕ). holds (keys_of c.args.pages.now) (k / 4096)) here ∙ held)
+                (omega (arith, c.if-count-piece.true)),
+          ))
+          (cases_lt 0 c.pieces.done);
       all = λ held small.
           let all = c.put_all-count.ensures.all
           (λ k from to.
@@ -109,6 +125,7 @@ returns-then-total-eq0 c =
       count = 0;
       answered = refl;
       within = omega arith;
+      some = λ held more. absurd (omega (arith, none, more));
       all = λ held small. sym none;
       keys = refl;
       bytes_are = λ place. sym (over_none c.args.off (byte_at c.args.pages.now) place);
@@ -124,6 +141,7 @@ returns c =
       count = c.pieces.done;
       answered = refl;
       within = omega (arith, long);
+      some = λ held more. omega (arith, long, more);
       all = λ held small. long;
       keys = c.pieces.invariant.keys;
       bytes_are = λ place.
