@@ -6,8 +6,6 @@
 #        tools/check.sh --missing
 #
 #   documents  the pages against the sources
-#   figures    the commands and commits that made pages name; `Older: PAGE ..` if what they measure changed since
-#   opcode     the files that an opcode is in, against the list of CONTRIBUTING.md
 #   edits      that each wrong body of tests/edits can still be tried
 #   numbers    opcodes, calls, kinds, bits, codes and fields, wherever they are, against their one table
 #   shell      scripts, by shellcheck
@@ -29,10 +27,10 @@ set -euo pipefail
 . "$(dirname "$0")/lib/man.sh"
 cd "$here"
 
-parts=(documents figures opcode edits numbers shell rattle rust python c format door crate)
+parts=(documents edits numbers shell rattle rust python c format door crate)
 # What a part runs, by its package. The toolchain is none of Debian's.
 declare -A wanted=(
-    [documents]="rt python3" [figures]="python3 git" [opcode]="python3" [edits]="bash" [numbers]="python3" [shell]="shellcheck" [rattle]="rt"
+    [documents]="rt python3" [edits]="bash" [numbers]="python3" [shell]="shellcheck" [rattle]="rt"
     [rust]="rustfmt" [python]="pyflakes3"
     [c]="cc python3" [format]="clang-format" [door]="rt cc" [crate]="cargo rt cc"
 )
@@ -99,8 +97,6 @@ c_files() { files '*.c' '*.h'; }
 # ---- The parts. Each is judged, so `set -e` means nothing in it, and a step whose failure counts says so itself.
 
 check_documents() { tools/dev/documents.sh; }
-check_figures() { tools/dev/figures.py; }
-check_opcode() { tools/dev/opcode.py; }
 check_edits() { tests/edits/run.sh --texts; }
 check_numbers() { tools/dev/numbers.py; }
 check_shell() { scripts | each shellcheck; }
@@ -147,8 +143,6 @@ check_crate() {
 count_of() {
     case $1 in
         documents) echo "$(files '*.md' | wc -l) pages" ;;
-        figures) echo "$(files 'docs/generated/*.md' docs/SPEED.md | wc -l) pages" ;;
-        opcode) echo "$(tools/dev/opcode.py --opcodes | wc -w) opcodes" ;;
         edits) echo "$(files 'tests/edits/*.edit' | wc -l) edits" ;;
         numbers) tools/dev/numbers.py | sed 's/:.*//' ;;
         shell) echo "$(scripts | wc -l) scripts" ;;
@@ -184,8 +178,6 @@ for part in "${parts[@]}"; do
         cat "$folder/said"
         echo "FAILED: $part"
         failed+=("$part")
-    elif [ "$part" = figures ]; then
-        grep -v ' faults$' "$folder/said" || true
     fi
     times+=("$part $((SECONDS - begun)) s")
 done

@@ -1,21 +1,32 @@
 #!/usr/bin/env bash
-# Tells which wrong bodies the contracts of crates let through, by `rt plant`, which writes bodies that give up, and
-# bodies that change what the function is given or answers, and has the prover judge each.
+# Mutation tests of contracts by `rt plant`: lists the wrong bodies that the prover accepts.
 #
-# Usage: tools/measure/plant.sh [--minutes N] [--jobs N] [--first] [--anew] [CRATE..]
-#        tools/measure/plant.sh --tell [CRATE..]
-# Each crate that is named, or each with a contract, and whose files changed since it was planted, comments and imports
-# aside, is checked, and planted for 3 minutes, or N; as many crates at once as --jobs says. What that said is left in
-# out/plant. docs/generated/plant.tsv keeps what came of it, and each body that is proved, with the reason for which it may
-# be, of tools/measure/plant_known.txt; so a run goes on where another ended. --first tries about one body of each function,
-# and leaves the others to a later run; --anew plants all. What the table lacks is told at the end; --tell plants nothing,
-# and tells only that.
-# Status 0: each crate was planted as it is, each body was tried, and each that is proved has a reason; 1: the table lacks
-# some of it; 2: it could not start, or a crate is not proved.
-set -eu
+# Usage: tools/measure/plant.sh [--minutes N] [CRATE..]
+# Each crate that is named, or each of crates.txt, is checked, and `rt plant` tries wrong bodies in it for 3 minutes, or N.
+# A wrong body that is accepted is printed, unless tools/measure/plant_known.txt has it with a reason. The output of
+# `rt plant` is left in out/plant.
+# Status 0: none is printed; 1: some are, or a crate is not proved; 2: it could not start.
+set -euo pipefail
 . "$(dirname "$0")/../lib/usage.sh"
-need python3 "Install it: apt-get install python3."
 need rt "Put the folder bin of the Rattle toolchain on the PATH."
 cd "$(dirname "$0")/../.."
 
-exec python3 -B tools/measure/plant.py "$@"
+minutes=3
+if [ "${1:-}" = --minutes ]; then
+    minutes=${2:?"--minutes wants a number"}
+    shift 2
+fi
+[ $# != 0 ] || mapfile -t all < <(sed -nE 's/^([a-z][a-z0-9_]*)[^:]*:.*/\1/p' crates.txt)
+mkdir -p out/plant
+status=0
+for crate in "${@:-${all[@]}}"; do
+    [ -d "crates/$crate/src" ] || { echo "There is no crate $crate." >&2 && exit 2; }
+    out=$PWD/out/plant/$crate.txt
+    echo "Planting in $crate for $minutes minutes .." >&2
+    (cd "crates/$crate" && rt check && rt plant --minutes "$minutes") > "$out" 2>&1 || status=1
+    grep -q '^plants ' "$out" || { echo "$crate: nothing was planted: see $out" && status=1; }
+    if sed -nE "s/^proves +[^ ]+\.rt:[0-9]+ +/$crate: /p" "$out" | tr -s ' ' | grep -vxFf tools/measure/plant_known.txt; then
+        status=1
+    fi
+done
+exit $status
