@@ -17,8 +17,8 @@ CODE = re.compile(r"`([^`]+)`")
 NAMED = re.compile(r"((?:`[\w:]+`, )+)`([\w./]+\.(?:rt|antt))`")
 # `NAME`: `CLAUSE`, ..
 CLAUSED = re.compile(r"`[\w:]+`: ((?:`\w+`(?:, )?)+)")
-# `NAME` (`FILE:LINE`)
-PLACE = re.compile(r"`([^`]+)` \(`([^`]+):(\d+)`\)")
+# `NAME` (`FILE`)
+PLACE = re.compile(r"`([\w:]+)` \(`(crates/[\w/]+\.(?:rt|antt))`\)")
 ENDING = re.compile(r"\.(rt|antt|edit|md|sh|rs|py|c|h|a|txt|svg|tsv)$")
 # virtiofsd's files, and the kernel's header.
 OUTSIDE = re.compile(r"(src/)?(fuse|descriptor_utils|filesystem|server)\.rs|fuse\.h")
@@ -127,14 +127,11 @@ def check_link(fault, document, target):
         fault(f"{path} has no heading for #{anchor}")
 
 
-def check_place(fault, name, path, number):
-    """Whether the definition of a name begins in this line."""
+def check_place(fault, name, path):
+    """Whether a file has the definition of a name."""
     name = name.split("::")[-1]
-    begins = re.compile(rf" *(pub )?({KEYWORDS}) {name}\b")
-    lines = sources.get(path, "").split("\n")
-    places = [at for at, line in enumerate(lines, 1) if begins.match(line)]
-    if number not in places:
-        fault(f"{name} does not begin at {path}:{number}, but at {places or 'no line'}")
+    if not re.search(rf"^ *(pub )?({KEYWORDS}) {name}\b", sources.get(path, ""), re.M):
+        fault(f"{path} does not define {name}")
 
 
 def check_path(fault, document, path, beside):
@@ -206,11 +203,12 @@ def check_line(fault, document, crates, line):
         for name in re.findall(r"(\w+)`", listed):
             if not any(re.search(rf"^ *([\w()]+ )*{name}\b", text, re.M) for text in texts):
                 fault(f"{path} defines no {name}")
-    for name, path, number in PLACE.findall(line):
-        check_place(fault, name, path, int(number))
+    for name, path in PLACE.findall(line):
+        if name not in CRATE_NAMES:
+            check_place(fault, name, path)
     beside = [f"crates/{crate}/" for crate in crates] or [""]
     for code in CODE.findall(line):
-        path = re.sub(r":\d+$", "", code)
+        path = code
         if code in CRATE_NAMES:
             beside = [f"crates/{code}/"]
         elif re.fullmatch(r"[\w./*-]+", path) and ("/" in path or ENDING.search(path)):

@@ -5,7 +5,7 @@
 # It prints each fault with its file and line, and ends with their count. Status 0: there is none.
 #
 #   links               the file is there, and so is the heading after a `#`
-#   `NAME` (`FILE:N`)   the definition of NAME begins in line N of the file
+#   `NAME` (`FILE`)     the file has the definition of NAME
 #   `NAME`, `FILE`      the file defines NAME; several names may be before it
 #   `NAME`: `CLAUSE`    in the README of a crate: it has such a clause
 #   files and folders   are there; a part of a path, as `Ask.antt`, in the folder or crate that was
