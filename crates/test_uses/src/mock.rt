@@ -6,10 +6,11 @@ ghost use Rattle.vfs_files.specs.Answers.{entry_answer};
 ghost use Rattle.vfs_files.specs.Calls.{no_such_call, not_served, out_of_memory};
 ghost use Rattle.vfs_bench.specs.Directories.{GivesNext, Reading};
 ghost use Rattle.vfs_bench.specs.Notes.{unanswered};
-ghost use Rattle.vfs_bench.specs.declared.note.NoteKind.TheVariants.{Nothing, Fault as Failed};
+ghost use Rattle.vfs_bench.specs.declared.note.NoteKind.TheVariants.{Nothing, Fault as Failed, Ok as Found};
 
 use crate::files::forget_each;
 use fs_small::Unserved;
+use fs_tree::TreeFs;
 use std::alloc::Global;
 use vfs_bench::laws::notes_are_the_calls;
 use vfs_bench::{Note, Recorder, Script, ScriptDirectory, ScriptEntries, ScriptFile, ScriptItem};
@@ -37,6 +38,24 @@ fn lookup_is_noted(
     ensures answer { entry_answer result ≡ no_such_call }
 {
     recorder.lookup(ctx, 9, name)
+}
+
+/// A recorder wraps any file system: a name found in the root of a tree in memory is noted with its node.
+fn lookup_in_a_tree_is_noted(
+    recorder: &mut Recorder<TreeFs>,
+    ctx: Context,
+    name: CStr<'_>,
+) -> Result<Entry, Fault>
+    requires { length recorder.old.notes < recorder.old.places }
+    ensures { IfOk result (λ entry. recorder.new.notes ≡ recorder.old.notes ++ record {
+      call = 1;
+      node = 1;
+      count = 0;
+      kind = Found;
+      value = entry.inode;
+    } ∷ []) }
+{
+    recorder.lookup(ctx, 1, name)
 }
 
 /// The same where there is no place for a note: the call is answered all the same.

@@ -1,6 +1,6 @@
 //! What small file systems answer, at work: one that keeps files in memory, and a tree that is only read.
 
-ghost use Rattle.std.specs.Prelude.{◌≡◌, ◌<◌, ◌≤◌, ◌+◌, ℕ, Bool, List, [], ◌∷◌, length, codes, Option, Some, None, Ok, Err, IfSome};
+ghost use Rattle.std.specs.Prelude.{◌≡◌, ◌<◌, ◌≤◌, ◌+◌, ℕ, Bool, List, [], ◌∷◌, length, codes, Option, Some, None, Ok, Err, IfSome, IsTrue};
 ghost use Rattle.std.specs.Duration.{as_nanos};
 ghost use Rattle.std.specs.declared.time.Duration.{Duration};
 ghost use Rattle.vfs_wire.specs.declared.attributes.Attr.{Attr};
@@ -11,10 +11,10 @@ ghost use Rattle.vfs_files.specs.declared.entry.Entry.{Entry};
 ghost use Rattle.fs_small.specs.Index.{AddsWith};
 ghost use Rattle.fs_small.specs.MemFs.{MemFsAllows, Stock};
 ghost use Rattle.fs_small.specs.ReadOnly.{TreeHands, item_at};
-ghost use Rattle.fs_small.specs.Tables.{Named, Tables};
+ghost use Rattle.fs_small.specs.Tables.{ItemsAgree, Named, Tables};
 ghost use Rattle.test_uses.specs.Files.{one_file, two_files};
 
-use fs_small::name_position;
+use fs_small::{ReadTree, name_position};
 
 /// A file in memory is found by its name, with its number and its length, which hold for a second. Of a name or a number
 /// that isn't there the answer is ENOENT, 2; and attributes are answered by nothing else.
@@ -207,3 +207,30 @@ fn place_of_four(names: &[&[u8]], name: &[u8]) -> Option<usize>
 {
     name_position(names, name)
 }
+
+/// The size in the attributes of a file of a tree that is only read is the length of its contents.
+fn size_of_contents<T: ReadTree>(tree: &T, node: u64) -> bool
+    ensures { IsTrue result }
+{
+    match (tree.attr(node), tree.contents(node)) {
+        (Some(attr), Some(bytes)) => attr.size == bytes.len() as u64,
+        _ => true,
+    }
+}
+
+/// Only a directory has children, and each of them has attributes.
+fn child_of_a_directory<T: ReadTree>(tree: &T, parent: u64, name: &[u8]) -> bool
+    ensures { IsTrue result }
+{
+    match tree.child(parent, name) {
+        Some(node) => tree.is_directory(parent) && tree.attr(node).is_some(),
+        None => true,
+    }
+}
+
+/// A name that a directory lists beside `.` and `..` is found there, with the node of its item.
+fn items_are_children()
+    ensures { (t : Tables) (dot item : Named) (attr : Attr) → ItemsAgree t →
+        t.items 1 ≡ Some (dot ∷ item ∷ []) → item.name ≡ codes "a" →
+        t.child 1 (codes "a") ≡ Some item.node }
+{}
