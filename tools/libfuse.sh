@@ -2,7 +2,7 @@
 # Builds libfuse's library with the protocol layer here in place of its own: programs that link libfuse3 have it without
 # a change.
 #
-# Usage: tools/libfuse.sh [--unmodified] [--all] [--sanitize WHAT] [--suite SUITE] [FOLDER]
+# Usage: tools/libfuse.sh [--unmodified [--io-uring]] [--all] [--sanitize WHAT] [--suite SUITE] [FOLDER]
 #        tools/libfuse.sh --check [--suite SUITE] [FOLDER]
 # It leaves libfuse3.so.3 in the folder `lib` of FOLDER, which is out/libfuse if none is given, and prints where; by
 # LD_LIBRARY_PATH a program finds it there. It is built again if a source is newer, and never installed.
@@ -14,6 +14,8 @@
 #
 # With --unmodified it builds libfuse as it is, into FOLDER/unmodified. With --all it builds libfuse's examples and
 # tests too. With --sanitize both are built with sanitizers, as address,undefined or thread, into a folder of their own.
+# With --io-uring libfuse as it is also serves requests over io_uring, which libfuse can since 3.17 and Debian's own package
+# is built without: a mount then takes `-o io_uring`. It is built into a folder of its own, with liburing and libnuma.
 #
 # With --check tests/libfuse/check.sh holds the two libraries side by side.
 #
@@ -28,7 +30,7 @@ set -euo pipefail
 . "$(dirname "$0")/lib/libfuse.sh"
 
 usage() {
-    echo "Usage: tools/libfuse.sh [--check | --unmodified] [--all] [--sanitize WHAT] [--suite SUITE] [FOLDER]" >&2
+    echo "Usage: tools/libfuse.sh [--check | --unmodified [--io-uring]] [--all] [--sanitize WHAT] [--suite SUITE] [FOLDER]" >&2
     exit 2
 }
 
@@ -36,11 +38,12 @@ if [ "${1:-}" = --check ]; then
     exec "$here/tests/libfuse/check.sh" "${@:2}"
 fi
 suite=$(sed -n 's/^VERSION_CODENAME=//p' /etc/os-release)
-folder='' kind=nizwarf sanitize=none all=''
+folder='' kind=nizwarf sanitize=none all='' ring=false
 while [ $# != 0 ]; do
     case $1 in
         --unmodified) kind=unmodified ;;
         --all) all=yes ;;
+        --io-uring) ring=true ;;
         --sanitize | --suite)
             if ! [[ ${2:-} =~ ^[a-z,-]+$ ]]; then usage; fi
             if [ "$1" = --suite ]; then suite=$2; else sanitize=$2; fi
@@ -54,7 +57,16 @@ while [ $# != 0 ]; do
     esac
     shift
 done
+if [ "$kind $ring" = "nizwarf true" ]; then usage; fi
 need_packages "${to_build[@]}"
+if [ "$ring" = true ]; then
+    for it in liburing numa; do
+        if ! pkg-config --exists "$it"; then
+            echo "Missing: $it. Install both: apt-get install liburing-dev libnuma-dev." >&2
+            exit 2
+        fi
+    done
+fi
 folder=$(realpath -m "${folder:-$here/out/libfuse}")
 mkdir -p "$folder"
 [ "$kind" = unmodified ] || find_library nizwarf_door
@@ -91,6 +103,7 @@ number=$(sed -nE "s/^project\('libfuse3'.*version: '([0-9.]+)[^']*'.*/\1/p" "$so
 # A folder for each suite, kind and sanitizer; what is made of the machine's suite with the layer is in FOLDER/lib.
 work=$folder/$suite-$kind
 [ "$sanitize" = none ] || work=$work-${sanitize//,/-}
+[ "$ring" = false ] || work=$work-io-uring
 lib=$folder/lib
 if [ "$suite $kind $sanitize" != "$(sed -n 's/^VERSION_CODENAME=//p' /etc/os-release) nizwarf none" ]; then
     lib=$work/lib
@@ -133,7 +146,7 @@ build() {
     local option known
     known=$(cat "$source"/meson_options.txt "$source"/meson.options 2> /dev/null || true)
     # What a version has besides: a ring of the kernel's, which the layer doesn't serve, and sessions over sockets.
-    for option in enable-io-uring=false enable-custom-io=true; do
+    for option in enable-io-uring=$ring enable-custom-io=true; do
         [[ $known != *"'${option%=*}'"* ]] || options+=("-D$option")
     done
     mkdir -p "$work"
