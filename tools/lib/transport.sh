@@ -15,14 +15,45 @@ find_library() {
         echo "There is no library $name for C: \`tools/new-library.sh $name\` makes it." >&2
         exit 2
     fi
-    if [ -e "$built" ] && is_newest "$built"; then
+    if is_proved "$name"; then
         echo "The library $name is the proved one." >&2
     else
         built=$here/out/unproved/lib$name.a
         "$here/tools/lib/unproved.sh" "$name"
-        echo "The library $name is built without a proof; \`rt lib\` in crates/$name proves it." >&2
+        echo "The library $name is built without a proof, and up to five times slower; \`rt lib\` in crates/$name proves it." >&2
     fi
     library=("$built" "$(dirname "$(rt doc)")/c/liblibc_c.a")
+}
+
+# Whether the proved library is there, and as new as its sources: is_proved NAME
+is_proved() {
+    local built=$here/crates/$1/out/lib$1.a
+    [ -e "$built" ] && is_newest "$built"
+}
+
+# Stops a tool that measures where a library is not the proved one, because a library without a proof checks itself as it
+# runs and is up to five times slower; unless UNPROVED is not empty, since the user asked for that: need_proved UNPROVED NAME..
+need_proved() {
+    local name
+    for name in "${@:2}"; do
+        if [ -z "$1" ] && ! is_proved "$name"; then
+            echo "The library $name is not proved, or older than its sources: \`rt lib\` in crates/$name proves it." >&2
+            echo "The option --unproved measures it without a proof, which is up to five times slower." >&2
+            exit 2
+        fi
+    done
+}
+
+# Prints for a table which libraries it is of: library_kind NAME..
+library_kind() {
+    local name
+    for name in "$@"; do
+        if ! is_proved "$name"; then
+            echo "with a library without a proof, which is up to five times slower"
+            return
+        fi
+    done
+    echo "with the proved library"
 }
 
 # Adds nizwarf_door to `library`, which prints messages.

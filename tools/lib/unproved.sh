@@ -5,7 +5,8 @@
 # Usage: tools/lib/unproved.sh NAME
 # It leaves the program of crates/NAME as NAME in the folder `unproved` of `out`, or the static library as
 # libNAME.a, and builds it only where a source is newer. No promise holds of it: `rt run`, `rt lib` and
-# `rt ci` build what is proved.
+# `rt ci` build what is proved. A library checks itself as it runs and is up to five times slower than the proved
+# one, so a tool that measures time or instructions must not use it unless it says so.
 #
 # `rt try` compiles a program without a proof, but with checks that make it a hundred times slower, and
 # does not keep it. So it is given the toolchain's folder with another clang, which keeps the module that
@@ -31,7 +32,7 @@ if [ -e "$out" ] && is_newest "$out"; then
 fi
 need_toolchain "$name"
 mkdir -p "$(dirname "$out")"
-echo "Building $name without a proof .." >&2
+echo "Building $name without a proof, up to five times slower than the proved one .." >&2
 
 kit=$(dirname "$(rt doc)")
 folder=$(mktemp -d)

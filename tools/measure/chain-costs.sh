@@ -2,14 +2,20 @@
 # Counts the instructions of a request of a guest's queue but for its answer: the walk of its chain by the library, the
 # copy, the rings, and the locks of a worker. A row for each kind of chain, as of a table.
 #
-# Usage: tools/measure/chain-costs.sh [FOLDER]
-# With a FOLDER it counts those of the file vhost_queue.c there, of another commit, with its headers. It takes the proved
-# library if that is built (`rt lib` in crates/nizwarf_border), and says which one it is: one without a proof checks itself
-# as it runs. Instructions are those of all that runs, by the difference of a long run and a short one under valgrind.
+# Usage: tools/measure/chain-costs.sh [--unproved] [FOLDER]
+# With a FOLDER it counts those of the file vhost_queue.c there, of another commit, with its headers. It requires the proved
+# library (`rt lib` in crates/nizwarf_border). With --unproved it measures one without a proof where no proved one is built:
+# that takes more instructions, because it checks itself as it runs, and the table says so. Instructions are those of all that runs, by the difference of a long run and a short one under valgrind.
 set -euo pipefail
 . "$(dirname "$0")/../lib/usage.sh"
 . "$(dirname "$0")/../lib/transport.sh"
-[ $# -le 1 ] || { echo "Usage: tools/measure/chain-costs.sh [FOLDER]" >&2 && exit 2; }
+unproved=''
+if [ "${1:-}" = --unproved ]; then
+    unproved=yes
+    shift
+fi
+[ $# -le 1 ] || { echo "Usage: tools/measure/chain-costs.sh [--unproved] [FOLDER]" >&2 && exit 2; }
+need_proved "$unproved" nizwarf_border
 from=${1:-$here/programs/transport}
 need valgrind "Install it: apt-get install valgrind."
 find_library nizwarf_border
@@ -24,6 +30,8 @@ counted() {
     valgrind --tool=callgrind --callgrind-out-file=/dev/null "$program" "$@" 2>&1 | sed -n 's/.*Collected : \([0-9]*\).*/\1/p'
 }
 
+echo "Measured at commit $(git -C "$here" describe --always --dirty --exclude '*'), $(library_kind nizwarf_border)."
+echo
 echo "| Chain | instructions |"
 echo "|---|---|"
 for kind in "one:one descriptor" "four:four descriptors" "table:four in an indirect table"; do

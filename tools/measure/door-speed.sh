@@ -4,15 +4,22 @@
 # each class, as a row of a table. If cargo is installed, of three classes also those of both by the crate of
 # bindings/rust.
 #
-# Usage: tools/measure/door-speed.sh
-# It takes the proved library where that is built (`rt lib` in crates/nizwarf_door), and says which one it is.
+# Usage: tools/measure/door-speed.sh [--unproved]
+# It requires the proved library (`rt lib` in crates/nizwarf_door). With --unproved it measures one without a proof where
+# no proved one is built: that is up to five times slower, because it checks itself as it runs, and the table says so.
 # Instructions are those of all that runs, the inline functions of the header too, by the difference of a long
 # run and a short one under valgrind. Times are the least of 500 runs, each short enough for other work on
 # the machine to leave some alone, and move with the machine.
 set -euo pipefail
 . "$(dirname "$0")/../lib/usage.sh"
 . "$(dirname "$0")/../lib/transport.sh"
+unproved=''
+if [ "${1:-}" = --unproved ]; then
+    unproved=yes
+    shift
+fi
 take_none "$@"
+need_proved "$unproved" nizwarf_door
 need valgrind "Install it: apt-get install valgrind."
 find_library nizwarf_door
 folder=$(mktemp -d)
@@ -57,6 +64,8 @@ in_rust() {
     fi
 }
 
+echo "Measured at commit $(git -C "$here" describe --always --dirty --exclude '*'), $(library_kind nizwarf_door)."
+echo
 echo "| Request | instructions of an ask | of an ask and its answer | of both by a table of functions | of both by the crate for Rust | ns of both |"
 echo "|---|---|---|---|---|---|"
 # (without a word it lists its classes, and fails)

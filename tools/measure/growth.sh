@@ -5,14 +5,14 @@
 # at once; how long its locks are waited for; and where the processor's time of a request goes. It prints a page; how far it
 # is goes to standard error.
 #
-# Usage: tools/measure/growth.sh [--page] [MOST]
+# Usage: tools/measure/growth.sh [--unproved] [--page] [MOST]
 # With --page it writes docs/generated/growth.md once all is measured, and has tools/dev/pictures.sh draw it. MOST is the
 # most files, 3000000 if none is given, which take 5 GB of memory in a tmpfs of its own, and some five minutes.
 # Nothing is mounted by FUSE: tests/beside/pace.c asks the daemons by itself.
 #
 # It wants root, python3, a C compiler and the Rattle toolchain. It gets passthrough_ll, from libfuse's sources, and virtiofsd
-# from Debian's packages, by apt-get, into ignored folders; nothing is installed. It links the proved library if that
-# is built and no source is newer; otherwise tools/lib/unproved.sh builds it without a proof.
+# from Debian's packages, by apt-get, into ignored folders; nothing is installed. It requires the proved libraries;
+# with --unproved it measures libraries without a proof where these are not built, which are up to five times slower.
 # Status 0: it was measured; 1: not so; 2: it could not start.
 set -euo pipefail
 . "$(dirname "$0")/../lib/usage.sh"
@@ -22,16 +22,21 @@ set -euo pipefail
 . "$(dirname "$0")/../lib/mounts.sh"
 
 given=("$@")
-page=''
+page='' unproved=''
+if [ "${1:-}" = --unproved ]; then
+    unproved=yes
+    shift
+fi
 if [ "${1:-}" = --page ]; then
     page=yes
     shift
 fi
 most=${1:-3000000}
 if [ $# -gt 1 ] || ! [[ $most =~ ^[1-9][0-9]{3,6}$ ]] || [ "$most" -gt 3000000 ]; then
-    echo "Usage: tools/measure/growth.sh [--page] [MOST], of 1000 to 3000000 files" >&2
+    echo "Usage: tools/measure/growth.sh [--unproved] [--page] [MOST], of 1000 to 3000000 files" >&2
     exit 2
 fi
+need_proved "$unproved" nizwarf_door nizwarf_border
 need_root "Daemons that open files by handles are started as root"
 for command in python3 cc dpkg-deb; do
     need "$command" "Install it."
@@ -53,9 +58,7 @@ cc -std=c11 -O2 -Wall -Wextra -Werror -pthread -I "$here/include" -I "$here/prog
 own_work
 # (no limit of inodes: each file is one)
 mount -t tmpfs -o nr_inodes=0,size=90% growth "$work"
-built="built without a proof"
-[[ ${library[0]} == */out/unproved/* ]] || built="the proved one"
-facts="Begun on $(LC_ALL=C date '+%-d %B %Y'), commit $(git -C "$here" describe --always --dirty --exclude '*'), the library $built; \
+facts="Begun on $(LC_ALL=C date '+%-d %B %Y'), commit $(git -C "$here" describe --always --dirty --exclude '*'), $(library_kind nizwarf_door nizwarf_border); \
 Linux $(uname -r), $(nproc) processors, load $(cut -d ' ' -f 1-3 /proc/loadavg); $version, libfuse $(head -n 1 "$beside/versions")."
 measure() {
     python3 -B "$here/tools/measure/growth.py" "$folder/pace" "$folder/floor_vhost" "$work" "$most" "$facts" "$transport" \
