@@ -13,7 +13,7 @@
 # of bindings/rust; no other changes. The first run takes a minute for the download, and three for one processor.
 #
 # With --unmodified it builds virtiofsd as it is, and leaves it as virtiofsd in the folder:
-# tools/measure/virtiofsd-speed.sh measures the two side by side. Both are built by the same compiler and profile:
+# `tools/measure/share-speed.sh --layer virtiofsd` measures the two side by side. Both are built by the same compiler and profile:
 # virtiofsd's own for a release, which optimises when it links, with one codegen unit.
 #
 # With --test it runs the tests that virtiofsd's sources have, but those of the replaced files; with --check

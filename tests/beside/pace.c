@@ -5,8 +5,8 @@
  * The daemon is the process PID; the folder that it shares has a file `file` of 32 MiB, and a folder `names`. SOCKET may
  * be a number: that of a socket that keeps messages apart, as a daemon has it in place of /dev/fuse, with one request in
  * flight. For each line it prints
- *   WALL CPU BYTES    nanoseconds by the clock, those that the daemon's threads ran, and the sum of the lengths
- *                     that requests were completed with
+ *   WALL CPU BYTES    nanoseconds by the clock, those of processor time that the daemon and its descendants took, and
+ *                     the sum of the lengths that requests were completed with
  * A request's header, its record and its data have descriptors of their own, in an indirect table; data lie in
  * pages of 4 KiB. The classes: */
 #define CLASSES "unknown getattr lookup read-4k write-4k read-1m write-1m readdir readdirplus"
@@ -15,9 +15,9 @@
  * `list-N`; `destroy` ends the session, and `init` begins another one. */
 /* Status 3: it could not ask, or a request was answered with another error than it should be. */
 #define _GNU_SOURCE
+#include "../../tools/measure/time_spent.h"
 #include "front.h"
 
-#include <dirent.h>
 #include <inttypes.h>
 #include <poll.h>
 #include <sys/uio.h>
@@ -544,31 +544,6 @@ static struct request request_of(const char *class, struct transfer *record)
 	};
 }
 
-/* The nanoseconds that the threads of a process ran. */
-static uint64_t processor_time(const char *pid)
-{
-	char path[300];
-	uint64_t sum = 0, ran; /* nanoseconds */
-
-	/* (a thread that ends meanwhile is left out) */
-	snprintf(path, sizeof(path), "/proc/%s/task", pid);
-	DIR *tasks = opendir(path);
-
-	need(tasks != NULL, path);
-	for (const struct dirent *it; (it = readdir(tasks));) {
-		snprintf(path, sizeof(path), "/proc/%s/task/%s/schedstat", pid, it->d_name);
-		FILE *file = it->d_name[0] == '.' ? NULL : fopen(path, "r");
-
-		if (file) {
-			if (fscanf(file, "%" SCNu64, &ran) == 1)
-				sum += ran;
-			fclose(file);
-		}
-	}
-	closedir(tasks);
-	return sum;
-}
-
 static uint64_t now(void)
 {
 	struct timespec time;
@@ -596,7 +571,7 @@ static void begin_with(const char *where)
 }
 
 /* Makes the requests of a line, and prints what they took. */
-static void pace(const char *pid, const char *class, unsigned depth, unsigned long times)
+static void pace(pid_t pid, const char *class, unsigned depth, unsigned long times)
 {
 	/* A thread's time is counted once it sleeps again. */
 	const struct timespec pause = { 0, 300000 }; /* 0.3 ms */
@@ -611,11 +586,11 @@ static void pace(const char *pid, const char *class, unsigned depth, unsigned lo
 		make(&r, depth, depth);
 	}
 	nanosleep(&pause, NULL);
-	const uint64_t ran = processor_time(pid), from = now();
+	const uint64_t ran = time_spent(pid), from = now();
 	const uint64_t bytes = act ? act(depth, times) : make(&r, depth, times), wall = now() - from;
 
 	nanosleep(&pause, NULL);
-	printf("%" PRIu64 " %" PRIu64 " %" PRIu64 "\n", wall, processor_time(pid) - ran, bytes);
+	printf("%" PRIu64 " %" PRIu64 " %" PRIu64 "\n", wall, (uint64_t)time_spent(pid) - ran, bytes);
 	fflush(stdout);
 }
 
@@ -632,6 +607,6 @@ int main(int count, char **words)
 	}
 	begin_with(words[1]);
 	while (scanf("%39s %u %lu", class, &depth, &times) == 3)
-		pace(words[2], class, depth, times);
+		pace((pid_t)atol(words[2]), class, depth, times);
 	return 0;
 }

@@ -2,7 +2,6 @@
 import csv, html, math, os, re, sys, textwrap
 
 ARCHITECTURE = "docs/ARCHITECTURE.md"
-END_TO_END = "docs/generated/end-to-end.md"
 # The ratios of each class under each cutting, and the names of both.
 RATIOS, CLASSES = "docs/speed/ratios.tsv", "docs/speed/classes.tsv"
 CUTTINGS = {"uncut": "one piece", "head+body": "header apart", "4096": "pieces of 4096",
@@ -347,39 +346,6 @@ def ratios():
     return picture.drawn(axis + int(scale * 1.1) + 120, bottom + 30)
 
 
-def middle(picture, x, y, scale, cell, colour, column, end):
-    """The first figure of a cell as a bar, the span from the second to the third as a line, and the text."""
-    median, low, high = (min(float(figure), end) for figure in re.findall(r"\d+\.\d+", cell))
-    picture.box(x, y, scale * median, 9, fill=colour, stroke="none")
-    picture.shape("line", x1=x + scale * low, y1=y + 4.5, x2=x + scale * high, y2=y + 4.5, stroke="black")
-    picture.text(column, y + 9, cell, font_size=11)
-
-
-def end_to_end():
-    """The picture of requests to a daemon."""
-    rows = table(END_TO_END, "| Request | with this layer: processor |")
-    colours = {"with this layer: processor": "#2f6fc4", "clock": "#8fb4e8",
-               "nizwarf-share: processor": "#b3722a", "its clock": "#e3bd8d"}
-    left, axis, scale, top, thin, end = 20, 180, 420, 66, 12, 1.3
-    picture = Picture("Time of a request to a daemon by its time in virtiofsd")
-    height = thin * len(colours) + 10
-    bottom = top + height * len(rows)
-    grid(picture, axis, scale, top, bottom, "virtiofsd", 12)
-    for at, (name, processor, clock, _, share, share_clock, _) in enumerate(rows):
-        y = top + height * at
-        picture.text(left, y + height // 2, name)
-        for i, (cell, colour) in enumerate(zip((processor, clock, share, share_clock), colours.values())):
-            middle(picture, axis, y + thin * i, scale, cell, colour, axis + int(scale * end) + 12, end)
-    x = left
-    for words, colour in colours.items():
-        picture.box(x, 14, 20, 11, fill=colour, stroke="none")
-        picture.text(x + 25, 24, words)
-        x += 38 + wide(words)
-    picture.shape("line", x1=x, y1=19.5, x2=x + 20, y2=19.5, stroke="black")
-    picture.text(x + 25, 24, "half of the rounds")
-    return picture.drawn(axis + int(scale * end) + 150, bottom + 30)
-
-
 # What grows.
 
 def lines_of(picture, left, rows, names, which, words, scales):
@@ -431,7 +397,7 @@ def main():
         fault("it takes --check or nothing")
     old = []
     for name, draw in (("crates", crates), ("lookup", lookup), ("ratios", ratios),
-                       ("end-to-end", end_to_end), ("growth", growth)):
+                       ("growth", growth)):
         path, drawn = f"docs/pictures/{name}.svg", draw()
         if sys.argv[1:]:
             old += [path] if not os.path.exists(path) or read(path) != drawn else []

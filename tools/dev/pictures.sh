@@ -10,7 +10,6 @@
 #   lookup.svg   the steps of the table in docs/ARCHITECTURE.md: what is in bold, the words up to
 #                the first full stop, the first function, and the crates of all files
 #   ratios.svg   the ratios of docs/speed/ratios.tsv, with the names of docs/speed/classes.tsv
-#   end-to-end.svg  those of the table in docs/generated/end-to-end.md
 #   growth.svg   the first two tables of docs/generated/growth.md
 set -eu
 . "$(dirname "$0")/../lib/usage.sh"

@@ -4,19 +4,23 @@
 # both, in turns, its ratio, and that of the least by the clock; below 1 it is quicker here; then, if valgrind is
 # installed, the ratio of instructions. (The least, since a busy processor is half as quick, by turns)
 #
-# Usage: tools/measure/libfuse-speed.sh [--mount [--one] [--class CLASS]..] [ROUNDS [FOLDER]]
-# Without a word 40 rounds, with --mount 9. FOLDER is that of tools/libfuse.sh. It takes a minute.
-# With --mount libfuse's passthrough_ll is mounted with both, in turns, and files are used, by one job and by four: a cell
-# is the ratio by the clock, and in brackets that of the processor time of the server, the kernel's part included. That
-# takes root and ten minutes; the classes are those of tools/measure/share-speed.sh. With --one all is on one processor: with
-# more it is chance where a server and who waits for it come to, and few rounds say little.
+# Usage: tools/measure/libfuse-speed.sh [--unproved] [--mount [--one] [--classes LIST]] [ROUNDS [FOLDER]]
+# Without ROUNDS it has 40, with --mount 9. FOLDER is that of tools/libfuse.sh. It takes a minute. It requires the proved
+# library; with --unproved it measures one without a proof where that is not built, which is up to five times slower.
+# With --mount libfuse's passthrough_ll is mounted with both, in turns, and files are used: the tables and the classes are
+# those of tools/measure/share-speed.sh. That requires root, and takes three minutes. With --one all is on one processor:
+# with more it is chance which processors the server and the programs that wait for it run on, and few rounds say little.
 # Status 0: it was timed; 1: not so; 2: it could not start.
 set -euo pipefail
 . "$(dirname "$0")/../lib/usage.sh"
-. "$(dirname "$0")/../lib/program.sh"
+. "$(dirname "$0")/../lib/transport.sh"
 . "$(dirname "$0")/../lib/mounts.sh"
 
-given=("$@") mount='' classes=() where=()
+given=("$@") mount='' classes=() where=() unproved=''
+if [ "${1:-}" = --unproved ]; then
+    unproved=yes
+    shift
+fi
 if [ "${1:-}" = --mount ]; then
     mount=yes
     shift
@@ -25,19 +29,21 @@ if [ "$mount ${1:-}" = "yes --one" ]; then
     where=(taskset -c "$(nproc --all | awk '{ print $1 - 1 }')")
     shift
 fi
-while [ "$mount ${1:-}" = "yes --class" ] && [ $# -ge 2 ]; do
-    classes+=("$2")
+if [ "$mount ${1:-}" = "yes --classes" ] && [ $# -ge 2 ]; then
+    classes=("$1" "$2")
     shift 2
-done
+fi
 rounds=${1:-$([ -n "$mount" ] && echo 9 || echo 40)}
 if ! [[ $rounds =~ ^[1-9][0-9]*$ ]] || [ $# -gt 2 ]; then
-    echo "Usage: tools/measure/libfuse-speed.sh [--mount [--one] [--class CLASS]..] [ROUNDS [FOLDER]]" >&2
+    echo "Usage: tools/measure/libfuse-speed.sh [--unproved] [--mount [--one] [--classes LIST]] [ROUNDS [FOLDER]]" >&2
     exit 2
 fi
+need_proved "$unproved" nizwarf_door
 folder=$(realpath -m "${2:-$here/out/libfuse}")
 ours=$("$here/tools/libfuse.sh" "$folder")
 theirs=$("$here/tools/libfuse.sh" --unmodified "$folder")
 suite=$(sed -n 's/^VERSION_CODENAME=//p' /etc/os-release)
+measured="Measured at commit $(git -C "$here" describe --always --dirty --exclude '*'), $(library_kind nizwarf_door)."
 if [ -n "$mount" ]; then
     need_root "It mounts"
     own_mounts "${given[@]}"
@@ -46,10 +52,19 @@ if [ -n "$mount" ]; then
     cc -O2 -w -D_FILE_OFFSET_BITS=64 -pthread -I "$folder/source-$suite/include" -I "$folder/$suite-unmodified/build" \
         -o "$work/passthrough_ll" "$folder/source-$suite/example/passthrough_ll.c" "$theirs/libfuse3.so.3"
     cc -std=c11 -O2 -Wall -Wextra -Werror -o "$work/share_speed" "$here/tools/measure/share_speed.c"
-    LD_LIBRARY_PATH=$theirs "${where[@]}" python3 -B "$here/tools/measure/share_speed.py" libfuse "$work/share_speed" \
-        "$ours" - '' "$work/passthrough_ll" - "$here" "$work" "$rounds" '' "${classes[@]}"
+    version=$(sed 's/-.*//' "$folder/source-$suite/debian-version")
+    for it in "over this layer:$ours" "$version:$theirs"; do
+        printf 'passthrough_ll %s\tfolder\tenv\tLD_LIBRARY_PATH=%s\t%s\t-f\t-o\tsource={folder},cache=auto,default_permissions\t{mount}\n' \
+            "${it%%:*}" "${it#*:}" "$work/passthrough_ll"
+    done > "$work/servers"
+    echo "$measured"
+    echo
+    "${where[@]}" python3 -B "$here/tools/measure/share_speed.py" --clock --rounds "$rounds" "${classes[@]}" "$work/share_speed" \
+        "$work" "$here" "$work/servers"
     exit
 fi
+echo "$measured"
+echo
 work=$(mktemp -d -p "$folder")
 trap 'rm -rf "$work"' EXIT
 cc -std=c11 -O2 -w -D_FILE_OFFSET_BITS=64 -I "$folder/source-$suite/include" -I "$folder/$suite-unmodified/build" \

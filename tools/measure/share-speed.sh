@@ -1,99 +1,254 @@
 #!/usr/bin/env bash
-# Times nizwarf-share, or the tree in memory, beside libfuse's passthrough_ll and bindfs: what programs do with
-# files over a mount of each, in turns, by one job and by four. It prints the page docs/generated/share.md, or
-# docs/generated/tree.md: a row has the medians of ratios, the time here by that of another, and the same of the
-# servers' processor time; below 1 it is quicker here. The system calls of each stand in a table of their
-# own, docs/speed/share-calls.tsv or docs/speed/tree-calls.tsv, if strace is installed. How far it is goes to standard error.
+# Measures nizwarf-share beside virtiofsd, libfuse's examples and bindfs, or the tree in memory beside tmpfs and them, and
+# prints tables in Markdown: ratios of processor time, of runs in turns, medians and quartiles. Below 1 it takes less here.
 #
-# Usage: tools/measure/share-speed.sh [--tree [-o OPTIONS]] [--page] [ROUNDS [CLASS..]]
-# Without a word 9 rounds of all classes, which take some ten minutes. With --page it writes that page instead of
-# printing it, once all is timed. Where Linux offers io_uring, by /sys/module/fuse/parameters/enable_uring, the share
-# is timed by both ways. Each has the options that it begins with,
-# but passthrough_ll `cache=auto`, which is that of nizwarf-share, and `default_permissions`, which the beside have.
-# The folders are in memory. CLASS is stat, stat-missing, open-close, create-unlink, readdir, ls-l, write-1m,
-# read-1m, write-4k, read-4k, 'git status', untar or names-100k. With --tree it is the tree as tools/mount.sh mounts
-# it, with these options; a tmpfs itself is beside it too, names-100k is a class of all, in three rounds, and so is
-# overwrite-1m.
-# So is floor, which is stat of a server that does nothing: the tree's transport says again what the tree said, by
-# tools/measure/floor.c. What it takes no server over this transport can win.
+# Usage: tools/measure/share-speed.sh [--unproved] [--layer] [--clock] [--rounds N] [--jobs N] [--classes LIST] [TABLE..]
 #
-# It wants root, /dev/fuse, git, python3 and a C compiler, and gets passthrough_ll, from libfuse's sources, and
-# bindfs from Debian's packages, by apt-get, into an ignored folder; nothing is installed.
-# Status 0: it was timed; 1: not so; 2: it could not start.
+#   virtiofsd  over vhost-user, each daemon with its defaults, by Debian's virtiofsd 1.13.2 (2 min)
+#   pools      the same with thread pools of 0, 2 and 4 (3 min)
+#   ring       over /dev/fuse by io_uring, beside libfuse 3.18.3's own ring (5 min)
+#   read       over /dev/fuse by read(2), beside libfuse of this machine's Debian and bindfs (5 min)
+#   calls      system calls of each server over /dev/fuse (2 min)
+#   tree       the tree as tools/mount.sh mounts it, by io_uring where Linux offers it (10 min)
+#
+# Without a TABLE all are printed but the tree. The times are those of a quiet machine with four processors; the first run
+# also downloads and builds the others, which takes three minutes.
+#
+#   --unproved  measures a library that is built without a proof, where no proved one is there. Such a library is up to
+#               five times slower, so figures of it say little: each table says so.
+#   --layer     adds to the tables over vhost-user virtiofsd as tools/virtiofsd.sh builds it, unmodified and with the
+#               protocol layer here; building both takes five minutes more, and cargo
+#   --clock     adds tables of the time by the clock, which only a quiet machine makes comparable
+#   --rounds N  41 over vhost-user and 11 over /dev/fuse where it is not given
+#   --jobs N    how many processes use a mount at once (1)
+#   --classes LIST  only these classes, separated by commas; an unknown one prints the list
+#
+# Over vhost-user tests/beside/pace.c takes the place of a guest: it has a processor of its own, and all daemons share the
+# others. Over /dev/fuse tools/measure/share_speed.c uses files. All folders are in memory, so that no disk is measured.
+# Processor time is that of a server and of its descendants, the kernel's part included.
+#
+# It requires root, /dev/fuse for the mounts, git, Python 3, a C compiler and what tools/libfuse.sh requires. The table `ring`
+# requires that Linux offers io_uring: echo Y > /sys/module/fuse/parameters/enable_uring. The others are Debian's packages,
+# or built from their sources, in the ignored folder `out`; nothing is installed.
+# Exit status 0: the tables were printed; 1: a measurement failed; 2: it could not start.
 set -euo pipefail
 . "$(dirname "$0")/../lib/usage.sh"
 . "$(dirname "$0")/../lib/transport.sh"
 . "$(dirname "$0")/../lib/debian.sh"
 . "$(dirname "$0")/../lib/mounts.sh"
 
-given=("$@")
-what=share options='' page=''
-if [ "${1:-}" = --tree ]; then
-    what=tree
-    shift
-fi
-if [ "$what ${1:-}" = "tree -o" ] && [ $# -ge 2 ]; then
-    options=$2
-    shift 2
-fi
-if [ "${1:-}" = --page ]; then
-    page=yes
-    shift
-fi
-rounds=${1:-9}
-if ! [[ $rounds =~ ^[1-9][0-9]*$ ]]; then
-    echo "Usage: tools/measure/share-speed.sh [--tree [-o OPTIONS]] [--page] [ROUNDS [CLASS..]]" >&2
+refuse() {
+    echo "$1" >&2
+    echo "Usage: tools/measure/share-speed.sh [--unproved] [--layer] [--clock] [--rounds N] [--jobs N] [--classes LIST] [TABLE..]" >&2
     exit 2
-fi
-if [ "$(id -u)" != 0 ] || [ ! -e /dev/fuse ]; then
-    echo "Only root may mount, and it takes /dev/fuse." >&2
-    exit 2
-fi
+}
+
+given=("$@") unproved='' layer='' words=() jobs=() tables=()
+while [ $# -gt 0 ]; do
+    case $1 in
+        --unproved) unproved=yes ;;
+        --layer) layer=yes ;;
+        --clock) words+=("$1") ;;
+        --rounds | --jobs)
+            [[ ${2:-} =~ ^[1-9][0-9]{0,3}$ ]] || refuse "The option $1 requires a number from 1 on."
+            if [ "$1" = --jobs ]; then jobs=("$1" "$2"); else words+=("$1" "$2"); fi
+            shift
+            ;;
+        --classes)
+            [[ ${2:-} =~ ^[a-z0-9,-]+$ ]] || refuse "The option $1 requires names, separated by commas."
+            words+=("$1" "$2")
+            shift
+            ;;
+        virtiofsd | pools | ring | read | calls | tree) tables+=("$1") ;;
+        *) refuse "Unknown option or table: $1." ;;
+    esac
+    shift
+done
+[ ${#tables[@]} -gt 0 ] || tables=(virtiofsd pools ring read calls)
+need_root "It mounts, and daemons that change their user are started as root"
 for command in git python3 cc dpkg-deb; do
     need "$command" "Install it."
 done
+uring=$(cat /sys/module/fuse/parameters/enable_uring 2> /dev/null || echo none)
+case " ${tables[*]} " in
+    *" ring "*) [ "$uring" = Y ] || refuse "Linux does not offer io_uring: echo Y > /sys/module/fuse/parameters/enable_uring" ;;
+esac
+case " ${tables[*]} " in
+    *" tree "*) need_proved "$unproved" nizwarf_tree ;;
+esac
+need_proved "$unproved" nizwarf_door nizwarf_border
 # What is mounted here is in no other namespace, where it would stay in use.
 own_mounts "${given[@]}"
 
-get_passthrough
-version='' floor=''
-if [ "$what" = tree ]; then
-    # (floor.c is between the transport and the library)
-    build_transport mount nizwarf_tree "$here/tools/measure/floor.c" -Wl,--wrap=nizwarf_message_at -Wl,--wrap=nizwarf_take_at
-    floor=$transport
-    build_transport mount
-else
-    build_transport share nizwarf_door
-    version=", $("$transport" --version | sed 's/.*, //')"
-fi
-cc -std=c11 -O2 -Wall -Wextra -Werror -o "$here/out/c/share_speed" "$here/tools/measure/share_speed.c"
-# (in memory, so that no disk is timed)
+build_transport share nizwarf_door
+share=$transport
+# (in memory, so that no disk is measured)
 work=$(mktemp -d -p /dev/shm)
-# What a run leaves that ends before its own: without its mount a server ends by itself.
+# A run that ends early leaves a mount: without it the server ends by itself.
 tidy() {
     umount -lq "$work/mount"
     rm -rf --one-file-system "$work"
 }
 trap 'tidy 2> /dev/null || true' EXIT
-# Where root has set it to Y, before this, requests of the tree come by io_uring, and the share is timed so too.
-uring=/sys/module/fuse/parameters/enable_uring
-version="$version; fuse.enable_uring $(cat "$uring" 2> /dev/null || echo none)"
-built="built without a proof"
-[[ ${library[0]} == */out/unproved/* ]] || built="the proved one"
-facts="Begun on $(LC_ALL=C date '+%-d %B %Y'), commit $(git -C "$here" describe --always --dirty), the library $built$version;
-Linux $(uname -r), $(nproc) processors, load $(cut -d ' ' -f 1-3 /proc/loadavg); libfuse and bindfs \
-$(paste -sd ' ' "$beside/versions"), folders in memory."
-measure() {
-    python3 -B "$here/tools/measure/share_speed.py" "$what" "$here/out/c/share_speed" "$transport" "$floor" "$options" \
-        "$beside/passthrough_ll" "$beside/usr/bin/bindfs" "$here" "$work" "$rounds" "$facts" "$@"
+cc -std=c11 -O2 -Wall -Wextra -Werror -o "$work/pace" "$here/tests/beside/pace.c"
+cc -std=c11 -O2 -Wall -Wextra -Werror -o "$work/share_speed" "$here/tools/measure/share_speed.c"
+
+# Writes a server as a line for the measuring programs: line NAME KIND-OR-WORD WORD..
+line() {
+    local IFS=$'\t'
+    echo "$*"
 }
-if [ -z "$page" ]; then
-    measure "${@:2}"
-    cat "$work/calls.tsv" 2> /dev/null || true
-else
-    measure "${@:2}" > "$work/page.md"
-    cp "$work/page.md" "$here/docs/generated/$what.md"
-    cp "$work/all.tsv" "$here/docs/speed/$what.tsv"
-    [ ! -e "$work/calls.tsv" ] || cp "$work/calls.tsv" "$here/docs/speed/$what-calls.tsv"
-fi
-echo "load $(cut -d ' ' -f 1-3 /proc/loadavg) at the end" >&2
+
+# Lists Debian's virtiofsd of a suite, whose name has the version: add_virtiofsd SUITE AFTER-NAME WORD..
+add_virtiofsd() {
+    find_virtiofsd "$1" "$here/out/beside/$1"
+    line "$version$2" "${virtiofsd[@]}" "${socket[@]}" "${@:3}"
+}
+socket=('--socket-path={socket}' '--shared-dir={folder}' '--sandbox={sandbox}')
+
+# The daemons of the table `virtiofsd`.
+list_defaults() {
+    add_virtiofsd trixie ''
+    line nizwarf-share "$share" --log-level=error "${socket[@]}"
+    # (Debian's unstable suite may be out of reach)
+    (add_virtiofsd sid '') || echo "Debian's sid has no virtiofsd here: its column is left out." >&2
+    if [ -n "$layer" ]; then
+        built=$("$here/tools/virtiofsd.sh" --unmodified)
+        line "virtiofsd 1.13.2, built here" "$built" "${socket[@]}"
+        built=$("$here/tools/virtiofsd.sh")
+        line "virtiofsd 1.13.2 with this layer" "$built" "${socket[@]}"
+    fi
+}
+
+# The daemons of the table `pools`. The first one has virtiofsd's default, which is no pool.
+list_pools() {
+    local pool
+    add_virtiofsd trixie ''
+    for pool in 2 4; do
+        add_virtiofsd trixie ", pool of $pool" "--thread-pool-size=$pool"
+    done
+    for pool in 0 2 4; do
+        line "nizwarf-share, pool of $pool" "$share" --log-level=error "${socket[@]}" "--thread-pool-size=$pool"
+    done
+}
+
+# Lists the others over a mount: list_libfuse VERSION FOLDER OPTIONS.. of passthrough_ll and passthrough_hp of a build.
+list_libfuse() {
+    local name=$1 options
+    options=$(printf ',%s' "${@:3}")
+    line "passthrough_ll $name" folder "$2/passthrough_ll" -f -o "source={folder},cache=auto,default_permissions${options%,}" '{mount}'
+    if [ $# -gt 2 ]; then
+        line "passthrough_hp $name" folder "$2/passthrough_hp" --foreground -o "default_permissions${options%,}" '{folder}' '{mount}'
+    else
+        line "passthrough_hp $name" folder "$2/passthrough_hp" --foreground '{folder}' '{mount}'
+    fi
+}
+list_bindfs() {
+    # (with one thread, its default; where more processes wait for it, with several)
+    local threads=() lib
+    [ "${jobs[1]:-1}" = 1 ] || threads=(--multithreaded)
+    lib=$(dirname "$(find "$beside" -name libfuse3.so.3 -print -quit)")
+    line "bindfs $(sed -n '2s/-.*//p' "$beside/versions")" folder env "LD_LIBRARY_PATH=$lib" "$beside/usr/bin/bindfs" -f "${threads[@]}" '{folder}' '{mount}'
+}
+mount_share() {
+    line "$1" "$2" "$share" --log-level=error "${@:3}" '{folder}' '{mount}'
+}
+own_suite=$(sed -n 's/^VERSION_CODENAME=//p' /etc/os-release)
+# Sets where libfuse's examples are, of this machine's suite and of sid with its ring.
+build_libfuse() {
+    "$here/tools/libfuse.sh" --unmodified --all > /dev/null
+    examples=$here/out/libfuse/$own_suite-unmodified/build/example
+    libfuse=$(sed 's/-.*//' "$here/out/libfuse/source-$own_suite/debian-version")
+}
+build_ring() {
+    "$here/tools/libfuse.sh" --unmodified --io-uring --all --suite sid > /dev/null
+    ring_examples=$here/out/libfuse/sid-unmodified-io-uring/build/example
+    ring_libfuse=$(sed 's/-.*//' "$here/out/libfuse/source-sid/debian-version")
+}
+
+# Prints a table, of the servers that a function lists: over_vhost LIST, over_mount LIST
+over_vhost() {
+    "$1" > "$work/servers"
+    mkdir -p "$work/vhost"
+    python3 -B "$here/tests/beside/pace.py" "${words[@]}" "$work/pace" "$work/vhost" "$work/servers"
+}
+over_mount() {
+    "$1" > "$work/servers"
+    python3 -B "$here/tools/measure/share_speed.py" "${@:2}" "${words[@]}" "${jobs[@]}" "$work/share_speed" "$work" "$here" "$work/servers"
+    rm -rf "$work/archive" "$work/clone"
+}
+
+list_ring() {
+    mount_share "nizwarf-share, io_uring" folder -o io_uring
+    list_libfuse "$ring_libfuse, io_uring" "$ring_examples" io_uring io_uring_q_depth=4
+    mount_share "nizwarf-share, read(2)" folder
+    mount_share "nizwarf-share, --passthrough" data --passthrough
+}
+list_read() {
+    mount_share "nizwarf-share" folder
+    list_libfuse "$libfuse" "$examples"
+    list_bindfs
+}
+list_calls() {
+    mount_share "nizwarf-share, read(2)" folder
+    [ "$uring" != Y ] || mount_share "nizwarf-share, io_uring" folder -o io_uring
+    list_libfuse "$libfuse" "$examples"
+    list_bindfs
+}
+list_tree() {
+    line "the tree" tree "$tree" '{mount}'
+    line tmpfs tmpfs
+    line "the transport alone" floor "$floor" '{mount}'
+    list_libfuse "$libfuse" "$examples"
+    list_bindfs
+}
+
+echo "Measured on $(LC_ALL=C date '+%-d %B %Y') at commit $(git -C "$here" describe --always --dirty --exclude '*'), \
+$(library_kind nizwarf_door nizwarf_border): $("$share" --version | sed 's/.*, //'); Linux $(uname -r), $(nproc) processors, load $(cut -d ' ' -f 1-3 /proc/loadavg)."
+for table in "${tables[@]}"; do
+    echo
+    case $table in
+        virtiofsd)
+            printf 'Over vhost-user, by virtiofsd 1.13.2, each with its defaults. '
+            over_vhost list_defaults
+            ;;
+        pools)
+            printf 'Over vhost-user by the size of the thread pool, by virtiofsd 1.13.2 without one. '
+            over_vhost list_pools
+            ;;
+        ring)
+            build_ring
+            printf 'Over /dev/fuse by io_uring, with 4 entries for each processor.\n\n'
+            over_mount list_ring
+            ;;
+        read)
+            build_libfuse
+            get_passthrough
+            unset LD_LIBRARY_PATH
+            printf 'Over /dev/fuse by read(2).\n\n'
+            over_mount list_read
+            ;;
+        calls)
+            build_libfuse
+            get_passthrough
+            unset LD_LIBRARY_PATH
+            need strace "Install it: apt-get install strace."
+            printf 'System calls, as strace counts them; those of less than one in twenty are left out. With a GETATTR, an open or a\n'
+            printf 'rename the LOOKUP before it is counted.\n\n'
+            over_mount list_calls --calls
+            ;;
+        tree)
+            build_libfuse
+            get_passthrough
+            unset LD_LIBRARY_PATH
+            # (floor.c is between the transport and the library)
+            build_transport mount nizwarf_tree "$here/tools/measure/floor.c" -Wl,--wrap=nizwarf_message_at -Wl,--wrap=nizwarf_take_at
+            floor=$transport
+            build_transport mount
+            tree=$transport
+            printf 'The tree, %s; fuse.enable_uring is %s.\n\n' "$(library_kind nizwarf_tree)" "$uring"
+            over_mount list_tree
+            ;;
+    esac
+done
+printf '\nLoad %s at the end.\n' "$(cut -d ' ' -f 1-3 /proc/loadavg)"

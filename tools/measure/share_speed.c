@@ -1,20 +1,23 @@
-/* Does what programs do with files, and takes the time of it: for share_speed.py.
+/* Does what programs do with files, and measures its time: for share_speed.py.
  *
  * Usage: share_speed CLASS FOLDER JOBS
  *        share_speed CLASS FOLDER JOBS SERVER [COMMAND..]
- * Each of the jobs is a process with a folder of its own, job-N. The first makes them, with what is there before.
- * The second prints the seconds from when all begin up to when the last one has ended, and those that the threads
- * of the process SERVER were on a processor meanwhile. The class `run` is a command. */
+ * Each job is a process with a folder of its own, job-N. The first form creates the folders and the files that the class
+ * needs. The second form runs the jobs and prints three numbers of seconds: by the clock, from when all jobs begin until
+ * the last one has ended; of processor time of the process SERVER and its descendants; and of processor time of the jobs.
+ * SERVER is 0 where no process serves the folder. The class `run` is a command. */
 #define _GNU_SOURCE
+#include "time_spent.h"
+
 #include <dirent.h>
 #include <fcntl.h>
 #include <stdint.h>
 #include <stdio.h>
 #include <stdlib.h>
 #include <string.h>
+#include <sys/resource.h>
 #include <sys/stat.h>
 #include <sys/wait.h>
-#include <time.h>
 #include <unistd.h>
 
 /* Files of a job, or with MOST of all; how often names are read. Sizes are in bytes. */
@@ -84,10 +87,21 @@ static void make_nothing(void)
 
 static char **command; /* of the class `run` */
 
+/* ---- what a job does before its time begins */
+
+/* Looks all files up, so that a request about one of them needs no LOOKUP. */
+static void look_up(void)
+{
+	struct stat seen;
+
+	for (int i = 0; i < FILES; i++)
+		need(!stat(name_file(i), &seen), "stat");
+}
+
 /* ---- what is timed */
 
-/* Asks for the attributes, whatever is remembered. */
-static void stat_files(void)
+/* Asks for the attributes, whatever the kernel remembers of them. */
+static void get_attributes(void)
 {
 	struct statx seen;
 
@@ -109,6 +123,16 @@ static void open_files(void)
 {
 	for (int i = 0; i < FILES; i++)
 		close(open_file(name_file(i), O_RDONLY));
+}
+
+static void rename_files(void)
+{
+	char to[40];
+
+	for (int i = 0; i < FILES; i++) {
+		snprintf(to, sizeof(to), "new-%s", name_file(i));
+		need(!rename(name_file(i), to), "rename");
+	}
 }
 
 /* (the folder is empty again after it) */
@@ -223,16 +247,24 @@ static void run_command(void)
 
 static const struct {
 	const char *name;
-	void (*before)(void), (*act)(void);
-	/* What is made before is done by another run of the program. */
+	/* `before` creates files in another run of the program; `warm` runs in each job before its time begins. */
+	void (*before)(void), (*warm)(void), (*act)(void);
 } classes[] = {
-	{ "stat", make_few, stat_files },	   { "stat-missing", make_nothing, stat_missing },
-	{ "open-close", make_few, open_files },	   { "create-unlink", make_nothing, create_and_unlink },
-	{ "readdir", make_many, read_names },	   { "ls-l", make_many, read_attributes },
-	{ "write-1m", make_nothing, write_large }, { "overwrite-1m", make_large, write_large },
-	{ "read-1m", make_large, read_large },	   { "write-4k", make_large, write_blocks },
-	{ "read-4k", make_large, read_blocks },	   { "names-100k", make_nothing, list_and_remove },
-	{ "run", make_nothing, run_command },
+	{ "getattr", make_few, look_up, get_attributes },
+	{ "lookup", make_few, make_nothing, look_up },
+	{ "missing", make_nothing, make_nothing, stat_missing },
+	{ "open-close", make_few, look_up, open_files },
+	{ "create-unlink", make_nothing, make_nothing, create_and_unlink },
+	{ "rename", make_few, look_up, rename_files },
+	{ "readdir", make_many, make_nothing, read_names },
+	{ "ls-l", make_many, make_nothing, read_attributes },
+	{ "write-1m", make_nothing, make_nothing, write_large },
+	{ "overwrite-1m", make_large, make_nothing, write_large },
+	{ "read-1m", make_large, make_nothing, read_large },
+	{ "write-4k", make_large, make_nothing, write_blocks },
+	{ "read-4k", make_large, make_nothing, read_blocks },
+	{ "names-100k", make_nothing, make_nothing, list_and_remove },
+	{ "run", make_nothing, make_nothing, run_command },
 };
 
 /* Makes the folder of a job if there is none, and goes there. */
@@ -245,14 +277,26 @@ static void enter(int job)
 	need(!chdir(folder), folder);
 }
 
-/* A job: it waits for the pipe's end, and acts. */
+static double seconds_of(clockid_t clock)
+{
+	struct timespec time;
+
+	clock_gettime(clock, &time);
+	return (double)time.tv_sec + (double)time.tv_nsec / 1e9;
+}
+
+/* A job. It writes the processor time that it has taken so far to the pipe `ready`, because that time is not part of what
+ * is measured; then it waits for the end of the pipe `go`, and acts. */
 static _Noreturn void run_job(size_t which, int job, const int ready[2], const int go[2])
 {
+	double taken;
 	char byte;
 
 	enter(job);
+	classes[which].warm();
 	close(go[1]);
-	need(write(ready[1], "", 1) == 1, "a pipe");
+	taken = seconds_of(CLOCK_PROCESS_CPUTIME_ID);
+	need(write(ready[1], &taken, sizeof(taken)) == sizeof(taken), "a pipe");
 	/* (so that the pipe has an end, if another job has failed before it wrote) */
 	close(ready[1]);
 	/* (all jobs wait for the same end, and so begin at once) */
@@ -271,65 +315,50 @@ static void prepare(size_t which)
 	}
 }
 
-/* The nanoseconds that the threads of a process were on a processor. (a thread that ends meanwhile takes its time
- * with it) */
-static unsigned long long spent_by(const char *server)
+/* The processor time of all jobs, which have ended, and of the programs that they ran. */
+static double time_of_jobs(void)
 {
-	unsigned long long sum = 0, one;
-	char path[600];
-	const struct dirent *task;
-	DIR *tasks;
+	struct rusage all;
 
-	snprintf(path, sizeof(path), "/proc/%s/task", server);
-	tasks = opendir(path);
-	need(tasks != NULL, path);
-	while ((task = readdir(tasks))) {
-		FILE *file;
-
-		snprintf(path, sizeof(path), "/proc/%s/task/%s/schedstat", server, task->d_name);
-		file = *task->d_name != '.' ? fopen(path, "r") : NULL;
-		if (file && fscanf(file, "%llu", &one) == 1)
-			sum += one;
-		if (file)
-			fclose(file);
-	}
-	closedir(tasks);
-	return sum;
+	getrusage(RUSAGE_CHILDREN, &all);
+	return (double)(all.ru_utime.tv_sec + all.ru_stime.tv_sec) +
+	       (double)(all.ru_utime.tv_usec + all.ru_stime.tv_usec) / 1e6;
 }
 
-static double now(void)
+/* The processor time of a server, of which 0 is none. It waits until a server has gone to sleep, because only then Linux
+ * has added its last time. */
+static double time_of_server(pid_t server)
 {
-	struct timespec time;
+	const struct timespec pause = { 0, 2000000 }; /* 2 ms */
 
-	clock_gettime(CLOCK_MONOTONIC, &time);
-	return (double)time.tv_sec + (double)time.tv_nsec / 1e9;
+	nanosleep(&pause, NULL);
+	return server ? (double)time_spent(server) / 1e9 : 0;
 }
 
-/* Runs the jobs, and prints their times. Answers whether one failed. */
-static int take_time(size_t which, const char *server)
+/* Runs the jobs, and prints their times. Returns whether one failed. */
+static int measure(size_t which, pid_t server)
 {
 	int ready[2], go[2], status, is_wrong = 0;
-	unsigned long long spent;
-	double from;
-	char byte;
+	double from, spent, taken, before = 0;
 
 	need(!pipe(ready) && !pipe(go), "a pipe");
 	for (int i = 0; i < jobs; i++)
-		/* (one that can't be made lacks among the bytes that are read below) */
+		/* (a job that fork() did not make is missed by the read below) */
 		if (!fork())
 			run_job(which, i, ready, go);
-	/* (so that one that fails is seen) */
 	close(ready[1]);
-	for (int i = 0; i < jobs; i++)
-		need(read(ready[0], &byte, 1) == 1, "a job");
-	spent = spent_by(server); /* when all jobs wait */
-	from = now();
+	for (int i = 0; i < jobs; i++) {
+		need(read(ready[0], &taken, sizeof(taken)) == sizeof(taken), "a job");
+		before += taken;
+	}
+	spent = time_of_server(server); /* all jobs wait now */
+	from = seconds_of(CLOCK_MONOTONIC);
 	close(go[0]);
 	close(go[1]);
-	while (wait(&status) > 0)   /* until the last job has ended */
-		is_wrong |= status; /* a job that failed, or was killed */
-	from = now() - from;
-	printf("%.6f %.6f\n", from, (double)(spent_by(server) - spent) / 1e9);
+	while (wait(&status) > 0)
+		is_wrong |= status;
+	from = seconds_of(CLOCK_MONOTONIC) - from;
+	printf("%.6f %.6f %.6f\n", from, time_of_server(server) - spent, time_of_jobs() - before);
 	return is_wrong ? 1 : 0;
 }
 
@@ -347,8 +376,8 @@ int main(int count, char **words)
 	}
 	memset(bytes, 7, sizeof(bytes)); /* so that no file is one of holes */
 	need(!chdir(words[2]), words[2]);
-	if (count == 4) /* without a server it's the run before */
+	if (count == 4)
 		return prepare(which), 0;
 	command = words + 5;
-	return take_time(which, words[4]);
+	return measure(which, (pid_t)atol(words[4]));
 }
