@@ -21,6 +21,9 @@ CLASSES = {
     "getattr": "GETATTR", "lookup": "LOOKUP", "read-4k": "READ of 4 KiB", "write-4k": "WRITE of 4 KiB",
     "read-1m": "READ of 1 MiB", "write-1m": "WRITE of 1 MiB", "readdir": "READDIR of 1,000", "readdirplus": "READDIRPLUS of 1,000",
 }
+# How often all daemons are started anew: where Linux has once put a daemon's threads it tends to leave them, and one
+# processor may be slower than another one, so that the rounds of one pass share that fault.
+PASSES = 5
 # The default of all daemons, and what is left where the machine lets nobody make namespaces.
 SANDBOXES = "namespace", "chroot"
 
@@ -28,7 +31,7 @@ SANDBOXES = "namespace", "chroot"
 def options():
     """The options of the command. It ends where a class does not exist."""
     parser = argparse.ArgumentParser(add_help=False)
-    parser.add_argument("--rounds", type=int, default=41)
+    parser.add_argument("--rounds", type=int, default=45)
     parser.add_argument("--ms", type=int, default=10)
     parser.add_argument("--depths", type=lambda text: [int(it) for it in text.split(",")], default=[1, 16])
     parser.add_argument("--classes", type=lambda text: text.split(","), default=list(CLASSES))
@@ -127,14 +130,14 @@ def start(given):
 
 
 def rounds_of(daemons, kind, depth, given):
-    """The rounds of a class: of each daemon the nanoseconds of a request, by the clock and of the processor."""
+    """Some rounds of a class: of each daemon the nanoseconds of a request, by the clock and of the processor."""
     # Twice as many until they take half the time that is wanted, then as many as take all of it.
     count = 4 * depth
     while (wall := daemons[0].must(kind, depth, count)[0]) < given.ms * 500_000:
         count = max(2 * count, count * given.ms * 1_000_000 // max(wall, 1) // 2)
     count = max(depth, count * given.ms * 1_000_000 // wall)
     rounds = []
-    for number in range(given.rounds):
+    for number in range(max(1, given.rounds // PASSES)):
         # In another order in each round, so that no daemon always finds in the caches what the same other one left there;
         # but in the same orders in each run.
         order = random.Random(number).sample(daemons, len(daemons))
@@ -175,16 +178,17 @@ def main():
     """Measures, and prints the tables."""
     given = options()
     fill(f"{given.work}/shared")
-    daemons, sandbox = start(given)
-    found = {}
-    for kind in given.classes:
-        for depth in given.depths:
-            print(f"{CLASSES[kind]}, {depth} in flight", file=sys.stderr)
-            found[kind, depth] = rounds_of(daemons, kind, depth, given)
-    for daemon in daemons:
-        daemon.end()
-    print(f"Each daemon has `--sandbox={sandbox}` and its filter of system calls; "
-          f"{given.rounds} rounds of {given.ms} ms in turns.\n")
+    found = {(kind, depth): [] for kind in given.classes for depth in given.depths}
+    for number in range(PASSES):
+        daemons, sandbox = start(given)
+        for kind, depth in found:
+            print(f"pass {number + 1} of {PASSES}: {CLASSES[kind]}, {depth} in flight", file=sys.stderr)
+            found[kind, depth] += rounds_of(daemons, kind, depth, given)
+        for daemon in daemons:
+            daemon.end()
+    rounds = len(found[given.classes[0], given.depths[0]])
+    print(f"Each daemon has `--sandbox={sandbox}` and its filter of system calls; {rounds} rounds of {given.ms} ms in turns, "
+          f"in {PASSES} passes.\n")
     show(daemons, found, 1, given)
     if given.clock:
         print("\nThe same by the clock:\n")

@@ -19,7 +19,7 @@
 #   --layer     adds to the tables over vhost-user virtiofsd as tools/virtiofsd.sh builds it, unmodified and with the
 #               protocol layer here; building both takes five minutes more, and cargo
 #   --clock     adds tables of the time by the clock, which only a quiet machine makes comparable
-#   --rounds N  41 over vhost-user and 11 over /dev/fuse where it is not given
+#   --rounds N  45 over vhost-user and 11 over /dev/fuse where it is not given
 #   --jobs N    how many processes use a mount at once (1)
 #   --classes LIST  only these classes, separated by commas; an unknown one prints the list
 #
