@@ -48,11 +48,12 @@ Reply = collections.namedtuple("Reply", "error body")
 
 
 class Request:
-    """A request on a queue. `done` is the number of bytes that the device wrote, or None while it is in flight."""
+    """A request on a queue, whose reply is written at `at`. `reply` is the bytes of the reply, or None while the request
+    is in flight."""
 
-    def __init__(self, queue, head, unique, opcode, reply):
-        self.queue, self.head, self.unique, self.opcode, self.reply = queue, head, unique, opcode, reply
-        self.done = None
+    def __init__(self, queue, unique, opcode, at):
+        self.queue, self.unique, self.opcode, self.at = queue, unique, opcode, at
+        self.reply = None
 
 
 class Queue:
@@ -64,8 +65,8 @@ class Queue:
         self.used = self.available + 8 + 2 * size & ~3
         self.end = self.used + 8 + 8 * size
         self.free, self.flying = collections.deque(), {}
-        # How many chains were made available, and how many used ones were seen.
-        self.made, self.seen = 0, 0
+        # How many chains were made available, how many were at the last kick, and how many used ones were seen.
+        self.made, self.kicked, self.seen = 0, 0, 0
 
 
 class FrontEnd(FileOperations):
@@ -220,8 +221,12 @@ class FrontEnd(FileOperations):
     # Requests.
 
     def number(self, at):
-        """The 16-bit number at an offset of the memory."""
+        """Returns the 16-bit number at an offset of the memory."""
         return struct.unpack_from("<H", self.view, at)[0]
+
+    def put(self, at, number):
+        """Puts a 16-bit number there, in one step: struct.pack_into() writes zeros first, which the device may see."""
+        self.view[at:at + 2] = struct.pack("<H", number & 0xffff)
 
     def submit(self, opcode, body=b"", node=1, queue=1, reply_size=None, uid=0, gid=0, pid=1, extensions=0, kick=True):
         """Puts a request on a queue and returns it. `reply_size` counts the reply's header; by default it is that of
@@ -241,7 +246,7 @@ class FrontEnd(FileOperations):
         IN_HEADER.pack_into(self.view, at + 64, size, opcode, self.unique, node, uid, gid, pid, extensions, 0)
         self.view[at + 64 + IN_HEADER.size:at + 64 + size] = body
         self.view[reply:reply + reply_size] = bytes(reply_size)
-        request = Request(queue, head, self.unique, opcode, reply)
+        request = Request(queue, self.unique, opcode, reply)
         queue.flying[head] = request
         first = 0 if self.indirect else head
         chain = struct.pack("<QIHH", GUEST + at + 64, size, NEXT if reply_size else 0, first + 1 if reply_size else 0)
@@ -251,55 +256,59 @@ class FrontEnd(FileOperations):
         self.view[where:where + len(chain)] = chain
         if self.indirect:
             struct.pack_into("<QIHH", self.view, queue.descriptors + 16 * head, GUEST + at, len(chain), INDIRECT, 0)
-        struct.pack_into("<H", self.view, queue.available + 4 + 2 * (queue.made % queue.size), head)
+        self.put(queue.available + 4 + 2 * (queue.made % queue.size), head)
         queue.made += 1
-        struct.pack_into("<H", self.view, queue.available + 2, queue.made & 0xffff)
+        self.put(queue.available + 2, queue.made)
         if kick:
             self.kick(queue)
         return request
 
     def kick(self, queue, always=False):
-        """Kicks the device after chains were made available, if it wants to be kicked for the last one."""
+        """Kicks the device after chains were made available, if it wants to be kicked for one of them."""
         # (the lock is a memory barrier: the device must see the chain, or this must see that it wants a kick)
         with self.barrier:
             pass
         if self.features & EVENT_IDX:
-            wanted = self.number(queue.used + 4 + 8 * queue.size) == queue.made - 1 & 0xffff
+            event = self.number(queue.used + 4 + 8 * queue.size)
+            wanted = queue.made - event - 1 & 0xffff < queue.made - queue.kicked
         else:
             wanted = not self.number(queue.used) & 1
+        queue.kicked = queue.made
         if wanted or always:
             os.eventfd_write(queue.kick, 1)
 
     def collect(self, queue):
-        """Takes the used chains of a queue, and frees their slots."""
+        """Takes the used chains of a queue, with their replies, and frees their slots. With EVENT_IDX it has the device
+        call for the next one."""
         while queue.seen & 0xffff != self.number(queue.used + 2):
             head, length = struct.unpack_from("<II", self.view, queue.used + 4 + 8 * (queue.seen % queue.size))
             # (a head that is not in flight is a KeyError: the device returned a chain twice)
-            queue.flying.pop(head).done = length
+            request = queue.flying.pop(head)
+            request.reply = self.view[request.at:request.at + length]
             queue.free.append(head)
             queue.seen += 1
+            self.put(queue.available + 4 + 2 * queue.size, queue.seen)
 
     def is_done(self, request):
         """Whether the device has returned the request's chain."""
-        if request.done is None:
+        if request.reply is None:
             self.collect(request.queue)
-        return request.done is not None
+        return request.reply is not None
 
     def wait(self, request, timeout=PATIENCE):
-        """Waits for a request, and returns the error and body of its reply: an error of None if it has no reply. The
-        slot is free once the request is done, so this must be called before all other slots were used."""
+        """Waits for a request, and returns the error and body of its reply: an error of None if it has no reply."""
         end = time.monotonic() + timeout
         while not self.is_done(request):
             if select.select([self.socket], [], [], 0.0002)[0]:
                 raise ConnectionError(f"the device disconnected at {Op(request.opcode).name}")
             if time.monotonic() > end:
                 raise TimeoutError(f"{Op(request.opcode).name} has no reply within {timeout} seconds")
-        if request.done < OUT_HEADER.size:
+        if len(request.reply) < OUT_HEADER.size:
             return Reply(None, b"")
-        length, error, unique = OUT_HEADER.unpack_from(self.view, request.reply)
-        if (length, unique) != (request.done, request.unique):
-            raise AssertionError(f"a reply of {length} bytes to {unique} came as {request.done} to {request.unique}")
-        return Reply(-error, self.view[request.reply + OUT_HEADER.size:request.reply + length])
+        length, error, unique = OUT_HEADER.unpack_from(request.reply)
+        if (length, unique) != (len(request.reply), request.unique):
+            raise AssertionError(f"a reply of {length} bytes to {unique} came as {len(request.reply)} to {request.unique}")
+        return Reply(-error, request.reply[OUT_HEADER.size:])
 
     def ask(self, opcode, body=b"", node=1, timeout=PATIENCE, **more):
         """Submits a request and waits for it."""
