@@ -62,9 +62,10 @@ struct guest *vhost_guest;
 /* Is held by who changes which one it is, or its users. */
 static pthread_mutex_t guests = PTHREAD_MUTEX_INITIALIZER;
 
-/* What wakes a worker: a kick, by the queue's number; a queue that is to be looked at; the end. */
-enum { LOOK = QUEUES, STOP };
-static int events, look, stop;
+/* Workers wait for `events`, an epoll descriptor: each queue is there twice, with its kick and with its own
+ * event (queue_look), both under the queue's number, and so is the event that ends the workers. */
+enum { STOP = QUEUES };
+static int events, stop;
 /* What wakes the calling thread: a worker that failed; memory that is gone. */
 static int over, lost;
 
@@ -377,11 +378,14 @@ static int64_t answer(struct worker *w, struct guest *g, struct queue *q, uint16
 	return (int64_t)len;
 }
 
-/* Wakes a worker for this queue, if none is woken for it yet. Any thread may call it. */
+/* Wakes a worker for this queue, unless one was woken that has not looked yet. Each queue must have an event
+ * of its own: edges of a shared one would merge, and the worker that took it could be busy with one queue
+ * while others wait and workers sleep. A queue without an event has had no kick, so it has no chains. Any
+ * thread may call it. */
 void queue_look(struct queue *q)
 {
-	if (!atomic_exchange(&q->look, 1))
-		tell(look);
+	if (q->look >= 0 && !atomic_exchange(&q->is_woken, 1))
+		tell(q->look);
 }
 
 /* How many chains wait, by the `idx` of the available ring, which the guest may have set to anything; -1:
@@ -623,36 +627,31 @@ static void put_guest(struct guest *g)
 			close(q->kick);
 		if (q->call >= 0)
 			close(q->call);
+		queue_end_look(q);
 		pthread_mutex_destroy(&q->lock);
 	}
 	pthread_rwlock_destroy(&g->in_flight);
 	free(g);
 }
 
-/* Answers what waits in a queue; in each that is to be looked at, if it is none's number. Where the calling
- * thread waits for `in_flight`, the worker lets go of it, and has it again after that one. */
+/* Serves what waits in a queue. Where the calling thread waits for `in_flight`, the worker lets go of it, and
+ * has it again after that one. */
 static void serve_queue(struct worker *w, uint32_t number)
 {
 	struct guest *g = take_guest();
+	struct queue *q = &g->queue[number];
 	int more;
 
 	atomic_store(&w->serves, g);
-	for (uint32_t i = number < QUEUES ? number : 0; i < QUEUES; i++) {
-		struct queue *q = &g->queue[i];
-
-		/* (most are not to be looked at, and reading that takes no cache line from others) */
-		if (number >= QUEUES && (!atomic_load(&q->look) || !atomic_exchange(&q->look, 0)))
-			continue;
-		do {
-			pthread_rwlock_rdlock(&g->in_flight);
-			while (has_late(q) && serve_late(g, q))
-				;
-			more = serve_chains(w, g, q);
-			pthread_rwlock_unlock(&g->in_flight);
-		} while (more);
-		if (number < QUEUES)
-			break;
-	}
+	/* (first: who wakes a worker for this queue from here on wakes another one, or this one sees why) */
+	atomic_store(&q->is_woken, 0);
+	do {
+		pthread_rwlock_rdlock(&g->in_flight);
+		while (has_late(q) && serve_late(g, q))
+			;
+		more = serve_chains(w, g, q);
+		pthread_rwlock_unlock(&g->in_flight);
+	} while (more);
 	atomic_store(&w->serves, NULL);
 	put_guest(g);
 }
@@ -761,14 +760,46 @@ void queue_call(struct queue *q, int fd)
 		fcntl(fd, F_SETFL, O_NONBLOCK);
 }
 
-/* A worker is told of each kick, so none is read: each write to an event is an edge of its own. A front end
- * that kicks without end has a worker look at an empty queue, and no more. What epoll can't wait for, as a
- * file, is refused. */
-int queue_kick(struct queue *q, int fd)
+/* Has workers wait for an event of a queue. A worker is told of each write, so none is read: each write to an
+ * event is an edge of its own. -1: it failed, with errno. */
+static int await_event(const struct queue *q, int fd)
 {
 	struct epoll_event event = { .events = EPOLLIN | EPOLLET,
 				     .data.u32 = (uint32_t)(q - vhost_guest->queue) };
 
+	return epoll_ctl(events, EPOLL_CTL_ADD, fd, &event);
+}
+
+/* Makes the event of a queue, which stays until the front end goes: answers may come late after its kick was
+ * taken away. -1: it failed, with errno. */
+static int begin_look(struct queue *q)
+{
+	const int event = eventfd(0, EFD_CLOEXEC | EFD_NONBLOCK);
+
+	if (event < 0)
+		return -1;
+	if (await_event(q, event)) {
+		close(event);
+		return -1;
+	}
+	q->look = event;
+	return 0;
+}
+
+/* No request of the queue is kept any more, so no thread is about to write to the event. It may have been
+ * closed before a worker took it, so nobody counts as woken. */
+void queue_end_look(struct queue *q)
+{
+	if (q->look >= 0)
+		close(q->look);
+	q->look = -1;
+	atomic_store(&q->is_woken, 0);
+}
+
+/* A front end that kicks without end has a worker look at an empty queue, and no more. What epoll can't wait
+ * for, as a file, is refused. */
+int queue_kick(struct queue *q, int fd)
+{
 	if (q->kick >= 0) {
 		epoll_ctl(events, EPOLL_CTL_DEL, q->kick, NULL);
 		close(q->kick);
@@ -777,7 +808,7 @@ int queue_kick(struct queue *q, int fd)
 	if (fd < 0)
 		return 0;
 	fcntl(fd, F_SETFL, O_NONBLOCK);
-	return epoll_ctl(events, EPOLL_CTL_ADD, fd, &event);
+	return (q->look < 0 && begin_look(q)) || await_event(q, fd) ? -1 : 0;
 }
 
 /* The time that many milliseconds from now. */
@@ -920,7 +951,7 @@ static struct guest *new_guest(void)
 	pthread_rwlock_init(&g->in_flight, &writer_first);
 	for (int i = 0; i < QUEUES; i++) {
 		pthread_mutex_init(&g->queue[i].lock, NULL);
-		g->queue[i].kick = g->queue[i].call = -1;
+		g->queue[i].kick = g->queue[i].call = g->queue[i].look = -1;
 	}
 	return g;
 }
@@ -932,11 +963,9 @@ static void interrupted(int number)
 	(void)number;
 }
 
-/* Makes what workers wait for: events. That of a look wakes one worker each time, that of the end all that
- * there are. -1: it failed, and said why; queues_end() closes what was made. */
+/* Makes what workers wait for: events. That of the end, which nobody reads, wakes all that there are. -1: it failed, and said why; queues_end() closes what was made. */
 static int make_events(void)
 {
-	struct epoll_event looks = { .events = EPOLLIN | EPOLLET, .data.u32 = LOOK };
 	struct epoll_event stops = { .events = EPOLLIN, .data.u32 = STOP };
 	const struct sigaction loses = { .sa_sigaction = lose_memory, .sa_flags = SA_SIGINFO };
 	const struct sigaction interrupts = { .sa_handler = interrupted };
@@ -945,12 +974,11 @@ static int make_events(void)
 	sigaction(SIGRTMIN, &interrupts, NULL);
 	vhost_guest = new_guest();
 	events = epoll_create1(EPOLL_CLOEXEC);
-	look = eventfd(0, EFD_CLOEXEC | EFD_NONBLOCK);
 	stop = eventfd(0, EFD_CLOEXEC | EFD_NONBLOCK);
 	over = eventfd(0, EFD_CLOEXEC | EFD_NONBLOCK);
 	lost = eventfd(0, EFD_CLOEXEC | EFD_NONBLOCK);
-	if (!vhost_guest || events < 0 || look < 0 || stop < 0 || over < 0 || lost < 0 ||
-	    epoll_ctl(events, EPOLL_CTL_ADD, look, &looks) || epoll_ctl(events, EPOLL_CTL_ADD, stop, &stops))
+	if (!vhost_guest || events < 0 || stop < 0 || over < 0 || lost < 0 ||
+	    epoll_ctl(events, EPOLL_CTL_ADD, stop, &stops))
 		return failed("eventfd");
 	return 0;
 }
@@ -1119,7 +1147,6 @@ int queues_end(void)
 		put_guest(vhost_guest);
 	vhost_guest = NULL;
 	close(events);
-	close(look);
 	close(stop);
 	close(over);
 	close(lost);

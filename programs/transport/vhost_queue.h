@@ -35,8 +35,10 @@ struct queue {
 	int calls, calls_anyway;
 	/* Both sides say by an index after the ring of which chain they want to be told. */
 	int has_events;
-	/* A worker is to look at it. */
-	atomic_int look;
+	/* An event that has a worker look at it, from its first kick on; -1 before that. And whether it was written
+	 * since a worker last began to look. */
+	int look;
+	atomic_int is_woken;
 	/* Chains that were answered later, and are not given back yet. */
 	struct late *late;
 	/* What is written to the used ring is marked by this address of the guest, and not by that of its memory. */
@@ -123,6 +125,8 @@ int queue_kick(struct queue *q, int fd);
 void queue_call(struct queue *q, int fd);
 /* Has a worker look at the queue. */
 void queue_look(struct queue *q);
+/* Closes the event that queue_look() writes: the front end has gone. */
+void queue_end_look(struct queue *q);
 
 /* Tells what came of the requests since it last told. */
 void queues_tell(void);

@@ -478,6 +478,7 @@ static void clear_guest(void)
 
 		queue_kick(q, -1);
 		queue_call(q, -1);
+		queue_end_look(q);
 		q->size = 0;
 		q->available = NULL;
 		q->descriptors_user = q->available_user = q->used_user = 0;
