@@ -410,6 +410,18 @@ static int32_t await_kick(const struct guest *g, struct queue *q)
 	return count_waiting(q);
 }
 
+/* Has a guest that goes by indices kick for no chain until await_kick() is called: it sets an index that has
+ * passed. The caller must look at the queue once more before it sleeps, since a chain that comes meanwhile
+ * wakes nobody. The lock of the queue is held. */
+static void hold_kicks(const struct guest *g, struct queue *q)
+{
+	if (!q->has_events)
+		return;
+	__atomic_store_n((uint16_t *)(q->used->ring + q->size), (uint16_t)(q->next - 1), __ATOMIC_RELAXED);
+	if (g->logs)
+		mark_used(g, q, q->used->ring + q->size, sizeof(q->next));
+}
+
 /* Takes the number of the next chain; -1: none waits, or the queue is not enabled or has no kick, and so is
  * stopped. A queue that says what can't be is left, until a message places its rings anew. The lock of the
  * queue is held. */
@@ -543,23 +555,41 @@ static int serve_late(struct guest *g, struct queue *q)
 /* What is in place of a chain: none waits; or one may, but a message or an answer that came late is first. */
 enum { NO_CHAIN = -1, NOT_YET = -2 };
 
-/* Gives a chain back, if it is one, and takes the next, both with the lock of the queue once. A front end
- * that has gone gets nothing back, and nothing is taken of it. Answers the number of the chain, or what is
- * in its place. */
+/* Takes the next chain, and returns its number, or what is in its place. Nothing is taken of a front end that
+ * has gone. The lock of the queue is held. */
+static int take_next(const struct guest *g, struct queue *q)
+{
+	if (atomic_load(&g->gone))
+		return NO_CHAIN;
+	return atomic_load(&g->wanted) || has_late(q) ? NOT_YET : take_head(g, q);
+}
+
+/* Gives a chain back, if it is one, and takes the next; returns its number, or what is in its place. If a
+ * chain waits already, it is taken with the lock held once. If none does, the guest is called first, and the
+ * queue is looked at after that: the call takes about as long as a guest that has one request in flight needs
+ * for the next one, which then needs no kick, and this worker does not go to sleep to be woken at once. A
+ * front end that has gone gets nothing back. */
 static int next_chain(struct guest *g, struct queue *q, int head, int64_t len)
 {
-	int calls = 0, next = NO_CHAIN;
+	int calls, calls_first, next = NO_CHAIN;
 
 	pthread_mutex_lock(&q->lock);
-	if (!atomic_load(&g->gone)) {
-		calls = head >= 0 && complete(g, q, (uint16_t)head, (uint32_t)len);
-		next = atomic_load(&g->wanted) || has_late(q) ? NOT_YET : take_head(g, q);
-	}
+	calls = head >= 0 && !atomic_load(&g->gone) && complete(g, q, (uint16_t)head, (uint32_t)len);
+	calls_first = calls && !count_waiting(q);
+	if (calls_first)
+		hold_kicks(g, q);
+	else
+		next = take_next(g, q);
 	pthread_mutex_unlock(&q->lock);
 	if (head >= 0)
 		tell_log(g);
 	if (calls)
 		call_guest(q);
+	if (!calls_first)
+		return next;
+	pthread_mutex_lock(&q->lock);
+	next = take_next(g, q);
+	pthread_mutex_unlock(&q->lock);
 	return next;
 }
 
