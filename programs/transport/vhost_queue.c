@@ -725,6 +725,8 @@ static void lose_memory(int number, siginfo_t *about, void *context)
 {
 	const uintptr_t at = (uintptr_t)about->si_addr;
 	const struct guest *g = this_worker ? atomic_load(&this_worker->serves) : NULL;
+	/* (what was interrupted may be about to read it) */
+	const int kept = errno;
 
 	(void)context;
 	/* (after the regions: the log) */
@@ -741,6 +743,7 @@ static void lose_memory(int number, siginfo_t *about, void *context)
 			break;
 		if (!atomic_load(&g->gone))
 			tell(lost);
+		errno = kept;
 		return;
 	}
 	/* (it comes again, and ends the process) */
@@ -926,14 +929,22 @@ void guest_unshare(struct guest *g)
 {
 	while (g->regions > 0) {
 		g->regions--;
-		munmap(g->region[g->regions].map, g->region[g->regions].mapped);
+		if (munmap(g->region[g->regions].map, g->region[g->regions].mapped))
+			failed("munmap");
 	}
+}
+
+void guest_unmap_log(struct guest *g)
+{
+	if (g->log.at && munmap(g->log.map, g->log.mapped))
+		failed("munmap");
+	g->log.at = g->log.map = NULL;
+	g->log.mapped = 0;
 }
 
 void guest_end_log(struct guest *g)
 {
-	if (g->log.at)
-		munmap(g->log.map, g->log.mapped);
+	guest_unmap_log(g);
 	if (g->log.event >= 0)
 		close(g->log.event);
 	g->log = (struct log){ .event = -1 };

@@ -112,6 +112,7 @@ void queues_recall(void);
 void queues_keep(void);
 /* Lets go of the memory that a front end shared; and of its log. */
 void guest_unshare(struct guest *g);
+void guest_unmap_log(struct guest *g);
 void guest_end_log(struct guest *g);
 
 /* Finds the rings of a queue, anew after each change of the memory. Where one is missing, none is

@@ -15,6 +15,7 @@
 #include <errno.h>
 #include <fcntl.h>
 #include <limits.h>
+#include <linux/magic.h>
 #include <poll.h>
 #include <stdio.h>
 #include <stdlib.h>
@@ -27,6 +28,7 @@
 #include <sys/time.h>
 #include <sys/uio.h>
 #include <sys/un.h>
+#include <sys/vfs.h>
 #include <time.h>
 #include <unistd.h>
 #include "say.h"
@@ -150,6 +152,23 @@ static enum outcome refused(const struct message *m, uint32_t refusal)
 	return GONE;
 }
 
+/* Maps the first `len` bytes of a file, and fills in how many are mapped. Linux maps huge pages whole, and
+ * refuses to unmap a part of one or to map over it, so the length must be a multiple of theirs. NULL: it can't
+ * be mapped. */
+static unsigned char *map_file(int descriptor, uint64_t len, size_t *mapped)
+{
+	struct statfs system;
+	void *map;
+
+	if (fstatfs(descriptor, &system))
+		return NULL;
+	*mapped = len;
+	if (system.f_type == HUGETLBFS_MAGIC)
+		*mapped += (size_t)-len % (size_t)system.f_bsize;
+	map = mmap(NULL, *mapped, PROT_READ | PROT_WRITE, MAP_SHARED, descriptor, 0);
+	return map == MAP_FAILED ? NULL : map;
+}
+
 /* Maps a region that the front end shares, which is the next one. The descriptor stays the caller's. A file
  * that is shorter is refused; if it is cut later a worker gets a SIGBUS, which lose_memory() handles. It is
  * mapped from its first byte on, since an offset need not be one of a page. Size and offset together are no
@@ -157,13 +176,13 @@ static enum outcome refused(const struct message *m, uint32_t refusal)
 static enum outcome share_region(const struct vhost_region *shared, int descriptor)
 {
 	struct region *r = &vhost_guest->region[vhost_guest->regions];
+	const uint64_t len = shared->size + shared->offset;
 	struct stat file;
 
-	r->mapped = shared->size + shared->offset;
-	if (fstat(descriptor, &file) || file.st_size < 0 || (uint64_t)file.st_size < r->mapped)
+	if (fstat(descriptor, &file) || file.st_size < 0 || (uint64_t)file.st_size < len)
 		return wrong("a region without its memory");
-	r->map = mmap(NULL, r->mapped, PROT_READ | PROT_WRITE, MAP_SHARED, descriptor, 0);
-	if (r->map == MAP_FAILED)
+	r->map = map_file(descriptor, len, &r->mapped);
+	if (!r->map)
 		return wrong("a region that can't be mapped");
 	r->at = r->map + shared->offset;
 	vhost_guest->shared[vhost_guest->regions] = (nizwarf_region){ shared->guest, shared->size };
@@ -191,17 +210,17 @@ static enum outcome share_memory(const struct message *m)
 static enum outcome share_log(const struct message *m)
 {
 	struct log *log = &vhost_guest->log;
-	const uint64_t mapped = m->said.log.size + m->said.log.offset;
+	const uint64_t len = m->said.log.size + m->said.log.offset;
 	struct stat file;
 	unsigned char *map;
+	size_t mapped;
 
-	if (fstat(m->descriptor[0], &file) || file.st_size < 0 || (uint64_t)file.st_size < mapped)
+	if (fstat(m->descriptor[0], &file) || file.st_size < 0 || (uint64_t)file.st_size < len)
 		return wrong("a log without its memory");
-	map = mmap(NULL, mapped, PROT_READ | PROT_WRITE, MAP_SHARED, m->descriptor[0], 0);
-	if (map == MAP_FAILED)
+	map = map_file(m->descriptor[0], len, &mapped);
+	if (!map)
 		return wrong("a log that can't be mapped");
-	if (log->at)
-		munmap(log->map, log->mapped);
+	guest_unmap_log(vhost_guest);
 	log->map = map;
 	log->mapped = mapped;
 	log->at = map + m->said.log.offset;
