@@ -2,22 +2,35 @@
  *
  * It goes by the descriptor of SET_DEVICE_STATE_FD, on the calling thread of vhost_user.c, while no request
  * is in flight. What the bytes are the file system says; here they are only moved. The other end is the
- * front end's, which may read or write as slowly as it likes, or not at all: so each wait is for a signal
- * and for its going too, and has no other end. */
+ * front end's, which may read or write as slowly as it likes, or not at all. So a wait must end when a signal
+ * comes or the front end goes, and has no other end: await() waits for these too. read(2) and write(2) should
+ * not wait, since the descriptor has O_NONBLOCK, but this flag is of the open file that the front end also
+ * has, which may clear it at any time. So a timer interrupts them again and again, and each time await() looks
+ * whether it is to go on. */
 #define _GNU_SOURCE
 #include <errno.h>
 #include <fcntl.h>
 #include <poll.h>
+#include <signal.h>
 #include <stdlib.h>
 #include <string.h>
+#include <time.h>
 #include <unistd.h>
 #include "vhost_state.h"
 
-/* In bytes: what is put is written, and what comes is read, that much at once. */
-enum { BUFFER = 65536 };
+/* (older C libraries have no other name for it) */
+#ifndef sigev_notify_thread_id
+#define sigev_notify_thread_id _sigev_un._tid
+#endif
+
+/* In bytes: what is put is written, and what comes is read, that much at once. In milliseconds: how long a call
+ * may wait. */
+enum { BUFFER = 65536, TICK = 200 };
 
 struct transport_state {
 	int descriptor, signals, client;
+	/* Sends SIGRTMIN to the calling thread, whose handler does nothing (vhost_queue.c). */
+	timer_t timer;
 	/* What was put, and is not written yet; or what came, and was not got yet: the bytes of the buffer
 	 * from `at` up to `end`. A state goes one way. */
 	size_t at, end;
@@ -25,12 +38,14 @@ struct transport_state {
 	unsigned char buffer[BUFFER];
 };
 
-/* The descriptor is made not to wait: so await() alone does, which a signal and the front end's going end. */
 transport_state *state_new(int descriptor, int signals, int client)
 {
+	struct sigevent interrupts = { .sigev_notify = SIGEV_THREAD_ID, .sigev_signo = SIGRTMIN };
 	transport_state *state = malloc(sizeof(*state));
 
-	if (!state) {
+	interrupts.sigev_notify_thread_id = gettid();
+	if (!state || timer_create(CLOCK_MONOTONIC, &interrupts, &state->timer)) {
+		free(state);
 		close(descriptor);
 		return NULL;
 	}
@@ -72,15 +87,41 @@ static int is_for_now(void)
 	return errno == EAGAIN || errno == EWOULDBLOCK || errno == EINTR;
 }
 
+/* Has the timer interrupt calls of this thread every `milliseconds` from now on; 0: no longer. */
+static void set_timer(const transport_state *state, int milliseconds)
+{
+	const struct timespec tick = { 0, milliseconds * 1000000L };
+	const struct itimerspec ticks = { tick, tick };
+
+	timer_settime(state->timer, 0, &ticks, NULL);
+}
+
+/* Waits until bytes may be moved, and writes those that were put, or reads into the buffer. Returns how many, or -1
+ * with errno: is_for_now() says whether that is an error. The timer runs for this one call, since the file
+ * system's own calls between two of them must not be interrupted. */
+static ssize_t move(transport_state *state, int writes)
+{
+	ssize_t done;
+	int why;
+
+	if (await(state, writes ? POLLOUT : POLLIN, -1))
+		return -1;
+	set_timer(state, TICK);
+	done = writes ? write(state->descriptor, state->buffer + state->at, state->end - state->at) :
+			read(state->descriptor, state->buffer, sizeof(state->buffer));
+	why = errno;
+	set_timer(state, 0);
+	errno = why;
+	return done;
+}
+
 /* Writes what was put: 0, or -1 with errno, and then the save has failed. */
 static int flush(transport_state *to)
 {
 	while (to->at < to->end) {
-		const ssize_t done = await(to, POLLOUT, -1) ?
-					     -2 :
-					     write(to->descriptor, to->buffer + to->at, to->end - to->at);
+		const ssize_t done = move(to, 1);
 
-		if (done == -2 || (done < 0 && !is_for_now()))
+		if (done < 0 && !is_for_now())
 			return -1;
 		if (done > 0)
 			to->at += (size_t)done;
@@ -113,11 +154,9 @@ static ssize_t fill(transport_state *from)
 {
 	ssize_t got;
 
-	do {
-		if (await(from, POLLIN, -1))
-			return -1;
-		got = read(from->descriptor, from->buffer, sizeof(from->buffer));
-	} while (got < 0 && is_for_now());
+	do
+		got = move(from, 0);
+	while (got < 0 && is_for_now());
 	from->at = 0;
 	from->end = got > 0 ? (size_t)got : 0;
 	return got;
@@ -153,6 +192,7 @@ int state_end(transport_state *state)
 
 	if (close(state->descriptor))
 		error = -1;
+	timer_delete(state->timer);
 	free(state);
 	return error;
 }

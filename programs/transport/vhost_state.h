@@ -4,8 +4,8 @@
 
 #include "transport.h"
 
-/* Puts or gets by a descriptor, which it has then. It waits until a signal comes, or the front end has gone. NULL: there
- * is no memory, and the descriptor is closed. */
+/* Takes a descriptor, by which a state is put or got on this thread. It waits until a signal comes, or the front end has
+ * gone. NULL: out of memory or timers, and the descriptor is closed. */
 transport_state *state_new(int descriptor, int signals, int client);
 /* Closes it, with all that was put. -1: that can't be. */
 int state_end(transport_state *state);
