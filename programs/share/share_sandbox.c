@@ -435,6 +435,7 @@ static const char *const calls[] = {
 	"prlimit64",
 	"pwrite64",
 	"pwritev",
+	"pwritev2",
 	"read",
 	"readlinkat",
 	"recvfrom",

@@ -158,7 +158,7 @@ size_t fuse_device_refuse(const transport *by, const struct fuse_in_header *aske
 {
 	struct fuse_out_header reply = { .len = sizeof(reply), .unique = asked->unique };
 
-	fprintf(stderr, "%s: outcome %d of opcode %u\n", by->program, (int)code, (unsigned)asked->opcode);
+	transport_say(by->program, "outcome %d of opcode %u", (int)code, (unsigned)asked->opcode);
 	if (asked->opcode == FUSE_FORGET || asked->opcode == FUSE_BATCH_FORGET ||
 	    asked->opcode == FUSE_INTERRUPT || asked->opcode == FUSE_NOTIFY_REPLY)
 		return 0;
@@ -460,8 +460,8 @@ static int put_or_refuse(struct worker *w, const struct fuse_in_header *asked, s
 	/* ENOENT: who asked no longer waits. ENODEV: nobody does. */
 	if (errno == ENOENT || errno == ENODEV)
 		return 0;
-	fprintf(stderr, "%s: the reply to opcode %u is refused: %s\n", w->of->by->program,
-		(unsigned)asked->opcode, strerror(errno));
+	transport_say(w->of->by->program, "the reply to opcode %u is refused: %s", (unsigned)asked->opcode,
+		      strerror(errno));
 	return write(w->fd, &reply, sizeof(reply)) < 0 && errno != ENOENT && errno != ENODEV ? -1 : 0;
 }
 
@@ -577,7 +577,7 @@ static void start_rings(struct worker *w, int offered, int32_t code, size_t len)
 	}
 	atomic_store(&d->rings, rings);
 	if (!rings && by->wants_ring)
-		fprintf(stderr, "%s: Linux offers no io_uring here: requests come by read(2)\n", by->program);
+		transport_say(by->program, "Linux offers no io_uring here: requests come by read(2)");
 }
 
 /* What is kept of a request that is answered later. */
@@ -599,8 +599,8 @@ static void send_kept(void *about, int32_t code, const void *reply, size_t len)
 	}
 	if (!len || write(kept->fd, reply, len) >= 0 || errno == ENOENT || errno == ENODEV)
 		return;
-	fprintf(stderr, "%s: the reply to opcode %u is refused: %s\n", kept->by->program,
-		(unsigned)kept->asked.opcode, strerror(errno));
+	transport_say(kept->by->program, "the reply to opcode %u is refused: %s",
+		      (unsigned)kept->asked.opcode, strerror(errno));
 	refused = (struct fuse_out_header){ sizeof(refused), -EIO, kept->asked.unique };
 	if (write(kept->fd, &refused, sizeof(refused)) < 0 && errno != ENOENT && errno != ENODEV)
 		say(kept->by, "write");

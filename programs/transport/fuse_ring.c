@@ -29,6 +29,7 @@
 #include <unistd.h>
 #include "fuse_ring.h"
 #include "later.h"
+#include "say.h"
 #include "uring.h"
 
 enum { REGISTER = 1, COMMIT_AND_FETCH = 2 };
@@ -107,7 +108,7 @@ struct fuse_rings {
 /* Says what failed: io_uring gives an error as a number, not by errno. */
 static int say(const struct fuse_rings *r, int error)
 {
-	fprintf(stderr, "%s: io_uring: %s\n", r->by->program, strerror(error));
+	transport_say(r->by->program, "io_uring: %s", strerror(error));
 	return -1;
 }
 

@@ -1,28 +1,39 @@
-/* What is said at an end, on standard error. */
+/* Lines on standard error, which must hold up nobody: a pipe may be full for as long as its reader likes. */
 #ifndef SAY_H
 #define SAY_H
 
+#include <errno.h>
 #include <limits.h>
 #include <poll.h>
 #include <stdarg.h>
 #include <stdio.h>
+#include <sys/stat.h>
+#include <sys/uio.h>
 #include <unistd.h>
 
-/* Says a line if that is taken at once: who reads it may wait, and another thread that writes to it, which has the lock of
- * stdio then. (A pipe that takes something takes PIPE_BUF bytes.) */
+/* Writes a line to standard error if it is taken at once, and drops it otherwise. It does not go by stdio, whose lock
+ * another thread may have that waits. A pipe that is ready takes PIPE_BUF bytes, but another thread or process may fill it
+ * between the two calls: so a pipe or a socket is written with RWF_NOWAIT, if Linux has that for it (since 6.5). */
 __attribute__((format(printf, 2, 3))) static inline void transport_say(const char *program,
 								       const char *format, ...)
 {
 	struct pollfd error = { STDERR_FILENO, POLLOUT, 0 };
 	char line[PIPE_BUF], said[PIPE_BUF / 2];
+	struct iovec bytes = { line, 0 };
+	struct stat is;
 	va_list more;
-	int len;
 
 	va_start(more, format);
 	vsnprintf(said, sizeof(said), format, more);
 	va_end(more);
-	len = snprintf(line, sizeof(line), "%.100s: %s\n", program, said);
-	if (poll(&error, 1, 0) > 0 && error.revents & POLLOUT && write(STDERR_FILENO, line, (size_t)len) < 0)
+	bytes.iov_len = (size_t)snprintf(line, sizeof(line), "%.100s: %s\n", program, said);
+	if (poll(&error, 1, 0) <= 0 || !(error.revents & POLLOUT))
+		return;
+	if (!fstat(STDERR_FILENO, &is) && (S_ISFIFO(is.st_mode) || S_ISSOCK(is.st_mode)) &&
+	    (pwritev2(STDERR_FILENO, &bytes, 1, -1, RWF_NOWAIT) >= 0 ||
+	     (errno != EOPNOTSUPP && errno != ENOSYS)))
+		return;
+	if (write(STDERR_FILENO, line, bytes.iov_len) < 0)
 		return;
 }
 

@@ -21,7 +21,6 @@
 #include <fcntl.h>
 #include <poll.h>
 #include <sched.h>
-#include <stdio.h>
 #include <stdlib.h>
 #include <string.h>
 #include <sys/epoll.h>
@@ -30,6 +29,7 @@
 #include <sys/syscall.h>
 #include <time.h>
 #include <unistd.h>
+#include "say.h"
 #include "vhost_queue.h"
 
 /* What is after the longest request is not looked at, and no longer room is lent: a header and its record
@@ -89,10 +89,18 @@ struct worker {
 	unsigned char request[LONGEST];
 };
 
-/* What came of the requests, by its number, and chains that were none: told when the front end has
- * gone, since a guest that breaks the rules shall not fill a log. */
+/* What came of the requests, by its number, and what a guest or its front end did that is wrong. A guest must not fill
+ * a log, however often it breaks a rule: so of each kind of fault the first one of a front end is a line, and how often
+ * each kind came is another line when the front end has gone. Of chains that are none there is the second line alone. */
 enum { OUTCOMES = 32 };
-static atomic_ulong outcomes[OUTCOMES], broken;
+enum fault { NO_FAULT, BAD_CHAIN, BAD_QUEUE, BAD_CALL, BAD_LOG_EVENT, FAULTS };
+static atomic_ulong outcomes[OUTCOMES], faults[FAULTS];
+static const char *const fault_names[FAULTS] = {
+	[BAD_CHAIN] = "invalid chains of descriptors",
+	[BAD_QUEUE] = "queues stopped, since their rings are invalid",
+	[BAD_CALL] = "calls of queues that cannot be written",
+	[BAD_LOG_EVENT] = "events of the log that cannot be written",
+};
 
 /* The transport, and its workers, which the calling thread alone starts and joins. Each of these knows
  * itself by `this_worker`, which is NULL in other threads. */
@@ -101,11 +109,18 @@ static struct worker *workers[TRANSPORT_MOST_WORKERS];
 static unsigned started;
 static _Thread_local const struct worker *this_worker;
 
-/* Says on standard error what failed, and why by errno, and answers -1. */
+/* Says on standard error what failed, and why by errno, and returns -1. */
 static int failed(const char *what)
 {
-	fprintf(stderr, "%s: %s: %s\n", by->program, what, strerror(errno));
+	transport_say(by->program, "%s: %s", what, strerror(errno));
 	return -1;
+}
+
+/* Counts a fault, and says so the first time that a front end has it. No lock of a queue is held. */
+static void note(enum fault fault)
+{
+	if (fault && !atomic_fetch_add(&faults[fault], 1) && fault != BAD_CHAIN)
+		transport_say(by->program, "%s", fault_names[fault]);
 }
 
 /* Wakes who waits for an event of ours. None is ever full: it would take 2^64 - 2 calls. A signal's handler
@@ -190,7 +205,7 @@ static void tell_log(const struct guest *g)
 
 	if (g->logs && g->log.event >= 0 && write(g->log.event, &one, sizeof(one)) < 0 && errno != EAGAIN &&
 	    errno != EINTR)
-		failed("a log's event is none");
+		note(BAD_LOG_EVENT);
 }
 
 /* ---- chains, by workers */
@@ -365,7 +380,7 @@ static int64_t answer(struct worker *w, struct guest *g, struct queue *q, uint16
 	int32_t code;
 
 	if (take_chain(w, g, q, head)) {
-		broken++;
+		note(BAD_CHAIN);
 		return 0;
 	}
 	/* (to read a guest's memory may take as long as its front end wants: one that has gone meanwhile asks for nothing) */
@@ -422,27 +437,30 @@ static void hold_kicks(const struct guest *g, struct queue *q)
 		mark_used(g, q, q->used->ring + q->size, sizeof(q->next));
 }
 
-/* Takes the number of the next chain; -1: none waits, or the queue is not enabled or has no kick, and so is
- * stopped. A queue that says what can't be is left, until a message places its rings anew. The lock of the
- * queue is held. */
+/* What is in place of a chain: none waits; one may, but a message or an answer that came late is first; or the
+ * rings are invalid. */
+enum { NO_CHAIN = -1, NOT_YET = -2, INVALID = -3 };
+
+/* Takes the number of the next chain. There is none if the queue is not enabled or has no kick, and so is
+ * stopped. A queue whose rings are invalid is stopped until a message places them anew. The lock of the queue
+ * is held. */
 static int take_head(const struct guest *g, struct queue *q)
 {
 	int32_t waiting;
 	uint16_t head;
 
 	if (!q->available || !q->enabled || q->kick < 0)
-		return -1;
+		return NO_CHAIN;
 	waiting = count_waiting(q);
 	if (!waiting)
 		waiting = await_kick(g, q);
 	if (!waiting)
-		return -1;
+		return NO_CHAIN;
 	FROM_GUEST();
 	head = __atomic_load_n(&q->available->ring[nizwarf_ring_slot_at(q->next, q->size)], __ATOMIC_RELAXED);
 	if (waiting < 0 || head >= q->size) {
-		fprintf(stderr, "%s: a queue that is none\n", by->program);
 		q->available = NULL;
-		return -1;
+		return INVALID;
 	}
 	q->next++;
 	/* This one may take long, and another worker may be free. */
@@ -497,7 +515,7 @@ static void call_guest(struct queue *q)
 
 	if (write(q->call, &one, sizeof(one)) >= 0 || errno == EAGAIN || errno == EINTR)
 		return;
-	failed("a queue's call is no event");
+	note(BAD_CALL);
 	pthread_mutex_lock(&q->lock);
 	q->calls = 0;
 	pthread_mutex_unlock(&q->lock);
@@ -552,9 +570,6 @@ static int serve_late(struct guest *g, struct queue *q)
 	return 1;
 }
 
-/* What is in place of a chain: none waits; or one may, but a message or an answer that came late is first. */
-enum { NO_CHAIN = -1, NOT_YET = -2 };
-
 /* Takes the next chain, and returns its number, or what is in its place. Nothing is taken of a front end that
  * has gone. The lock of the queue is held. */
 static int take_next(const struct guest *g, struct queue *q)
@@ -585,11 +600,12 @@ static int next_chain(struct guest *g, struct queue *q, int head, int64_t len)
 		tell_log(g);
 	if (calls)
 		call_guest(q);
-	if (!calls_first)
-		return next;
-	pthread_mutex_lock(&q->lock);
-	next = take_next(g, q);
-	pthread_mutex_unlock(&q->lock);
+	if (calls_first) {
+		pthread_mutex_lock(&q->lock);
+		next = take_next(g, q);
+		pthread_mutex_unlock(&q->lock);
+	}
+	note(next == INVALID ? BAD_QUEUE : NO_FAULT);
 	return next;
 }
 
@@ -968,11 +984,13 @@ void queues_tell(void)
 	for (int i = 0; i < OUTCOMES; i++) {
 		count = atomic_exchange(&outcomes[i], 0);
 		if (count && !by->quiet)
-			fprintf(stderr, "%s: outcome %d: %lu requests\n", by->program, i, count);
+			transport_say(by->program, "outcome %d: %lu requests", i, count);
 	}
-	count = atomic_exchange(&broken, 0);
-	if (count && !by->quiet)
-		fprintf(stderr, "%s: no chain: %lu\n", by->program, count);
+	for (int i = 0; i < FAULTS; i++) {
+		count = atomic_exchange(&faults[i], 0);
+		if (count && !by->quiet)
+			transport_say(by->program, "%s: %lu", fault_names[i], count);
+	}
 }
 
 /* What the next front end shares into, with the calling thread as its user; NULL: there is no memory. The

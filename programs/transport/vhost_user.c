@@ -101,17 +101,17 @@ static uint64_t state_failed = 1;
  * reply; GONE if the front end hung up, or is to be hung up on. */
 enum outcome { DONE, REPLIED, GONE };
 
-/* Says on standard error what failed, and why by errno, and answers -1. */
+/* Says on standard error what failed, and why by errno, and returns -1. */
 static int failed(const char *what)
 {
-	fprintf(stderr, "%s: %s: %s\n", by->program, what, strerror(errno));
+	transport_say(by->program, "%s: %s", what, strerror(errno));
 	return -1;
 }
 
-/* Tells why the front end is hung up on. */
+/* Says why the front end is disconnected. */
 static enum outcome wrong(const char *what)
 {
-	fprintf(stderr, "%s: the front end is hung up on: %s\n", by->program, what);
+	transport_say(by->program, "disconnecting the front end: %s", what);
 	return GONE;
 }
 
@@ -147,8 +147,7 @@ static enum outcome refused(const struct message *m, uint32_t refusal)
 	if (why)
 		return wrong(why);
 	memcpy(&request, m->head, sizeof(request));
-	fprintf(stderr, "%s: the front end is hung up on: message %u is not served\n", by->program,
-		(unsigned)request);
+	transport_say(by->program, "disconnecting the front end: unsupported message %u", (unsigned)request);
 	return GONE;
 }
 
@@ -533,8 +532,7 @@ static int part_from_client(int client, int signals)
 	if (!parted)
 		queues_go();
 	else
-		fprintf(stderr, "%s: a request of the front end that has gone does not come back\n",
-			by->program);
+		transport_say(by->program, "a request of the front end that has gone does not return");
 	queues_tell();
 	return 0;
 }
@@ -734,7 +732,7 @@ int vhost_user_serve_one(const transport *with, int client)
 /* Says why a path can't be that of a socket. */
 static int refuse(const transport *with, int answer, const char *path, const char *why)
 {
-	fprintf(stderr, "%s: %s: %s\n", with->program, path, why);
+	transport_say(with->program, "%s: %s", path, why);
 	return answer;
 }
 

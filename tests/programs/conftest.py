@@ -121,7 +121,7 @@ def directory(scratch):
 class Server:
     """A running nizwarf-share. `process` is what was started; `pid` is the process that serves."""
 
-    def __init__(self, share, scratch, directory, options, environment):
+    def __init__(self, share, scratch, directory, options, environment, stderr=None):
         self.directory, self.number = directory, len(list(scratch.glob("stderr*")))
         self.log = scratch / f"stderr{self.number}"
         program = pathlib.Path(share).read_bytes()
@@ -131,7 +131,7 @@ class Server:
             environment = {"ASAN_OPTIONS": "verify_asan_link_order=0", **environment}
         with open(self.log, "wb") as log:
             self.process = subprocess.Popen([share, *options, directory, *self.where(scratch)], stdin=subprocess.DEVNULL,
-                                            stdout=log, stderr=log, env={**os.environ, **environment})
+                                            stdout=log, stderr=stderr or log, env={**os.environ, **environment})
 
     @property
     def pid(self):
@@ -219,11 +219,11 @@ class MountServer(Server):
 
 @pytest.fixture
 def serve(share, scratch, directory):
-    """Serves a directory on a vhost-user socket: serve("--option", .., folder=.., environment={..})."""
+    """Serves a directory on a vhost-user socket: serve("--option", .., folder=.., environment={..}, stderr=..)."""
     servers = []
 
-    def start(*options, folder=directory, environment=None):
-        servers.append(SocketServer(share, scratch, folder, options, environment or {}))
+    def start(*options, folder=directory, environment=None, stderr=None):
+        servers.append(SocketServer(share, scratch, folder, options, environment or {}, stderr))
         return servers[-1]
 
     yield start

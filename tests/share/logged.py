@@ -24,7 +24,7 @@ def say(log):
         with socket.socket(socket.AF_UNIX) as front:
             front.connect(path)
             front.sendall(bytes(12))
-            while not any("hung up" in it for it in lines):
+            while not any("disconnecting" in it for it in lines):
                 lines.append(log.recv(2000).decode())
     server.terminate()
     return lines, server.communicate(timeout=20)[1]
@@ -45,4 +45,4 @@ assert any("nizwarf-share[" in it and ": --tag=data is let pass" in it for it in
 assert all(it.startswith("<13>") for it in lines) and not said, (lines, said)
 if not is_there:
     lines, said = say(None)
-    assert "--syslog: /dev/log: " in said and "hung" not in said, said
+    assert "--syslog: /dev/log: " in said and "disconnecting" not in said, said
