@@ -69,6 +69,8 @@ enum { PIPE = 2 * FUSE_DEVICE_PIPED, LEAST_PIPED = 1 << 16, MOST_PIPED = PIPE - 
 /* In milliseconds, after a signal: how often it is looked what became of the requests; from when on they are
  * looked at, and until when; and when it ends, although some don't come back, or workers that have none. */
 enum { LOOK_TICK = 50, LOOK_FROM = 300, LOOK_UNTIL = 1300, MOST_JOIN = 600, MOST_IDLE = 2000 };
+/* In seconds: how long it waits at the end for replies that are being sent. */
+enum { MOST_LATE = 1 };
 
 enum outcome { SERVED, ENDED, FAILED };
 
@@ -1098,8 +1100,8 @@ static int serve(struct device *d, int device, int signals)
 	if (start(d, 0, device))
 		return 1;
 	wait_for_end(d, signals);
-	later_end(&d->later);
-	if (let_notify(d->by, -1) || end_all(d))
+	/* (a device that is a socket takes a reply only as soon as its other end likes) */
+	if (later_end(&d->later, MOST_LATE) || let_notify(d->by, -1) || end_all(d))
 		leave(d);
 	return atomic_load(&d->failed);
 }

@@ -497,7 +497,7 @@ static int end(struct fuse_rings *r)
 
 	/* (what is kept has its entries until then) */
 	for (unsigned i = 0; i < r->queues; i++)
-		later_end(&r->later[i]);
+		later_end(&r->later[i], LATER_ALL);
 	pthread_mutex_lock(&r->lock);
 	atomic_store(&r->stop, 1);
 	pthread_cond_broadcast(&r->change);

@@ -7,6 +7,7 @@
 #define _GNU_SOURCE
 #include <pthread.h>
 #include <stdlib.h>
+#include <time.h>
 #include "later.h"
 
 /* A request that was kept. It is allocated by transport_keep(), and freed by transport_complete(), which is
@@ -139,13 +140,21 @@ int later_is_empty(struct later_list *list)
 }
 
 /* Whoever completes one that is taken out here frees it, and sends nothing. */
-void later_end(struct later_list *list)
+int later_end(struct later_list *list, int most)
 {
+	struct timespec until;
+	int error = 0, left;
+
+	clock_gettime(CLOCK_REALTIME, &until);
+	until.tv_sec += most;
 	pthread_mutex_lock(&lock);
 	list->is_closed = 1;
 	while (list->first)
 		unlink_later(list, list->first);
-	while (list->sending)
-		pthread_cond_wait(&sent, &lock);
+	while (list->sending && !error)
+		error = most == LATER_ALL ? pthread_cond_wait(&sent, &lock) :
+					    pthread_cond_timedwait(&sent, &lock, &until);
+	left = list->sending > 0;
 	pthread_mutex_unlock(&lock);
+	return left ? -1 : 0;
 }

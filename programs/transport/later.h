@@ -36,7 +36,10 @@ void later_open(struct later_list *list);
 void later_close(struct later_list *list);
 /* Whether no request is kept, and none is being sent. */
 int later_is_empty(struct later_list *list);
-/* From now on no request is kept, and none that was can be completed. It waits for those that are being sent. */
-void later_end(struct later_list *list);
+/* From now on no request is kept, and none that was can be completed. Waits for those that are being sent, at most that
+ * many seconds, since `send` may wait for whoever reads. LATER_ALL waits for all of them: the caller must know that its
+ * `send` waits for nobody. -1: one is still being sent, so the list must not be freed. */
+enum { LATER_ALL = -1 };
+int later_end(struct later_list *list, int most);
 
 #endif

@@ -662,7 +662,7 @@ static void put_guest(struct guest *g)
 	pthread_mutex_unlock(&guests);
 	if (users)
 		return;
-	later_end(&g->later);
+	later_end(&g->later, LATER_ALL);
 	drop_late(g);
 	guest_unshare(g);
 	guest_end_log(g);
@@ -1147,7 +1147,7 @@ void queues_recall(void)
 		by->recall(by->user);
 		nanosleep(&pause, NULL);
 	}
-	later_end(&g->later);
+	later_end(&g->later, LATER_ALL);
 }
 
 void queues_keep(void)
@@ -1164,7 +1164,7 @@ int queues_part(int signals)
 	struct pollfd wait = { signals, POLLIN, 0 };
 
 	atomic_store(&vhost_guest->gone, 1);
-	later_end(&vhost_guest->later);
+	later_end(&vhost_guest->later, LATER_ALL);
 	while (try_hold(REST)) {
 		if (has_passed(&interrupts))
 			interrupt();

@@ -83,15 +83,17 @@ def share():
 @pytest.fixture(scope="session")
 def build(tmp_path_factory):
     """Compiles a source in C beside the tests: build("name.c", flags..) returns the path of a program, or of a library
-    to preload with the flag -shared."""
-    folder = tmp_path_factory.mktemp("built")
+    to preload with the flag -shared. A flag may be another source. Includes are those of the transports."""
+    folder, built = tmp_path_factory.mktemp("built"), {}
 
-    def compile_one(source, *flags):
-        path = folder / (pathlib.Path(source).stem + re.sub(r"\W", "", "".join(flags)))
-        if not path.exists():
-            subprocess.run(["cc", "-std=c11", "-O2", "-Wall", "-Wextra", "-Werror", "-fPIC", "-pthread", "-o", path,
+    def compile_one(source, *flags, compiler=("cc", "-std=c11")):
+        if (source, *flags) not in built:
+            path = folder / f"{len(built)}"
+            subprocess.run([*compiler, "-O2", "-Wall", "-Wextra", "-Werror", "-fPIC", "-pthread",
+                            "-I", REPOSITORY / "include", "-I", REPOSITORY / "programs/transport", "-o", path,
                             pathlib.Path(__file__).with_name(source), *flags], check=True, timeout=300)
-        return str(path)
+            built[source, *flags] = str(path)
+        return built[source, *flags]
 
     return compile_one
 
