@@ -29,6 +29,10 @@
 #include <sys/types.h>
 #include "nizwarf.h"
 
+#ifdef __cplusplus
+extern "C" {
+#endif
+
 /* The largest payload of a request or a reply, which the server is made with. */
 enum { TRANSPORT_PAYLOAD = 1 << 20, TRANSPORT_MOST_WORKERS = 64 };
 /* The largest payload if it may go by a pipe: one that holds it must not take privileges. */
@@ -126,7 +130,10 @@ typedef struct {
 	 * ends once this has removed what must not stay. */
 	void (*left)(void *user);
 	/* Answers a request as nizwarf_message does: a code, and in `*len`, which comes as 0, how many
-	 * bytes of the rooms are the reply. NIZWARF_ASKED: it was kept, by transport_keep. */
+	 * bytes of the rooms are the reply. NIZWARF_ASKED: it was kept, by transport_keep. Over io_uring a
+	 * request whose reply is ENOSPC is served a second time, after the forgets that Linux sent before it,
+	 * since these may free space. So a request that fails with ENOSPC must have changed nothing, neither
+	 * the file system nor the second room, where the data of a WRITE lie. */
 	int32_t (*serve)(void *user, unsigned worker, const nizwarf_segment *request, size_t segments,
 			 const nizwarf_room *room, size_t rooms, size_t *len);
 } transport;
@@ -248,5 +255,9 @@ int vhost_user_serve_one(const transport *by, int client);
 /* Whose request `serve` has now, on this thread: how many front ends had parted before that one, though more may have by
  * now. Over /dev/fuse it is 0. */
 unsigned vhost_user_client(void);
+
+#ifdef __cplusplus
+}
+#endif
 
 #endif

@@ -251,6 +251,22 @@ static enum outcome reply_number(int client, uint32_t request, uint64_t number)
 	return reply(client, request, &number, sizeof(number));
 }
 
+/* Receives the bytes of a message after the first `done`, and returns how many there are then. recv(2) returns
+ * fewer, or EINTR, where this process is stopped and goes on. So it is called again, but a few times alone,
+ * since who sends a byte at a time may have each call take as long as serve_client() allows. */
+static size_t receive_rest(int client, unsigned char *bytes, size_t done, size_t len)
+{
+	for (int calls = 0; done < len && calls < 4; calls++) {
+		const ssize_t got = recv(client, bytes + done, len - done, MSG_WAITALL);
+
+		if (got > 0)
+			done += (size_t)got;
+		else if (!got || errno != EINTR)
+			break;
+	}
+	return done;
+}
+
 /* Receives a message with its descriptors, which are the caller's to close, whatever it answers. They come
  * with the header, and there is room for as many as a table of memory may have: of more, MSG_CTRUNC tells.
  * The size of the payload is looked at before that is read, so it fits. */
@@ -261,10 +277,13 @@ static enum outcome receive(int client, struct message *m)
 	struct msghdr said = {
 		.msg_iov = &head, .msg_iovlen = 1, .msg_control = control, .msg_controllen = sizeof(control)
 	};
-	ssize_t got = recvmsg(client, &said, MSG_CMSG_CLOEXEC | MSG_WAITALL);
+	ssize_t got;
 	uint32_t refusal;
 
 	m->descriptors = 0;
+	do
+		got = recvmsg(client, &said, MSG_CMSG_CLOEXEC | MSG_WAITALL);
+	while (got < 0 && errno == EINTR);
 	if (got == 0 || (got < 0 && errno == ECONNRESET))
 		return GONE;
 	if (got < 0)
@@ -274,13 +293,13 @@ static enum outcome receive(int client, struct message *m)
 			m->descriptors = (int)((c->cmsg_len - CMSG_LEN(0)) / sizeof(int));
 			memcpy(m->descriptor, CMSG_DATA(c), (size_t)m->descriptors * sizeof(int));
 		}
-	if (got != sizeof(m->head) || said.msg_flags & MSG_CTRUNC)
+	if (said.msg_flags & MSG_CTRUNC ||
+	    receive_rest(client, m->head, (size_t)got, sizeof(m->head)) < sizeof(m->head))
 		return refused(m, VHOST_CUT);
 	refusal = nizwarf_vhost_size_at(m->head, sizeof(m->head), &m->size);
 	if (refusal)
 		return refused(m, refusal);
-	got = m->size ? recv(client, m->body, m->size, MSG_WAITALL) : 0;
-	return got == (ssize_t)m->size ? DONE : refused(m, VHOST_CUT);
+	return receive_rest(client, m->body, 0, m->size) == m->size ? DONE : refused(m, VHOST_CUT);
 }
 
 /* Receives a message, and finds what it says. */
