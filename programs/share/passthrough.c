@@ -16,6 +16,7 @@
 #include <unistd.h>
 #include "passthrough_call.h"
 #include "passthrough_watch.h"
+#include "say.h"
 
 /* How long a client may remember, in milliseconds. */
 enum { NO_TIME = 0, LONG_TIME = 86400000 };
@@ -217,15 +218,15 @@ int passthrough_begin(void *user, unsigned worker)
 	if (!all->worker[worker])
 		all->worker[worker] = calloc(1, sizeof(struct worker));
 	if (!all->worker[worker]) {
-		fputs("nizwarf-share: a worker: no memory\n", stderr);
+		transport_say("nizwarf-share", "a worker: no memory");
 		return 1;
 	}
 	if (begin_worker(all->worker[worker], &all->options)) {
-		fprintf(stderr, "nizwarf-share: a worker: %s\n", strerror(errno));
+		transport_say("nizwarf-share", "a worker: %s", strerror(errno));
 		return 1;
 	}
 	if (!worker && all->nodes.watch && (errno = watch_start(all->nodes.watch))) {
-		fprintf(stderr, "nizwarf-share: --watch: %s\n", strerror(errno));
+		transport_say("nizwarf-share", "--watch: %s", strerror(errno));
 		return 1;
 	}
 	return 0;

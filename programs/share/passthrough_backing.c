@@ -24,6 +24,7 @@
 #include <unistd.h>
 #include "passthrough_backing.h"
 #include "passthrough_call.h"
+#include "say.h"
 
 enum { CHAINS = 1024 };
 
@@ -73,8 +74,8 @@ void backings_free(struct backings *all)
 static void end_numbers(struct backings *all, int error)
 {
 	if (!atomic_exchange(&all->is_over, true))
-		fprintf(stderr, "nizwarf-share: --passthrough: %s: files are served by requests\n",
-			strerror(error));
+		transport_say("nizwarf-share", "--passthrough: %s: files are served by requests",
+			      strerror(error));
 }
 
 /* A descriptor by which the file is named: of one that is opened for writing its owner could not run the file as long

@@ -23,6 +23,7 @@
 #include "passthrough_backing.h"
 #include "passthrough_mounts.h"
 #include "passthrough_watch.h"
+#include "say.h"
 
 /* How many slots and chains there are at first: both double as nodes come. No slot has the number 0, so
  * that ends the list of free ones. */
@@ -235,9 +236,9 @@ int node_reserve(struct nodes *all)
 		error = ENFILE;
 		/* (once: a client may ask as often as it likes) */
 		if (!atomic_flag_test_and_set(&all->said_most))
-			fprintf(stderr,
-				"nizwarf-share: the client knows %u files, as many as it may: "
-				"--node-limit says how many\n",
+			transport_say(
+				"nizwarf-share",
+				"the client knows %u files, as many as it may: --node-limit says how many",
 				all->most_nodes);
 	}
 	if (!error)

@@ -33,6 +33,7 @@
 #include "passthrough_call.h"
 #include "passthrough_mounts.h"
 #include "passthrough_paths.h"
+#include "say.h"
 
 /* Another format has another number. */
 enum { VERSION = 1 };
@@ -98,14 +99,14 @@ static uint64_t sum_up(uint64_t sum, const void *bytes, size_t len)
 /* Says why a state doesn't go: -1. */
 __attribute__((format(printf, 1, 2))) static int refuse(const char *why, ...)
 {
+	char line[PIPE_BUF / 2];
 	va_list rest;
 
 	va_start(rest, why);
-	fputs("nizwarf-share: migration: ", stderr);
 	/* (clang-tidy does not see va_start() where it looks at many files) */
-	vfprintf(stderr, why, rest); // NOLINT(clang-analyzer-valist.Uninitialized)
-	fputc('\n', stderr);
+	vsnprintf(line, sizeof(line), why, rest); // NOLINT(clang-analyzer-valist.Uninitialized)
 	va_end(rest);
+	transport_say("nizwarf-share", "migration: %s", line);
 	return -1;
 }
 
@@ -401,9 +402,8 @@ static int save_all(struct saving *s)
 	if (put_record(s, END, &end, sizeof(end), "", 0, "", 0))
 		return -1;
 	if (s->lost)
-		fprintf(stderr,
-			"nizwarf-share: migration: %zu files have no path in the folder, or no handle\n",
-			s->lost);
+		transport_say("nizwarf-share",
+			      "migration: %zu files have no path in the folder, or no handle", s->lost);
 	return 0;
 }
 

@@ -32,6 +32,7 @@
 #include <unistd.h>
 #include "passthrough_mounts.h"
 #include "passthrough_watch.h"
+#include "say.h"
 
 /* In how many parts files are, and with how many chains each begins; how many bytes of events are read
  * at once; how many nodes one file may have here; how many files may have changed between two
@@ -212,9 +213,9 @@ static int mark(const struct watch *all, unsigned how, int fd, bool is_directory
 static void say_unwatched(struct watch *all, int error)
 {
 	if (!atomic_exchange(&all->said, true))
-		fprintf(stderr,
-			"nizwarf-share: --watch: not all files can be watched: %s: the others are remembered "
-			"for a second\n",
+		transport_say(
+			"nizwarf-share",
+			"--watch: not all files can be watched: %s: the others are remembered for a second",
 			strerror(error));
 }
 

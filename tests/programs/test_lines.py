@@ -1,5 +1,6 @@
 """Lines on standard error: nobody has to read them for requests to be served, and a guest cannot fill a log."""
 import contextlib
+import errno
 import os
 import socket
 import struct
@@ -49,6 +50,24 @@ def test_a_full_standard_error_does_not_hold_up_other_queues_or_messages(serve, 
         client.getattr(1, queue=1)
         client.share_memory()
         client.query(GET_FEATURES)
+
+
+def test_a_full_standard_error_does_not_hold_up_who_reaches_a_limit(serve, directory, full_pipe):
+    for i in range(20):
+        (directory / f"{i}").touch()
+    client = serve("--node-limit=5", stderr=full_pipe).connect()
+    with pytest.raises(OSError) as limit:
+        for i in range(20):
+            client.lookup(b"%d" % i)
+    assert limit.value.errno == errno.ENFILE
+    client.getattr(1)
+
+
+def test_a_full_standard_error_does_not_hold_up_who_loads_what_is_no_state(serve, directory, full_pipe):
+    client = serve(stderr=full_pipe).connect(init=False)
+    assert not client.load(b"no state" * 100)
+    assert not client.load(b"")
+    client.init()
 
 
 def test_invalid_rings_and_chains_are_reported_once_and_counted(serve, directory):
