@@ -96,9 +96,9 @@ enum { OUTCOMES = 32 };
 enum fault { NO_FAULT, BAD_CHAIN, BAD_QUEUE, BAD_CALL, BAD_LOG_EVENT, FAULTS };
 static atomic_ulong outcomes[OUTCOMES], faults[FAULTS];
 static const char *const fault_names[FAULTS] = {
-	[BAD_CHAIN] = "invalid chains of descriptors",
-	[BAD_QUEUE] = "queues stopped, since their rings are invalid",
-	[BAD_CALL] = "calls of queues that cannot be written",
+	[BAD_CHAIN] = "malformed chains of a queue",
+	[BAD_QUEUE] = "queues stopped because their rings are invalid",
+	[BAD_CALL] = "calls of a queue that cannot be written",
 	[BAD_LOG_EVENT] = "events of the log that cannot be written",
 };
 
@@ -120,7 +120,7 @@ static int failed(const char *what)
 static void note(enum fault fault)
 {
 	if (fault && !atomic_fetch_add(&faults[fault], 1) && fault != BAD_CHAIN)
-		transport_say(by->program, "%s", fault_names[fault]);
+		transport_say(by->program, "the guest or its front end broke a rule: %s", fault_names[fault]);
 }
 
 /* Wakes who waits for an event of ours. None is ever full: it would take 2^64 - 2 calls. A signal's handler
@@ -604,6 +604,7 @@ static int next_chain(struct guest *g, struct queue *q, int head, int64_t len)
 		pthread_mutex_lock(&q->lock);
 		next = take_next(g, q);
 		pthread_mutex_unlock(&q->lock);
+		tell_log(g);
 	}
 	note(next == INVALID ? BAD_QUEUE : NO_FAULT);
 	return next;
@@ -983,13 +984,18 @@ void queues_tell(void)
 
 	for (int i = 0; i < OUTCOMES; i++) {
 		count = atomic_exchange(&outcomes[i], 0);
-		if (count && !by->quiet)
-			transport_say(by->program, "outcome %d: %lu requests", i, count);
+		if (!count || by->quiet)
+			continue;
+		if (i == NIZWARF_OK)
+			transport_say(by->program, "%lu requests answered", count);
+		else
+			transport_say(by->program, "%lu malformed or failed requests (code %d of nizwarf.h)",
+				      count, i);
 	}
 	for (int i = 0; i < FAULTS; i++) {
 		count = atomic_exchange(&faults[i], 0);
 		if (count && !by->quiet)
-			transport_say(by->program, "%s: %lu", fault_names[i], count);
+			transport_say(by->program, "%lu %s", count, fault_names[i]);
 	}
 }
 

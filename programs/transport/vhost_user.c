@@ -354,7 +354,9 @@ static enum outcome obey_for(int client, struct message *m, struct queue *q)
 		queue_kick(q, -1);
 		return REPLIED;
 	case SET_VRING_KICK:
-		return queue_kick(q, take_descriptor(m)) ? wrong("a queue's kick is no event") : DONE;
+		return queue_kick(q, take_descriptor(m)) ?
+			       wrong("a kick of a queue that cannot be waited for") :
+			       DONE;
 	case SET_VRING_CALL:
 		queue_call(q, take_descriptor(m));
 		return DONE;

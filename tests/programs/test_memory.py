@@ -10,6 +10,8 @@ from shapes import Op, record
 from vhost_user import GET_FEATURES, GUEST, USER
 
 HUGE = 2 << 20
+# A log of all pages below 4 GiB, one bit each.
+LOG = (4 << 30) // 4096 // 8
 RESERVED = pathlib.Path("/proc/sys/vm/nr_hugepages")
 
 
@@ -42,9 +44,9 @@ def connect(server, memfd_flags, cut_by):
     return client
 
 
-def mappings(server):
-    """The mappings of guests' memory in the serving process."""
-    return [it for it in setting(f"/proc/{server.pid}/maps").splitlines() if "memfd:guest" in it]
+def mappings(server, name="memfd:guest"):
+    """The mappings of guests' memory in the serving process, or of files of another name."""
+    return [it for it in setting(f"/proc/{server.pid}/maps").splitlines() if name in it]
 
 
 @pytest.mark.parametrize("cut_by", [0, 4096, HUGE - 4096])
@@ -66,6 +68,21 @@ def test_a_new_table_of_memory_replaces_the_mapping(serve, directory, memfd_flag
         client.share_memory()
         client.getattr(1)
         assert len(mappings(server)) == 1
+
+
+def test_a_log_is_unmapped_when_another_one_replaces_it_and_when_its_front_end_goes(serve, directory, memfd_flags):
+    server = serve()
+    client = connect(server, memfd_flags, 4096)
+    for _ in range(3):
+        client.share_log(LOG, HUGE, memfd_flags)
+        client.getattr(1)
+        marked = client.take_marked()
+        assert (GUEST + client.queues[1].used) // 4096 in marked
+        assert all(GUEST <= page * 4096 < GUEST + client.size for page in marked)
+        assert len(mappings(server, "memfd:log")) == 1
+    client.close()
+    server.connect(begin=False).query(GET_FEATURES)
+    assert mappings(server, "memfd:log") == []
 
 
 @pytest.mark.parametrize("cut_by", [0, 4096])

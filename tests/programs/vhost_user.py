@@ -202,19 +202,23 @@ class FrontEnd(FileOperations):
             pass
         return reply == NO_DESCRIPTOR and self.query(CHECK_DEVICE_STATE) == 0
 
-    def share_log(self, size):
-        """Shares a log of `size` bytes, one bit a page of memory, and has writes marked there from now on."""
-        log = os.memfd_create("log")
-        os.ftruncate(log, size)
+    def share_log(self, size, file_size=0, memfd_flags=0):
+        """Shares a log of `size` bytes, one bit a page of memory from address 0 of the guest on, and has writes marked
+        there from now on. It is the first part of a file of `file_size` bytes, if that is given."""
+        log = os.memfd_create("log", memfd_flags)
+        os.ftruncate(log, file_size or size)
         self.send(SET_LOG_BASE, size, 0, fds=[log])
         self.receive()
-        self.log = mmap.mmap(log, size)
+        self.log = mmap.mmap(log, file_size or size)
         os.close(log)
         self.send(SET_FEATURES, self.features | LOG_ALL)
+        self.query(GET_FEATURES)
 
     def take_marked(self):
-        """Returns the numbers of the guest's pages that were marked, and clears the log."""
-        pages = {8 * i + bit for i, byte in enumerate(self.log) for bit in range(8) if byte >> bit & 1}
+        """Returns the numbers of the guest's pages that were marked, and clears the log. Pages are marked after they
+        were written, so a message comes first, whose reply waits for requests that are not quite done."""
+        self.query(GET_FEATURES)
+        pages = {8 * i + bit for i, byte in enumerate(self.log[:]) if byte for bit in range(8) if byte >> bit & 1}
         self.log[:] = bytes(len(self.log))
         return pages
 

@@ -92,5 +92,5 @@ int main(int count, char **words)
 	q->enabled = 1;
 	q->available->idx = (uint16_t)times;
 	serve_queue(&worker, 1); /* until nothing waits */
-	return q->done != times || atomic_load(&broken);
+	return q->done != times || atomic_load(&faults[BAD_CHAIN]);
 }
