@@ -615,7 +615,9 @@ static int ask(struct worker *w, const struct fuse_in_header *asked, const nizwa
 	struct device *d = w->of;
 	/* (a request is answered by the descriptor that it was read by) */
 	const struct kept kept = { d->by, w->fd, *asked };
-	struct later_source source = { &d->later, send_kept, &kept, sizeof(kept), 0 };
+	struct later_source source = {
+		.list = &d->later, .send = send_kept, .about = &kept, .size = sizeof(kept)
+	};
 
 	later_serve(&source);
 	*code = fuse_device_ask(d, w->number, request, 1, room, 1, len);

@@ -206,7 +206,9 @@ static ssize_t serve_request(struct worker *w, struct entry *e, const struct fus
 			     size_t record, struct fuse_out_header *reply)
 {
 	const struct kept kept = { e, *asked };
-	struct later_source source = { &w->of->later[e->queue], send_kept, &kept, sizeof(kept), 0 };
+	struct later_source source = {
+		.list = &w->of->later[e->queue], .send = send_kept, .about = &kept, .size = sizeof(kept)
+	};
 	unsigned char *payload = e->memory[1].iov_base, *front = payload - record - sizeof(*asked);
 	const size_t wanted = fuse_device_room(asked, e->header->record, record) - HEAD;
 	const nizwarf_segment request = { front, sizeof(*asked) + record + e->header->payload };

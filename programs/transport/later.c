@@ -15,6 +15,8 @@
 struct transport_later {
 	/* NULL: it can't be completed any more. */
 	struct later_list *list;
+	/* Where its places are counted; NULL: it has none. */
+	unsigned *taken, places;
 	/* The next in the list, and what points to this one. */
 	transport_later *next, **at;
 	void (*send)(void *about, int32_t code, const void *reply, size_t len);
@@ -51,9 +53,12 @@ static void link_later(transport_later *later, struct later_list *list)
 }
 
 /* Whether one more may be kept. The lock is held. */
-static int has_room(const struct later_list *list)
+static int has_room(const struct later_source *source)
 {
-	return !list->is_closed && (!list->most || list->kept < list->most);
+	const struct later_list *list = source->list;
+
+	return !list->is_closed && (!list->most || list->kept < list->most) &&
+	       (!source->taken || *source->taken + source->places <= source->most_places);
 }
 
 /* `is_kept` is of this thread alone. Memory is allocated before the lock is taken, which so is held for a
@@ -72,9 +77,14 @@ transport_later *transport_keep(void)
 	later->send = source->send;
 	pthread_mutex_lock(&lock);
 	/* (from here on another thread may take it out of the list) */
-	source->is_kept = has_room(source->list);
-	if (source->is_kept)
+	source->is_kept = has_room(source);
+	if (source->is_kept) {
+		later->taken = source->taken;
+		later->places = source->places;
+		if (later->taken)
+			*later->taken += later->places;
 		link_later(later, source->list);
+	}
 	pthread_mutex_unlock(&lock);
 	if (source->is_kept)
 		return later;
@@ -89,6 +99,8 @@ static void unlink_later(struct later_list *list, transport_later *later)
 	if (later->next)
 		later->next->at = later->at;
 	list->kept--;
+	if (later->taken)
+		*later->taken -= later->places;
 	later->list = NULL;
 }
 

@@ -16,13 +16,15 @@ struct later_list {
 };
 
 /* What a transport says of the request that a thread serves: what it keeps of it, `size` bytes at `about`, and how
- * it is completed. */
+ * it is completed. If requests have places, it takes this many of them, and those that are kept take `most_places` at
+ * most, counted in `*taken`, which must last as long as the list is used; NULL: they have none. */
 struct later_source {
 	struct later_list *list;
 	void (*send)(void *about, int32_t code, const void *reply, size_t len);
 	const void *about;
 	size_t size;
 	int is_kept;
+	unsigned *taken, places, most_places;
 };
 
 /* The request that this thread serves from now on can be kept; NULL: it can't be. */

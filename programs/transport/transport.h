@@ -96,7 +96,8 @@ typedef struct {
 	 * them, and ends after them. NULL: it is served by read(2) and write(2) alone. */
 	const struct fuse_ring_calls *ring;
 	unsigned ring_workers;
-	/* How many requests of each processor may be kept over io_uring at once (transport_keep). */
+	/* How many requests of each processor may be kept over io_uring at once (transport_keep). They have places of their
+	 * own, and one is left for the others. */
 	unsigned most_kept;
 	/* It is said on standard error that Linux doesn't offer io_uring. */
 	int wants_ring;
@@ -144,7 +145,8 @@ typedef struct transport_later transport_later;
 /* Takes the request that `serve` has now, on this thread, out of the worker's hands: `serve` answers NIZWARF_ASKED
  * then, and the request is completed once, from any thread, perhaps before `serve` comes back. NULL: there is no
  * memory, or it can't be kept: while a machine pauses, or over io_uring as many are kept of that processor as may be
- * (`most_kept`). In a machine a request that is kept holds its place in the queue. */
+ * (`most_kept`), or in a machine those that are kept would take more than half of the queue, since each keeps its place
+ * there. */
 transport_later *transport_keep(void);
 
 /* Completes a request that was kept, by these bytes, or refuses it by this code if it isn't NIZWARF_OK. If its client

@@ -84,6 +84,8 @@ struct worker {
 	 * bytes, of which the first `copied` are in `request`. The first segment is of these, the others
 	 * are the guest's memory, and so are the rooms, which have `room_len` bytes together. */
 	size_t len, copied, segments, rooms, room_len;
+	/* How many descriptors of the queue it takes: one, where they are in a table of its own. */
+	unsigned places;
 	nizwarf_segment segment[PIECES + 1];
 	nizwarf_room room[PIECES];
 	unsigned char request[LONGEST];
@@ -276,11 +278,13 @@ static int take_chain(struct worker *w, const struct guest *g, const struct queu
 	int step;
 
 	w->len = w->copied = w->rooms = w->room_len = 0;
+	w->places = 0;
 	w->segments = 1;
 	w->segment[0] = (nizwarf_segment){ w->request, 0 };
 	if (nizwarf_chain_begin_at(q->size, PIECES, head, &walk) != NIZWARF_CHAIN_MORE)
 		return -1;
 	do {
+		w->places += table == q->descriptors;
 		memcpy(word, table + (size_t)walk.at * sizeof(word), sizeof(word));
 		/* What is checked is what was copied. */
 		__atomic_signal_fence(__ATOMIC_SEQ_CST);
@@ -352,11 +356,18 @@ unsigned vhost_user_client(void)
 
 /* Hands a chain to `serve`, which may keep it, if it can be called back. Answers whether it does: then it
  * may be completed already, and the worker may take the next chain. transport_keep() copies `kept`, which
- * so may stand here. */
+ * so may stand here. Those that are kept take half of the queue at most: they may wait for what another request does, as
+ * the unlocking of a lock, for which there must be a place. */
 static int ask(struct worker *w, struct guest *g, struct queue *q, uint16_t head, int32_t *code, size_t *len)
 {
 	struct kept kept;
-	struct later_source source = { &g->later, send_kept, &kept, sizeof(kept), 0 };
+	struct later_source source = { .list = &g->later,
+				       .send = send_kept,
+				       .about = &kept,
+				       .size = sizeof(kept),
+				       .taken = &q->taken,
+				       .places = w->places,
+				       .most_places = q->size / 2 };
 	const int can_keep = by->recall && w->rooms <= KEPT_ROOMS;
 
 	if (can_keep) {

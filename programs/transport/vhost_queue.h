@@ -30,6 +30,8 @@ struct queue {
 	struct vring_avail *available;
 	struct vring_used *used;
 	uint16_t next, done;
+	/* How many descriptors belong to requests that are kept: later.c. */
+	unsigned taken;
 	int kick, call, enabled;
 	/* `call` is an event; and it is to tell of the next chain in any case. */
 	int calls, calls_anyway;

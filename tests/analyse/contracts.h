@@ -62,7 +62,7 @@ static int add_piece(struct worker *w, unsigned char *at, const nizwarf_piece *p
 /*@ requires \valid(w) && \valid_read(by) && \separated(w, by, &by) && is_mapped(g, w);
     requires \valid_read(q) && \separated(w, q);
     requires \valid_read(q->descriptors + (0 .. 16 * q->size - 1));
-    assigns w->len, w->copied, w->segments, w->rooms, w->room_len, w->request[0 .. LONGEST - 1], \result
+    assigns w->len, w->copied, w->segments, w->rooms, w->room_len, w->places, w->request[0 .. LONGEST - 1], \result
       \from g->regions, q->size, head;
     assigns w->room[0 .. PIECES - 1] ROOMS_FROM(w, g);
     assigns w->segment[0 .. PIECES] \from w, g->region[0 .. REGIONS - 1].at;
