@@ -17,6 +17,7 @@
 #include <stdio.h>
 #include <stdlib.h>
 #include <string.h>
+#include <sys/file.h>
 #include <sys/resource.h>
 #include <sys/syscall.h>
 #include <unistd.h>
@@ -814,6 +815,10 @@ void files_let_go(struct gone *gone)
 {
 	struct open_file *next;
 
+	/* (who comes next must not meet locks of files that are closed late, or are still used by a call) */
+	for (struct open_file *file = gone->file; file; file = file->next)
+		if (atomic_load(&file->has_flock))
+			flock(file->counted.fd, LOCK_UN);
 	for (struct open_file *file = gone->file; file; file = next) {
 		next = file->next;
 		file_put(file);
@@ -992,6 +997,41 @@ int file_restore(struct nodes *all, uint64_t node, int fd, int flags, uint64_t n
 struct open_file *file_get(struct nodes *all, uint64_t number)
 {
 	return (struct open_file *)get(&all->files, number);
+}
+
+struct open_file *file_share(struct open_file *file)
+{
+	atomic_fetch_add(&file->counted.users, 1);
+	return file;
+}
+
+bool files_have_flock(struct nodes *all)
+{
+	const struct open_file *file;
+	bool have = false;
+
+	pthread_rwlock_rdlock(&all->files.lock);
+	for (uint32_t i = 1; i < all->files.used && !have; i++) {
+		file = (const struct open_file *)thing_in(&all->files, i);
+		have = file && atomic_load(&file->has_flock);
+	}
+	pthread_rwlock_unlock(&all->files.lock);
+	return have;
+}
+
+struct open_file *file_with_flock(struct nodes *all, const struct open_file *other, uint64_t owner)
+{
+	struct open_file *file, *found = NULL;
+
+	pthread_rwlock_rdlock(&all->files.lock);
+	for (uint32_t i = 1; i < all->files.used && !found; i++) {
+		file = (struct open_file *)thing_in(&all->files, i);
+		if (file && file != other && file->node == other->node && atomic_load(&file->has_flock) &&
+		    atomic_load(&file->flock_owner) == owner)
+			found = file_share(file);
+	}
+	pthread_rwlock_unlock(&all->files.lock);
+	return found;
 }
 
 void file_put(struct open_file *file)

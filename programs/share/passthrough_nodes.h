@@ -101,6 +101,10 @@ struct open_file {
 	uint64_t node;
 	/* NULL: the client was not told that it may have the file by itself. */
 	struct backing *backing;
+	/* Of a file: whether the client has a lock of flock(2) by it, and which lock owner it named last. They are changed under
+	 * the lock. */
+	atomic_bool has_flock;
+	atomic_ullong flock_owner;
 	/* Of a directory, under the lock: what was read and not told yet, and the offset of that. */
 	pthread_mutex_t lock;
 	char *buffer;
@@ -256,7 +260,13 @@ uint64_t file_add(struct nodes *all, unsigned client, uint64_t node, int fd, int
 		  struct backing *backing);
 /* Takes an open file in hand, or NULL. */
 struct open_file *file_get(struct nodes *all, uint64_t number);
+/* Takes one in hand once more, which is in hand. */
+struct open_file *file_share(struct open_file *file);
 void file_put(struct open_file *file);
+/* Whether the client has a lock of flock(2) by an open file; and another open file than this one, of the same node, by which
+ * this owner has one: in hand, or NULL. */
+bool files_have_flock(struct nodes *all);
+struct open_file *file_with_flock(struct nodes *all, const struct open_file *other, uint64_t owner);
 /* 0, or EBADF where there is none. */
 int file_release(struct nodes *all, unsigned client, uint64_t number);
 

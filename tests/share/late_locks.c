@@ -1,4 +1,4 @@
-/* Loaded before a share, for waits.py: who has a lock that excludes others is told late, as over a network. */
+/* Loaded before a share, for waits.py: who has a lock is reported late, as over a network. */
 #define _GNU_SOURCE
 #include <dlfcn.h>
 #include <errno.h>
@@ -17,7 +17,7 @@ int fcntl(int fd, int what, ...)
 	given = va_arg(more, void *);
 	va_end(more);
 	/* (late, and not never: the share has two workers, and the other one must go on) */
-	if (what == F_OFD_GETLK && ((const struct flock *)given)->l_type == F_WRLCK)
+	if (what == F_OFD_GETLK)
 		while (nanosleep(&left, &left) && errno == EINTR)
 			;
 	return own(fd, what, given);

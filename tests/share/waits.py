@@ -60,6 +60,7 @@ class Machine:
         self.kick, self.call = os.eventfd(0), os.eventfd(0)
         self.next = self.unique = 0
         self.heads, self.done, self.seen = {}, {}, 0
+        self.files = {}
         self.tell(2, 1 << 32 | 1 << 30)
         self.tell(16, 1 << 3)
         self.share()
@@ -134,7 +135,14 @@ class Machine:
         reply = self.reply(unique, wait)
         return None if reply is None else -struct.unpack_from("<i", reply, 4)[0] if len(reply) >= 16 else 0
 
+    def open(self, node):
+        return struct.unpack_from("<Q", self.reply(self.ask(OPEN, struct.pack("<II", O_RDWR, 0), node, 32)), 16)[0]
+
     def lock(self, node, handle, owner, kind, waits=False, is_flock=False, first=0, last=(1 << 63) - 1):
+        """A lock. Each owner by flock(2) is an open file of its own, as in Linux."""
+        if is_flock and owner not in self.files:
+            self.files[owner] = self.open(node)
+        handle = self.files[owner] if is_flock else handle
         body = struct.pack("<QQQQIIII", handle, owner, first, last, kind, 77, FLOCK if is_flock else 0, 0)
         return self.ask(SETLKW if waits else SETLK, body, node)
 
@@ -155,8 +163,7 @@ def begun(path):
     said = one.reply(one.ask(INIT, struct.pack("<IIIII44x", 7, 38, 65536, flags, 0), 0, 80))
     hold("INIT agrees on locks", struct.unpack_from("<I", said, 28)[0] & LOCK_FLAGS, LOCK_FLAGS)
     node = struct.unpack_from("<Q", one.reply(one.ask(LOOKUP, b"file\0", 1, 144)), 16)[0]
-    handle = struct.unpack_from("<Q", one.reply(one.ask(OPEN, struct.pack("<II", O_RDWR, 0), node, 32)), 16)[0]
-    return one, node, handle
+    return one, node, one.open(node)
 
 
 def waiting(one, node, handle, is_flock):

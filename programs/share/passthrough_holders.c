@@ -1,0 +1,368 @@
+/* Who holds locks: passthrough_holders.h. Threads and locks are those of passthrough_locks.c. */
+#define _GNU_SOURCE
+#include <errno.h>
+#include <fcntl.h>
+#include <pthread.h>
+#include <stdlib.h>
+#include <sys/file.h>
+#include <unistd.h>
+#include "passthrough_holders.h"
+
+/* With which flags a file is opened again. */
+enum { AGAIN = O_CLOEXEC | O_NONBLOCK | O_NOCTTY };
+
+struct holder **chain_of(struct locks *all, uint64_t node)
+{
+	return &all->chains[(uint32_t)node % CHAINS];
+}
+
+/* The holder of an owner in a file, or NULL. The lock is held. */
+static struct holder *find(struct locks *all, uint64_t node, uint64_t owner)
+{
+	struct holder *h = *chain_of(all, node);
+
+	while (h && (h->node != node || h->owner != owner))
+		h = h->next;
+	return h;
+}
+
+/* Removes a holder from the table. The lock is held. */
+static void unlist(struct locks *all, struct holder *h)
+{
+	struct holder **at = chain_of(all, h->node);
+
+	while (*at != h)
+		at = &(*at)->next;
+	*at = h->next;
+	h->is_listed = false;
+}
+
+/* (the descriptor is closed without the lock, since that may take long) */
+void holder_put(struct locks *all, struct holder *h)
+{
+	bool is_last;
+
+	pthread_mutex_lock(&all->lock);
+	is_last = !--h->users && (!h->is_listed || !h->count);
+	if (is_last && h->is_listed)
+		unlist(all, h);
+	if (is_last)
+		all->ranges -= h->count;
+	pthread_mutex_unlock(&all->lock);
+	if (!is_last)
+		return;
+	fd_let_go(all->nodes, h->fd);
+	pthread_mutex_destroy(&h->turn);
+	free(h->ranges);
+	free(h);
+}
+
+/* Opens the file again as the client has it open. One that it has open for reading alone is not opened for writing,
+ * because a program that is open for writing can't be run. For one that it may write a lock of either kind may come. */
+static int open_description(const struct call *call, bool *is_writable)
+{
+	const struct nodes *nodes = &call->all->nodes;
+	const int of = call->file->counted.fd, mode = fcntl(of, F_GETFL) & O_ACCMODE;
+	int fd;
+
+	*is_writable = mode != O_RDONLY;
+	fd = *is_writable ? open_again(nodes, of, O_RDWR | AGAIN) : -1;
+	return fd >= 0 ? fd : open_again(nodes, of, mode | AGAIN);
+}
+
+/* Makes a holder that is in no table yet, with the caller as its user. NULL: there is no memory, no descriptor is left,
+ * or the host doesn't open the file again. */
+static struct holder *new_holder(const struct call *call)
+{
+	struct nodes *nodes = &call->all->nodes;
+	struct holder *h;
+
+	if (fd_reserve(nodes, 1))
+		return NULL;
+	h = calloc(1, sizeof(*h));
+	if (h)
+		h->fd = open_description(call, &h->is_writable);
+	if (!h || h->fd < 0) {
+		free(h);
+		fd_give_back(nodes, 1);
+		return NULL;
+	}
+	h->node = call->asked->node;
+	h->owner = call->asked->lock_owner;
+	h->users = 1;
+	pthread_mutex_init(&h->turn, NULL);
+	return h;
+}
+
+struct holder *holder_take(const struct call *call, bool makes)
+{
+	struct locks *all = call->all->locks;
+	const nizwarf_call *asked = call->asked;
+	struct holder *h, *made, **chain = chain_of(all, asked->node);
+	bool is_late;
+
+	pthread_mutex_lock(&all->lock);
+	h = is_there(call) ? find(all, asked->node, asked->lock_owner) : NULL;
+	if (h)
+		h->users++;
+	pthread_mutex_unlock(&all->lock);
+	if (h || !makes)
+		return h;
+	/* The file is opened without the lock. So another worker may have added a holder of the same owner by then: it is
+	 * looked for again, and the second one is not used. */
+	made = new_holder(call);
+	if (!made)
+		return NULL;
+	pthread_mutex_lock(&all->lock);
+	is_late = !is_there(call);
+	h = is_late ? NULL : find(all, asked->node, asked->lock_owner);
+	if (h) {
+		h->users++;
+	} else if (!is_late) {
+		h = made;
+		h->is_listed = true;
+		h->next = *chain;
+		*chain = h;
+	}
+	pthread_mutex_unlock(&all->lock);
+	/* (another call of this owner came first, or the client has gone) */
+	if (h != made)
+		holder_put(all, made);
+	return h;
+}
+
+/* ---- what is granted */
+
+/* Makes memory for two more ranges for each user: a lock or an unlock divides one range at most, and adds one. So what
+ * the host grants can always be noted. */
+bool holder_reserve(struct locks *all, struct holder *h, bool locks)
+{
+	struct range *more;
+	size_t wanted;
+	bool may_be;
+
+	pthread_mutex_lock(&h->turn);
+	pthread_mutex_lock(&all->lock);
+	wanted = h->count + 2 * (size_t)h->users;
+	may_be = !locks || all->ranges < MOST_RANGES;
+	if (may_be && wanted > h->size) {
+		more = realloc(h->ranges, 2 * wanted * sizeof(*more));
+		may_be = more;
+		if (more) {
+			h->ranges = more;
+			h->size = 2 * wanted;
+		}
+	}
+	pthread_mutex_unlock(&all->lock);
+	pthread_mutex_unlock(&h->turn);
+	return may_be;
+}
+
+bool ranges_meet(const struct range *a, const struct range *b)
+{
+	return a->first <= b->last && b->first <= a->last;
+}
+
+/* Takes bytes from the range at `i`, which has some of them. Whether some are left there. */
+static bool cut_range(struct holder *h, size_t i, const struct range *cut)
+{
+	struct range *old = &h->ranges[i];
+	const struct range left = { old->first, cut->first - 1, old->type };
+	const struct range right = { cut->last + 1, old->last, old->type };
+	const bool has_left = old->first < cut->first;
+	const bool has_right = old->last > cut->last;
+
+	if (has_left && has_right)
+		h->ranges[h->count++] = right;
+	*old = has_left ? left : has_right ? right : h->ranges[--h->count];
+	return has_left || has_right;
+}
+
+/* Notes that the host has locked these bytes, or unlocked them. Like the host, it joins ranges of one type that touch,
+ * so one that is reported by F_OFD_GETLK is found here as it is. */
+static void note_range(struct holder *h, struct range new)
+{
+	size_t i = 0;
+
+	while (i < h->count) {
+		struct range *old = &h->ranges[i];
+
+		if (old->type == new.type && old->first <= new.last + 1 && new.first <= old->last + 1) {
+			new.first = old->first < new.first ? old->first : new.first;
+			new.last = old->last > new.last ? old->last : new.last;
+			*old = h->ranges[--h->count];
+		} else if (!ranges_meet(old, &new) || cut_range(h, i, &new)) {
+			i++;
+		}
+	}
+	if (new.type != F_UNLCK)
+		h->ranges[h->count++] = new;
+}
+
+/* ---- the locks of the host */
+
+/* (FUSE has the last byte, or INT64_MAX where there is none) */
+struct range range_of(const nizwarf_lock *lock)
+{
+	return (struct range){ lock->start, lock->end < INT64_MAX ? lock->end : INT64_MAX, lock->type };
+}
+
+/* (the host has a length, of which 0 leads to whatever end the file has) */
+struct flock to_host(const struct range *range)
+{
+	return (struct flock){ .l_type = (short)range->type,
+			       .l_whence = SEEK_SET,
+			       .l_start = (off_t)range->first,
+			       .l_len = range->last < INT64_MAX ? (off_t)(range->last - range->first + 1) :
+								  0 };
+}
+
+/* (FUSE has the types as Linux numbers them) */
+struct range from_host(const struct flock *host)
+{
+	const uint64_t first = (uint64_t)host->l_start;
+
+	return (struct range){ first, host->l_len ? first + (uint64_t)host->l_len - 1 : (uint64_t)INT64_MAX,
+			       (uint32_t)host->l_type };
+}
+
+int lock_host(int fd, const struct range *range, bool waits)
+{
+	struct flock host = to_host(range);
+	const int error = failed(fcntl(fd, waits ? F_OFD_SETLKW : F_OFD_SETLK, &host));
+
+	/* (POSIX lets fcntl(2) say either of the two) */
+	return error == EACCES ? EAGAIN : error;
+}
+
+int flock_host(const struct open_file *file, uint32_t type, bool waits)
+{
+	const int kind = type == F_UNLCK ? LOCK_UN : type == F_RDLCK ? LOCK_SH : LOCK_EX;
+
+	return failed(flock(file->counted.fd, kind | (waits ? 0 : LOCK_NB)));
+}
+
+/* Unlocks all bytes. */
+static void unlock_host(int fd)
+{
+	const struct range none = { 0, INT64_MAX, F_UNLCK };
+
+	lock_host(fd, &none, false);
+}
+
+/* Interrupts those that wait by this holder, so that they call the host again. */
+static void kick_waiters_of(struct locks *all, const struct holder *h)
+{
+	pthread_mutex_lock(&all->lock);
+	for (struct waiter *w = all->waiters; w; w = w->next)
+		if (w->holder == h)
+			pthread_kill(w->thread, kick_signal());
+	pthread_mutex_unlock(&all->lock);
+}
+
+/* Moves a holder's locks, which are for reading, to another description of the file, and then the holder's descriptor to
+ * that. In between both have them, which is no conflict. 0, or ENOLCK: nothing has changed. */
+static int move_to(struct holder *h, int fd)
+{
+	const int before = fcntl(h->fd, F_DUPFD_CLOEXEC, 0);
+	int error = before < 0 ? ENOLCK : 0;
+
+	for (size_t i = 0; i < h->count && !error; i++)
+		error = lock_host(fd, &h->ranges[i], false);
+	if (!error && dup3(fd, h->fd, O_CLOEXEC) < 0)
+		error = ENOLCK;
+	/* (a thread that still waits by the description of before keeps it open, and would keep its locks) */
+	if (!error)
+		unlock_host(before);
+	if (before >= 0)
+		close(before);
+	return error ? ENOLCK : 0;
+}
+
+/* Opens a holder's file again for writing, which a lock that excludes others requires. The caller has its turn. (A thread
+ * that waits is interrupted: the call that it makes then is by the new description.) */
+static int make_writable(struct locks *all, struct holder *h)
+{
+	int fd, error;
+
+	if (h->is_writable)
+		return 0;
+	fd = open_again(all->nodes, h->fd, O_RDWR | AGAIN);
+	if (fd < 0)
+		return ENOLCK;
+	error = move_to(h, fd);
+	close(fd);
+	if (error)
+		return error;
+	h->is_writable = true;
+	kick_waiters_of(all, h);
+	return 0;
+}
+
+int try_range(struct locks *all, struct holder *h, const nizwarf_lock *lock)
+{
+	const struct range range = range_of(lock);
+	int error;
+
+	pthread_mutex_lock(&h->turn);
+	error = range.type == F_WRLCK ? make_writable(all, h) : 0;
+	if (!error)
+		error = lock_host(h->fd, &range, false);
+	if (!error) {
+		pthread_mutex_lock(&all->lock);
+		all->ranges -= h->count;
+		note_range(h, range);
+		all->ranges += h->count;
+		error = h->is_listed ? 0 : ENOLCK;
+		pthread_mutex_unlock(&all->lock);
+	}
+	pthread_mutex_unlock(&h->turn);
+	return error;
+}
+
+/* (A lock of the other type is lost if it can't be changed at once: so Linux has it, and what another file system does is
+ * made the same.) */
+int try_flock(struct open_file *file, uint64_t owner, uint32_t type)
+{
+	int error;
+
+	pthread_mutex_lock(&file->lock);
+	error = flock_host(file, type, false);
+	if (error == EAGAIN && atomic_load(&file->has_flock))
+		flock_host(file, F_UNLCK, false);
+	if (!error || error == EAGAIN)
+		atomic_store(&file->has_flock, !error && type != F_UNLCK);
+	atomic_store(&file->flock_owner, owner);
+	pthread_mutex_unlock(&file->lock);
+	return error;
+}
+
+void holder_drop(struct locks *all, struct holder *h)
+{
+	pthread_mutex_lock(&h->turn);
+	unlock_host(h->fd);
+	pthread_mutex_lock(&all->lock);
+	all->ranges -= h->count;
+	h->count = 0;
+	pthread_mutex_unlock(&all->lock);
+	pthread_mutex_unlock(&h->turn);
+	holder_put(all, h);
+}
+
+bool unlock_closed(const struct call *call)
+{
+	const uint64_t owner = call->asked->lock_owner;
+	/* (a client that names no owners has 0 for all) */
+	struct open_file *file = owner ? file_with_flock(&call->all->nodes, call->file, owner) : NULL;
+	bool was_locked;
+
+	if (!file)
+		return false;
+	pthread_mutex_lock(&file->lock);
+	was_locked = atomic_load(&file->has_flock);
+	if (was_locked && !flock_host(file, F_UNLCK, false))
+		atomic_store(&file->has_flock, false);
+	pthread_mutex_unlock(&file->lock);
+	file_put(file);
+	return was_locked;
+}
