@@ -158,6 +158,8 @@ typedef struct nizwarf_ops {
 			 uint64_t length, const nizwarf_file_info *fi);
 	int (*lseek)(const nizwarf_req *req, uint64_t ino, uint64_t off, uint32_t whence,
 		     const nizwarf_file_info *fi, uint64_t *found);
+	/* `size` is at most NIZWARF_MOST_COPIED if the kernel asked by opcode 47, because the reply to that has 32
+	 * bits for the count; by opcode 53 it is any. */
 	int (*copy_file_range)(const nizwarf_req *req, uint64_t ino_in, uint64_t off_in,
 			       const nizwarf_file_info *fi_in, uint64_t ino_out, uint64_t off_out,
 			       const nizwarf_file_info *fi_out, uint64_t size, uint64_t flags, size_t *len);
@@ -224,6 +226,10 @@ enum { NIZWARF_WANT_READDIRPLUS = 3 << 13 };
 
 /* The longest link that Linux takes. */
 enum { NIZWARF_LONGEST_LINK = 4095 };
+
+/* The most that one COPY_FILE_RANGE of opcode 47 copies, in bytes: the largest count that its reply can hold, in
+ * whole pages. copy_file_range(2) returns that count, and its caller goes on with what is left. */
+#define NIZWARF_MOST_COPIED UINT32_C(0xfffff000)
 
 /* What a table serves of options. HAS_INODE_DAX it does not; POSIX_LOCKS takes `getlk` and `setlk`,
  * FLOCK_LOCKS `flock`, HAS_IOCTL_DIR `ioctl`, ATOMIC_O_TRUNC `open`, READDIRPLUS `readdirplus`,
@@ -778,6 +784,9 @@ static inline int nizwarf_do_written(const nizwarf_ops *ops, const nizwarf_req *
 	}
 	if (c->call == NIZWARF_COPY || c->call == NIZWARF_COPY_64)
 		size = c->length;
+	/* (the reply to opcode 47 has 32 bits for the count, that to 53 has 64) */
+	if (c->call == NIZWARF_COPY && size > NIZWARF_MOST_COPIED)
+		size = NIZWARF_MOST_COPIED;
 	if (c->call == NIZWARF_WRITE)
 		error = NIZWARF_DO(write, c->node, req->request + c->data.at, (size_t)size, c->offset, &fi,
 				   &len);

@@ -725,6 +725,42 @@ static void wrong_answers(void)
 #undef EXPECT_FAULT
 }
 
+/* How many bytes were requested of a copy that copies them all. */
+static uint64_t copied;
+
+static int copy_all(const nizwarf_req *req, uint64_t ino, uint64_t off_in, FI, uint64_t ino_out,
+		    uint64_t off_out, const nizwarf_file_info *fi_out, uint64_t size, uint64_t flags,
+		    size_t *len)
+{
+	(void)req, (void)ino, (void)off_in, (void)fi, (void)ino_out, (void)off_out, (void)fi_out, (void)flags;
+	*len = copied = size;
+	return 0;
+}
+
+/* A copy of more bytes than the 32 bits of its reply can say is shortened before it is made, as libfuse does: otherwise
+ * the bytes would be copied and the caller see an error. The reply to opcode 53 has 64 bits. */
+static void long_copies(void)
+{
+	static const uint64_t lengths[] = { 1,		0xffffefff, 0xfffff000, 0xfffff001, UINT32_MAX,
+					    1ULL << 32, 5ULL << 30, INT64_MAX,	UINT64_MAX };
+	struct fuse_copy_file_range_in copy = { 0 };
+	nizwarf_ops some = ops;
+	size_t i;
+
+	some.copy_file_range = copy_all;
+	table = &some;
+	for (i = 0; i < sizeof(lengths) / sizeof(*lengths); i++) {
+		const uint64_t cut = lengths[i] < 0xfffff000 ? lengths[i] : 0xfffff000;
+
+		copy.len = lengths[i];
+		expect_record(NIZWARF_COPY, &copy, sizeof(copy), NULL, NULL, "", 24);
+		CHECK(!u32(ours + 4) && copied == cut && u32(ours + 16) == cut);
+		expect_record(NIZWARF_COPY_64, &copy, sizeof(copy), NULL, NULL, "", 24);
+		CHECK(!u32(ours + 4) && copied == lengths[i] && u64(ours + 16) == lengths[i]);
+	}
+	table = &ops;
+}
+
 /* Where an allocation is refused, no call is made. Each allocation is refused in turn, of a slot that has none yet,
  * until none is left: `refused` is then how many there were, and one. */
 static void expect_unmade(uint32_t opcode, const void *record, size_t record_len, const char *name)
@@ -883,6 +919,7 @@ int main(void)
 	options();
 	ends();
 	wrong_answers();
+	long_copies();
 	no_memory();
 	overlaps();
 	conversions();
