@@ -1009,13 +1009,18 @@ static inline int32_t nizwarf_ask_offered(nizwarf_slot *slot, const nizwarf_sess
 	return code;
 }
 
-/* Whether an item can't be told: its name is none, or with PLUS the number of its error. */
+/* Whether an item can't be told: its name is none, or with PLUS the number of its error. `.` and `..` are not looked
+ * up, so that an `error` of theirs means nothing, whether or not the item fits. */
 static inline int nizwarf_is_wrong(const nizwarf_item *item, int plus)
 {
 	const uint8_t *end = item->name_size ? item->name + item->name_size - 1 : NULL;
+	int is_dot;
 
-	return !end || memchr(item->name, 0, item->name_size) != end ||
-	       (plus && item->error > NIZWARF_LAST_ERROR);
+	if (!end || memchr(item->name, 0, item->name_size) != end)
+		return 1;
+	is_dot = item->name[0] == '.' &&
+		 (item->name_size == 2 || (item->name_size == 3 && item->name[1] == '.'));
+	return plus && !is_dot && item->error > NIZWARF_LAST_ERROR;
 }
 
 /* Whether a directory was read up to an item that can't be told. */

@@ -498,6 +498,44 @@ static void wrong_items(void)
 	CHECK(u64(ours + 16) == 3 && ours[40] == 'b');
 }
 
+/* `.` and `..` are not looked up, so an `error` of theirs means nothing, whether they fit or not. Other names that begin
+ * with a dot are names like any. */
+static void errors_of_dots(void)
+{
+	static const int32_t errors[] = { 0, ENOENT, NIZWARF_LAST_ERROR + 1, INT32_MAX, INT32_MIN };
+	static const char *const others[] = { ".a", "...", "a.", "a" };
+	struct fuse_read_in read = { .size = 0 };
+	nizwarf_item listed[] = {
+		{ .ino = 1, .offset = 1, .name = (const uint8_t *)".", .name_size = 2 },
+		{ .ino = 1, .offset = 2, .name = (const uint8_t *)"..", .name_size = 3 },
+	};
+	const nizwarf_answer answer = { .items = listed, .items_len = 2 };
+	nizwarf_call call;
+	nizwarf_told told;
+	size_t i, fit;
+
+	for (i = 0; i < sizeof(errors) / sizeof(*errors); i++) {
+		listed[0].error = listed[1].error = errors[i];
+		for (fit = 0; fit <= 2; fit++) {
+			/* (a record of such a name has 160 bytes, with its entry) */
+			read.size = (uint32_t)(160 * fit);
+			begin_with(READDIRPLUS, 1, &read, sizeof(read));
+			call = ask_call(8192, 0);
+			CHECK(reply(&call, &answer, 9, &told) == NIZWARF_OK && !u32(ours + 4));
+			CHECK(told.len == 16 + 160 * fit && told.taken == fit);
+		}
+	}
+	read.size = 4096;
+	begin_with(READDIRPLUS, 1, &read, sizeof(read));
+	call = ask_call(8192, 0);
+	listed[1].error = NIZWARF_LAST_ERROR + 1;
+	for (i = 0; i < sizeof(others) / sizeof(*others); i++) {
+		listed[1].name = (const uint8_t *)others[i];
+		listed[1].name_size = strlen(others[i]) + 1;
+		CHECK(reply(&call, &answer, 9, &told) == NIZWARF_OK && is_error(&told, EIO));
+	}
+}
+
 /* Who waits gets an answer, where nothing is told and no fault is answered. */
 static void silences(void)
 {
@@ -757,6 +795,7 @@ int main(void)
 	long_answers();
 	open_flags();
 	wrong_items();
+	errors_of_dots();
 	silences();
 	entries();
 	give_back();
