@@ -281,7 +281,8 @@ enum {
 	NIZWARF_REMOVEXATTR = 24,
 	/* node, handle, lock_owner (DONE) */
 	NIZWARF_FLUSH = 25,
-	/* length: nizwarf_init_offered, readahead; if INIT is offered, nizwarf_init_further (WANT) */
+	/* length: nizwarf_init_offered, readahead; if INIT is offered, nizwarf_init_further, more:
+	 * nizwarf_init_takes_more (WANT) */
 	NIZWARF_INIT = 26,
 	/* node, flags (OPENED) */
 	NIZWARF_OPENDIR = 27,
@@ -507,6 +508,13 @@ static inline uint32_t nizwarf_statx_mask(const nizwarf_call *call)
 static inline uint64_t nizwarf_init_further(const nizwarf_call *call)
 {
 	return call->other_offset;
+}
+
+/* Not 0 if NIZWARF_OFFER_INIT was among the offers when the INIT was decoded: then a `text` of the answer, as long as
+ * a nizwarf_init_more, must be one. Otherwise no text of the answer is read, so that the reply is virtiofsd's. */
+static inline uint32_t nizwarf_init_takes_more(const nizwarf_call *call)
+{
+	return call->more;
 }
 
 /* Takes all but these out of the options that are offered, before an INIT is answered: what isn't offered isn't
@@ -1003,9 +1011,11 @@ static inline int32_t nizwarf_ask_offered(nizwarf_slot *slot, const nizwarf_sess
 	code = nizwarf_ask_offered_at(slot, session, offers & ~(uint32_t)NIZWARF_OFFER_INIT,
 				      segments ? request : &none, segments, total, call, told);
 	nizwarf_put(slot, room, rooms, told->put);
-	if (code == NIZWARF_ASKED && call->call == NIZWARF_INIT && offers & NIZWARF_OFFER_INIT)
+	if (code == NIZWARF_ASKED && call->call == NIZWARF_INIT && offers & NIZWARF_OFFER_INIT) {
 		call->other_offset = nizwarf_init_offered_at(
 			front, nizwarf_front(request, segments, front, sizeof(front)));
+		call->more = 1;
+	}
 	return code;
 }
 
@@ -1074,7 +1084,7 @@ static inline int nizwarf_is_changed(const nizwarf_session *session, const nizwa
 	if (answer->error)
 		return 0;
 	if (call->call == NIZWARF_INIT)
-		return answer->text_len == sizeof(nizwarf_init_more);
+		return nizwarf_init_takes_more(call) && answer->text_len == sizeof(nizwarf_init_more);
 	return (call->answer == NIZWARF_OPENED || call->answer == NIZWARF_CREATED) &&
 	       session->options & NIZWARF_PASSTHROUGH && answer->count;
 }

@@ -601,6 +601,8 @@ static void on_init(fuse_req_t req, const nizwarf_call *c, const struct door_mes
 	 * options) */
 	call_of(req)->other_offset = nizwarf_init_offered_at(
 		(const uint8_t *)m->in, m->len < NIZWARF_INIT_FRONT ? m->len : NIZWARF_INIT_FRONT);
+	/* (and the one by which it knows that tell_init's text is meant: nizwarf_init_takes_more) */
+	call_of(req)->more = 1;
 	do_init(req, c->node, record);
 }
 

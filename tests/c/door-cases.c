@@ -536,6 +536,53 @@ static void errors_of_dots(void)
 	}
 }
 
+/* The text of an INIT's answer is read where NIZWARF_OFFER_INIT was among the offers of the ask, and nowhere else: the
+ * reply is then that to the same answer without a text, which is virtiofsd's. */
+static void texts_of_init(void)
+{
+	const struct fuse_init_in init = {
+		.major = 7, .minor = 45, .flags = FUSE_INIT_EXT, .flags2 = 1 << 7
+	};
+	const nizwarf_init_more more = { .max_write = 8192, .time_gran = 1000, .max_background = 7 };
+	const nizwarf_answer plain = { .count = FUSE_INIT_EXT };
+	const nizwarf_room room = { ours, ROOM };
+	nizwarf_answer answer = plain;
+	nizwarf_segment piece;
+	struct fuse_init_out out;
+	uint8_t whole[80];
+	nizwarf_call call;
+	nizwarf_told told;
+	uint32_t offers;
+
+	answer.text = (const uint8_t *)&more;
+	answer.text_len = sizeof(more);
+	begin_with(NIZWARF_INIT, 0, &init, sizeof(init));
+	piece.at = request;
+	piece.len = request_len;
+	call = ask_call(ROOM, 0);
+	CHECK(reply(&call, &plain, 9, &told) == NIZWARF_OK && told.len == 80 && !u32(ours + 4));
+	memcpy(whole, ours, 80);
+	CHECK(!nizwarf_init_takes_more(&call));
+	CHECK(reply(&call, &answer, 9, &told) == NIZWARF_OK && told.len == 80 && !memcmp(ours, whole, 80));
+	/* (each bit of the offers but this one, and then all) */
+	for (offers = 1; offers < 1 << 16; offers <<= 1) {
+		CHECK(nizwarf_ask_offered(&slot, &session, offers, &piece, 1, &room, 1, &call, &told) ==
+		      NIZWARF_ASKED);
+		CHECK(!nizwarf_init_takes_more(&call) == (offers != NIZWARF_OFFER_INIT));
+		CHECK(reply(&call, &answer, 9, &told) == NIZWARF_OK && told.len == 80);
+		CHECK(!memcmp(ours, whole, 80) == (offers != NIZWARF_OFFER_INIT));
+		if (offers == NIZWARF_OFFER_INIT) {
+			memcpy(&out, ours + 16, sizeof(out));
+			CHECK(out.max_write == 8192 && out.time_gran == 1000 && out.max_background == 7);
+			/* (a text of another length is none) */
+			answer.text_len--;
+			CHECK(reply(&call, &answer, 9, &told) == NIZWARF_OK && !memcmp(ours, whole, 80));
+			answer.text_len++;
+		}
+	}
+	session.options = 0;
+}
+
 /* Who waits gets an answer, where nothing is told and no fault is answered. */
 static void silences(void)
 {
@@ -796,6 +843,7 @@ int main(void)
 	open_flags();
 	wrong_items();
 	errors_of_dots();
+	texts_of_init();
 	silences();
 	entries();
 	give_back();
