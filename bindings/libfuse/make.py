@@ -23,6 +23,7 @@ HAS = {
     "HAVE_TMPFILE": r"op\.tmpfile",
     "HAVE_STATX_OP": r"op\.statx",
     "HAVE_COPY_64": r"is_copy\w+_64",
+    "HAVE_ERROR_NAMES": r"strerrordesc_np",
     "HAVE_NO_INTERRUPT": r"conn\.no_interrupt",
     "HAVE_RETRIEVE_HEADER": r"sizeof\(struct fuse_in_header\) \+\s*sizeof\(struct fuse_notify_retrieve_in\)",
 }

@@ -12,6 +12,8 @@ enum {
 	 * memory. */
 	LONGEST_RETRY = sizeof(struct fuse_ioctl_out) +
 			FUSE_IOCTL_MAX_IOV * sizeof(struct fuse_ioctl_iovec), /* bytes */
+	/* One more than the last number of an error that libfuse sends. */
+	LIBFUSE_ERRORS = 1000,
 	HEADER = sizeof(struct fuse_out_header),
 	/* Of a reply without a text: the longest is CREATE's. */
 	SMALL_ROOM = HEADER + sizeof(struct fuse_entry_out) + sizeof(struct fuse_open_out),
@@ -657,7 +659,6 @@ static int send_plain(fuse_req_t req, int error)
 
 	if (!t)
 		return send_header(req, -ENOMEM);
-	/* (below 0 it is none either, which the door replies as EIO) */
 	t->answer.error = error > NIZWARF_LAST_ERROR ? EIO : error;
 	return send_record(req, t);
 }
@@ -766,6 +767,28 @@ static int send_told(fuse_req_t req, const struct iovec *iov, int count)
 	return t->answer.error ? send_record(req, t) : send_answer(req, t);
 }
 
+/* Whether libfuse sends this, which is the negated number of an error: fuse_send_reply_iov_nofree has the same test, and
+ * each version its own. */
+static __attribute__((noinline)) int is_sent(int error)
+{
+#if defined(HAVE_ERROR_NAMES) && __GLIBC__ >= 2 && __GLIBC_MINOR__ >= 32
+	return error < 0 && error > -LIBFUSE_ERRORS && strerrordesc_np(-error);
+#else
+	return error < 0 && error > -LIBFUSE_ERRORS;
+#endif
+}
+
+/* An error. What libfuse does not send is ERANGE, with a line in the log that tells the author of the file system; what
+ * it sends and Linux refuses is EIO, because the caller would wait for good. */
+static __attribute__((noinline)) int send_error(fuse_req_t req, int error)
+{
+	if (!is_sent(error)) {
+		fuse_log(FUSE_LOG_ERR, "fuse: bad error value: %i\n", error);
+		error = -ERANGE;
+	}
+	return send_plain(req, -error);
+}
+
 /* Each reply but those of the four below. `iov` has a place for the header in front. */
 static int send_reply_iov(fuse_req_t req, int error, struct iovec *iov, int count)
 {
@@ -778,7 +801,7 @@ static int send_reply_iov(fuse_req_t req, int error, struct iovec *iov, int coun
 		return send_wrong(req);
 	}
 	if (error)
-		return send_plain(req, -error);
+		return send_error(req, error);
 	if (call->answer == NIZWARF_DATA || call->answer == NIZWARF_DIRECTORY)
 		return send_data(req, iov, count);
 	/* (with more pieces it is some record, which is told as wrong) */

@@ -199,11 +199,8 @@ static void on_lookup(fuse_req_t req, fuse_ino_t parent, const char *name)
 	const struct statvfs st = { .f_bsize = 1 };
 
 	(void)parent;
-	/* (Linux takes errors up to 511 alone) */
-	if (!strcmp(name, "600"))
-		fuse_reply_err(req, 600);
-	else if (!strcmp(name, "below"))
-		fuse_reply_err(req, -ENOENT);
+	if (*name == 'e')
+		fuse_reply_err(req, atoi(name + 1));
 	else if (!strcmp(name, "none"))
 		fuse_reply_err(req, 0);
 	else if (!strcmp(name, "statfs"))
@@ -564,8 +561,6 @@ static struct {
 	}
 
 static const struct request wrong[] = {
-	NAME("600", EIO),
-	NAME("below", EIO),
 	NAME("none", EIO),
 	NAME("statfs", EIO),
 	NAME("bytes", EIO),
@@ -1073,6 +1068,61 @@ static void try_device(const struct fuse_custom_io *io)
 	session = before;
 }
 
+/* The last line of the log. */
+static char logged[256];
+
+static __attribute__((format(printf, 2, 0))) void note_log(enum fuse_log_level level, const char *format,
+							   va_list arguments)
+{
+	(void)level;
+	vsnprintf(logged, sizeof(logged), format, arguments);
+	fputs(logged, stderr);
+}
+
+/* Errors as fuse_reply_err(3) is called with them. libfuse sends those from 1 to 999, or from 3.18 on those that glibc
+ * describes; in place of any other it sends ERANGE, and logs the negated number. Linux takes those up to 511: one above
+ * that is EIO here. */
+static void try_errors(void)
+{
+	static const struct {
+		int number, error;
+		const char *line;
+	} errors[] = {
+		{ 1, EPERM, "" },
+		{ ENOENT, ENOENT, "" },
+		{ EHWPOISON, EHWPOISON, "" }, /* the last that glibc describes */
+#if FUSE_VERSION >= FUSE_MAKE_VERSION(3, 18)
+		{ 134, ERANGE, "fuse: bad error value: -134\n" },
+		{ 511, ERANGE, "fuse: bad error value: -511\n" },
+		{ 600, ERANGE, "fuse: bad error value: -600\n" },
+#else
+		{ 134, 134, "" },
+		{ 511, 511, "" },
+		{ 512, EIO, "" },
+		{ 999, EIO, "" },
+#endif
+		{ 1000, ERANGE, "fuse: bad error value: -1000\n" },
+		{ INT_MAX, ERANGE, "fuse: bad error value: -2147483647\n" },
+		{ -1, ERANGE, "fuse: bad error value: 1\n" },
+		{ -ENOSYS, ERANGE, "fuse: bad error value: 38\n" },
+		{ -600, ERANGE, "fuse: bad error value: 600\n" },
+		{ -INT_MAX, ERANGE, "fuse: bad error value: 2147483647\n" },
+	};
+	char name[16];
+	size_t i;
+
+	fuse_set_log_func(note_log);
+	for (i = 0; i < sizeof(errors) / sizeof(*errors); i++) {
+		const int len = snprintf(name, sizeof(name), "e%d", errors[i].number) + 1;
+		const struct request r = { FUSE_LOOKUP, 1, name, (size_t)len, errors[i].error, name, 0 };
+
+		*logged = 0;
+		send_request(&r);
+		judge(name, is_answered(&r) && !strcmp(logged, errors[i].line));
+	}
+	fuse_set_log_func(NULL);
+}
+
 /* Wrong answers first; then what is right is served as if none had been. */
 static void try_answers(const struct fuse_custom_io *io)
 {
@@ -1082,6 +1132,7 @@ static void try_answers(const struct fuse_custom_io *io)
 		send_request(&wrong[i]);
 		judge(wrong[i].what, is_answered(&wrong[i]));
 	}
+	try_errors();
 	for (i = 0; i < sizeof(good) / sizeof(*good); i++) {
 		send_request(&good[i]);
 		judge(good[i].what, is_answered(&good[i]));
