@@ -32,7 +32,7 @@ parts=(documents edits numbers shell rattle rust python c format door crate)
 declare -A wanted=(
     [documents]="rt python3" [edits]="bash" [numbers]="python3" [shell]="shellcheck" [rattle]="rt"
     [rust]="rustfmt" [python]="pyflakes3"
-    [c]="cc python3" [format]="clang-format" [door]="rt cc" [crate]="cargo rt cc"
+    [c]="cc make python3" [format]="clang-format" [door]="rt cc" [crate]="cargo rt cc"
 )
 # (a program that isn't here is in the package of its name)
 declare -A package=([cc]="gcc libc6-dev" [rt]="")

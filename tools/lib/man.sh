@@ -1,8 +1,9 @@
 # For the scripts that look at the manual pages: they know where they are by `here`.
 # shellcheck shell=bash disable=SC2154
 
-# Holds the pages of functions, which packaging/man.py put into a folder, against the headers: each shows functions as
-# they are declared, and an example that compiles. What is not so is told: hold_pages FOLDER.
+# Compares the pages of functions, which packaging/man.py put into a folder, with the headers: each shows functions as
+# they are declared, and an example that compiles as `make NAME` of programs/Makefile compiles a program, because that is
+# what a reader of the page does. It prints each difference: hold_pages FOLDER.
 hold_pages() {
     local page example=$1/example.c status=0
     # (declared again after the header, where C refuses another form)
@@ -13,8 +14,10 @@ hold_pages() {
     }
     for page in "$1"/*.3; do
         awk -f "$here/packaging/examples.awk" "$page" > "$example"
+        # (`LIBRARY` stops make from asking pkg-config, and nothing is linked)
         if [ ! -s "$example" ] ||
-            ! cc -std=c11 -D_DEFAULT_SOURCE -Wall -Wextra -Werror -fsyntax-only -I "$here/include" "$example"; then
+            ! make -s -B -C "$1" -f "$here/programs/Makefile" example CFLAGS="-Wall -Wextra -Werror -fsyntax-only" \
+                LIBRARY=-lnizwarf INCLUDE="$here/include"; then
             echo "The example of ${page##*/} is missing, or does not compile." >&2
             status=1
         fi
