@@ -8,8 +8,10 @@ KIT = os.environ["kit"]
 COUNTED = ["README.md", *sorted(glob.glob("docs/*.md")), "CONTRIBUTING.md", "CHANGELOG.md", "NOTICE.md",
            *sorted(glob.glob("crates/*/README.md"))]
 DOCUMENTS = [*COUNTED, "tools/README.md", "tests/README.md", "tests/oracle/README.md", "programs/README.md"]
-# Pages whose links alone are looked at.
-LINKED = [*sorted(glob.glob("docs/generated/*.md")), *sorted(glob.glob("bindings/*/README.md"))]
+# Of every other page the links alone are checked. (the command is that by which tools/check.sh counts pages)
+LINKED = sorted({it for it in subprocess.run(["git", "ls-files", "--cached", "--others", "--exclude-standard", "-z", "--",
+                                              "*.md"], capture_output=True, check=True, text=True).stdout.split("\0")
+                 if it and os.path.exists(it)} - set(DOCUMENTS))
 # Where no crate is named in PROTOCOL.md, it is this one, as that page says.
 CRATES = {"docs/PROTOCOL.md": ["vfs_grammar"]}
 CODE = re.compile(r"`([^`]+)`")
