@@ -9,9 +9,11 @@ package main
 import "C"
 
 import (
+	"encoding/binary"
 	"errors"
 	"fmt"
 	"os"
+	"os/signal"
 	"strconv"
 	"syscall"
 	"unsafe"
@@ -19,9 +21,11 @@ import (
 
 const (
 	root, hello, longest = 1, 2, 1<<20 + 4096
+	interrupt            = 36 // an opcode that is no call
 	text                 = "Hello, world!\n"
 	usage                = `Usage: hello MOUNTPOINT, or hello --fd N
-Mounts a file, as root, and serves it until it is unmounted;
+Mounts a file, as root, and serves it until it is unmounted,
+which SIGINT and SIGTERM do too;
 or serves it at the socket with the descriptor N.
 `
 )
@@ -78,9 +82,32 @@ func makeCall(call *C.nizwarf_call, answer *C.nizwarf_answer) syscall.Errno {
 	return 0
 }
 
+// Returns an error in place of a reply to a request that is malformed, or for which there is no memory, because the
+// kernel waits for one. The next request is served.
+func refuse(size int, code C.int32_t) []byte {
+	fmt.Fprintln(os.Stderr, "hello: outcome", code)
+	asked := unsafe.Slice((*byte)(request), size)
+	if size < 16 {
+		return nil
+	}
+	switch binary.LittleEndian.Uint32(asked[4:]) {
+	case C.NIZWARF_FORGET, C.NIZWARF_BATCH_FORGET, C.NIZWARF_NOTIFY_REPLY, interrupt: // no reply is awaited
+		return nil
+	}
+	number := syscall.EIO
+	if code == C.NIZWARF_OUT_OF_MEMORY {
+		number = syscall.ENOMEM
+	}
+	reply := make([]byte, 16)
+	binary.LittleEndian.PutUint32(reply, 16)
+	binary.LittleEndian.PutUint32(reply[4:], uint32(-int32(number)))
+	copy(reply[8:], asked[8:16])
+	return reply
+}
+
 // Answers a request, and returns the reply, which may be empty. This file system does not count lookups, so it
 // has none to give back.
-func serve(size int) ([]byte, error) {
+func serve(size int) []byte {
 	var call C.nizwarf_call
 	var told C.nizwarf_told
 	segment := C.nizwarf_segment{request, C.size_t(size)}
@@ -93,9 +120,9 @@ func serve(size int) ([]byte, error) {
 		session.options = told.options
 	}
 	if code != C.NIZWARF_OK {
-		return nil, fmt.Errorf("outcome %d", code)
+		return refuse(size, code)
 	}
-	return unsafe.Slice((*byte)(room), told.len), nil
+	return unsafe.Slice((*byte)(room), told.len)
 }
 
 func mountOn(folder string) (int, error) {
@@ -105,6 +132,17 @@ func mountOn(folder string) (int, error) {
 	}
 	options := fmt.Sprintf("fd=%d,rootmode=40000,user_id=0,group_id=0,default_permissions", device)
 	return device, syscall.Mount("hello", folder, "fuse.hello", syscall.MS_NOSUID|syscall.MS_NODEV, options)
+}
+
+// Unmounts at a signal, and so ends `run`: at once, or if somebody still uses the file, with its last user. A second
+// signal ends the process.
+func unmountAt(signals chan os.Signal, folder string) {
+	<-signals
+	signal.Reset(syscall.SIGINT, syscall.SIGTERM)
+	if err := syscall.Unmount(folder, syscall.MNT_DETACH); err != nil {
+		fmt.Fprintf(os.Stderr, "hello: %s: %v\n", folder, err)
+		os.Exit(1)
+	}
 }
 
 func run(device int) error {
@@ -126,12 +164,10 @@ func run(device int) error {
 		if err != nil {
 			return err
 		}
-		reply, err := serve(size)
-		if err == nil && len(reply) > 0 {
-			_, err = syscall.Write(device, reply)
-		}
-		if err != nil && !errors.Is(err, syscall.ENOENT) {
-			return err
+		if reply := serve(size); len(reply) > 0 {
+			if _, err = syscall.Write(device, reply); err != nil && !errors.Is(err, syscall.ENOENT) {
+				return err
+			}
 		}
 	}
 }
@@ -146,7 +182,11 @@ func main() {
 	case len(os.Args) == 3 && os.Args[1] == "--fd":
 		device, err = strconv.Atoi(os.Args[2])
 	case len(os.Args) == 2 && os.Args[1] != "" && os.Args[1][0] != '-':
-		device, err = mountOn(os.Args[1])
+		signals := make(chan os.Signal, 1)
+		signal.Notify(signals, syscall.SIGINT, syscall.SIGTERM)
+		if device, err = mountOn(os.Args[1]); err == nil {
+			go unmountAt(signals, os.Args[1])
+		}
 	default:
 		fmt.Fprint(os.Stderr, usage)
 		os.Exit(2)

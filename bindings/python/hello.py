@@ -2,10 +2,10 @@
 """A file system of one file, `hello`, over /dev/fuse and the door of nizwarf.h.
 
 Usage: hello.py MOUNTPOINT, or hello.py --fd N
-Mounts a file, as root, and serves it until it is unmounted; or serves it at the socket with the descriptor N.
-NIZWARF_LIB is the path of the library if it is not installed.
+Mounts a file, as root, and serves it until it is unmounted, which SIGINT and SIGTERM do too; or serves it at the socket
+with the descriptor N. NIZWARF_LIB is the path of the library if it is not installed.
 """
-import ctypes, errno, os, stat, sys
+import ctypes, errno, os, signal, stat, struct as layout, sys
 from ctypes import POINTER, Structure, byref, c_char, c_char_p, c_int, c_size_t, c_uint32, c_uint64, c_void_p
 
 
@@ -34,8 +34,10 @@ Answer = struct("Answer", 256, ("error", c_int), ("_1", c_uint32), ("_2", c_uint
 Told = struct("Told", 48, ("len", c_uint64), ("put", c_uint64), ("options", c_uint64), ("give_back", c_uint64),
               ("taken", c_uint64), ("interrupts", c_uint64))
 
-OK, ASKED = 0, 15
-LOOKUP, GETATTR, OPEN, READ, RELEASE, INIT, OPENDIR, READDIR, RELEASEDIR, DESTROY = 1, 3, 14, 15, 18, 26, 27, 28, 29, 38
+OK, OUT_OF_MEMORY, ASKED = 0, 10, 15
+LOOKUP, FORGET, GETATTR, OPEN, READ, RELEASE, INIT, OPENDIR, READDIR, RELEASEDIR, DESTROY = 1, 2, 3, 14, 15, 18, 26, 27, 28, 29, 38
+# To these Linux awaits no reply, not even an error: FORGET, INTERRUPT, NOTIFY_REPLY and BATCH_FORGET.
+SILENT = (FORGET, 36, 41, 42)
 ROOT, HELLO, TEXT, LONGEST = 1, 2, b"Hello, world!\n", (1 << 20) + 4096
 
 
@@ -68,6 +70,15 @@ def make(call, request, answer):
     return b"", []
 
 
+def refuse(request, code):
+    """Returns an error in place of a reply to a request that is malformed, or for which there is no memory, because the
+    kernel waits for one. The next request is served."""
+    print(f"hello.py: outcome {code}", file=sys.stderr)
+    if len(request) < 16 or (header := layout.unpack_from("IIQ", request))[1] in SILENT:
+        return b""
+    return layout.pack("IiQ", 16, -errno.ENOMEM if code == OUT_OF_MEMORY else -errno.EIO, header[2])
+
+
 def serve(library, slot, session, request):
     """Answers a request, and returns the reply, which may be empty. (There are no lookups to give back.)"""
     call, told, answer = Call(), Told(options=session.options), Answer()
@@ -80,7 +91,7 @@ def serve(library, slot, session, request):
                                          (Item * len(items))(*items), len(items), byref(told))
         session.options = told.options
     if code != OK:
-        sys.exit(f"hello.py: outcome {code}")
+        return refuse(request, code)
     reply = ctypes.create_string_buffer(told.put)
     library.nizwarf_copy_slot_at(byref(slot), 0, reply, told.put)
     return reply.raw + data[:told.len - told.put]
@@ -97,8 +108,16 @@ def mount_on(folder):
     return device
 
 
+def unmount(folder, device):
+    """Unmounts. The device is closed before, because the last user may wait for an answer of this process."""
+    os.close(device)
+    libc = ctypes.CDLL(None, use_errno=True)
+    if libc.umount2(os.fsencode(folder), 2):  # 2 is MNT_DETACH
+        sys.exit(f"hello.py: {folder}: {os.strerror(ctypes.get_errno())}")
+
+
 def main(words):
-    """Serves requests until the file is unmounted or the socket is closed."""
+    """Serves requests until the file is unmounted, the socket is closed, or a signal ends it."""
     if words == ["--help"]:
         return print(__doc__)
     if len(words) != (2 if words[:1] == ["--fd"] else 1) or words[0].startswith("-") and words[0] != "--fd":
@@ -111,14 +130,24 @@ def main(words):
     library.nizwarf_answer_at.argtypes = [c_void_p] * 4 + [c_char_p, c_size_t, c_void_p, c_size_t, c_void_p]
     # A slot holds one request; of the session pages have 4 KiB, and data 1 MiB at most.
     slot, session = c_void_p(), Session(0, 4096, 1 << 20)
+    # As SIGINT does, SIGTERM raises KeyboardInterrupt; both are held back until there is something to unmount.
+    ends = {signal.SIGINT, signal.SIGTERM}
+    signal.signal(signal.SIGTERM, signal.default_int_handler)
+    signal.pthread_sigmask(signal.SIG_BLOCK, ends)
     device = int(words[1]) if words[0] == "--fd" else mount_on(words[0])
     while True:
         try:
+            signal.pthread_sigmask(signal.SIG_UNBLOCK, ends)
             # (a read gives one whole request, if there is room for the longest)
             if not (request := os.read(device, LONGEST)):
                 break
             if reply := serve(library, slot, session, request):
                 os.write(device, reply)
+        except KeyboardInterrupt:
+            signal.pthread_sigmask(signal.SIG_BLOCK, ends)
+            if words[0] != "--fd":
+                unmount(words[0], device)
+            break
         except OSError as error:
             if error.errno in (errno.ENODEV, errno.ECONNABORTED):  # it was unmounted
                 break
@@ -127,4 +156,5 @@ def main(words):
     library.nizwarf_end_slot_at(byref(slot))
 
 
-main(sys.argv[1:])
+if __name__ == "__main__":
+    main(sys.argv[1:])

@@ -46,7 +46,7 @@ root=$here/out/debian/root
 packages=$here/out/debian/packages
 rust=$here/bindings/rust
 build_tools=(gcc libc6-dev make pkg-config)
-[ ! -e "$rust/examples/hello.rs" ] || build_tools+=(cargo)
+[ ! -e "$rust/examples/hello.rs" ] || build_tools+=(cargo fuse3)
 work=$(mktemp -d)
 
 # Ends what was started, and unmounts what was mounted here; of the Debian nothing is left then, but with --keep.

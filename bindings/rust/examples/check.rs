@@ -16,7 +16,8 @@ use std::thread;
 
 const USAGE: &str =
     "Usage: check MOUNTPOINT PROGRAM [WORD..], as root: mounts what PROGRAM serves at its
-       standard input, and passes only well-formed requests on to it.
+       standard input, and passes only well-formed requests on to it. SIGINT and SIGTERM
+       unmount it.
        check - PROGRAM [WORD..]: the same for requests from standard input.";
 
 /// The state of the session.
@@ -90,10 +91,24 @@ fn fault(request: &[u8]) -> Vec<u8> {
 
 /// Reads a message. It is empty at the end.
 fn next<'a>(mut from: &File, buffer: &'a mut [u8]) -> io::Result<&'a [u8]> {
+    const ENOENT: i32 = 2;
     const ENODEV: i32 = 19;
-    match from.read(buffer) {
-        Err(error) if error.raw_os_error() == Some(ENODEV) => Ok(&[]),
-        len => len.map(|len| &buffer[..len]),
+    loop {
+        match from.read(buffer) {
+            // The request was aborted.
+            Err(error) if error.raw_os_error() == Some(ENOENT) => {}
+            Err(error) if error.raw_os_error() == Some(ENODEV) => return Ok(&[]),
+            len => return len.map(|len| &buffer[..len]),
+        }
+    }
+}
+
+/// Sends a reply to the client, unless it no longer waits for one.
+fn reply_to(mut device: &File, reply: &[u8]) -> io::Result<()> {
+    const ENOENT: i32 = 2;
+    match device.write(reply) {
+        Err(error) if error.raw_os_error() == Some(ENOENT) => Ok(()),
+        sent => sent.map(drop),
     }
 }
 
@@ -110,7 +125,7 @@ fn relay(device: &File, program: &File) -> io::Result<()> {
                     return Ok(());
                 }
                 check.see(reply);
-                let _ = (&mut &*device).write(reply)?;
+                reply_to(device, reply)?;
             }
         });
         let (mut slot, mut buffer) = (Slot::new(), vec![0; longest]);
@@ -123,7 +138,7 @@ fn relay(device: &File, program: &File) -> io::Result<()> {
             match check.judge(&mut slot, request) {
                 Verdict::PassOn => drop((&mut &*program).write(request)?),
                 Verdict::Reply(reply) if reply.is_empty() => {}
-                Verdict::Reply(reply) => drop((&mut &*device).write(&reply)?),
+                Verdict::Reply(reply) => reply_to(device, &reply)?,
             }
         }
     })
@@ -131,6 +146,41 @@ fn relay(device: &File, program: &File) -> io::Result<()> {
 
 extern "C" {
     fn socketpair(domain: c_int, kind: c_int, protocol: c_int, ends: *mut c_int) -> c_int;
+    fn pthread_sigmask(how: c_int, set: *const Signals, old: *mut Signals) -> c_int;
+    fn sigwait(set: *const Signals, signal: *mut c_int) -> c_int;
+}
+
+/// `sigset_t`: signal N is bit N - 1.
+#[repr(C)]
+struct Signals([u64; 16]);
+
+/// SIGINT and SIGTERM.
+static ENDING: Signals =
+    Signals([1 << (2 - 1) | 1 << (15 - 1), 0, 0, 0, 0, 0, 0, 0, 0, 0, 0, 0, 0, 0, 0, 0]);
+
+/// Holds the signals back that end this process. Threads that begin after it do so too.
+fn hold_signals() {
+    const SIG_BLOCK: c_int = 0;
+    // SAFETY: the set has the size of the C library's.
+    unsafe { pthread_sigmask(SIG_BLOCK, &ENDING, std::ptr::null_mut()) };
+}
+
+/// Unmounts, as far as that can be: a mount that nobody serves fails at each use.
+fn unmount(folder: &str) {
+    if let Err(error) = Command::new("umount").args(["-i", "-l", "--", folder]).status() {
+        eprintln!("check: umount: {error}");
+    }
+}
+
+/// Unmounts at the first of these signals; a second one ends the process.
+fn unmount_at_signal(folder: &str) {
+    let mut signal = 0;
+    // SAFETY: the set has the size of the C library's, and the number is this function's own.
+    unsafe { sigwait(&ENDING, &mut signal) };
+    unmount(folder);
+    // SAFETY: as above.
+    unsafe { sigwait(&ENDING, &mut signal) };
+    exit(1)
 }
 
 /// Creates a pair of sockets that preserve message boundaries.
@@ -185,9 +235,18 @@ fn main() -> io::Result<()> {
     let mut child = Command::new(program).args(words).stdin(theirs).spawn()?;
     let device = match folder {
         "-" => File::from(io::stdin().as_fd().try_clone_to_owned()?),
-        folder => mount_on(folder)?,
+        folder => {
+            hold_signals();
+            let (device, folder) = (mount_on(folder)?, folder.to_owned());
+            thread::spawn(move || unmount_at_signal(&folder));
+            device
+        }
     };
-    relay(&device, &ours)?;
+    let done = relay(&device, &ours);
+    if done.is_err() && folder != "-" {
+        unmount(folder);
+    }
+    done?;
     drop(ours);
     exit(child.wait()?.code().unwrap_or(1))
 }

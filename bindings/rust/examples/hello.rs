@@ -4,7 +4,7 @@ use nizwarf::*;
 use std::{env, ffi::CStr, fs::File, io::*, os::unix::io::AsFd, process::exit, time::Duration};
 
 const TEXT: &[u8] = b"Hello, world!\n";
-const USAGE: &str = "Usage: hello MOUNTPOINT: mounts a file there until it is unmounted.
+const USAGE: &str = "Usage: hello MOUNTPOINT: mounts a file there, by fusermount3, until it is unmounted or this ends.
        hello -: serves it at the socket that is standard input.";
 struct Hello;
 struct Items(u64);
@@ -54,7 +54,8 @@ fn main() {
             .and_then(|socket| Server::new(Hello).serve(&File::from(socket))),
         [folder] if !folder.is_empty() && !folder.starts_with('-') => {
             let name = MountOption::FSName("hello".into());
-            mount(Hello, folder, &[name, MountOption::DefaultPermissions])
+            // Without the last one a signal would leave a mount that nobody serves.
+            mount(Hello, folder, &[name, MountOption::DefaultPermissions, MountOption::AutoUnmount])
         }
         _ => {
             eprintln!("{USAGE}");

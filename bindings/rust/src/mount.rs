@@ -83,6 +83,9 @@ impl MountOption {
 ///
 /// Root mounts by `mount(2)`. Others, and root if that is not permitted, need the program `fusermount3`.
 ///
+/// A signal that ends the process leaves a mount whose every use fails, and which has to be unmounted by hand. So a
+/// program should mount with [`MountOption::AutoUnmount`], or handle its signals and call [`Mounted::unmount`].
+///
 /// ```no_run
 /// use nizwarf::{mount, FileSystem, MountOption, NoEntries};
 ///
