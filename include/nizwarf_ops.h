@@ -17,7 +17,7 @@
  * An answer that Linux refuses comes to who asked as an error, and ends nothing: EIO for the number
  * of an error below 0 or above 511, a link of more than 4095 bytes, and more bytes read, written or
  * copied than were asked for; ERANGE for an attribute longer than asked for, or than the room. Times
- * below 0 are 0.
+ * below 0 are 0. `bad_error` is called with a number that is no error.
  *
  * Any number of threads may serve one client with one table and one session, each with a slot, a
  * request, a room and items of its own. Here `session->options` are read and written as atomics, by
@@ -204,6 +204,10 @@ typedef struct nizwarf_ops {
 	/* What a notice of this number, `cookie`, wanted: nizwarf_notice_retrieve. */
 	void (*retrieve_reply)(const nizwarf_req *req, uint64_t cookie, uint64_t ino, uint64_t offset,
 			       const void *data, size_t size);
+	/* A function of the table returned this `error`, which Linux would refuse: it is below 0, or above
+	 * NIZWARF_LAST_ERROR. EIO is replied in its place. A program should log the first one, because its users
+	 * see EIO alone: hello.c does so. It may be called on any thread that replies. */
+	void (*bad_error)(void *user, const nizwarf_call *call, int error);
 } nizwarf_ops;
 
 struct nizwarf_dir {
@@ -946,8 +950,11 @@ static inline int32_t nizwarf_reply_ops(const nizwarf_ops *ops, const nizwarf_re
 					const nizwarf_session *now, const nizwarf_answer *answer,
 					const nizwarf_room *whole, nizwarf_told *told)
 {
-	const int32_t code = nizwarf_reply(slot, now, req->call, answer, whole, 1, told);
+	int32_t code;
 
+	if ((answer->error < 0 || answer->error > NIZWARF_LAST_ERROR) && ops->bad_error)
+		ops->bad_error(req->user, req->call, answer->error);
+	code = nizwarf_reply(slot, now, req->call, answer, whole, 1, told);
 	if (code != NIZWARF_OK)
 		nizwarf_do_release(ops, req, answer);
 	if (told->give_back && ops->forget)

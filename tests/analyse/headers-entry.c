@@ -721,6 +721,11 @@ static void op_interrupt(void *user, uint64_t unique)
 {
 }
 
+static void op_bad_error(void *user, const nizwarf_call *call, int error)
+{
+	seen = (uint8_t)call->call;
+}
+
 static int op_conn(const nizwarf_req *req, nizwarf_conn_info *conn)
 {
 	ANY(*conn);
@@ -848,6 +853,7 @@ static nizwarf_ops any_table(void)
 	OR_NONE(tmpfile, op_tmpfile);
 	OR_NONE(statx, op_statx);
 	OR_NONE(retrieve_reply, op_retrieve_reply);
+	OR_NONE(bad_error, op_bad_error);
 	return ops;
 }
 

@@ -725,6 +725,55 @@ static void wrong_answers(void)
 #undef EXPECT_FAULT
 }
 
+/* The last error that is none of Linux, as it was reported, and how often. */
+static int bad_error;
+static uint32_t bad_errors, bad_call;
+
+static void note_bad_error(void *user, const nizwarf_call *call, int error)
+{
+	CHECK(user == said);
+	bad_error = error;
+	bad_call = call->call;
+	bad_errors++;
+}
+
+/* A number that is no error of Linux is reported to the table, once for each reply, and no other number is. */
+static void reported_errors(void)
+{
+	static const int good[] = { 0, 1, ENOENT, NIZWARF_LAST_ERROR };
+	static const int bad[] = { 512, 600, INT32_MAX, -1, -ENOENT, INT32_MIN, NIZWARF_LATER };
+	const struct fuse_read_in read = { .fh = 4, .size = 4096 };
+	nizwarf_answer answer = NIZWARF_NO_ANSWER;
+	nizwarf_ops some = ops;
+	nizwarf_call call = { .call = NIZWARF_UNLINK, .answer = NIZWARF_DONE, .room = 16, .unique = 7 };
+	size_t i, len;
+
+	some.bad_error = note_bad_error;
+	table = &some;
+	for (i = 0; i < sizeof(good) / sizeof(*good); i++) {
+		failure = good[i];
+		expect_record(NIZWARF_UNLINK, &read, 0, "a", NULL, "unlink 2 a", 16);
+		CHECK(!bad_errors && u32(ours + 4) == (uint32_t)-good[i]);
+	}
+	for (i = 0; i < sizeof(bad) / sizeof(*bad); i++) {
+		failure = bad[i];
+		/* (a listing can't be answered later) */
+		expect_record(NIZWARF_READDIR, &read, 40, NULL, NULL, "readdir 2 0 4 2", 16);
+		CHECK(u32(ours + 4) == (uint32_t)-EIO);
+		CHECK(bad_errors == i + 1 && bad_error == bad[i] && bad_call == NIZWARF_READDIR);
+	}
+	failure = 0;
+	/* (an answer that comes later is judged likewise) */
+	answer.error = -ENOENT;
+	bad_errors = 0;
+	CHECK(nizwarf_finish_ops(&some, said, &slot, &session, &call, &answer, ours, &len) == NIZWARF_OK);
+	CHECK(len == 16 && u32(ours + 4) == (uint32_t)-EIO && bad_errors == 1 && bad_error == -ENOENT);
+	answer.error = ENOENT;
+	CHECK(nizwarf_finish_ops(&some, said, &slot, &session, &call, &answer, ours, &len) == NIZWARF_OK);
+	CHECK(len == 16 && u32(ours + 4) == (uint32_t)-ENOENT && bad_errors == 1);
+	table = &ops;
+}
+
 /* How many bytes were requested of a copy that copies them all. */
 static uint64_t copied;
 
@@ -919,6 +968,7 @@ int main(void)
 	options();
 	ends();
 	wrong_answers();
+	reported_errors();
 	long_copies();
 	no_memory();
 	overlaps();

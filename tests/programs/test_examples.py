@@ -3,6 +3,7 @@ that others begin with."""
 import errno
 import importlib.util
 import os
+import re
 import shutil
 import signal
 import subprocess
@@ -11,7 +12,7 @@ import time
 
 import pytest
 from examples import (BATCH_FORGET, EXAMPLES, FORGET, GETATTR, GETATTR_RECORD, INIT, INIT_RECORD, LOOKUP, PATIENCE, REPOSITORY,
-                      ROOT, Client, build_rust)
+                      ROOT, Client, build_c, build_rust)
 
 
 @pytest.fixture(scope="session", params=EXAMPLES)
@@ -115,3 +116,25 @@ def test_hello_py_can_be_imported(tmp_path, monkeypatch, capfd):
     spec.loader.exec_module(module)
     assert capfd.readouterr() == ("", "")
     assert callable(module.main)
+
+
+def test_a_number_that_is_no_error_is_said_once(tmp_path):
+    """A newcomer's first mistake in a copy of hello.c: an error is returned as libfuse's high level wants it."""
+    source = (REPOSITORY / "examples/c/hello.c").read_text()
+    assert source.count("return ENOENT") == 1
+    (tmp_path / "hello.c").write_text(source.replace("return ENOENT", "return -ENOENT"))
+    with Client(build_c(tmp_path, tmp_path)) as client:
+        client.ask(INIT, 0, INIT_RECORD)
+        for _ in range(3):
+            assert client.ask(LOOKUP, ROOT, b"none\0").error == -errno.EIO
+        assert client.ask(LOOKUP, ROOT, b"hello\0").error == 0
+        status, errors = client.end()
+    assert status == 0
+    assert re.fullmatch(rf"hello: .*-{errno.ENOENT}\b.*\n", errors), errors
+
+
+def test_hello_c_says_nothing_of_errors_of_linux(tmp_path):
+    with Client(build_c(tmp_path)) as client:
+        client.ask(INIT, 0, INIT_RECORD)
+        assert client.ask(LOOKUP, ROOT, b"none\0").error == -errno.ENOENT
+        assert client.end() == (0, "")
