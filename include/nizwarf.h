@@ -12,7 +12,7 @@
  *	if (code == NIZWARF_ASKED) {
  *		nizwarf_answer answer = NIZWARF_NO_ANSWER;
  *
- *		make_call(&call, &answer);
+ *		answer.error = make_call(&call, &answer);
  *		nizwarf_reply(&slot, &session, &call, &answer, room, rooms, &told);
  *		if (told.give_back)
  *			take_back(told.give_back, 1);
@@ -20,6 +20,9 @@
  *			session.options = told.options;
  *	}
  *	complete(told.len);
+ *
+ * `answer` begins as EIO: set `error` to 0 when you have answered. Here make_call is a function of yours; it sets the
+ * other fields that the call's kind of answer has, and returns 0, or an error number such as ENOENT.
  *
  * This file goes in that order: a session, to ask, the call, its answer, to reply. Then come checks of
  * requests, messages as text, and notices; last the functions of the library, and what is inline. nizwarf_ops.h has
@@ -654,7 +657,8 @@ typedef struct {
 /* The last number of an error that Linux takes. */
 enum { NIZWARF_LAST_ERROR = 511 };
 
-/* The answer EIO, in all fields. */
+/* An answer begins as this, in all fields, which is EIO: set `error` to 0 when you have answered. So a call that a file
+ * system forgets to answer fails, and does not succeed with attributes of zeros. */
 #define NIZWARF_NO_ANSWER                                                                                    \
 	{                                                                                                    \
 		-1, 0, 0, 0, 0, 0, { 0, 0, 0, 0, 0, 0, { 0, 0, 0, 0, 0, 0, 0, 0, 0, 0, 0, 0, 0, 0, 0, 0 } }, \
