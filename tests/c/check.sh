@@ -7,6 +7,7 @@
 # what the headers say, and largest.c asks both for as much memory as they are ever asked for; as root mounted.c mounts
 # a table of wrong answers. All that runs under the sanitizers of the compiler too, if it has them. The structs are laid
 # out as in version 0.2, and a program of that version runs with what is built and what is packed: tests/c/version-0.2.
+# By linked.cc the headers compile without a warning and link in C++, with each of g++ and clang++ that is installed.
 # All names that the libraries define begin with `nizwarf_`, and none that C calls takes 64 KiB of stack.
 # Records and numbers of crates are those of the kernel's header, the machine's and the newest that Debian has, by
 # tests/c/kernel.py, and the door's those of nizwarf.h, by tests/c/data.py.
@@ -133,10 +134,13 @@ for headers in include tests/c/version-0.2; do
 done
 echo '#include "nizwarf_ops.h"' \
     | cc -std=c99 -pedantic -Wall -Wextra -Wconversion -Werror -I "$here/include" -fsyntax-only -x c -
-if command -v c++ > /dev/null; then
-    echo '#include "nizwarf_ops.h"' \
-        | c++ -std=c++11 -Wall -Wextra -Werror -I "$here/include" -fsyntax-only -x c++ -
-fi
+for compiler in g++ clang++; do
+    ! command -v $compiler > /dev/null || for standard in c++11 c++20; do
+        $compiler -std=$standard -Wall -Wextra -Wpedantic -Wconversion -Werror -I "$here/include" \
+            -o "$folder/program" "$here/tests/c/linked.cc" "${library[@]}"
+        "$folder/program" > /dev/null
+    done
+done
 # (three words: address, kind, name)
 other_names=$(nm --defined-only --extern-only "${library[@]:0:2}" | awk 'NF == 3 && $3 !~ /^nizwarf_/ { print $3 }')
 if [ -n "$other_names" ]; then
