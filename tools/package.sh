@@ -191,7 +191,11 @@ put_demo() {
     local name
     [ -n "$demo" ] || return 0
     mkdir -p "$1"/{bin,libexec/nizwarf,share/nizwarf}
-    install -m 755 "$packaging"/nizwarf-{demo,decode} "$1/bin/"
+    for name in nizwarf-demo nizwarf-decode; do
+        sed "s/@VERSION@/$release/" "$packaging/$name" > "$1/bin/$name"
+        chmod 755 "$1/bin/$name"
+        [ -z "$(misnamed "$1/bin" "$name")" ] || wrong "$name does not say its own name and the version."
+    done
     for name in vfs_demo vfs_decode; do
         install -m 755 "$(path_of "$name")" "$1/libexec/nizwarf/"
         strip --remove-section=.comment --remove-section=.note "$1/libexec/nizwarf/$name"
