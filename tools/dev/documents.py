@@ -356,6 +356,14 @@ for page in ("README.md", "docs/PROMISE.md"):
     said = [it.replace(",", "") for it in re.search(COUNT, read(page)).groups() if it]
     if said != re.findall(r"\d+(?= (?:definitions|lines|files|types))", counted)[:len(said)]:
         faults.append(f"{page}: tools/measure/statement.sh counts otherwise: {counted}")
+# The rows of README.md on hostile requests are those of the page that the tests print, whose versions have the package's
+# revision too.
+OF_SERVER = re.compile(r"^\| (\S.*?)(?:-[\w.+]+)?((?: \| \d+){6}) \|$", re.M)
+came = dict(OF_SERVER.findall(read("docs/generated/beside.md")))
+shown = dict(OF_SERVER.findall(read("README.md")))
+faults += [f"README.md: {name} has other counts than in docs/generated/beside.md" for name in shown if shown[name] != came.get(name)]
+if not shown:
+    faults.append("README.md: it has no table of hostile requests")
 # Each crate has a place and a README.
 families = re.findall(r"^\| ([a-z][^|]*) \| ([^|]*) \|$",
                       read("docs/ARCHITECTURE.md").split("| Family |")[1].split("\n\n")[0], re.M)

@@ -24,6 +24,7 @@
 #   counts              of opcodes, calls of a file system, records, stored requests and hostile forms are those
 #                       of the sources; others that several pages say are the same on each
 #   what is trusted     README.md names each crate of the kit that crates.txt does
+#   hostile requests    README.md's counts are those of docs/generated/beside.md
 #   the promise         in the table of PROMISE.md, the words are those of the promise above it
 #   the toolchain       README.md's has the logic of `rt version`, whose kits have several letters for one
 #                       logic; figures keep the one that they were made with
