@@ -128,6 +128,9 @@ pub(crate) fn receive(socket: &UnixStream) -> io::Result<Option<File>> {
     const SOL_SOCKET: c_int = 1;
     const SCM_RIGHTS: c_int = 1;
     const MSG_CMSG_CLOEXEC: c_int = 0x4000_0000;
+    // The length of a header and one descriptor. The struct is longer by its padding, into which the kernel would put a
+    // second one that nobody owns.
+    let one = size_of::<Control>() - size_of::<c_int>();
     let (mut byte, mut control) = ([0], Control::default());
     let mut pieces = [IoSliceMut::new(&mut byte)];
     let mut message = Message {
@@ -136,7 +139,7 @@ pub(crate) fn receive(socket: &UnixStream) -> io::Result<Option<File>> {
         pieces: pieces.as_mut_ptr(),
         pieces_len: 1,
         control: &mut control,
-        control_len: size_of::<Control>(),
+        control_len: one,
         flags: 0,
     };
     // SAFETY: all pointers are valid for this call, and have these lengths.
@@ -147,8 +150,6 @@ pub(crate) fn receive(socket: &UnixStream) -> io::Result<Option<File>> {
             return Err(error);
         }
     }
-    // The length of a header and one descriptor.
-    let one = size_of::<Control>() - size_of::<c_int>();
     let is_one = (control.len, control.level, control.kind) == (one, SOL_SOCKET, SCM_RIGHTS);
     // SAFETY: the kernel made the descriptor for this process, and nothing else owns it.
     Ok(is_one.then(|| unsafe { File::from_raw_fd(control.descriptor) }))
@@ -171,10 +172,12 @@ const _: () = assert!(size_of::<Seen>() == 256);
 #[cfg(test)]
 mod tests {
     use super::*;
+    use std::io::Read;
     use std::thread;
     use std::time::Duration;
 
     extern "C" {
+        fn sendmsg(socket: c_int, message: *const Message<'_>, flags: c_int) -> isize;
         fn signal(number: c_int, handler: extern "C" fn(c_int)) -> usize;
         fn siginterrupt(number: c_int, interrupts: c_int) -> c_int;
         fn pthread_self() -> c_ulong;
@@ -182,6 +185,41 @@ mod tests {
     }
 
     extern "C" fn do_nothing(_: c_int) {}
+
+    /// As `Control`, with two descriptors.
+    #[repr(C, align(8))]
+    struct Two {
+        len: usize,
+        level: c_int,
+        kind: c_int,
+        descriptors: [c_int; 2],
+    }
+
+    #[test]
+    fn a_second_descriptor_is_not_left_open() {
+        let (ours, theirs) = UnixStream::pair().unwrap();
+        let (mut end, sent) = UnixStream::pair().unwrap();
+        let descriptors = [sent.as_raw_fd(); 2];
+        let mut control = Two { len: size_of::<Two>(), level: 1, kind: 1, descriptors };
+        let mut byte = [0];
+        let mut pieces = [IoSliceMut::new(&mut byte)];
+        let message = Message {
+            name: ptr::null_mut(),
+            name_len: 0,
+            pieces: pieces.as_mut_ptr(),
+            pieces_len: 1,
+            control: ptr::addr_of_mut!(control).cast(),
+            control_len: size_of::<Two>(),
+            flags: 0,
+        };
+        // SAFETY: all pointers are valid for this call, and have these lengths.
+        assert_eq!(unsafe { sendmsg(theirs.as_raw_fd(), &message, 0) }, 1);
+        drop(receive(&ours).unwrap());
+        drop(sent);
+        // The last descriptor of that end is closed.
+        end.set_read_timeout(Some(Duration::from_secs(5))).unwrap();
+        assert_eq!(end.read(&mut [0]).unwrap(), 0);
+    }
 
     #[test]
     fn a_signal_does_not_end_what_is_received() {
