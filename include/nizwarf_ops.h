@@ -11,7 +11,8 @@
  *
  * A function may answer later: it copies `*req->call` and what else it wants of the request, and
  * answers NIZWARF_LATER. Then nizwarf_serve_ops answers NIZWARF_ASKED, and whoever has the copy
- * answers it once, from any thread, by nizwarf_finish_ops; perhaps before nizwarf_serve_ops comes back.
+ * answers it once, from any thread, by nizwarf_finish_ops; perhaps before nizwarf_serve_ops comes back, which
+ * touches neither the request nor the room once the function has returned.
  * So a lock that is waited for holds no thread. FORGET, DESTROY, INIT and READDIR can't be answered later.
  *
  * An answer that Linux refuses comes to who asked as an error, and ends nothing: EIO for the number
@@ -697,7 +698,8 @@ static inline int nizwarf_do_data(const nizwarf_ops *ops, const nizwarf_req *req
 }
 
 /* What answers a record: it is put where it has its place in the reply. It is filled in here and copied,
- * since the room is aligned in no way. After an IOCTL's record come its bytes. */
+ * since the room is aligned in no way. After an IOCTL's record come its bytes. With an error nothing is put: a call
+ * that is answered later may have its reply in that room already. */
 static inline int nizwarf_do_record(const nizwarf_ops *ops, const nizwarf_req *req, uint8_t *room,
 				    size_t space, nizwarf_answer *answer)
 {
@@ -718,7 +720,8 @@ static inline int nizwarf_do_record(const nizwarf_ops *ops, const nizwarf_req *r
 			return EIO;
 		answer->text_len = sizeof(lock);
 		error = NIZWARF_DO(getlk, c->node, &fi, &lock);
-		memcpy(room, &lock, sizeof(lock));
+		if (!error)
+			memcpy(room, &lock, sizeof(lock));
 		return error;
 	case NIZWARF_STATX:
 		if (space < sizeof(statx))
@@ -728,7 +731,8 @@ static inline int nizwarf_do_record(const nizwarf_ops *ops, const nizwarf_req *r
 				   c->has & NIZWARF_HAS_HANDLE ? &fi : NULL, &statx, &timeout);
 		statx.attr_seconds = nizwarf_seconds_of(timeout);
 		statx.attr_nanoseconds = nizwarf_nanoseconds_of(timeout);
-		memcpy(room, &statx, sizeof(statx));
+		if (!error)
+			memcpy(room, &statx, sizeof(statx));
 		return error;
 	case NIZWARF_IOCTL:
 		if (space < sizeof(out))
@@ -737,7 +741,8 @@ static inline int nizwarf_do_record(const nizwarf_ops *ops, const nizwarf_req *r
 		error = NIZWARF_DO(ioctl, c->node, nizwarf_ioctl_command(c), nizwarf_ioctl_argument(c), &fi,
 				   c->flags, req->request + c->data.at, (size_t)c->data.len, &out,
 				   room + sizeof(out), size, &len);
-		memcpy(room, &out, sizeof(out));
+		if (!error)
+			memcpy(room, &out, sizeof(out));
 		answer->text_len = sizeof(out) + (len < size ? len : size);
 		return !error && len > size ? EIO : error;
 	default:

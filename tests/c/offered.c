@@ -605,6 +605,61 @@ static void text_in_room(void)
 	}
 }
 
+/* What the room has when a call has been answered by another thread, before its own function returned. */
+static int answer_late(void)
+{
+	memset(ours, 7, 4096);
+	return NIZWARF_LATER;
+}
+
+static int late_getlk(REQ, FI, nizwarf_lock *asked)
+{
+	(void)req, (void)ino, (void)fi;
+	asked->type = F_UNLCK;
+	return answer_late();
+}
+
+static int late_statx(REQ, uint32_t flags, uint32_t mask, FI, nizwarf_statx *statx, struct timespec *timeout)
+{
+	(void)req, (void)ino, (void)flags, (void)fi;
+	statx->mask = mask;
+	timeout->tv_sec = 1;
+	return answer_late();
+}
+
+static int late_ioctl(REQ, uint32_t cmd, uint64_t arg, FI, uint32_t flags, const void *in_buf, size_t in_size,
+		      nizwarf_ioctl *out, void *out_buf, size_t out_size, size_t *len)
+{
+	(void)req, (void)ino, (void)cmd, (void)arg, (void)fi, (void)flags, (void)in_buf, (void)in_size;
+	(void)out_buf, (void)out_size;
+	out->result = 1;
+	*len = 0;
+	return answer_late();
+}
+
+/* Once a function has answered NIZWARF_LATER, its room is another's: what is there stays. */
+static void left_alone(void)
+{
+	static const nizwarf_ops late = {
+		.getlk = late_getlk, .setlk = note_setlk, .statx = late_statx, .ioctl = late_ioctl
+	};
+	size_t i, at, len, tried = 0;
+
+	for (i = 0; i < ROWS; i++) {
+		const uint32_t opcode = rows[i].opcode;
+
+		if (opcode != NIZWARF_GETLK && opcode != NIZWARF_STATX && opcode != NIZWARF_IOCTL)
+			continue;
+		tried++;
+		begin_row(i);
+		CHECK(nizwarf_serve_ops(&late, said, &slot, &session, request, request_len, ours, 4096, NULL,
+					0, &len) == NIZWARF_ASKED);
+		for (at = 0; at < 4096; at++)
+			CHECK(ours[at] == 7);
+	}
+	CHECK(tried == 3);
+}
+
 /* INIT by `conn`: what virtiofsd does not know is agreed on besides, and sizes are lowered. */
 static void agreed_besides(void)
 {
@@ -655,6 +710,7 @@ int main(void)
 	records();
 	called_as_told();
 	text_in_room();
+	left_alone();
 	agreed_besides();
 	kept_interrupts();
 	nizwarf_end_slot(&slot);
