@@ -371,7 +371,8 @@ calls! {
         /// Finds data or holes, as `lseek(2)`.
         LSEEK = 46: Lseek { node: u64, handle: u64, offset: u64, whence: u32 } -> Offset
             by lseek(node.into(), handle.into(), offset, whence);
-        /// Copies from one file to another, as `copy_file_range(2)`.
+        /// Copies from one file to another, as `copy_file_range(2)`. The reply has 32 bits for the count, so
+        /// [`make_call!`](crate::make_call) has at most `0xffff_f000` bytes copied.
         COPY = 47: CopyFileRange {
             node_in: u64,
             handle_in: u64,
@@ -383,7 +384,8 @@ calls! {
             flags: u64 = copy_flags,
         } -> Written
             by copyfilerange(
-                node_in.into(), handle_in.into(), offset_in, node_out.into(), handle_out.into(), offset_out, len, flags
+                node_in.into(), handle_in.into(), offset_in, node_out.into(), handle_out.into(), offset_out,
+                len.min(0xffff_f000), flags
             );
         /// Synchronizes the file system.
         SYNCFS = 50: Syncfs { node: u64 } -> Done

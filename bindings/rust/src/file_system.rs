@@ -606,8 +606,9 @@ pub trait FileSystem {
         not_served()
     }
 
-    /// Copies from one file to another, as `copy_file_range(2)`, and returns how many bytes: less than 2^32, unless
-    /// [`COPY_64`](Offers::COPY_64) is offered.
+    /// Copies from one file to another, as `copy_file_range(2)`, and returns how many bytes. Unless
+    /// [`COPY_64`](Offers::COPY_64) is offered, `len` is at most `0xffff_f000`, because the reply has 32 bits for the
+    /// count.
     fn copyfilerange(
         &self,
         ctx: Context,

@@ -221,11 +221,15 @@ fn counts_that_can_not_be_are_faults() {
 }
 
 #[test]
-fn a_long_copy_is_a_fault_unless_its_reply_has_64_bits() {
+fn a_long_copy_is_shortened_unless_its_reply_has_64_bits() {
+    // Otherwise it would be made, and answered by an error. 0xffff_f000 is what libfuse has.
     let server = Server::new(Diary::default());
-    let copy = |opcode| Request::new(opcode, 1).bytes(&[0; 40]).u64(5 << 32 | 6).u64(0);
-    assert_eq!(serve(&server, &copy(53)), reply(&words(&[6, 5])));
-    assert_eq!(serve(&server, &copy(47)), fault(5));
+    let copy = |opcode, len| Request::new(opcode, 1).bytes(&[0; 40]).u64(len).u64(0);
+    assert_eq!(serve(&server, &copy(53, 5 << 32 | 6)), reply(&words(&[6, 5])));
+    for len in [0xffff_f001, 0xffff_ffff, 1 << 32, 5 << 32 | 6, u64::MAX] {
+        assert_eq!(serve(&server, &copy(47, len)), reply(&words(&[0xffff_f000, 0])), "{len}");
+    }
+    assert_eq!(serve(&server, &copy(47, 0xffff_efff)), reply(&words(&[0xffff_efff, 0])));
 }
 
 #[test]
