@@ -69,14 +69,16 @@ mount_as_other() {
 
 # Packs the crate, builds what is packed, and does what `cargo publish` does before it sends that, with an empty index.
 make_package() {
-    local index=$folder/index
-    cargo package --quiet --offline --allow-dirty --target-dir "$built" || return
+    # (a target of its own: cargo would take what is built of the package for what is built of the sources, and not see when
+    # those change)
+    local index=$folder/index packed=$built/packed
+    cargo package --quiet --offline --allow-dirty --target-dir "$packed" || return
     [ "$(cargo package --quiet --offline --allow-dirty --list | grep -c '^LICENSE-')" = 2 ] || return
     git init -q "$index"
     echo '{"dl": "file:///none", "api": "file:///none"}' > "$index/config.json"
     git -C "$index" add . || return
     git -C "$index" -c user.name=none -c user.email=none commit -q -m "An empty index" || return
-    CARGO_HOME=$folder/home cargo publish --dry-run --no-verify --allow-dirty --target-dir "$built" --index "file://$index"
+    CARGO_HOME=$folder/home cargo publish --dry-run --no-verify --allow-dirty --target-dir "$packed" --index "file://$index"
 }
 
 # Builds an example with the feature `static`, with an installed library that has both kinds, and runs it without.
