@@ -29,6 +29,14 @@
 /* How many slots and chains there are at first: both double as nodes come. No slot has the number 0, so
  * that ends the list of free ones. */
 enum { FIRST_SLOTS = 1024, FIRST_CHAINS = 1024, NO_SLOT = 0 };
+/* No number has this upper half: a slot that was used so often is retired, because its next number would be its first
+ * one again, which a client may still have. */
+#define RETIRED UINT32_MAX
+/* Above which upper half of another server's numbers no slot begins, so that one slot which was used very often does
+ * not use up the numbers of all others. */
+#define MOST_BEGINNING UINT32_C(0x80000000)
+/* How many slots a state may cause for open files: 32 MB. */
+enum { MOST_FILE_SLOTS = 1 << 22 };
 /* Of how many nodes that go at once the memory is given back; and how many bytes the C library doesn't keep for itself
  * when they are free, nor maps apart. */
 enum { MANY = 65536, LARGE = 96 << 10 };
@@ -87,7 +95,7 @@ static bool add(struct table *table, struct counted *thing)
 	 * what is freed and what takes its slot have different numbers, and a number that a client kept
 	 * too long leads to nothing. */
 	uint32_t at = table->first_free;
-	uint64_t uses = 0;
+	uint64_t uses = table->beginning;
 
 	if (at != NO_SLOT) {
 		uses = table->slots[at] >> 32;
@@ -112,13 +120,22 @@ static bool add(struct table *table, struct counted *thing)
 	return true;
 }
 
+/* Makes a slot free, under the lock. Its next number has `uses` as its upper half; if it has no more numbers it is
+ * retired, which is to say that it is in no list. */
+static void free_slot(struct table *table, uint32_t at, uint64_t uses)
+{
+	if (uses >= RETIRED) {
+		table->slots[at] = (uint64_t)RETIRED << 32 | 1;
+		return;
+	}
+	table->slots[at] = uses << 32 | (uint64_t)table->first_free << 1 | 1;
+	table->first_free = at;
+}
+
 /* Takes the number from a thing, under the lock: it is not given to another one. */
 static void take(struct table *table, const struct counted *thing)
 {
-	const uint32_t at = (uint32_t)thing->number;
-
-	table->slots[at] = ((thing->number >> 32) + 1) << 32 | (uint64_t)table->first_free << 1 | 1;
-	table->first_free = at;
+	free_slot(table, (uint32_t)thing->number, (thing->number >> 32) + 1);
 	table->count--;
 }
 
@@ -137,25 +154,23 @@ static uint64_t next_in(struct table *table, uint32_t *place)
 	return number;
 }
 
-/* No slot is used again up to settle(), and those that are after the last thing are none. */
+/* No slot is used again until settle(), and free slots after the last thing are dropped. */
 static void begin_placing(struct table *table)
 {
 	pthread_rwlock_wrlock(&table->lock);
 	while (table->used > 1 && !thing_in(table, table->used - 1))
 		table->used--;
 	table->first_free = NO_SLOT;
-	table->most_uses = 0;
+	table->most_uses = table->beginning = 0;
 	pthread_rwlock_unlock(&table->lock);
 }
 
-/* Gives a thing its number, under the lock: 0, or an error. */
-static int place_in(struct table *table, struct counted *thing, uint64_t number)
+/* Has the table reach up to a slot, under the lock: 0, or ENOMEM. The number comes from another server, so the caller
+ * must have compared the slot with the largest one that may be. */
+static int reach(struct table *table, uint32_t at)
 {
-	const uint32_t at = (uint32_t)number, uses = (uint32_t)(number >> 32);
 	size_t size = table->size ? table->size : FIRST_SLOTS;
 
-	/* (the number comes from another server: who calls holds it against what there may be, so this
-	 * ends) */
 	while (size <= at)
 		size *= 2;
 	if (size > table->size) {
@@ -166,43 +181,69 @@ static int place_in(struct table *table, struct counted *thing, uint64_t number)
 		table->slots = more;
 		table->size = (uint32_t)size;
 	}
-	/* (those between are free, and not in the list of free ones up to settle()) */
+	/* (those between are free, and not in the list of free ones until settle()) */
 	for (; table->used <= at; table->used++)
 		table->slots[table->used] = 1;
+	return 0;
+}
+
+/* Notes the upper half of another server's number, under the lock. */
+static void note_uses(struct table *table, uint64_t number)
+{
+	const uint32_t uses = (uint32_t)(number >> 32);
+
+	table->most_uses = uses > table->most_uses ? uses : table->most_uses;
+}
+
+/* Gives a thing its number, under the lock: 0, or an error. */
+static int place_in(struct table *table, struct counted *thing, uint64_t number)
+{
+	const uint32_t at = (uint32_t)number;
+	const int error = reach(table, at);
+
+	if (error)
+		return error;
 	if (thing_in(table, at))
 		return EEXIST;
 	table->slots[at] = (uintptr_t)thing;
 	table->count++;
-	table->most_uses = uses > table->most_uses ? uses : table->most_uses;
+	note_uses(table, number);
 	thing->number = number;
 	return 0;
 }
 
-/* Nothing gets this number. */
-static void lose_in(struct table *table, uint64_t number)
+/* Gives a number to nothing, now and later: the next number of its slot is above it. 0, or ENOMEM. A slot above `most`
+ * is not reached by any thing here. */
+static int lose_in(struct table *table, uint64_t number, uint32_t most)
 {
-	const uint32_t uses = (uint32_t)(number >> 32);
+	const uint32_t at = (uint32_t)number;
+	const uint64_t next = (number >> 32) + 1;
+	int error = 0;
 
 	pthread_rwlock_wrlock(&table->lock);
-	table->most_uses = uses > table->most_uses ? uses : table->most_uses;
+	note_uses(table, number);
+	if (at <= most && !(error = reach(table, at)) && !thing_in(table, at) &&
+	    table->slots[at] >> 32 < next)
+		table->slots[at] = next << 32 | 1;
 	pthread_rwlock_unlock(&table->lock);
+	return error;
 }
 
-/* Has the slots used again that are free, by numbers that the other server gave to nothing. */
+/* Has the slots used again that are free. A number of the state never becomes another thing's, since its slot goes on
+ * above it. Of the numbers that the other server gave before that, only the state's largest upper half tells: all slots
+ * go on above this one, up to MOST_BEGINNING. */
 static void settle(struct table *table)
 {
-	uint64_t uses;
-
 	pthread_rwlock_wrlock(&table->lock);
+	table->beginning = table->most_uses < MOST_BEGINNING ? table->most_uses + 1 : MOST_BEGINNING;
 	table->first_free = NO_SLOT;
 	for (uint32_t at = table->used; --at > 0;) {
+		uint64_t uses;
+
 		if (thing_in(table, at))
 			continue;
 		uses = table->slots[at] >> 32;
-		/* (above all that the other server gave out: a client may still have such a number) */
-		uses = uses > table->most_uses ? uses : (uint32_t)(table->most_uses + 1);
-		table->slots[at] = uses << 32 | (uint64_t)table->first_free << 1 | 1;
-		table->first_free = at;
+		free_slot(table, at, uses > table->beginning ? uses : table->beginning);
 	}
 	pthread_rwlock_unlock(&table->lock);
 }
@@ -678,6 +719,20 @@ int node_enter(struct nodes *all, unsigned client, const struct found *found, in
 	return *number ? 0 : ENOMEM;
 }
 
+uint64_t node_number(struct nodes *all, int fd, const struct statx *seen)
+{
+	union handle_room room;
+	const bool has_handle = some_handle(all, seen) && handle_by(fd, &room);
+	const struct node *node;
+	uint64_t number;
+
+	pthread_rwlock_rdlock(&all->nodes.lock);
+	node = known(all, seen, has_handle ? &room.handle : NULL);
+	number = node ? node->counted.number : 0;
+	pthread_rwlock_unlock(&all->nodes.lock);
+	return number;
+}
+
 int node_restore(struct nodes *all, int fd, const struct statx *seen, uint64_t number, uint64_t lookups,
 		 bool is_apart)
 {
@@ -847,14 +902,25 @@ void nodes_settle(struct nodes *all)
 	settle(&all->files);
 }
 
-void node_lose(struct nodes *all, uint64_t number)
+int node_lose(struct nodes *all, uint64_t number)
 {
-	lose_in(&all->nodes, number);
+	return lose_in(&all->nodes, number, all->most_nodes);
 }
 
-void file_lose(struct nodes *all, uint64_t number)
+/* The largest slot that an open file of another server may have here. */
+static uint32_t most_file_slots(const struct nodes *all)
 {
-	lose_in(&all->files, number);
+	return all->most_kept < MOST_FILE_SLOTS ? all->most_kept : MOST_FILE_SLOTS;
+}
+
+int file_lose(struct nodes *all, uint64_t number)
+{
+	return lose_in(&all->files, number, most_file_slots(all));
+}
+
+bool is_number(uint64_t number)
+{
+	return (uint32_t)number != NO_SLOT && number >> 32 != RETIRED;
 }
 
 uint64_t node_found_in(const struct node *node, const char **name)
@@ -980,7 +1046,7 @@ uint64_t file_add(struct nodes *all, unsigned client, uint64_t node, int fd, int
 int file_restore(struct nodes *all, uint64_t node, int fd, int flags, uint64_t number)
 {
 	struct open_file *file = NULL;
-	int error = (uint32_t)number > all->most_kept ? EMFILE : 0;
+	int error = (uint32_t)number > most_file_slots(all) ? EMFILE : 0;
 
 	if (!error && !(file = new_file(all, node, fd, flags, NULL)))
 		error = ENOMEM;

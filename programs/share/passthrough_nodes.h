@@ -38,13 +38,14 @@ struct counted {
 };
 
 /* A slot is a pointer; or, where it is free, an odd number: how many times it was used, above the next free
- * one. */
+ * one. A slot that was used as often as may be is free and in no list. */
 struct table {
 	pthread_rwlock_t lock;
 	uint64_t *slots;
 	uint32_t size, used, first_free, count;
-	/* How many times a number of another server's was used at most, while things get such. */
-	uint32_t most_uses;
+	/* The largest upper half of another server's numbers, while things get such; and the upper half of the first number
+	 * of a new slot. */
+	uint32_t most_uses, beginning;
 };
 
 /* A device of the host in one of its mounts: it is there as long as a node of it is. `users` reaches 0 under
@@ -203,6 +204,10 @@ uint64_t node_find(struct nodes *all, unsigned client, const struct statx *seen)
 /* The same of one that was opened with O_PATH, also if it is known by a handle. */
 uint64_t node_find_opened(struct nodes *all, unsigned client, int fd, const struct statx *seen);
 
+/* The number of a file that is known, without a lookup more; 0 if it is not known. `fd` is a descriptor of it, which may
+ * be made with O_PATH. */
+uint64_t node_number(struct nodes *all, int fd, const struct statx *seen);
+
 /* A lookup more of a node that is in hand. 0, or ESTALE: the client gave it back meanwhile. */
 int node_look_up(struct nodes *all, unsigned client, struct node *node);
 
@@ -289,9 +294,12 @@ int node_restore(struct nodes *all, int fd, const struct statx *seen, uint64_t n
 		 bool is_apart);
 /* The same of an open file of a node, opened with these flags, for whose descriptor one was reserved. */
 int file_restore(struct nodes *all, uint64_t node, int fd, int flags, uint64_t number);
-/* A node of this number can't be entered, or an open file: it is none's, also from nodes_settle on. */
-void node_lose(struct nodes *all, uint64_t number);
-void file_lose(struct nodes *all, uint64_t number);
+/* A node of this number cannot be entered, or an open file: the number leads to nothing, also after nodes_settle. 0, or
+ * ENOMEM. */
+int node_lose(struct nodes *all, uint64_t number);
+int file_lose(struct nodes *all, uint64_t number);
+/* Whether a node or an open file may have this number. */
+bool is_number(uint64_t number);
 
 /* How many nodes and open files there are, the root among them. */
 void nodes_count(struct nodes *all, uint32_t *nodes, uint32_t *files);
