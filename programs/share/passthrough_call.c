@@ -753,23 +753,28 @@ static void forget_all(const struct call *call)
 	nodes_forget_all(&all->nodes, call->client);
 }
 
+const char *lacking_option(const struct passthrough *all, uint64_t options)
+{
+	/* (it would let in whom they deny) */
+	if (all->options.posix_acl && ~options & HAS_LISTS)
+		return "--posix-acl: a client has no access control lists";
+	/* (files would be made without one) */
+	if (all->options.security_label && !(options & SECURITY_LABELS))
+		return "--security-label: a client has none";
+	return NULL;
+}
+
 /* INIT: of a new client, or of one that began anew. */
 static int agree(const struct call *call)
 {
 	struct passthrough *all = call->all;
 	const uint64_t offered = nizwarf_init_offered(call->asked);
+	const char *lacking = lacking_option(all, offered);
 
 	forget_all(call);
-	/* (it would let in whom they deny) */
-	if (all->options.posix_acl && ~offered & HAS_LISTS) {
+	if (lacking) {
 		if (!atomic_exchange(&all->lacks_option, true))
-			fputs("nizwarf-share: --posix-acl: a client has no access control lists\n", stderr);
-		return EPROTO;
-	}
-	/* (files would be made without one) */
-	if (all->options.security_label && !(offered & SECURITY_LABELS)) {
-		if (!atomic_exchange(&all->lacks_option, true))
-			fputs("nizwarf-share: --security-label: a client has none\n", stderr);
+			fprintf(stderr, "nizwarf-share: %s\n", lacking);
 		return EPROTO;
 	}
 	nizwarf_answer_options(call->answer, wanted(all) & offered);

@@ -56,6 +56,8 @@ struct passthrough {
 	atomic_uint closing;
 	/* It was said that the client lacks what it must have. */
 	atomic_bool lacks_option;
+	/* How many handles of states opened no file of the folder, up to a limit. The transport's own thread alone uses it. */
+	unsigned strays;
 	/* For how many milliseconds it may remember names and attributes, and those of regular files. */
 	uint64_t entry_time, attr_time, file_time;
 	/* The device of the folder, if its file system is a local one: ext4, xfs, btrfs or tmpfs. */
@@ -90,6 +92,9 @@ static inline bool is_there(const struct call *call)
 
 /* The options that are wanted of those that a client offers. */
 uint64_t wanted(const struct passthrough *all);
+/* Why a client may not be served that offers these options, or agreed on them: NULL, or a message. INIT and the state of a
+ * machine that migrates are both compared by this, so that neither lets in whom the other refuses. */
+const char *lacking_option(const struct passthrough *all, uint64_t options);
 /* Makes a call: 0, or an error. */
 int make_call(struct call *call);
 
