@@ -67,9 +67,10 @@ struct passthrough_options {
 	bool passthrough;
 	int backing;
 	/* How another server finds the files of a machine that migrates to it, and what it does of those that aren't
-	 * found. With `verifies` a path must lead to the very file of before. */
+	 * found. With `verifies` a path must lead to the very file of before. With `takes_unlinked` a handle may open a file
+	 * that has no name any more, and of which nothing shows that it was in the folder. */
 	enum migration_mode migration_mode;
-	bool verifies, loses_files;
+	bool verifies, loses_files, takes_unlinked;
 	/* Where what others change is told, for passthrough_watch(); NULL: nowhere. */
 	transport_notices *notices;
 	/* What would change something is EROFS. */

@@ -95,8 +95,8 @@ bool handle_by(int fd, union handle_room *room)
 }
 
 /* It takes CAP_DAC_READ_SEARCH, and opens any file of the file system, also one outside of the folder.
- * So only handles are opened that this server was told by the host, or that passthrough_state.c holds
- * against the folder. ESTALE: there is no such file any more. */
+ * So only handles are opened that this server was told by the host, or that passthrough_load.c
+ * compares with the folder. ESTALE: there is no such file any more. */
 int open_by_handle(const struct host_mount *mount, struct file_handle *handle)
 {
 	return open_by_handle_at(mount->fd, handle, O_PATH | O_NOFOLLOW | O_CLOEXEC);

@@ -2,48 +2,40 @@
 #ifndef PASSTHROUGH_PATHS_H
 #define PASSTHROUGH_PATHS_H
 
+#include <limits.h>
 #include "passthrough_nodes.h"
 
-/* How many bytes a path has at most, with the 0 after it. */
-enum { LONGEST_PATH = 65536 };
-
-/* The folder, and where it is, as /proc tells of its descriptors. */
+/* The folder, and where it is, as /proc shows its descriptors. */
 struct paths {
 	struct nodes *nodes;
 	int root;
 	size_t len;
-	char folder[4096];
+	char folder[PATH_MAX];
 };
 
-/* A file that is sought, by its node, and its path once it is found, to be freed. */
-struct sought {
-	uint64_t number;
-	struct statx seen;
-	char *path;
-	struct sought *next;
+/* A file of the host: no two files that exist have the same one. */
+struct file_id {
+	uint64_t inode, device, mount;
 };
 
-/* -1: it can't be told where the folder is. */
+/* -1: it cannot be found out where the folder is. */
 int paths_begin(struct paths *paths, struct nodes *nodes);
 
-/* Opens what has a path below the folder, of plain names with a / between them, or the folder if it is
- * empty: no symbolic link is followed, so nothing outside is opened. The path is changed meanwhile.
- * The descriptor is the caller's to close. -1: errno says why. */
-int open_below(const struct paths *paths, char *path, int flags);
+/* Opens a path below a directory, of less than PATH_MAX bytes and of plain names with a / between them. No symbolic link is
+ * followed, so nothing outside of the directory is opened. The caller must close the descriptor. -1: errno says why. */
+int open_in(int directory, const char *path, int flags);
+/* The same below the folder, which an empty path is. */
+int open_below(const struct paths *paths, const char *path, int flags);
 
+struct file_id id_of(const struct statx *seen);
+bool is_id(const struct file_id *one, const struct file_id *other);
 /* Whether what was seen is one file. */
 bool is_same(const struct statx *one, const struct statx *other);
 
-/* Finds a path of the file that a descriptor is of, and that was looked at: its length, or -1. `path`
- * has room for PATH_MAX bytes. */
+/* Finds a path of the file that a descriptor is of, and that was looked at: its length, or -1. `path` must have PATH_MAX
+ * bytes. */
 ssize_t find_path(const struct paths *paths, int fd, const struct statx *seen, char *path);
-/* The same of a node, also by the name by which it was found first. */
-ssize_t find_path_of(const struct paths *paths, const struct grip *grip, const struct statx *seen,
-		     char *path);
-
-/* Looks everywhere below the folder for files, up to when all are found, or `goes_on` says otherwise.
- * It takes time as the folder is large. What isn't found has no path. */
-void search_paths(const struct paths *paths, struct sought *sought, size_t count, bool (*goes_on)(void *user),
-		  void *user);
+/* Whether a file has this name in a directory. */
+bool is_in(int directory, const char *name, const struct statx *seen);
 
 #endif

@@ -316,6 +316,7 @@ enum word {
 	MIGRATION_MODE,
 	MIGRATION_ON_ERROR,
 	VERIFY_HANDLES,
+	UNLINKED_FILES,
 	CONFIRM_PATHS,
 	/* What the client may remember, and do by itself. */
 	CACHE,
@@ -378,6 +379,7 @@ static const struct option known_words[] = {
 	{ "migration-mode", required_argument, NULL, MIGRATION_MODE },
 	{ "migration-on-error", required_argument, NULL, MIGRATION_ON_ERROR },
 	{ "migration-verify-handles", no_argument, NULL, VERIFY_HANDLES },
+	{ "migration-unlinked-files", no_argument, NULL, UNLINKED_FILES },
 	{ "migration-confirm-paths", no_argument, NULL, CONFIRM_PATHS },
 	/* From here to trace: what may be an option, too. */
 	{ "cache", required_argument, NULL, CACHE },
@@ -479,6 +481,7 @@ static bool take_plain(int word)
 		/* What it is, the word, and what that says of it. */
 		{ &words.logs, SYSLOG, true },
 		{ &words.files.verifies, VERIFY_HANDLES, true },
+		{ &words.files.takes_unlinked, UNLINKED_FILES, true },
 		{ &words.confirms, CONFIRM_PATHS, true },
 		{ &words.files.allow_mmap, ALLOW_MMAP, true },
 		{ &words.files.allow_direct, ALLOW_DIRECT_IO, true },
@@ -720,6 +723,8 @@ static void hold_migration_together(void)
 		refuse("--migration-mode=file-handles wants no --migration-verify-handles and no "
 		       "--migration-confirm-paths: a handle is the file's own",
 		       "");
+	if (words.files.takes_unlinked && words.files.migration_mode != MIGRATES_BY_HANDLES)
+		refuse("--migration-unlinked-files requires --migration-mode=file-handles", "");
 }
 
 /* Refuses words that can't be together, or by whom it was started. It is looked at once all are taken,

@@ -577,6 +577,7 @@ try_words() {
         "--migration-mode=find-paths $work/folder $work/mount" "--migration-confirm-paths $work/folder $work/mount" \
         "--migration-mode=file-handles --migration-verify-handles --socket-path=$work/none $work/folder" \
         "--migration-mode=file-handles --migration-confirm-paths --socket-path=$work/none $work/folder" \
+        "--migration-unlinked-files --socket-path=$work/none $work/folder" \
         "--passthrough --xattrmap=:map::user.virtiofs.: $work/folder $work/mount" \
         "--socket-path= $work/folder" "-o =5 $work/folder $work/mount" "-o fsname= $work/folder $work/mount"; do
         came=0

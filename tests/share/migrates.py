@@ -27,10 +27,10 @@ from machine import (GUEST, LOG_ALL, LONG, PAGE, ROOM, SET_FEATURES, SET_LOG_FD,
 
 # Errors by Linux's numbers, and how many names a directory has: more than one answer holds.
 ESTALE, EBADF, EROFS, NAMES = 116, 9, 30, 300
-HANDLES = "--migration-mode=file-handles"
-# Of the state: its header, of a record, a node, an open file, and the end.
-HEADER, RECORD, NODE, FILE, END = "<8sIIQ", "<II", "<QQIIiHBB", "<QQII", "<QQQ"
-KINDS = END_KIND, MOUNT_KIND, NODE_KIND, FILE_KIND = 0, 1, 2, 3
+HANDLES, UNLINKED = "--migration-mode=file-handles", "--migration-unlinked-files"
+# Of the state (passthrough_state.h): its header, of a record, a node, an open file, and the end; the entry that is none.
+HEADER, RECORD, NODE, FILE, END, NOWHERE = "<8sIIQ", "<II", "<QQIIIiBBH", "<QQI", "<QQQ", 2**32 - 1
+KINDS = END_KIND, MOUNT_KIND, NODE_KIND, FILE_KIND, DIRECTORY_KIND = 0, 1, 2, 3, 4
 faults = []
 
 
@@ -46,7 +46,7 @@ class Server:
     def __init__(self, folder, *words):
         self.at = tempfile.mkdtemp(dir=WORK)
         self.path = self.at + "/socket"
-        self.log = open(self.at + "/log", "w+")
+        self.log = open(self.at + "/log", "w+", errors="replace")
         self.process = subprocess.Popen([SHARE, *WORDS, *words, "--socket-path=" + self.path, folder],
                                         stdin=subprocess.DEVNULL, stderr=self.log)
         for _ in range(1000):
@@ -222,7 +222,7 @@ def modes():
     move([], ["--inode-file-handles=prefer"])
     move(["--inode-file-handles=prefer"], [])
     move(["--migration-verify-handles", "--migration-confirm-paths"], [])
-    move([HANDLES], [HANDLES], rename_and_unlink, b"moved", then=with_gone)
+    move([HANDLES], [HANDLES, UNLINKED], rename_and_unlink, b"moved", then=with_gone)
     move([HANDLES, "--inode-file-handles=mandatory"], [HANDLES, "--inode-file-handles=mandatory"])
     move([HANDLES], [], loads=False)
 
@@ -320,14 +320,21 @@ def state_of(header, records, nodes=None):
     return made + struct.pack(RECORD, END_KIND, 24) + struct.pack(END, nodes or counts[0], counts[1], total)
 
 
-def node(number, path, lookups=1, kind=0o100000, handle=b"", handle_type=1, mount=0):
-    """A record of a saved state, made up: for what a server must refuse of one that lies."""
-    return NODE_KIND, struct.pack(NODE, number, lookups, kind, mount, handle_type if handle else 0, len(handle), 0, 0) + handle + path
+def node(number, name=b"", parent=0, lookups=1, kind=0o100000, handle=b"", handle_type=1, mount=0):
+    """A record of a saved state, made up: for what a server must refuse of one that lies. Its parent is an entry."""
+    parent = parent if name else NOWHERE
+    head = struct.pack(NODE, number, lookups, parent, kind, mount, handle_type if handle else 0, len(handle), 0, 0)
+    return NODE_KIND, head + handle + name
+
+
+def directory(name, parent=0):
+    """A record of a directory that the client does not know."""
+    return DIRECTORY_KIND, struct.pack("<I", parent) + name
 
 
 def file(number, of, flags=0):
     """A record of an open file of a node."""
-    return FILE_KIND, struct.pack(FILE, number, of, flags, 0)
+    return FILE_KIND, struct.pack(FILE, number, of, flags)
 
 
 def small_state(server):
@@ -379,50 +386,66 @@ def damaged(server, state):
 def hostile(server, folder, state):
     """States that are whole, and can't be."""
     header, _ = parts_of(state)
-    root = node(1, b"", 2, 0o40000)
+    root, below = node(1, lookups=2, kind=0o40000), directory(b"d")
     cases = {
         "another magic": state_of((b"nizwarg", *header[1:]), [root]),
-        "version 2": state_of((header[0], 2, *header[2:]), [root]),
+        "version 1": state_of((header[0], 1, *header[2:]), [root]),
+        "version 3": state_of((header[0], 3, *header[2:]), [root]),
         "a third mode": state_of((*header[:2], 2, header[3]), [root]),
         "handles that were not asked for": state_of((*header[:2], 1, header[3]), [root]),
         "options that are not offered": state_of((*header[:3], header[3] | 1 << 41), [root]),
-        "a number twice": state_of(header, [root, node(2, b"d/file"), node(2, b"d/end")]),
-        "a place twice": state_of(header, [root, node(2, b"d/file"), node(2 | 1 << 32, b"d/end")]),
-        "a file twice": state_of(header, [root, node(2, b"d/file"), node(3, b"d/file")]),
-        "an open file twice": state_of(header, [root, node(2, b"d/file"), file(1, 2), file(1, 2)]),
-        "the place 0": state_of(header, [root, node(1 << 32, b"d/file")]),
-        "a place that can't be": state_of(header, [root, node(2**32 - 1, b"d/file")]),
-        "an open file's place that can't be": state_of(header, [root, node(2, b"d/file"), file(2**32 - 1, 2)]),
+        "a number twice": state_of(header, [root, below, node(2, b"file", 1), node(2, b"end", 1)]),
+        "a place twice": state_of(header, [root, below, node(2, b"file", 1), node(2 | 1 << 32, b"end", 1)]),
+        "a file twice": state_of(header, [root, below, node(2, b"file", 1), node(3, b"file", 1)]),
+        "an open file twice": state_of(header, [root, below, node(2, b"file", 1), file(1, 2), file(1, 2)]),
+        "the place 0": state_of(header, [root, below, node(1 << 32, b"file", 1)]),
+        "a place that can't be": state_of(header, [root, below, node(2**32 - 1, b"file", 1)]),
+        "an open file's place that can't be": state_of(header, [root, below, node(2, b"file", 1), file(2**32 - 1, 2)]),
         "an open file of no node": state_of(header, [root, file(1, 2)]),
-        "an open file of a link": state_of(header, [root, node(2, b"d/link", 1, 0o120000), file(1, 2)]),
-        "an open directory of a file": state_of(header, [root, node(2, b"d/file"), file(1, 2, os.O_DIRECTORY)]),
-        "an open file of a directory": state_of(header, [root, node(2, b"d", 1, 0o40000), file(1, 2, os.O_RDWR)]),
-        "flags that can't be": state_of(header, [root, node(2, b"d/file"), file(1, 2, os.O_TRUNC)]),
-        "a file that is created": state_of(header, [root, node(2, b"d/file"), file(1, 2, os.O_CREAT)]),
-        "both accesses": state_of(header, [root, node(2, b"d/file"), file(1, 2, 3)]),
-        "too many lookups": state_of(header, [root, node(2, b"d/file", 2**64 - 1)]),
-        "another type": state_of(header, [root, node(2, b"d/file", 1, 0o40000)]),
+        "an open file of a link": state_of(header, [root, below, node(2, b"link", 1, kind=0o120000), file(1, 2)]),
+        "an open directory of a file": state_of(header, [root, below, node(2, b"file", 1), file(1, 2, os.O_DIRECTORY)]),
+        "an open file of a directory": state_of(header, [root, node(2, b"d", kind=0o40000), file(1, 2, os.O_RDWR)]),
+        "flags that can't be": state_of(header, [root, below, node(2, b"file", 1), file(1, 2, os.O_TRUNC)]),
+        "a file that is created": state_of(header, [root, below, node(2, b"file", 1), file(1, 2, os.O_CREAT)]),
+        "both accesses": state_of(header, [root, below, node(2, b"file", 1), file(1, 2, 3)]),
+        "too many lookups": state_of(header, [root, below, node(2, b"file", 1, 2**64 - 1)]),
+        "another type": state_of(header, [root, below, node(2, b"file", 1, kind=0o40000)]),
         "a mount by paths": state_of(header, [root, (MOUNT_KIND, b"d")]),
         "a record that is none": state_of(header, [root, (9, b"")]),
         "a node that is cut": state_of(header, [root, (NODE_KIND, bytes(10))]),
+        "a directory that is cut": state_of(header, [root, (DIRECTORY_KIND, bytes(3))]),
         "an open file that is cut": state_of(header, [root, (FILE_KIND, bytes(10))]),
-        "a handle past its record": state_of(header, [root, (NODE_KIND, struct.pack(NODE, 2, 1, 0o100000, 0, 1, 100, 0, 0) + b"d")]),
-        "a handle that is too long": state_of(header, [root, node(2, b"d/file", handle=bytes(129))]),
+        "a handle past its record": state_of(header, [root, (NODE_KIND, struct.pack(NODE, 2, 1, 0, 0o100000, 0, 1, 100, 0, 0) + b"d")]),
+        "a handle that is too long": state_of(header, [root, below, node(2, b"file", 1, handle=bytes(129))]),
         "a node too few": state_of(header, [root], nodes=2),
         "a record without end": struct.pack(HEADER, *header) + struct.pack(RECORD, NODE_KIND, 2**32 - 1),
+        "no folder": state_of(header, []),
+        "a folder that is not the first": state_of(header, [root, below, root]),
+        "a file before the folder": state_of(header, [node(2, b"d", kind=0o40000), root]),
+        "a folder in a directory": state_of(header, [node(1, b"d", kind=0o40000)]),
+        "a parent that is itself": state_of(header, [root, node(2, b"d", 1, kind=0o40000)]),
+        "a parent that comes later": state_of(header, [root, node(2, b"file", 2), below]),
+        "a directory in itself": state_of(header, [root, directory(b"d", 1)]),
+        "a directory in no entry": state_of(header, [root, directory(b"d", NOWHERE)]),
+        "a name in no directory": state_of(header, [root, (NODE_KIND, node(2)[1] + b"d")]),
+        "a directory without a name": state_of(header, [root, directory(b"")]),
+        "a file in a file": state_of(header, [root, below, node(2, b"file", 1), node(3, b"x", 2)]),
+        "a file in a directory that is none": state_of(header, [root, directory(b"none"), node(2, b"file", 1)]),
+        "a file in a directory that is a link": state_of(header, [root, directory(b"out"), node(2, b"outside", 1)]),
+        "a file in a node that is a link": state_of(header, [root, node(2, b"out", kind=0o120000), node(3, b"outside", 1)]),
         "nothing": b"",
         "zeros": bytes(100000),
     }
-    for path in (b"..", b"../outside", b"d/../../outside", b"/etc/passwd", b"d//file", b"d/", b"/", b"d/./file", b".", b"d/fi\0le",
-                 b"out", b"out/outside", b"d/link/x", b"a" * 256, b"d/none", b"d/file/x", b"x/" * 30000 + b"x"):
-        cases[f"the path {path[:30]}"] = state_of(header, [root, node(2, path)])
+    for name in (b"..", b".", b"d/file", b"/etc/passwd", b"d/", b"/", b"d\0", b"out", b"a" * 256, b"a" * 1025, b"none"):
+        cases[f"the name {name[:30]}"] = state_of(header, [root, node(2, name)])
+        cases[f"a directory with the name {name[:30]}"] = state_of(header, [root, directory(name), node(2, b"outside", 1)])
     for what, made in cases.items():
         machine = loads(server, made, what)
         # (nothing of it is there)
         machine.begin()
         hold(f"a node, after {what}", machine.ask(Op.GETATTR, record(Op.GETATTR), 2)[0], ESTALE)
         machine.end()
-    loads(server, state_of(header, [root, node(2, b"d/file")]), "a state that is made up", True).end()
+    loads(server, state_of(header, [root, below, node(2, b"file", 1)]), "a state that is made up", True).end()
     return len(cases)
 
 
@@ -437,20 +460,20 @@ def by_handles(folder, outside):
     kind, inside = handle_of(folder + "/d/file")
     _, away = handle_of(outside)
     _, above = handle_of(os.path.dirname(folder))
-    begun = [records[0], node(1, b"", 2, 0o40000)]
+    begun = [records[0], node(1, lookups=2, kind=0o40000), directory(b"d")]
     wrong = bytearray(inside)
     wrong[-1] ^= 1
-    cases = {"a file outside": node(2, b"", handle=away, handle_type=kind),
-             "a file outside, with a path of the folder": node(2, b"d/file", handle=away, handle_type=kind),
-             "a directory above": node(2, b"", kind=0o40000, handle=above, handle_type=kind),
-             "another file's handle": node(2, b"d/file", handle=bytes(wrong), handle_type=kind),
-             "no generation": node(2, b"d/file", handle=inside[:4] + bytes(len(inside) - 4), handle_type=kind),
-             "another type of handle": node(2, b"d/file", handle=inside, handle_type=0xff),
-             "a mount that is none": node(2, b"d/file", handle=inside, handle_type=kind, mount=5),
-             "no handle": node(2, b"d/file")}
+    cases = {"a file outside": node(2, handle=away, handle_type=kind),
+             "a file outside, with a path of the folder": node(2, b"file", 1, handle=away, handle_type=kind),
+             "a directory above": node(2, kind=0o40000, handle=above, handle_type=kind),
+             "another file's handle": node(2, b"file", 1, handle=bytes(wrong), handle_type=kind),
+             "no generation": node(2, b"file", 1, handle=inside[:4] + bytes(len(inside) - 4), handle_type=kind),
+             "another type of handle": node(2, b"file", 1, handle=inside, handle_type=0xff),
+             "a mount that is none": node(2, b"file", 1, handle=inside, handle_type=kind, mount=5),
+             "no handle": node(2, b"file", 1)}
     for what, it in cases.items():
         loads(server, state_of(header, [*begun, it]), what).end()
-    right = state_of(header, [*begun, node(2, b"", handle=inside, handle_type=kind)])
+    right = state_of(header, [*begun, node(2, handle=inside, handle_type=kind)])
     loads(server, right, "a handle of the folder", True).end()
     server.end()
     return len(cases) + 1

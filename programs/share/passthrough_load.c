@@ -1,0 +1,521 @@
+/* Loads the state of a passthrough (passthrough_state.h), by which this server goes on with a machine.
+ *
+ * Anyone may have made a state. So nothing outside of the folder is opened: a node is opened by its name in a directory that
+ * was opened before it, from the folder on, and no symbolic link is followed. Handles are opened only if --migration-mode
+ * says so, and of these only files that the folder has. A handle of a file that has no name any more shows nothing of where
+ * the file was. So such a file is opened only if --migration-unlinked-files says so, and not once MOST_STRAYS handles were
+ * wrong: who does not know the handle of a file must not find it by trying. Numbers, flags and sizes are compared with their
+ * ranges as those of a client are.
+ *
+ * The transport's own thread does it, while no request is in flight: so no worker changes nodes or files. Others may change
+ * the folder at any time. What is found by a name was that file when it was looked at, and is held by its descriptor from
+ * then on. */
+#define _GNU_SOURCE
+#include <errno.h>
+#include <fcntl.h>
+#include <linux/fuse.h>
+#include <stdio.h>
+#include <stdlib.h>
+#include <string.h>
+#include <sys/stat.h>
+#include <unistd.h>
+#include "passthrough_call.h"
+#include "passthrough_mounts.h"
+#include "passthrough_search.h"
+#include "passthrough_state.h"
+
+enum { MOST_MOUNTS = 1024, FIRST_ENTRIES = 256 };
+/* Options of INIT that the library agrees on by itself, besides FUSE_SUBMOUNTS. */
+#define OF_LIBRARY (FUSE_HAS_IOCTL_DIR | FUSE_INIT_EXT | TRANSPORT_ALLOW_IDMAP)
+/* How many of the files that are lost are named on standard error. */
+enum { MOST_TOLD = 20 };
+/* How many handles may be wrong, as long as the server runs, before files without a name are not opened any more. */
+enum { MOST_STRAYS = 4096 };
+
+/* An entry: a node, or a directory that the client does not know, with a descriptor. Or an error, if it was not found. */
+struct entry {
+	uint64_t number;
+	int fd, error;
+};
+
+struct loading {
+	struct passthrough *all;
+	transport_state *from;
+	struct paths paths;
+	struct state_header header;
+	struct state_end end;
+	/* The sum up to the record. */
+	uint64_t sum_before;
+	struct entry *entries;
+	size_t count, size, directories;
+	size_t lost, mount_count;
+	int mounts[MOST_MOUNTS];
+	/* The client has not begun a session, so it knows nothing but the folder. */
+	bool has_no_session;
+	char path[PATH_MAX];
+	/* What follows the beginning of a record, and a 0. */
+	size_t len;
+	unsigned char body[STATE_LONGEST + 1];
+};
+
+/* Gets `len` bytes, and adds them to the sum. Fewer are the end of the state, and a fault. 0, or -1 if it failed and printed
+ * why. So it is with all functions here that return an int and say nothing else. */
+static int get(struct loading *l, void *bytes, size_t len)
+{
+	const ssize_t got = transport_get_state(l->from, bytes, len);
+
+	if (got < 0)
+		return state_refuse("the state cannot be received: %s", strerror(errno));
+	if ((size_t)got < len)
+		return state_refuse("the state ends early");
+	l->end.sum = state_sum(l->end.sum, bytes, len);
+	return 0;
+}
+
+/* A name, for a message. */
+static const char *printable(char *name)
+{
+	for (unsigned char *at = (unsigned char *)name; *at; at++)
+		if (*at < 32 || *at == 127)
+			*at = '?';
+	return name;
+}
+
+/* A node or an open file that cannot be had: -1, or 0 if the client is to see that, as an error. The one that ends the
+ * loading is printed, or else the first MOST_TOLD. `name` may be changed. */
+static int lose(struct loading *l, const char *what, uint64_t number, char *name, int error)
+{
+	if (!l->all->options.loses_files || l->lost++ < MOST_TOLD)
+		state_refuse("%s %llu%s%s: %s", what, (unsigned long long)number, *name ? ", " : "",
+			     printable(name),
+			     error == EXDEV ? "it is another file, or not in the folder" : strerror(error));
+	return l->all->options.loses_files ? 0 : -1;
+}
+
+/* ---- entries */
+
+/* Adds an entry. */
+static int add_entry(struct loading *l, uint64_t number, int fd, int error)
+{
+	if (l->count == l->size) {
+		const size_t size = l->size ? 2 * l->size : FIRST_ENTRIES;
+		struct entry *more = realloc(l->entries, size * sizeof(*more));
+
+		if (!more)
+			return state_refuse("out of memory");
+		l->entries = more;
+		l->size = size;
+	}
+	l->entries[l->count++] = (struct entry){ number, fd, error };
+	return 0;
+}
+
+/* Opens a name in the directory of an entry. -1: errno says why. The parent must be below `l->count`. */
+static int open_name(struct loading *l, uint32_t parent, const char *name, int flags)
+{
+	const struct entry *entry = &l->entries[parent];
+	struct grip grip;
+	int fd, error;
+
+	errno = entry->error;
+	if (entry->error)
+		return -1;
+	if (!entry->number)
+		return open_in(entry->fd, name, flags);
+	errno = node_get(&l->all->nodes, entry->number, &grip);
+	if (errno)
+		return -1;
+	fd = open_in(grip.fd, name, flags);
+	error = errno;
+	node_put(&grip);
+	errno = error;
+	return fd;
+}
+
+/* A DIRECTORY. It keeps a descriptor until the end of the loading. One that is not found is no fault by itself: what is in
+ * it is lost. */
+static int load_directory(struct loading *l)
+{
+	struct state_directory told;
+	int fd = -1, error;
+
+	if (!state_decode_directory(l->body, l->len, &told) || told.parent >= l->count)
+		return state_refuse("a state with a directory that cannot be");
+	/* (as many as passthrough_save() puts there) */
+	if (++l->directories > (size_t)l->all->options.most_nodes + STATE_SPARE_DIRECTORIES)
+		return state_refuse("a state with too many directories");
+	error = fd_reserve(&l->all->nodes, 1);
+	if (!error && (fd = open_name(l, told.parent, told.name, O_PATH | O_DIRECTORY)) < 0) {
+		error = errno;
+		fd_give_back(&l->all->nodes, 1);
+	}
+	if (!add_entry(l, 0, fd, error))
+		return 0;
+	if (fd >= 0)
+		fd_let_go(&l->all->nodes, fd);
+	return -1;
+}
+
+/* A MOUNT: they are counted as they come, and nodes name them by that number. */
+static int load_mount(struct loading *l)
+{
+	if (l->header.mode != MIGRATES_BY_HANDLES || l->mount_count == MOST_MOUNTS ||
+	    !state_is_path((const char *)l->body, l->len))
+		return state_refuse("a state with a file system that cannot be");
+	/* (It is open for as long as no request is. If it does not open, what comes by its handles is lost.) */
+	l->mounts[l->mount_count++] = open_below(&l->paths, (const char *)l->body, O_RDONLY | O_DIRECTORY);
+	return 0;
+}
+
+/* ---- nodes */
+
+/* Whether a descriptor is of the file that a handle names, as the host makes the handle of it. */
+static bool has_handle(int fd, const struct state_node *told)
+{
+	union handle_room room;
+
+	return handle_by(fd, &room) && room.handle.handle_type == told->handle_type &&
+	       room.handle.handle_bytes == told->handle_size &&
+	       !memcmp(room.handle.f_handle, told->handle, told->handle_size);
+}
+
+/* Whether a file was opened that was seen. The descriptor is closed. */
+static bool is_file(int fd, const struct statx *seen)
+{
+	struct statx there;
+	bool is_so;
+
+	if (fd < 0)
+		return false;
+	is_so = !look_at(fd, &there) && is_same(seen, &there);
+	close(fd);
+	return is_so;
+}
+
+/* Whether a file that was opened by its handle may be the client's: if it is in the folder, by a path that Linux knows or by
+ * the place that the state has; or if files without a name may be opened, and it has none. By a handle any file of the file
+ * system opens, so without this whoever sends a state could have one from outside. */
+static bool is_in_folder(struct loading *l, int fd, const struct state_node *told)
+{
+	struct statx seen;
+
+	if (look_at(fd, &seen))
+		return false;
+	if (find_path(&l->paths, fd, &seen, l->path) >= 0 &&
+	    is_file(open_below(&l->paths, l->path, O_PATH), &seen))
+		return true;
+	if (told->parent != NOWHERE && is_file(open_name(l, told->parent, told->name, O_PATH), &seen))
+		return true;
+	return l->all->options.takes_unlinked && l->all->strays < MOST_STRAYS && !S_ISDIR(seen.stx_mode) &&
+	       !seen.stx_nlink;
+}
+
+/* Opens a file by its handle. -1: errno says why. */
+static int open_handle(struct loading *l, const struct state_node *told)
+{
+	const int mount = told->mount < l->mount_count ? l->mounts[told->mount] : -1;
+	union handle_room room;
+	int fd, error = ESTALE;
+
+	/* (the room has MAX_HANDLE_SZ bytes, and the size was compared with it) */
+	room.handle.handle_type = told->handle_type;
+	room.handle.handle_bytes = told->handle_size;
+	memcpy(room.handle.f_handle, told->handle, told->handle_size);
+	fd = mount < 0 ? -1 : open_by_handle_at(mount, &room.handle, O_PATH | O_NOFOLLOW | O_CLOEXEC);
+	/* (A handle that is cut, or made up, may open something. So the host makes the handle of what was opened.) */
+	if (fd >= 0 && has_handle(fd, told) && is_in_folder(l, fd, told))
+		return fd;
+	if (fd >= 0) {
+		close(fd);
+		error = EXDEV;
+	}
+	l->all->strays += l->all->strays < MOST_STRAYS;
+	errno = error;
+	return -1;
+}
+
+/* Opens a file by its name; if it has a handle, it must be that of this file. -1: errno says why, EXDEV that it is not. */
+static int open_place(struct loading *l, const struct state_node *told)
+{
+	int fd;
+
+	errno = ENOENT;
+	fd = told->parent == NOWHERE ? -1 : open_name(l, told->parent, told->name, O_PATH);
+	if (fd >= 0 && told->handle_size && !has_handle(fd, told)) {
+		close(fd);
+		fd = -1;
+		errno = EXDEV;
+	}
+	return fd;
+}
+
+/* The folder, which must be the first entry, and no other. It is there, by what this server was started with. If files are
+ * verified, its handle shows whether it is the other server's folder; by handles it needs not be. */
+static int load_root(struct loading *l, const struct state_node *told)
+{
+	if (l->count || told->parent != NOWHERE)
+		return state_refuse("a state with a folder that cannot be");
+	if (told->handle_size && l->header.mode != MIGRATES_BY_HANDLES && !has_handle(l->paths.root, told))
+		return state_refuse("the folder is another one");
+	return add_entry(l, ROOT_NODE, -1, 0);
+}
+
+/* Opens and enters a node: 0, or an error. */
+static int restore_node(struct loading *l, const struct state_node *told)
+{
+	struct statx seen;
+	const int fd = l->header.mode == MIGRATES_BY_HANDLES ? open_handle(l, told) : open_place(l, told);
+	int error;
+
+	if (fd < 0)
+		return errno;
+	/* (the type must be that of before) */
+	error = look_at(fd, &seen) ? errno : (seen.stx_mode & S_IFMT) != told->type ? EXDEV : 0;
+	/* (it has the descriptor from then on, also if it fails) */
+	if (!error)
+		return node_restore(&l->all->nodes, fd, &seen, told->number, told->lookups, told->is_apart);
+	close(fd);
+	return error;
+}
+
+/* A NODE. What no server sends is refused, and ends the loading. What cannot be found is lost. */
+static int load_node(struct loading *l)
+{
+	struct state_node told;
+	int error;
+
+	if (!state_decode_node(l->body, l->len, &told))
+		return state_refuse("a state with a node that cannot be");
+	l->end.nodes++;
+	if (told.number == ROOT_NODE)
+		return load_root(l, &told);
+	if (!l->count || (told.parent != NOWHERE && told.parent >= l->count))
+		return state_refuse("a state with a node in no directory");
+	if (l->has_no_session)
+		return state_refuse("a state with files, of a client that has no session");
+	/* (a number's lower half is below the other server's --node-limit) */
+	if (l->end.nodes > l->all->options.most_nodes || (uint32_t)told.number > l->all->options.most_nodes)
+		return state_refuse("the state has more files than --node-limit allows here");
+	error = restore_node(l, &told);
+	if (error == EEXIST)
+		return state_refuse("a state with a file, or a number, twice");
+	if (add_entry(l, told.number, -1, error))
+		return -1;
+	if (!error)
+		return 0;
+	/* (no other node gets this number, by which the client knows a file) */
+	if (node_lose(&l->all->nodes, told.number))
+		return state_refuse("out of memory");
+	/* (the 0 after the body ends the name) */
+	return lose(l, "node", told.number, (char *)l->body + ((const unsigned char *)told.name - l->body),
+		    error);
+}
+
+/* ---- open files */
+
+/* Opens the file of a node as it was open. -1: errno says why. Only a file or a directory is opened,
+ * by its own descriptor, and with no right that this server does not give: not for writing if nothing
+ * is changed, with no O_DIRECT unless it is allowed. */
+static int open_as(struct loading *l, const struct node *node, int of, int flags)
+{
+	const struct passthrough_options *options = &l->all->options;
+	int fd;
+
+	errno = EXDEV;
+	if (node->type != (flags & O_DIRECTORY ? S_IFDIR : S_IFREG))
+		return -1;
+	errno = EROFS;
+	if (options->read_only && (flags & O_ACCMODE) != O_RDONLY)
+		return -1;
+	if (!options->allow_direct)
+		flags &= ~O_DIRECT;
+	fd = open_again(&l->all->nodes, of, flags);
+	return fd < 0 && errno == EPERM && flags & O_NOATIME && !options->keeps_noatime ?
+		       open_again(&l->all->nodes, of, flags & ~O_NOATIME) :
+		       fd;
+}
+
+/* Opens and enters an open file: 0, or an error. A descriptor is reserved before it is opened, as for an OPEN. */
+static int restore_file(struct loading *l, const struct state_file *told)
+{
+	struct nodes *nodes = &l->all->nodes;
+	struct grip grip;
+	int fd = -1, error = node_get(nodes, told->node, &grip);
+
+	if (error)
+		return error;
+	error = fd_reserve(nodes, 1);
+	if (!error && (fd = open_as(l, grip.node, grip.fd, (int)told->flags)) < 0) {
+		error = errno;
+		fd_give_back(nodes, 1);
+	}
+	node_put(&grip);
+	if (fd >= 0 && (error = file_restore(nodes, told->node, fd, (int)told->flags, told->number)))
+		fd_let_go(nodes, fd);
+	return error;
+}
+
+/* A FILE, whose node came before. */
+static int load_file(struct loading *l)
+{
+	struct state_file told;
+	char no_name[] = "";
+	int error;
+
+	if (!state_decode_file(l->body, l->len, &told))
+		return state_refuse("a state with an open file that cannot be");
+	if (l->has_no_session)
+		return state_refuse("a state with open files, of a client that has no session");
+	l->end.files++;
+	error = restore_file(l, &told);
+	if (error == EEXIST)
+		return state_refuse("a state with the number of an open file twice");
+	if (!error)
+		return 0;
+	if (file_lose(&l->all->nodes, told.number))
+		return state_refuse("out of memory");
+	return lose(l, "open file", told.number, no_name, error);
+}
+
+/* ---- all of it */
+
+/* Compares the end with what came. */
+static int load_end(struct loading *l)
+{
+	struct state_end told;
+	char more;
+
+	if (!state_decode_end(l->body, l->len, &told))
+		return state_refuse("a state with an end that cannot be");
+	if (!l->count || told.nodes != l->end.nodes || told.files != l->end.files ||
+	    told.sum != l->sum_before)
+		return state_refuse("the state is damaged");
+	return transport_get_state(l->from, &more, 1) ? state_refuse("the state goes on after its end") : 0;
+}
+
+/* Loads one record: -1, or 0; or 1, if it was the end. */
+static int load_record(struct loading *l)
+{
+	unsigned char begin[STATE_RECORD];
+	uint32_t kind, len;
+
+	l->sum_before = l->end.sum;
+	if (get(l, begin, sizeof(begin)))
+		return -1;
+	state_decode_record(begin, &kind, &len);
+	if (len > STATE_LONGEST)
+		return state_refuse("a state with a record that is too long");
+	l->len = len;
+	if (get(l, l->body, len))
+		return -1;
+	/* (names and paths are the last bytes of a record) */
+	l->body[len] = 0;
+	switch (kind) {
+	case STATE_MOUNT:
+		return load_mount(l);
+	case STATE_NODE:
+		return load_node(l);
+	case STATE_DIRECTORY:
+		return load_directory(l);
+	case STATE_FILE:
+		return load_file(l);
+	case STATE_END:
+		return load_end(l) ? -1 : 1;
+	default:
+		return state_refuse("a state with a record that is none");
+	}
+}
+
+/* Compares what the client agreed on by INIT with what this server is started with. If it agreed on more, it would go on to
+ * use that; if it lacks something, INIT would have refused it. One that agreed on nothing has had no INIT yet. */
+static int check_agreed(struct loading *l)
+{
+	const struct passthrough *all = l->all;
+	const uint64_t agreed = l->header.agreed, more = agreed & ~(wanted(all) | OF_LIBRARY);
+	const char *lacking = lacking_option(all, agreed);
+
+	if (more)
+		return state_refuse(
+			"the client agreed on options that this server is not started with: 0x%llx",
+			(unsigned long long)more);
+	if (lacking && agreed)
+		return state_refuse("%s", lacking);
+	l->has_no_session = lacking && !agreed;
+	return 0;
+}
+
+static int load_header(struct loading *l)
+{
+	unsigned char bytes[STATE_HEADER];
+	struct state_header *header = &l->header;
+	const bool by_handles = l->all->options.migration_mode == MIGRATES_BY_HANDLES;
+
+	if (get(l, bytes, sizeof(bytes)))
+		return -1;
+	if (!state_decode_header(bytes, header))
+		return state_refuse("it is no state of nizwarf-share");
+	if (header->version != STATE_VERSION)
+		return state_refuse("the state is of version %u, and this server takes version %d",
+				    header->version, STATE_VERSION);
+	if (header->mode > MIGRATES_BY_HANDLES)
+		return state_refuse("the state has files in a way that is not known");
+	if (header->mode == MIGRATES_BY_HANDLES && !by_handles)
+		return state_refuse(
+			"the state has file handles, which are taken with --migration-mode=file-handles");
+	return check_agreed(l);
+}
+
+/* Loads all that the other server saved. What cannot be had here, as a file that went, is no failure: the
+ * client sees an error where it uses that. */
+static int load_all(struct loading *l)
+{
+	int came = 0;
+
+	if (paths_begin(&l->paths, &l->all->nodes))
+		return state_refuse("it cannot be found out where the folder is");
+	if (load_header(l))
+		return -1;
+	while (!came)
+		came = load_record(l);
+	if (came > 0 && l->lost)
+		state_refuse("the client sees errors in place of %zu nodes and open files", l->lost);
+	return came > 0 ? 0 : -1;
+}
+
+static void end_loading(struct loading *l)
+{
+	for (size_t i = 0; i < l->mount_count; i++)
+		if (l->mounts[i] >= 0)
+			close(l->mounts[i]);
+	for (size_t i = 0; i < l->count; i++)
+		if (l->entries[i].fd >= 0)
+			fd_let_go(&l->all->nodes, l->entries[i].fd);
+	free(l->entries);
+	free(l);
+}
+
+/* What the passthrough has goes first, and if the loading fails all that came goes too. */
+int passthrough_load(void *user, transport_state *from)
+{
+	struct passthrough *all = user;
+	struct loading *l = calloc(1, sizeof(*l));
+	int failed;
+
+	if (!l)
+		return state_refuse("out of memory");
+	l->all = all;
+	l->from = from;
+	l->end.sum = STATE_FIRST_SUM;
+	if (all->locks)
+		locks_forget_all(all->locks, client_now(&all->nodes));
+	atomic_store(&all->agreed, 0);
+	nodes_empty(&all->nodes);
+	failed = load_all(l);
+	if (failed)
+		nodes_forget_all(&all->nodes, client_now(&all->nodes));
+	else
+		atomic_store(&all->agreed, l->header.agreed);
+	nodes_settle(&all->nodes);
+	end_loading(l);
+	return failed;
+}

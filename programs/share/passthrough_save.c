@@ -1,0 +1,714 @@
+/* Saves the state of a passthrough (passthrough_state.h), with which another server goes on with a machine.
+ *
+ * The transport's own thread does it, while no request is in flight: so no worker changes nodes or files. Others may change
+ * the folder at any time.
+ *
+ * Each node goes as its parent's entry and its name there. Where Linux knows the path of a node, its directories get
+ * entries from the folder down to it. Where it knows none, as of a file whose first name was unlinked, the node's own
+ * hint is tried, then the directories that the client knows are read, and at last all of the folder, up to a number of
+ * names that grows with the nodes: a machine that stands still must not wait for a folder without end. */
+#define _GNU_SOURCE
+#include <errno.h>
+#include <fcntl.h>
+#include <linux/fuse.h>
+#include <stdio.h>
+#include <stdlib.h>
+#include <string.h>
+#include <sys/stat.h>
+#include <unistd.h>
+#include "passthrough_call.h"
+#include "passthrough_mounts.h"
+#include "passthrough_search.h"
+#include "passthrough_state.h"
+
+enum { MOST_MOUNTS = 1024, FIRST_PIECES = 256 };
+/* How many names a search looks at: so many, and besides so many for each node. */
+enum { NAMES = 1000000, NAMES_OF_NODE = 64 };
+
+/* A directory that the client does not know, and its entry. In the table a free place has the entry NOWHERE. */
+struct ancestor {
+	struct file_id id;
+	uint32_t entry;
+};
+
+struct saving {
+	struct passthrough *all;
+	transport_state *to;
+	struct paths paths;
+	struct state_end end;
+	/* How many entries there are; and that of each node by its slot, plus one: 0 is none. */
+	uint32_t entries;
+	uint32_t *entry_of;
+	size_t entry_of_count;
+	/* The DIRECTORY entries: a hash table with open addressing, of a size that is a power of two or 0. */
+	struct ancestor *ancestors;
+	size_t ancestor_count, ancestor_size, most_ancestors;
+	bool is_full;
+	/* By whose handles nodes go, and the path of a directory there. */
+	struct saved_mount {
+		const struct host_mount *mount;
+		char *path;
+	} * mounts;
+	size_t mount_count;
+	/* Nodes of which no path was found so far. */
+	struct sought *sought;
+	size_t sought_count, sought_size, lost;
+	bool has_failed;
+	char path[PATH_MAX];
+	/* The path whose directory got the entry `last_entry` last. Nodes of one directory often come one after another. */
+	char last[PATH_MAX];
+	size_t last_len;
+	uint32_t last_entry;
+	unsigned char record[STATE_RECORD + STATE_LONGEST];
+};
+
+/* Where a file is: NOWHERE and "" if that is not known. */
+struct place {
+	uint32_t parent;
+	const char *name;
+};
+
+static const struct place nowhere = { NOWHERE, "" };
+
+/* A place, if its name is one that a state may have. */
+static struct place place_in(uint32_t parent, const char *name)
+{
+	return parent != NOWHERE && strlen(name) <= STATE_NAME_MAX ? (struct place){ parent, name } : nowhere;
+}
+
+/* ---- records */
+
+/* Puts bytes into the state, and into the sum. 0, or -1 if it failed and printed why. So it is with all functions here that
+ * return an int and say nothing else. */
+static int put(struct saving *s, const void *bytes, size_t len)
+{
+	s->end.sum = state_sum(s->end.sum, bytes, len);
+	if (!transport_put_state(s->to, bytes, len))
+		return 0;
+	return state_refuse("the state cannot be sent: %s", strerror(errno));
+}
+
+/* Puts the record whose bytes were encoded at `s->record + STATE_RECORD`. */
+static int put_record(struct saving *s, uint32_t kind, size_t len)
+{
+	state_encode_record(kind, (uint32_t)len, s->record);
+	return put(s, s->record, STATE_RECORD + len);
+}
+
+static bool is_by_handles(const struct saving *s)
+{
+	return s->all->options.migration_mode == MIGRATES_BY_HANDLES;
+}
+
+/* Whether nodes go with their handles. */
+static bool has_handles(const struct saving *s)
+{
+	return is_by_handles(s) || s->all->options.verifies;
+}
+
+/* The number of a mount among those that were put; MOST_MOUNTS: it is none of them. */
+static uint32_t mount_number(const struct saving *s, const struct host_mount *mount)
+{
+	for (size_t i = 0; i < s->mount_count; i++)
+		if (s->mounts[i].mount == mount)
+			return (uint32_t)i;
+	return MOST_MOUNTS;
+}
+
+/* The entry of a node; NOWHERE: it has none yet. */
+static uint32_t entry_of(const struct saving *s, uint64_t number)
+{
+	const uint32_t slot = (uint32_t)number;
+
+	return slot < s->entry_of_count && s->entry_of[slot] ? s->entry_of[slot] - 1 : NOWHERE;
+}
+
+/* Notes the next entry as that of a node. */
+static int note_entry(struct saving *s, uint64_t number)
+{
+	const uint32_t slot = (uint32_t)number;
+
+	if (slot >= s->entry_of_count) {
+		size_t count = s->entry_of_count ? s->entry_of_count : FIRST_PIECES;
+		uint32_t *more;
+
+		while (count <= slot)
+			count *= 2;
+		more = realloc(s->entry_of, count * sizeof(*more));
+		if (!more)
+			return state_refuse("out of memory");
+		memset(more + s->entry_of_count, 0, (count - s->entry_of_count) * sizeof(*more));
+		s->entry_of = more;
+		s->entry_of_count = count;
+	}
+	s->entry_of[slot] = ++s->entries;
+	return 0;
+}
+
+/* Puts a node. `fd` is a descriptor of it for its handle; -1: there is none. A node without a place and without a handle
+ * goes too: the other server has its number then, and the client sees an error where it uses it. */
+static int put_node(struct saving *s, const struct node *node, int fd, struct place place)
+{
+	const bool by_handles = is_by_handles(s), is_root = node->counted.number == ROOT_NODE;
+	struct state_node told = { .number = node->counted.number,
+				   .lookups = atomic_load(&node->lookups),
+				   .parent = NOWHERE,
+				   .type = node->type,
+				   .mount = by_handles ? mount_number(s, node->on) : 0,
+				   .is_apart = node->is_apart };
+	union handle_room room;
+	bool has_handle = has_handles(s) && fd >= 0 && told.mount < MOST_MOUNTS && handle_by(fd, &room);
+
+	/* By paths a handle without a place is of no use, and neither is a place without the handle that verifies it. */
+	has_handle &= by_handles || is_root || place.parent != NOWHERE;
+	if (has_handle) {
+		told.handle_type = room.handle.handle_type;
+		told.handle_size = (uint8_t)room.handle.handle_bytes;
+		told.handle = room.handle.f_handle;
+	}
+	if (has_handle || !has_handles(s)) {
+		told.parent = place.parent;
+		told.name = place.name;
+		told.name_len = strlen(place.name);
+	}
+	if (note_entry(s, told.number))
+		return -1;
+	s->end.nodes++;
+	s->lost += !is_root && !has_handle && told.parent == NOWHERE;
+	return put_record(s, STATE_NODE, state_encode_node(&told, s->record + STATE_RECORD));
+}
+
+/* ---- directories that the client does not know */
+
+/* The place of a directory in the table: its own, or a free one. */
+static struct ancestor *ancestor_at(const struct saving *s, const struct file_id *id)
+{
+	size_t at = (id->inode + id->device * 31) * UINT64_C(0x9e3779b97f4a7c15) >> 20;
+
+	for (;; at++) {
+		struct ancestor *one = &s->ancestors[at & (s->ancestor_size - 1)];
+
+		if (one->entry == NOWHERE || is_id(&one->id, id))
+			return one;
+	}
+}
+
+/* Makes space for one more. At most half of the places are used. */
+static int grow_ancestors(struct saving *s)
+{
+	struct ancestor *old = s->ancestors;
+	const size_t size = s->ancestor_size;
+
+	if (2 * (s->ancestor_count + 1) <= size)
+		return 0;
+	s->ancestor_size = size ? 2 * size : FIRST_PIECES;
+	s->ancestors = malloc(s->ancestor_size * sizeof(*old));
+	if (!s->ancestors) {
+		s->ancestors = old;
+		s->ancestor_size = size;
+		return state_refuse("out of memory");
+	}
+	for (size_t i = 0; i < s->ancestor_size; i++)
+		s->ancestors[i].entry = NOWHERE;
+	for (size_t i = 0; i < size; i++)
+		if (old[i].entry != NOWHERE)
+			*ancestor_at(s, &old[i].id) = old[i];
+	free(old);
+	return 0;
+}
+
+/* Puts a DIRECTORY, if it has no entry yet. NOWHERE in `*entry`: there are too many, which a client that forgets
+ * directories could cause. (Linux's keeps those above what it knows.) */
+static int put_directory(struct saving *s, struct place place, const struct file_id *id, uint32_t *entry)
+{
+	const struct state_directory told = { place.parent, place.name, strlen(place.name) };
+	struct ancestor *one;
+
+	*entry = NOWHERE;
+	if (place.parent == NOWHERE)
+		return 0;
+	if (grow_ancestors(s))
+		return -1;
+	one = ancestor_at(s, id);
+	if (one->entry == NOWHERE) {
+		s->is_full = s->ancestor_count == s->most_ancestors;
+		if (s->is_full)
+			return 0;
+		*one = (struct ancestor){ *id, s->entries++ };
+		s->ancestor_count++;
+		if (put_record(s, STATE_DIRECTORY, state_encode_directory(&told, s->record + STATE_RECORD)))
+			return -1;
+	}
+	*entry = one->entry;
+	return 0;
+}
+
+/* The entry of a directory that is open; NOWHERE: it has none yet. */
+static uint32_t entry_known(const struct saving *s, int fd, const struct statx *seen)
+{
+	const uint64_t number = node_number(&s->all->nodes, fd, seen);
+	const struct file_id id = id_of(seen);
+
+	if (number)
+		return entry_of(s, number);
+	return s->ancestor_size ? ancestor_at(s, &id)->entry : NOWHERE;
+}
+
+/* Makes an entry of a directory that is open and has none yet. */
+static int enter_directory(struct saving *s, int fd, const struct statx *seen, struct place place,
+			   uint32_t *entry)
+{
+	const uint64_t number = node_number(&s->all->nodes, fd, seen);
+	const struct file_id id = id_of(seen);
+	struct grip grip;
+	int failed;
+
+	if (!number || node_hold(&s->all->nodes, number, &grip))
+		return put_directory(s, place, &id, entry);
+	failed = put_node(s, grip.node, fd, place);
+	node_put(&grip);
+	*entry = entry_of(s, number);
+	return failed;
+}
+
+/* ---- places of nodes */
+
+/* Opens the directory of the first `len` bytes of `s->path`, and looks at it. -1: it is not there. */
+static int open_part(struct saving *s, size_t len, struct statx *seen)
+{
+	const char after = s->path[len];
+	int fd;
+
+	s->path[len] = 0;
+	fd = open_below(&s->paths, s->path, O_PATH | O_DIRECTORY);
+	s->path[len] = after;
+	if (fd >= 0 && look_at(fd, seen)) {
+		close(fd);
+		fd = -1;
+	}
+	return fd;
+}
+
+/* The entry of the directory of the first `len` bytes of `s->path`, by that of its parent if it has none yet. NOWHERE: it
+ * has none. */
+static int enter_part(struct saving *s, size_t len, uint32_t parent, uint32_t *entry)
+{
+	const char after = s->path[len];
+	struct statx seen;
+	const char *name;
+	int failed = 0;
+	const int fd = open_part(s, len, &seen);
+
+	*entry = fd < 0 ? NOWHERE : entry_known(s, fd, &seen);
+	if (fd >= 0 && *entry == NOWHERE && parent != NOWHERE) {
+		s->path[len] = 0;
+		name = strrchr(s->path, '/');
+		failed = enter_directory(s, fd, &seen, place_in(parent, name ? name + 1 : s->path), entry);
+		s->path[len] = after;
+	}
+	if (fd >= 0)
+		close(fd);
+	return failed;
+}
+
+/* The entry of the directory of the first `len` bytes of `s->path`. Up to the first one that has an entry, and down again:
+ * each directory gets its entry once, so all of it takes as long as there are directories. */
+static int enter_path(struct saving *s, size_t len, uint32_t *entry)
+{
+	size_t at = len;
+	int failed = 0;
+
+	*entry = s->last_entry;
+	if (len == s->last_len && !memcmp(s->path, s->last, len))
+		return 0;
+	*entry = NOWHERE;
+	while (at && !failed) {
+		failed = enter_part(s, at, NOWHERE, entry);
+		if (*entry != NOWHERE)
+			break;
+		/* (where no directory gets an entry any more, all of the way up would be for nothing, for each node) */
+		if (s->is_full)
+			return failed;
+		while (at && s->path[--at] != '/')
+			;
+	}
+	if (!at)
+		*entry = ROOT_ENTRY;
+	while (at < len && !failed && *entry != NOWHERE) {
+		const char *end = memchr(s->path + at + 1, '/', len - at - 1);
+
+		at = end ? (size_t)(end - s->path) : len;
+		failed = enter_part(s, at, *entry, entry);
+	}
+	if (*entry != NOWHERE) {
+		memcpy(s->last, s->path, len);
+		s->last_len = len;
+		s->last_entry = *entry;
+	}
+	return failed;
+}
+
+/* Finds the place of a node by the path that Linux knows of it. */
+static int find_place(struct saving *s, const struct grip *grip, const struct statx *seen,
+		      struct place *place)
+{
+	const ssize_t len = find_path(&s->paths, grip->fd, seen, s->path);
+	const char *name;
+	int failed;
+
+	*place = nowhere;
+	if (len <= 0)
+		return 0;
+	name = strrchr(s->path, '/');
+	failed = enter_path(s, name ? (size_t)(name - s->path) : 0, &place->parent);
+	*place = place_in(place->parent, name ? name + 1 : s->path);
+	return failed;
+}
+
+/* Finds the place of a node by the directory and the name by which the client looked it up first, if these are known. This
+ * helps where Linux knows no path, as of a file that is opened by its handle. */
+static int find_first_place(struct saving *s, const struct node *node, const struct statx *seen,
+			    struct place *place)
+{
+	const char *name;
+	const uint64_t number = node_found_in(node, &name);
+	struct grip directory;
+	struct statx there;
+	uint32_t entry;
+	int failed = 0;
+
+	if (!number || node_get(&s->all->nodes, number, &directory))
+		return 0;
+	entry = entry_of(s, number);
+	if (is_in(directory.fd, name, seen)) {
+		/* (a directory whose own path Linux does not know is left for the search) */
+		if (entry == NOWHERE && !look_at(directory.fd, &there) &&
+		    find_path(&s->paths, directory.fd, &there, s->path) > 0)
+			failed = enter_path(s, strlen(s->path), &entry);
+		/* (the name is the node's own, which the caller has in hand) */
+		*place = place_in(entry, name);
+	}
+	node_put(&directory);
+	return failed;
+}
+
+/* ---- nodes */
+
+/* Adds a node to those that are sought. */
+static int seek_node(struct saving *s, uint64_t number, const struct statx *seen)
+{
+	if (s->sought_count == s->sought_size) {
+		const size_t size = s->sought_size ? 2 * s->sought_size : FIRST_PIECES;
+		struct sought *more = realloc(s->sought, size * sizeof(*more));
+
+		if (!more)
+			return state_refuse("out of memory");
+		s->sought = more;
+		s->sought_size = size;
+	}
+	/* (Linux shows STATX_ATTR_MOUNT_ROOT from 5.8 on. Before, such a file is not found.) */
+	s->sought[s->sought_count++] =
+		(struct sought){ .number = number,
+				 .id = id_of(seen),
+				 .is_mounted = seen->stx_attributes & STATX_ATTR_MOUNT_ROOT &&
+					       !S_ISDIR(seen->stx_mode) };
+	return 0;
+}
+
+/* Saves a node which a descriptor is of, or leaves it for the search. A file that has no name any more is not sought. */
+static int save_open_node(struct saving *s, const struct grip *grip)
+{
+	struct place place = nowhere;
+	struct statx seen;
+
+	/* (a file system over a network may have lost it) */
+	if (look_at(grip->fd, &seen))
+		return put_node(s, grip->node, -1, nowhere);
+	if (grip->node->counted.number == ROOT_NODE)
+		return put_node(s, grip->node, grip->fd, nowhere);
+	if (find_place(s, grip, &seen, &place))
+		return -1;
+	if (place.parent == NOWHERE && find_first_place(s, grip->node, &seen, &place))
+		return -1;
+	/* (a directory may have become an entry on the way) */
+	if (entry_of(s, grip->node->counted.number) != NOWHERE)
+		return 0;
+	if (place.parent == NOWHERE && seen.stx_nlink)
+		return seek_node(s, grip->node->counted.number, &seen);
+	return put_node(s, grip->node, grip->fd, place);
+}
+
+/* Saves a node by its number, unless it has an entry. One that went meanwhile is left out; one whose handle does not open,
+ * as where its file is gone, has neither handle nor place. */
+static int save_node(struct saving *s, uint64_t number)
+{
+	struct nodes *nodes = &s->all->nodes;
+	struct grip grip;
+	int failed;
+
+	if (entry_of(s, number) != NOWHERE)
+		return 0;
+	if (!node_get(nodes, number, &grip)) {
+		failed = save_open_node(s, &grip);
+	} else {
+		if (node_hold(nodes, number, &grip))
+			return 0;
+		failed = put_node(s, grip.node, -1, nowhere);
+	}
+	node_put(&grip);
+	return failed;
+}
+
+/* Calls for each node, up to a first failure. */
+static int for_each_node(struct saving *s, int (*call)(struct saving *s, uint64_t number))
+{
+	uint32_t place = 0;
+	uint64_t number;
+	int failed = 0;
+
+	while (!failed && (number = node_next(&s->all->nodes, &place)))
+		failed = call(s, number);
+	return failed;
+}
+
+/* ---- the search */
+
+/* (it may take long: it ends if the front end goes, or a signal comes) */
+static bool goes_on(void *user)
+{
+	return !transport_wants_state(((struct saving *)user)->to);
+}
+
+static uint32_t known_to_search(void *user, int fd, const struct statx *seen)
+{
+	return entry_known(user, fd, seen);
+}
+
+static uint32_t enter_for_search(void *user, uint32_t parent, const char *name, const struct file_id *id)
+{
+	uint32_t entry;
+
+	if (!put_directory(user, place_in(parent, name), id, &entry))
+		return entry;
+	((struct saving *)user)->has_failed = true;
+	return NOWHERE;
+}
+
+static int found_by_search(void *user, uint64_t number, uint32_t parent, const char *name)
+{
+	struct saving *s = user;
+	struct grip grip;
+	int failed;
+
+	/* (one whose handle opens nothing any more is saved without a place, at the end) */
+	if (entry_of(s, number) != NOWHERE || node_get(&s->all->nodes, number, &grip))
+		return 0;
+	failed = put_node(s, grip.node, grip.fd, place_in(parent, name));
+	node_put(&grip);
+	s->has_failed |= failed != 0;
+	return failed;
+}
+
+/* Reads the directories that the client knows: Linux's knows that of each name by which it can reach a file. */
+static void search_known(struct saving *s, struct search *search)
+{
+	struct nodes *nodes = &s->all->nodes;
+	uint32_t place = 0;
+	uint64_t number;
+
+	while (!search_is_over(search) && (number = node_next(nodes, &place))) {
+		const uint32_t entry = entry_of(s, number);
+		struct grip grip;
+		int fd;
+
+		if (entry == NOWHERE || node_get(nodes, number, &grip))
+			continue;
+		fd = grip.node->type == S_IFDIR ? open_again(nodes, grip.fd, O_RDONLY | O_DIRECTORY) : -1;
+		if (fd >= 0) {
+			search_directory(search, fd, entry);
+			close(fd);
+		}
+		node_put(&grip);
+	}
+}
+
+/* Saves a node that was not found. */
+static int save_not_found(struct saving *s, uint64_t number)
+{
+	struct grip grip;
+	int failed;
+
+	if (entry_of(s, number) != NOWHERE)
+		return 0;
+	if (!node_get(&s->all->nodes, number, &grip))
+		failed = put_node(s, grip.node, grip.fd, nowhere);
+	else
+		return save_node(s, number);
+	node_put(&grip);
+	return failed;
+}
+
+/* Saves the nodes that are sought. One search is for all of them. */
+static int save_sought(struct saving *s)
+{
+	const struct seeker seeker = { s, goes_on, known_to_search, enter_for_search, found_by_search };
+	uint32_t nodes, files;
+	struct search *search;
+	int failed;
+
+	if (!s->sought_count)
+		return 0;
+	nodes_count(&s->all->nodes, &nodes, &files);
+	search = search_begin(&s->paths, s->sought, s->sought_count, NAMES + (uint64_t)NAMES_OF_NODE * nodes,
+			      &seeker);
+	if (!search)
+		return state_refuse("out of memory");
+	search_known(s, search);
+	if (!search_is_over(search))
+		search_below(search);
+	if (search_is_cut(search))
+		fputs("nizwarf-share: migration: the folder has too many names to look at all of them\n",
+		      stderr);
+	search_end(search);
+	failed = s->has_failed ? -1 : 0;
+	for (size_t i = 0; i < s->sought_count && !failed; i++)
+		failed = save_not_found(s, s->sought[i].number);
+	return failed;
+}
+
+/* ---- mounts, open files, and all of it */
+
+/* Notes a directory as that of its mount, if there is none with a shorter path. */
+static int note_mount(struct saving *s, uint64_t number)
+{
+	struct grip grip;
+	struct statx seen;
+	uint32_t at;
+	char *path = NULL;
+
+	if (node_get(&s->all->nodes, number, &grip))
+		return 0;
+	*s->path = 0;
+	at = mount_number(s, grip.node->on);
+	if (grip.node->type == S_IFDIR && !look_at(grip.fd, &seen) &&
+	    (number == ROOT_NODE || find_path(&s->paths, grip.fd, &seen, s->path) >= 0) &&
+	    (at == MOST_MOUNTS ? s->mount_count < MOST_MOUNTS : strlen(s->path) < strlen(s->mounts[at].path)))
+		path = strdup(s->path);
+	if (path && at == MOST_MOUNTS) {
+		s->mounts[s->mount_count++] = (struct saved_mount){ grip.node->on, path };
+	} else if (path) {
+		free(s->mounts[at].path);
+		s->mounts[at].path = path;
+	}
+	node_put(&grip);
+	return 0;
+}
+
+/* By handles: names for each mount a directory with which the other server opens its handles. What has no
+ * directory among the nodes has none: its nodes go without a handle, and are lost. */
+static int save_mounts(struct saving *s)
+{
+	int failed;
+
+	if (!is_by_handles(s))
+		return 0;
+	s->mounts = calloc(MOST_MOUNTS, sizeof(*s->mounts));
+	if (!s->mounts)
+		return state_refuse("out of memory");
+	failed = for_each_node(s, note_mount);
+	for (size_t i = 0; i < s->mount_count && !failed; i++) {
+		const size_t len = strlen(s->mounts[i].path);
+
+		memcpy(s->record + STATE_RECORD, s->mounts[i].path, len);
+		failed = put_record(s, STATE_MOUNT, len);
+	}
+	return failed;
+}
+
+/* Saves the open files. Their flags are those that the host has now, as O_APPEND and O_DIRECT may have changed since the
+ * open. */
+static int save_files(struct saving *s)
+{
+	struct nodes *nodes = &s->all->nodes;
+	uint32_t place = 0;
+	uint64_t number;
+	int failed = 0;
+
+	while (!failed && (number = file_next(nodes, &place))) {
+		struct open_file *file = file_get(nodes, number);
+		struct state_file told = { .number = number };
+		int flags;
+
+		if (!file)
+			continue;
+		flags = fcntl(file->counted.fd, F_GETFL);
+		told.node = file->node;
+		told.flags = (uint32_t)(flags & ~O_DIRECTORY) | (file->is_directory ? O_DIRECTORY : 0);
+		failed = flags < 0 ? state_refuse("an open file: %s", strerror(errno)) :
+				     put_record(s, STATE_FILE,
+						state_encode_file(&told, s->record + STATE_RECORD));
+		s->end.files++;
+		file_put(file);
+	}
+	return failed;
+}
+
+static int save_header(struct saving *s)
+{
+	struct state_header header = { .version = STATE_VERSION,
+				       .mode = s->all->options.migration_mode,
+				       .agreed = atomic_load(&s->all->agreed) };
+
+	if (!s->all->options.announce_submounts)
+		header.agreed &= ~(uint64_t)FUSE_SUBMOUNTS;
+	state_encode_header(&header, s->record);
+	return put(s, s->record, STATE_HEADER);
+}
+
+/* The order is that of loading: mounts before the nodes whose handles they open, parents before what is in them, and nodes
+ * before the files that are open of them. Locks cannot go: another process has no share in a description here, and
+ * to drop them would deceive who has one. */
+static int save_all(struct saving *s)
+{
+	if (s->all->locks && locks_are_held(s->all->locks))
+		return state_refuse(
+			"the client holds locks of the host, which no other server can take over: it stays here");
+	if (paths_begin(&s->paths, &s->all->nodes))
+		return state_refuse("it cannot be found out where the folder is");
+	/* (the folder is the first entry) */
+	if (save_header(s) || save_mounts(s) || save_node(s, ROOT_NODE) || for_each_node(s, save_node) ||
+	    save_sought(s) || save_files(s))
+		return -1;
+	/* (the sum is of what is before the end) */
+	if (put_record(s, STATE_END, state_encode_end(&s->end, s->record + STATE_RECORD)))
+		return -1;
+	if (s->lost)
+		fprintf(stderr,
+			"nizwarf-share: migration: %zu files have no path in the folder, or no handle\n",
+			s->lost);
+	return 0;
+}
+
+int passthrough_save(void *user, transport_state *to)
+{
+	struct saving *s = calloc(1, sizeof(*s));
+	uint32_t nodes, files;
+	int failed;
+
+	if (!s)
+		return state_refuse("out of memory");
+	s->all = user;
+	s->to = to;
+	s->end.sum = STATE_FIRST_SUM;
+	nodes_count(&s->all->nodes, &nodes, &files);
+	s->most_ancestors = (size_t)nodes + STATE_SPARE_DIRECTORIES;
+	failed = save_all(s);
+	for (size_t i = 0; i < s->mount_count; i++)
+		free(s->mounts[i].path);
+	free(s->mounts);
+	free(s->sought);
+	free(s->ancestors);
+	free(s->entry_of);
+	free(s);
+	return failed;
+}
