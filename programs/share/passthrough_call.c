@@ -18,6 +18,7 @@
 #include <unistd.h>
 #include "passthrough_call.h"
 #include "passthrough_mounts.h"
+#include "say.h"
 
 /* Options of INIT that older headers lack. */
 #define SETXATTR_EXT (UINT64_C(1) << 29)
@@ -733,8 +734,8 @@ static void want_further(const struct call *call)
 	if (!all->backings)
 		return;
 	if (!(nizwarf_init_further(call->asked) & NIZWARF_PASSTHROUGH)) {
-		fputs("nizwarf-share: --passthrough: Linux has it from 6.9 on: files are served by requests\n",
-		      stderr);
+		transport_say("nizwarf-share",
+			      "--passthrough: Linux has it from 6.9 on: files are served by requests");
 		return;
 	}
 	memcpy(call->worker->text, &more, sizeof(more));
@@ -774,7 +775,7 @@ static int agree(const struct call *call)
 	forget_all(call);
 	if (lacking) {
 		if (!atomic_exchange(&all->lacks_option, true))
-			fprintf(stderr, "nizwarf-share: %s\n", lacking);
+			transport_say("nizwarf-share", "%s", lacking);
 		return EPROTO;
 	}
 	nizwarf_answer_options(call->answer, wanted(all) & offered);

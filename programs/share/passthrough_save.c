@@ -20,6 +20,7 @@
 #include "passthrough_mounts.h"
 #include "passthrough_search.h"
 #include "passthrough_state.h"
+#include "say.h"
 
 enum { MOST_MOUNTS = 1024, FIRST_PIECES = 256 };
 /* How many names a search looks at: so many, and besides so many for each node. */
@@ -567,8 +568,8 @@ static int save_sought(struct saving *s)
 	if (!search_is_over(search))
 		search_below(search);
 	if (search_is_cut(search))
-		fputs("nizwarf-share: migration: the folder has too many names to look at all of them\n",
-		      stderr);
+		transport_say("nizwarf-share",
+			      "migration: the directory has too many names to look at all of them");
 	search_end(search);
 	failed = s->has_failed ? -1 : 0;
 	for (size_t i = 0; i < s->sought_count && !failed; i++)
@@ -683,9 +684,8 @@ static int save_all(struct saving *s)
 	if (put_record(s, STATE_END, state_encode_end(&s->end, s->record + STATE_RECORD)))
 		return -1;
 	if (s->lost)
-		fprintf(stderr,
-			"nizwarf-share: migration: %zu files have no path in the folder, or no handle\n",
-			s->lost);
+		transport_say("nizwarf-share",
+			      "migration: %zu files have no path in the directory, or no handle", s->lost);
 	return 0;
 }
 

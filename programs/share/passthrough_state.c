@@ -6,6 +6,7 @@
 #include <sys/stat.h>
 #include "passthrough_search.h"
 #include "passthrough_state.h"
+#include "say.h"
 
 static const char magic[8] = "nizwarf";
 
@@ -231,13 +232,13 @@ uint64_t state_sum(uint64_t sum, const void *bytes, size_t len)
 
 int state_refuse(const char *why, ...)
 {
+	char line[PIPE_BUF / 2];
 	va_list rest;
 
 	va_start(rest, why);
-	fputs("nizwarf-share: migration: ", stderr);
 	/* (clang-tidy does not see va_start() where it looks at many files) */
-	vfprintf(stderr, why, rest); // NOLINT(clang-analyzer-valist.Uninitialized)
-	fputc('\n', stderr);
+	vsnprintf(line, sizeof(line), why, rest); // NOLINT(clang-analyzer-valist.Uninitialized)
 	va_end(rest);
+	transport_say("nizwarf-share", "migration: %s", line);
 	return -1;
 }
