@@ -310,14 +310,15 @@ static int drop_capabilities(void)
 	return syscall(SYS_capset, &header, none) ? failed("capabilities") : 0;
 }
 
-/* Whether no device can be opened in the mount of the root from now on: it becomes one with nodev. Of
- * a mount below it nothing is said. Linux has the call from 5.12 on. */
+/* Whether no device can be opened from now on in the mount of the root and in the mounts below it: all of them become
+ * nodev, because root's server may make a device in any of them. What the host mounts below the folder later has the
+ * flags that the host gives it. Linux has the call since 5.12. */
 static bool refuse_devices(void)
 {
 #ifdef MOUNT_ATTR_NODEV
 	struct mount_attr attributes = { .attr_set = MOUNT_ATTR_NODEV };
 
-	return !mount_setattr(AT_FDCWD, "/", 0, &attributes, sizeof(attributes));
+	return !mount_setattr(AT_FDCWD, "/", AT_RECURSIVE, &attributes, sizeof(attributes));
 #else
 	return false;
 #endif
@@ -367,7 +368,8 @@ int sandbox_enter(enum sandbox sandbox, const char *folder, int *root, int *proc
 const bool has_filter = true;
 
 /* What a server calls, its threads and its C library; some by other names on other processors. None
- * executes a program, traces another process, mounts, or makes a socket. */
+ * executes a program, traces another process, mounts, or makes a socket. Those whose arguments decide what they do are
+ * not in this list: let_limited(). */
 static const char *const calls[] = {
 	"accept4",
 	"brk",
@@ -375,8 +377,6 @@ static const char *const calls[] = {
 	"capset",
 	"clock_gettime",
 	"clock_nanosleep",
-	"clone",
-	"clone3",
 	"close",
 	"copy_file_range",
 	"dup",
@@ -394,7 +394,6 @@ static const char *const calls[] = {
 	"fchmod",
 	"fchmodat",
 	"fchownat",
-	"fcntl",
 	"fdatasync",
 	"fgetxattr",
 	"flistxattr",
@@ -432,7 +431,6 @@ static const char *const calls[] = {
 	"prctl",
 	"pread64",
 	"preadv",
-	"prlimit64",
 	"pwrite64",
 	"pwritev",
 	"pwritev2",
@@ -466,7 +464,6 @@ static const char *const calls[] = {
 	"statx",
 	"symlinkat",
 	"syncfs",
-	"tgkill",
 	"timer_create",
 	"timer_delete",
 	"timer_settime",
@@ -485,8 +482,20 @@ static const char *const handle_calls[] = { "name_to_handle_at", "open_by_handle
 /* And to use rings that are there. (By a ring that it made it would call what it likes.) */
 static const char *const ring_calls[] = { "io_uring_enter", "sched_setaffinity" };
 
-/* And by ioctl: a worker's descriptor of the device; whether what is written to is a terminal. */
+/* And by ioctl: a worker's descriptor of the device; whether what is written to is a terminal. (Others would let it
+ * type at a terminal.) */
 static const uint32_t controls[] = { FUSE_DEV_IOC_CLONE, TCGETS };
+
+/* And by fcntl: flags, copies of descriptors, the size of a pipe, and locks of open files. Others, as F_SETOWN, would
+ * let it send signals to processes outside of a chroot. A command that the server begins to use must be added here, or
+ * the filter ends the server. */
+static const uint32_t commands[] = { F_GETFL,	  F_SETFL,     F_DUPFD_CLOEXEC, F_SETPIPE_SZ,
+				     F_OFD_GETLK, F_OFD_SETLK, F_OFD_SETLKW };
+
+/* The flags of clone(2) that make a thread, and those that make a namespace. */
+static const uint64_t of_thread = CLONE_THREAD, of_namespace = CLONE_NEWNS | CLONE_NEWCGROUP | CLONE_NEWUTS |
+							       CLONE_NEWIPC | CLONE_NEWUSER | CLONE_NEWPID |
+							       CLONE_NEWNET;
 
 /* Lets calls through by their names: 0, or an error below 0. One that this processor lacks has a
  * number of libseccomp's own, and its rule does nothing. */
@@ -496,6 +505,52 @@ static int let(scmp_filter_ctx rules, const char *const *names, size_t count)
 
 	for (size_t i = 0; i < count && !error; i++)
 		error = seccomp_rule_add(rules, SCMP_ACT_ALLOW, seccomp_syscall_resolve_name(names[i]), 0);
+	return error;
+}
+
+/* Lets a call through whose argument `at` has one of these values: 0, or an error below 0. The kernel looks at the
+ * lower 32 bits of the argument alone, and so does the rule. */
+static int let_values(scmp_filter_ctx rules, int call, unsigned at, const uint32_t *values, size_t count)
+{
+	int error = 0;
+
+	for (size_t i = 0; i < count && !error; i++)
+		error = seccomp_rule_add(rules, SCMP_ACT_ALLOW, call, 1,
+					 SCMP_CMP(at, SCMP_CMP_MASKED_EQ, UINT32_MAX, values[i]));
+	return error;
+}
+
+/* Lets through those that a server needs with some arguments alone. Without a namespace of processes others would reach
+ * processes of the host, as a signal by tgkill(2) or a limit by prlimit64(2); and new processes and namespaces are of no
+ * use to serving. Flags of clone3(2) lie in memory, which a filter does not see: the C library falls back to clone(2)
+ * where there is no such call. */
+static int let_limited(scmp_filter_ctx rules)
+{
+#ifdef __s390__
+	const unsigned flags_at = 1;
+#else
+	const unsigned flags_at = 0;
+#endif
+	const uint32_t own = (uint32_t)getpid(), itself = 0, only_files = CLONE_FS;
+	int error = let_values(rules, SCMP_SYS(ioctl), 1, controls, sizeof(controls) / sizeof(*controls));
+
+	if (!error)
+		error = let_values(rules, SCMP_SYS(fcntl), 1, commands, sizeof(commands) / sizeof(*commands));
+	/* (as abort(3) does) */
+	if (!error)
+		error = let_values(rules, SCMP_SYS(tgkill), 0, &own, 1);
+	/* (0 is the calling process, as in getrlimit(3)) */
+	if (!error)
+		error = let_values(rules, SCMP_SYS(prlimit64), 0, &itself, 1);
+	/* (a worker's umask is its own) */
+	if (!error)
+		error = let_values(rules, SCMP_SYS(unshare), 0, &only_files, 1);
+	if (!error)
+		error = seccomp_rule_add(
+			rules, SCMP_ACT_ALLOW, SCMP_SYS(clone), 1,
+			SCMP_CMP(flags_at, SCMP_CMP_MASKED_EQ, of_thread | of_namespace, of_thread));
+	if (!error)
+		error = seccomp_rule_add(rules, SCMP_ACT_ERRNO(ENOSYS), SCMP_SYS(clone3), 0);
 	return error;
 }
 
@@ -585,14 +640,8 @@ int sandbox_filter(enum calls_filter filter, unsigned may)
 		error = let(rules, handle_calls, 1);
 	if (!error && may & MAY_USE_RINGS)
 		error = let_rings(rules);
-	/* (others of ioctl would let it type at a terminal) */
-	for (size_t i = 0; i < sizeof(controls) / sizeof(*controls) && !error; i++)
-		error = seccomp_rule_add(rules, SCMP_ACT_ALLOW, SCMP_SYS(ioctl), 1,
-					 SCMP_A1(SCMP_CMP_MASKED_EQ, UINT32_MAX, controls[i]));
-	/* (a worker's umask is its own) */
 	if (!error)
-		error = seccomp_rule_add(rules, SCMP_ACT_ALLOW, SCMP_SYS(unshare), 1,
-					 SCMP_A0(SCMP_CMP_EQ, CLONE_FS));
+		error = let_limited(rules);
 	if (!error && may & MAY_WATCH)
 		error = let_watch(rules);
 	/* (without a sandbox the server unmounts by itself) */
