@@ -529,6 +529,17 @@ static int statistics(const struct call *call)
 	return 0;
 }
 
+/* UNLINK and RMDIR. */
+static int remove_name(const struct call *call, const char *name, int flags)
+{
+	struct nodes *nodes = &call->all->nodes;
+	struct node *kept = node_keep(nodes, call->node.fd, name);
+	const int error = failed(unlinkat(call->node.fd, name, flags));
+
+	node_kept(nodes, kept, !error);
+	return error;
+}
+
 /* ---- which call it is */
 
 /* Whether a call changes something of the folder. */
@@ -607,7 +618,6 @@ static int make_of_node(const struct call *call)
 {
 	const nizwarf_call *asked = call->asked;
 	const char *name = name_of(call, asked->name);
-	const int node = call->node.fd;
 
 	switch (asked->call) {
 	case NIZWARF_LOOKUP:
@@ -625,9 +635,9 @@ static int make_of_node(const struct call *call)
 	case NIZWARF_MKDIR:
 		return make_node(call);
 	case NIZWARF_UNLINK:
-		return failed(unlinkat(node, name, 0));
+		return remove_name(call, name, 0);
 	case NIZWARF_RMDIR:
-		return failed(unlinkat(node, name, AT_REMOVEDIR));
+		return remove_name(call, name, AT_REMOVEDIR);
 	case NIZWARF_RENAME:
 		return rename_node(call);
 	case NIZWARF_LINK:

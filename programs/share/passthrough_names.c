@@ -134,14 +134,19 @@ int make_node(const struct call *call)
 int rename_node(const struct call *call)
 {
 	const nizwarf_call *asked = call->asked;
+	const char *onto = name_of(call, asked->other_name);
 	const bool makes = asked->flags & RENAME_WHITEOUT;
+	/* (with the other flags no name is removed) */
+	const bool replaces = !(asked->flags & (RENAME_NOREPLACE | RENAME_EXCHANGE));
+	struct node *kept = replaces ? node_keep(&call->all->nodes, call->other.fd, onto) : NULL;
 	int error = makes ? become(call) : 0;
 
 	if (!error)
-		error = failed(renameat2(call->node.fd, name_of(call, asked->name), call->other.fd,
-					 name_of(call, asked->other_name), asked->flags));
+		error = failed(renameat2(call->node.fd, name_of(call, asked->name), call->other.fd, onto,
+					 asked->flags));
 	if (makes)
 		become_root(call);
+	node_kept(&call->all->nodes, kept, !error);
 	return error;
 }
 

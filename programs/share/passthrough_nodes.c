@@ -329,7 +329,7 @@ static void free_node(struct node *node)
 		watch_remove(all->watch, node->watched, node->counted.fd);
 	if (node->counted.fd >= 0)
 		fd_let_go(all, node->counted.fd);
-	else
+	if (node->handle_size)
 		mount_let_go(node->on);
 	mount_put(node->on);
 	free(node);
@@ -370,6 +370,10 @@ int node_get(struct nodes *all, uint64_t number, struct grip *grip)
 	if (grip->fd >= 0)
 		return 0;
 	error = errno;
+	/* (its last name may have been removed meanwhile, and the file kept: node_keep()) */
+	grip->fd = grip->node->counted.fd;
+	if (grip->fd >= 0)
+		return 0;
 	node_put(grip);
 	return error;
 }
@@ -451,6 +455,75 @@ bool node_may_be_known(struct nodes *all, const struct node *directory, uint64_t
 		node = node->next;
 	pthread_rwlock_unlock(&all->nodes.lock);
 	return node != NULL;
+}
+
+/* Whether a file is about to lose its last name with this one. (Two workers that remove two names of one file at once may
+ * both see two.) */
+static bool is_last_name(const struct statx *seen)
+{
+	return S_ISDIR(seen->stx_mode) || seen->stx_nlink <= 1;
+}
+
+/* Has the node of a handle keep a descriptor, if there is such a node and it has none: the node, in hand, or NULL. It is
+ * set under the lock for writing, as who looks a node up compares handles only where there is no descriptor. */
+static struct node *keep_by_handle(struct nodes *all, int fd, const struct statx *seen,
+				   const struct file_handle *handle)
+{
+	struct node *node;
+
+	pthread_rwlock_wrlock(&all->nodes.lock);
+	node = known(all, seen, handle);
+	if (node && node->counted.fd >= 0)
+		node = NULL;
+	if (node) {
+		node->counted.fd = fd;
+		atomic_fetch_add(&node->counted.users, 1);
+	}
+	pthread_rwlock_unlock(&all->nodes.lock);
+	return node;
+}
+
+struct node *node_keep(struct nodes *all, int directory, const char *name)
+{
+	enum { WHAT = STATX_BASIC_STATS | STATX_MNT_ID };
+	struct node *node = NULL;
+	union handle_room room;
+	struct statx seen;
+	int fd;
+
+	/* (most files are not known, so that nothing is opened for them) */
+	if (all->handles_from == UINT_MAX ||
+	    statx(directory, name, AT_SYMLINK_NOFOLLOW | AT_NO_AUTOMOUNT, WHAT, &seen) ||
+	    !is_last_name(&seen) || !some_handle(all, &seen) || fd_reserve(all, 1))
+		return NULL;
+	fd = openat(directory, name, O_PATH | O_NOFOLLOW | O_CLOEXEC);
+	/* (another file may have the name by now) */
+	if (fd >= 0 && !statx(fd, "", AT_EMPTY_PATH, WHAT, &seen) && handle_by(fd, &room))
+		node = keep_by_handle(all, fd, &seen, &room.handle);
+	if (!node && fd >= 0)
+		close(fd);
+	if (!node)
+		fd_give_back(all, 1);
+	return node;
+}
+
+void node_kept(struct nodes *all, struct node *node, bool is_removed)
+{
+	int fd = -1;
+
+	if (!node)
+		return;
+	/* (nobody has the descriptor in hand if the users are the table and this one: who comes next opens the handle) */
+	pthread_rwlock_wrlock(&all->nodes.lock);
+	if (!is_removed && atomic_load(&node->counted.users) == 2 &&
+	    thing_of(&all->nodes, node->counted.number) == &node->counted) {
+		fd = node->counted.fd;
+		node->counted.fd = -1;
+	}
+	pthread_rwlock_unlock(&all->nodes.lock);
+	if (fd >= 0)
+		fd_let_go(all, fd);
+	free_node(node);
 }
 
 int node_look_up(struct nodes *all, unsigned client, struct node *node)

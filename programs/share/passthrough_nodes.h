@@ -30,10 +30,10 @@ struct watch;
 struct watched;
 
 /* What a number leads to, before the fields of its kind. `users` are the table, and each call that
- * has it in hand. */
+ * has it in hand. `fd` changes for a node alone: node_keep(). */
 struct counted {
 	atomic_uint users;
-	int fd;
+	atomic_int fd;
 	uint64_t number;
 };
 
@@ -63,7 +63,7 @@ struct host_mount {
 
 /* A client may have a million of them: what isn't needed is not kept, and what is differs in length. */
 struct node {
-	/* `fd` is -1 where there is a handle. */
+	/* `fd` is -1 where there is a handle, but for a node that node_keep() keeps. */
 	struct counted counted;
 	atomic_ullong lookups;
 	uint64_t inode;
@@ -187,6 +187,14 @@ int node_get(struct nodes *all, uint64_t number, struct grip *grip);
 /* The same, without a descriptor if it has a handle. */
 int node_hold(struct nodes *all, uint64_t number, struct grip *grip);
 void node_put(struct grip *grip);
+
+/* Opens the file of a node that is held by a handle, before its last name is removed, which `name` in `directory` is: a
+ * handle does not open a file without a name, but a client may still have it open without an OPEN, as a FIFO or by a
+ * descriptor made with O_PATH. Returns the node, which the caller must hand to node_kept() once it has tried to remove the
+ * name; or NULL, where nothing is to be kept, or can be. */
+struct node *node_keep(struct nodes *all, int directory, const char *name);
+/* The file stays open as long as the client knows it, if its name was removed. `node` may be NULL. */
+void node_kept(struct nodes *all, struct node *node, bool is_removed);
 
 /* Whether a file of a directory with this inode may be known already. */
 bool node_may_be_known(struct nodes *all, const struct node *directory, uint64_t inode);
