@@ -7,6 +7,7 @@
  * so make files that are root's. A server that isn't root has one user, and makes all as that. */
 #define _GNU_SOURCE
 #include <errno.h>
+#include <fcntl.h>
 #include <linux/fuse.h>
 #include <sched.h>
 #include <string.h>
@@ -110,20 +111,43 @@ void become_root(const struct call *call)
 	set_capabilities(w->capabilities, w->capabilities);
 }
 
-/* Whether the host is to take set-user-ID and set-group-ID bits away, as it does for who lacks
- * CAP_FSETID. FALLOCATE and COPY_FILE_RANGE have no flag for it, and since Linux 6.12 no caller: there
- * they are only kept if it is said that root asks. */
+/* Whether the client takes set-user-ID and set-group-ID bits away itself where it doesn't say that the server must: it did
+ * not agree on HANDLE_KILLPRIV_V2. It does so by SETATTR, before it writes or calls truncate(2). */
+static bool takes_bits_itself(const struct call *call)
+{
+	return !(atomic_load(&call->all->agreed) & FUSE_HANDLE_KILLPRIV_V2);
+}
+
+/* Whether a request without a flag for it must take bits away. Root may keep them; which capabilities another user has is
+ * not known. Since Linux 6.12 such a request does not name its user, whose id is UINT32_MAX then.
+ *
+ * A client leaves the bits of a file that OPEN truncates, also if it takes them away itself otherwise. Of FALLOCATE and
+ * COPY_FILE_RANGE the same is so before Linux 6.0; a client that names no user is younger. */
+static bool kills_untold(const struct call *call)
+{
+	const nizwarf_call *asked = call->asked;
+
+	switch (asked->call) {
+	case NIZWARF_OPEN:
+		return asked->flags & O_TRUNC && asked->uid && takes_bits_itself(call);
+	case NIZWARF_FALLOCATE:
+	case NIZWARF_COPY:
+	case NIZWARF_COPY_64:
+		return asked->uid && (asked->uid != UINT32_MAX || !takes_bits_itself(call));
+	default:
+		return false;
+	}
+}
+
+/* Whether the host is to take set-user-ID and set-group-ID bits away, as it does for who lacks CAP_FSETID. */
 static bool kills(const struct call *call)
 {
 	const nizwarf_call *asked = call->asked;
 
 	return call->worker->is_root &&
-	       (asked->has & NIZWARF_KILL_PRIV ||
+	       (asked->has & NIZWARF_KILL_PRIV || kills_untold(call) ||
 		(asked->call == NIZWARF_SETATTR && nizwarf_setattr_fields(asked) & FATTR_KILL_SUIDGID) ||
-		(asked->call == NIZWARF_SETXATTR && nizwarf_setxattr_more_flags(asked) & CLEARS_GROUP) ||
-		((asked->call == NIZWARF_FALLOCATE || asked->call == NIZWARF_COPY ||
-		  asked->call == NIZWARF_COPY_64) &&
-		 asked->uid));
+		(asked->call == NIZWARF_SETXATTR && nizwarf_setxattr_more_flags(asked) & CLEARS_GROUP));
 }
 
 void lose_fsetid(const struct call *call)

@@ -13,6 +13,7 @@
 #include <fcntl.h>
 #include <grp.h>
 #include <limits.h>
+#include <linux/fuse.h>
 #include <poll.h>
 #include <pthread.h>
 #include <signal.h>
@@ -547,6 +548,10 @@ int main(int count, char **given)
 	/* (over a mount data may go by a pipe, and one of this size takes no privilege) */
 	words.files.payload = is_mount() ? FUSE_DEVICE_PIPED : TRANSPORT_PAYLOAD;
 	by.quiet = !words.says_more;
+	/* (a client that takes set-user-ID bits away itself does so for truncate(2), but leaves those of a file that OPEN
+	 * truncates: so it truncates by a request of its own) */
+	if (!words.files.kills_bits)
+		by.withheld = FUSE_ATOMIC_O_TRUNC;
 	if (words.watches)
 		by.notices = words.files.notices = &notices;
 	if (words.says_more && *words.allow_other && is_mount() && !words.files.posix_acl)

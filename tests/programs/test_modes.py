@@ -1,0 +1,169 @@
+"""What a file system mounted with nizwarf-share does with set-ID bits, and with files that are open without a name. The
+expected values are those of the same calls on a plain directory."""
+import contextlib
+import os
+import stat
+import struct
+
+import pytest
+from vhost_user import Op
+
+pytestmark = pytest.mark.root
+ENOTEMPTY = 39
+
+
+def mode_of(path):
+    return oct(stat.S_IMODE(os.stat(path).st_mode))
+
+
+def as_user(ids, call, path):
+    """Makes a call in a process of this user and group."""
+    child = os.fork()
+    if not child:
+        try:
+            os.setgroups([])
+            os.setresgid(ids[1], ids[1], ids[1])
+            os.setresuid(ids[0], ids[0], ids[0])
+            call(path)
+        finally:
+            os._exit(1 if os.geteuid() != ids[0] else 0)
+    assert os.waitpid(child, 0)[1] == 0
+
+
+def write(path):
+    fd = os.open(path, os.O_WRONLY)
+    assert os.pwrite(fd, b"more", 0) == 4
+    os.close(fd)
+
+
+def truncate_by_open(path):
+    os.close(os.open(path, os.O_WRONLY | os.O_TRUNC))
+    assert os.stat(path).st_size == 0
+
+
+def truncate(path):
+    os.truncate(path, 10)
+
+
+def allocate(path):
+    fd = os.open(path, os.O_WRONLY)
+    os.posix_fallocate(fd, 0, 9000)
+    os.close(fd)
+
+
+def copy(path):
+    source = os.open(os.path.dirname(path) + "/source", os.O_RDONLY)
+    fd = os.open(path, os.O_WRONLY)
+    assert os.copy_file_range(source, fd, 100) == 100
+    os.close(source)
+    os.close(fd)
+
+
+def change(path, call, ids, mode):
+    """The mode of a file of user 1000 after a call."""
+    path.mkdir(exist_ok=True)
+    path.chmod(0o777)
+    for name in ("source", "file"):
+        (path / name).write_bytes(bytes(5000))
+        os.chown(path / name, 1000, 1000)
+    (path / "source").chmod(0o644)
+    (path / "file").chmod(mode)
+    as_user(ids, call, str(path / "file"))
+    return mode_of(path / "file")
+
+
+USERS = [(0, 0), (1000, 1000), (2000, 2000)]
+
+
+@pytest.mark.parametrize("call", [write, truncate_by_open, truncate, allocate, copy], ids=lambda it: it.__name__)
+@pytest.mark.parametrize("ids", USERS, ids=lambda it: f"by{it[0]}")
+def test_with_no_killpriv_v2_bits_go_as_in_a_plain_directory(mount, directory, scratch, call, ids):
+    server = mount("-o", "allow_other", "--no-killpriv-v2", "--log-level=warn")
+    for mode in (0o6777, 0o2777, 0o4777):
+        assert change(server.path / "shared", call, ids, mode) == change(scratch / "plain", call, ids, mode), oct(mode)
+
+
+@pytest.mark.parametrize("call", [write, truncate_by_open, truncate, allocate, copy], ids=lambda it: it.__name__)
+@pytest.mark.parametrize("options", [(), ("--writeback",), ("--passthrough",)], ids=" ".join)
+def test_by_default_no_user_but_root_keeps_bits(mount, directory, scratch, call, options):
+    server = mount("-o", "allow_other", "--log-level=warn", *options)
+    for ids in USERS[1:]:
+        for mode in (0o6777, 0o2777, 0o4777):
+            assert change(server.path / "shared", call, ids, mode) == "0o777"
+
+
+@contextlib.contextmanager
+def opened(path, flags):
+    fd = os.open(path, flags)
+    try:
+        yield fd
+    finally:
+        os.close(fd)
+
+
+def unlink(path):
+    os.unlink(path)
+
+
+def replace(path):
+    (path.parent / "other").write_bytes(b"")
+    os.rename(path.parent / "other", path)
+
+
+@pytest.mark.fuse
+@pytest.mark.parametrize("make", [os.mkfifo, lambda path: path.write_bytes(b"content"), os.mkdir],
+                         ids=["fifo", "file", "directory"])
+@pytest.mark.parametrize("remove", [unlink, replace], ids=lambda it: it.__name__)
+@pytest.mark.parametrize("handles", ["never", "prefer", "mandatory"])
+def test_what_is_open_without_an_open_outlives_its_last_name(mount, directory, make, remove, handles):
+    server = mount(f"--inode-file-handles={handles}", "-o", "attr_timeout=0")
+    path = server.path / "name"
+    make(path)
+    with opened(path, os.O_PATH) as fd:
+        number = os.fstat(fd).st_ino
+        if path.is_dir() and remove is unlink:
+            os.rmdir(path)
+        elif path.is_dir():
+            os.mkdir(server.path / "other")
+            os.rename(server.path / "other", path)
+        else:
+            remove(path)
+        seen = os.fstat(fd)
+        assert (seen.st_ino, seen.st_nlink) == (number, 0)
+
+
+@pytest.mark.fuse
+def test_a_fifo_that_is_open_outlives_its_last_name(mount):
+    server = mount("--inode-file-handles=prefer", "-o", "attr_timeout=0")
+    path = server.path / "fifo"
+    os.mkfifo(path)
+    with opened(path, os.O_RDWR) as fd:
+        os.unlink(path)
+        os.write(fd, b"through")
+        assert os.read(fd, 100) == b"through" and stat.S_ISFIFO(os.fstat(fd).st_mode)
+
+
+def test_with_handles_a_name_that_is_not_removed_takes_no_descriptor(serve, directory):
+    server = serve("--inode-file-handles=prefer")
+    client = server.connect()
+    nodes = []
+    for i in range(50):
+        (directory / f"full{i}/file").mkdir(parents=True)
+        nodes.append(client.lookup(b"full%d" % i))
+    before = len(server.descriptors())
+    for i in range(50):
+        assert client.ask(Op.RMDIR, b"full%d\0" % i).error == ENOTEMPTY
+    assert len(server.descriptors()) == before
+    for i, node in enumerate(nodes):
+        (directory / f"full{i}/file").rmdir()
+        client.expect(Op.RMDIR, b"full%d\0" % i)
+        # (the number of links)
+        assert struct.unpack_from("<I", client.getattr(node), 64) == (0,)
+    assert len(server.descriptors()) == before + 50
+    # (what is forgotten lets go of its descriptor)
+    for node in nodes:
+        client.forget(node)
+    client.getattr(1)
+    # (and with the last handle goes the descriptor by which handles are opened)
+    assert len(server.descriptors()) == before - 1
+
