@@ -25,7 +25,7 @@
 #include "transport.h"
 
 /* How many descriptors, files that a client knows, and workers there may be, if nothing else is said. */
-enum { MOST_FILES = 1000000, MOST_NODES = 1000000, WORKERS = 4 };
+enum { MOST_FILES = 1000000, MOST_NODES = 10000000, WORKERS = 4 };
 
 /* What is so without a word. */
 struct share_words words = {
