@@ -35,6 +35,7 @@
 #include "passthrough.h"
 #include "say.h"
 #include "share_pid.h"
+#include "share_refuse.h"
 #include "share_sandbox.h"
 #include "share_syslog.h"
 #include "share_words.h"
@@ -87,7 +88,8 @@ static void raise_limit(void)
 	setrlimit(RLIMIT_NOFILE, &limit);
 	/* (unasked it is as many as may be) */
 	if (words.says_more && words.wants_files)
-		fprintf(stderr, "nizwarf-share: at most %llu files can be open, and not %lu\n",
+		fprintf(stderr,
+			"nizwarf-share: --rlimit-nofile: at most %llu files can be open, and not %lu\n",
 			(unsigned long long)limit.rlim_max, words.most_files);
 }
 
@@ -257,6 +259,23 @@ static void remove_at_exit(void)
 	remove_socket(NULL);
 }
 
+/* Looks whether a socket can be made in its directory, so that the message names the socket, and not the file of the
+ * process beside it. -1: it can't be, and that was said. */
+static int look_at_socket(const char *path)
+{
+	char directory[PATH_MAX];
+	const char *name = strrchr(path, '/');
+	const size_t len = name ? (size_t)(name - path) : 0,
+		     most = sizeof(((struct sockaddr_un *)0)->sun_path) - 1;
+
+	if (strlen(path) > most)
+		refuse("--socket-path is longer than %zu bytes, the limit of a socket's path: %s", most,
+		       path);
+	/* (the directory is the root, or that in which the program was started, or what is before the name) */
+	snprintf(directory, sizeof(directory), "%.*s", name ? (int)(len ? len : 1) : 1, name ? path : ".");
+	return faccessat(AT_FDCWD, directory, W_OK | X_OK, AT_EACCESS) ? failed(path) : 0;
+}
+
 /* Listens for the owner, and for the group of those who may connect too. Who connects has the whole
  * folder, as the server has it. If it can't, the program ends: status 2 if a word can't be, or else 1. */
 static int listen_on_socket(const transport *of)
@@ -270,11 +289,13 @@ static int listen_on_socket(const transport *of)
 		socklen_t len = sizeof(listens);
 
 		if (getsockopt(words.fd, SOL_SOCKET, SO_ACCEPTCONN, &listens, &len) || !listens)
-			refuse("--fd is not that of a socket that listens", "");
+			refuse("--fd=%d is not a listening socket", words.fd);
 		return words.fd;
 	}
 	if (words.socket_group && !group)
-		refuse("there is no group ", words.socket_group);
+		refuse("--socket-group: unknown group: %s", words.socket_group);
+	if (look_at_socket(words.socket_path))
+		exit(1);
 	if (pid_file_take(words.socket_path))
 		exit(1);
 	/* (whatever fails from here on leaves nothing) */
@@ -376,7 +397,7 @@ static void make_rings(void)
 	if (by.rings)
 		by.ring = &fuse_ring;
 	else if (words.by_ring && device >= 0)
-		fputs("nizwarf-share: there is no io_uring here: requests come by read(2)\n", stderr);
+		fputs("nizwarf-share: io_uring is not available: requests are served by read(2)\n", stderr);
 }
 
 /* How many workers there are at most, and descriptors besides those of files. Over io_uring the worker
@@ -508,6 +529,22 @@ static int serve(int listener)
 	return status;
 }
 
+/* Looks whether the folder can be shared, as a sandbox would name itself, and not the folder. Status 2: it can't be. (In a
+ * namespace of users that has several ids the server may enter more than who started it.) */
+static int look_at_folder(void)
+{
+	struct stat seen;
+
+	if (stat(words.folder, &seen))
+		return failed(words.folder), 2;
+	errno = ENOTDIR;
+	if (!S_ISDIR(seen.st_mode))
+		return failed(words.folder), 2;
+	if (!words.uids.count && faccessat(AT_FDCWD, words.folder, X_OK, AT_EACCESS))
+		return failed(words.folder), 2;
+	return 0;
+}
+
 /* Finds the folder and where it is mounted. Status 2: they can't be. (Who may write to what is above
  * may replace what they lead to, up to when the sandbox is entered.) */
 static int find_places(void)
@@ -520,6 +557,8 @@ static int find_places(void)
 		return failed(words.folder), 2;
 	}
 	words.folder = folder;
+	if (look_at_folder())
+		return 2;
 	if (!words.mount_point)
 		return 0;
 	if (!realpath(words.mount_point, mount_point))
@@ -527,7 +566,7 @@ static int find_places(void)
 	words.mount_point = mount_point;
 	/* A server that looks there would ask itself. */
 	if (is_below(mount_point, folder) && strcmp(mount_point, folder) != 0)
-		refuse("the mount point lies in the folder: ", mount_point);
+		refuse("the mount point lies in the shared directory: %s", mount_point);
 	return 0;
 }
 
@@ -542,7 +581,8 @@ int main(int count, char **given)
 	if (words.logs && syslog_start())
 		return 1;
 	if (words.tag && words.says_more)
-		fprintf(stderr, "nizwarf-share: --tag=%s is let pass: the line of the machine says its tag\n",
+		fprintf(stderr,
+			"nizwarf-share: --tag=%s is ignored: the tag is an option of the virtual machine\n",
 			words.tag);
 	by.workers = words.files.workers;
 	/* (over a mount data may go by a pipe, and one of this size takes no privilege) */
@@ -555,7 +595,8 @@ int main(int count, char **given)
 	if (words.watches)
 		by.notices = words.files.notices = &notices;
 	if (words.says_more && *words.allow_other && is_mount() && !words.files.posix_acl)
-		fputs("nizwarf-share: access control lists of the folder are not looked at: --posix-acl\n",
+		fputs("nizwarf-share: note: without --posix-acl users are let in by modes alone; add it if files of the "
+		      "directory have access control lists\n",
 		      stderr);
 	if (words.traces && trace_begin(&by, words.trace_file))
 		return 1;

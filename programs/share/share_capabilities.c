@@ -2,6 +2,7 @@
 #define _GNU_SOURCE
 #include <string.h>
 #include <strings.h>
+#include "share_refuse.h"
 #include "share_words.h"
 
 /* The number of a capability. */
@@ -56,7 +57,7 @@ static int capability_of(const char *name)
 	for (int i = 0; i < (int)(sizeof(known) / sizeof(*known)); i++)
 		if (!strcasecmp(name, known[i]))
 			return i;
-	refuse("--modcaps: there is no capability ", name);
+	refuse("--modcaps: unknown capability: %s", name);
 }
 
 /* Names with + or - before each, and colons between them. */
@@ -71,7 +72,7 @@ void take_capabilities(char *rest)
 		if (!*one)
 			continue;
 		if (*one != '+' && *one != '-')
-			refuse("--modcaps: + or - is wanted before ", one);
+			refuse("--modcaps: a capability must begin with + or -: %s", one);
 		bit = UINT64_C(1) << capability_of(one + 1);
 		/* (of a capability that is said twice the last one counts) */
 		words.files.more_capabilities &= ~bit;

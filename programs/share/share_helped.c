@@ -9,6 +9,7 @@
 #include <sys/syscall.h>
 #include <unistd.h>
 #include "share_helped.h"
+#include "share_refuse.h"
 #include "share_words.h"
 
 struct helped helped;
@@ -24,7 +25,7 @@ bool is_started_by_mount(const char *name)
 void take_from_mount(int count, char **given)
 {
 	if (count < 3)
-		refuse("it is mount(8) that starts it by this name, with a folder and a mount point", "");
+		refuse("under this name it is started by mount(8), with a directory and a mount point");
 	helped.is_there = true;
 	/* (mount(8) waits for it to end, and says nothing else: so it comes back once the folder is
 	 * mounted) */
@@ -36,7 +37,7 @@ void take_from_mount(int count, char **given)
 #endif
 	for (int found; (found = getopt(count - 2, given + 2, ":sfnvo:t:")) != -1;) {
 		if (found == '?' || found == ':')
-			refuse("mount(8) gives a word that can't be: ", given[optind + 1]);
+			refuse("unknown option of mount(8): %s", given[optind + 1]);
 		helped.is_fake |= found == 'f';
 		helped.is_sloppy |= found == 's';
 		words.says_more |= found == 'v';
@@ -47,7 +48,7 @@ void take_from_mount(int count, char **given)
 	words.folder = given[1];
 	words.mount_point = given[2];
 	if (optind + 2 < count)
-		refuse("there is a word too many: ", given[optind + 2]);
+		refuse("unexpected argument: %s", given[optind + 2]);
 }
 
 void end_helped(void)

@@ -1,4 +1,4 @@
-/* The words of a share, taken and held together: share_words.h. It runs first, in one thread, with the
+/* The words of a share: share_words.h. It runs first, in one thread, with the
  * rights and in the folder that the program was started with; what it leaves in `words` doesn't change
  * from then on, but for what main() finds out.
  *
@@ -11,7 +11,6 @@
 #include <errno.h>
 #include <getopt.h>
 #include <limits.h>
-#include <linux/capability.h>
 #include <linux/xattr.h>
 #include <stdio.h>
 #include <stdlib.h>
@@ -20,6 +19,7 @@
 #include <sys/mount.h>
 #include <unistd.h>
 #include "share_helped.h"
+#include "share_refuse.h"
 #include "share_sandbox.h"
 #include "share_words.h"
 #include "transport.h"
@@ -51,13 +51,6 @@ struct share_words words = {
 	.says_more = true,
 };
 
-/* (2, as what the caller said is wrong, and not what the host has) */
-_Noreturn void refuse(const char *why, const char *word)
-{
-	fprintf(stderr, "nizwarf-share: %s%s\nnizwarf-share --help lists the words.\n", why, word);
-	exit(2);
-}
-
 /* The number that a value is, between two that it may be. It is decimal, and begins with a digit:
  * strtoul() would take spaces and signs before it. */
 static unsigned long number(const char *key, const char *value, unsigned long least, unsigned long most)
@@ -68,7 +61,7 @@ static unsigned long number(const char *key, const char *value, unsigned long le
 	errno = 0;
 	n = value && *value >= '0' && *value <= '9' ? strtoul(value, &end, 10) : 0;
 	if (!value || *value < '0' || *value > '9' || *end || errno || n < least || n > most)
-		refuse("no number, or one out of bounds, in ", key);
+		refuse("%s must be a number from %lu to %lu, not '%s'", key, least, most, value ? value : "");
 	return n;
 }
 
@@ -76,14 +69,16 @@ static unsigned long number(const char *key, const char *value, unsigned long le
  * as that of an enum, whose order is that of the words. */
 static int one_of(const char *key, const char *value, const char *const *known)
 {
+	/* (each list is a constant of this file, and is shorter) */
+	char text[100] = "";
+	size_t len = 0;
+
 	for (int i = 0; known[i]; i++)
 		if (!strcasecmp(value, known[i]))
 			return i;
-	fprintf(stderr, "nizwarf-share: %s is one of", key);
 	for (int i = 0; known[i]; i++)
-		fprintf(stderr, "%s %s", i ? "," : "", known[i]);
-	fputs(".\n", stderr);
-	refuse("it is not ", value);
+		len += (size_t)snprintf(text + len, sizeof(text) - len, "%s%s", i ? ", " : "", known[i]);
+	refuse("%s must be one of %s, not '%s'", key, text, value);
 }
 
 /* Seconds, perhaps with digits after a point, in milliseconds. Neither a hexadecimal number nor one
@@ -96,7 +91,8 @@ static uint64_t milliseconds(const char *key, const char *value)
 	if (value && *value >= '0' && *value <= '9' && !strpbrk(value, "xXeEpP"))
 		seconds = strtod(value, &end);
 	if (!end || *end || !(seconds >= 0 && seconds <= 1e9))
-		refuse("no number of seconds, or one out of bounds, in ", key);
+		refuse("-o %s must be a number of seconds from 0 to 1000000000, not '%s'", key,
+		       value ? value : "");
 	return (uint64_t)(seconds * 1000 + 0.5);
 }
 
@@ -172,14 +168,6 @@ static bool take_switch(const char *key)
 	return false;
 }
 
-/* Whether an attribute has another name on the host, which `host` is then. One that the map refuses
- * has none. */
-static bool is_renamed(const char *name, struct xattr_name *host)
-{
-	return words.files.xattr_map && !xattr_map_to_host(words.files.xattr_map, name, host) &&
-	       strcmp(host->bytes, name) != 0;
-}
-
 /* Takes the rules of attributes, and finds what they make of the name of a file's capabilities. The
  * rules stay for good; if some are said twice the last ones hold. */
 static void take_xattr_map(const char *rules)
@@ -193,10 +181,10 @@ static void take_xattr_map(const char *rules)
 	if (!words.files.xattr_map) {
 		if (rule)
 			snprintf(text, sizeof(text), "rule %u: ", rule);
-		fprintf(stderr, "nizwarf-share: --xattrmap: %s%s\n", text, why);
-		refuse("--xattrmap is as :map::user.virtiofs.: and not ", rules);
+		refuse("--xattrmap='%s': %s%s (an example is --xattrmap=:map::user.virtiofs.:)", rules, text,
+		       why);
 	}
-	words.files.capability = is_renamed(XATTR_NAME_CAPS, &capability) ? capability.bytes : NULL;
+	words.files.capability = xattr_is_renamed(XATTR_NAME_CAPS, &capability) ? capability.bytes : NULL;
 }
 
 /* (in the order of enum sandbox; and so are the others in that of theirs) */
@@ -243,6 +231,40 @@ static bool take_of_others(const char *key)
 	return !strncasecmp(key, "x-", 2);
 }
 
+/* Which values an option takes. */
+enum values { NO_OPTION, TAKES_NONE, TAKES_ONE };
+
+static enum values values_of_word(const char *key);
+
+/* The same of all that -o takes. */
+static enum values values_of(const char *key)
+{
+	static const char *const with[] = { "source",	     "cache",	     "sandbox",		"loglevel",
+					    "modcaps",	     "xattrmap",     "fsname",		"max_read",
+					    "entry_timeout", "attr_timeout", "negative_timeout" };
+	static const char *const without[] = { "allow_other", "io_uring", "no_io_uring" };
+
+	for (size_t i = 0; i < sizeof(with) / sizeof(*with); i++)
+		if (!strcmp(key, with[i]))
+			return TAKES_ONE;
+	for (size_t i = 0; i < sizeof(without) / sizeof(*without); i++)
+		if (!strcmp(key, without[i]))
+			return TAKES_NONE;
+	return values_of_word(key);
+}
+
+/* Refuses an option of -o: it is unknown, or lacks its value, or takes none. */
+static _Noreturn void refuse_option(const char *key, const char *value)
+{
+	const enum values takes = take_flag(key) || take_switch(key) ? TAKES_NONE : values_of(key);
+
+	if (takes == TAKES_NONE && value)
+		refuse("option doesn't take a value: -o %s=%s", key, value);
+	if (takes == TAKES_ONE)
+		refuse("option requires a value: -o %s", key);
+	refuse_usage("unknown option: -o %s", key);
+}
+
 static bool take_as_word(const char *key, char *value);
 
 /* Takes one option: a word, or KEY=VALUE. What is none of those above may be a word of --help without
@@ -258,18 +280,18 @@ static void take_option(const char *key, char *value)
 		words.by_ring = *key == 'i';
 	else if (value && *value && !strcmp(key, "fsname"))
 		words.source = value;
-	else if (!strcmp(key, "max_read"))
-		words.max_read = number("max_read", value, 4096, TRANSPORT_PAYLOAD);
-	else if (!strcmp(key, "entry_timeout"))
+	else if (value && !strcmp(key, "max_read"))
+		words.max_read = number("-o max_read", value, 4096, TRANSPORT_PAYLOAD);
+	else if (value && !strcmp(key, "entry_timeout"))
 		words.files.entry_time = milliseconds(key, value);
-	else if (!strcmp(key, "attr_timeout"))
+	else if (value && !strcmp(key, "attr_timeout"))
 		words.files.attr_time = milliseconds(key, value);
-	else if (!strcmp(key, "negative_timeout"))
+	else if (value && !strcmp(key, "negative_timeout"))
 		words.files.negative_time = milliseconds(key, value);
 	else if (!value && helped.is_there && !strcmp(key, "remount"))
 		helped.remounts = true;
 	else if (!take_as_word(key, value) && !helped.is_sloppy && !helped.remounts)
-		refuse("there is no such option, or its value can't be: ", key);
+		refuse_option(key, value);
 }
 
 /* The next option of a list. In the path of a source a comma is doubled: the two are made one in place, and the
@@ -446,15 +468,15 @@ static void take_range(const char *key, char *rest, struct id_map *map)
 	struct id_range *range;
 
 	if (len < 2 || isalnum((unsigned char)*sign) || rest[len - 1] != *sign)
-		refuse("--uid-map and --gid-map are as :0:100000:65536: and not ", rest);
+		refuse("%s must have the form :ID:HOST:COUNT:, as :0:100000:65536:, not '%s'", key, rest);
 	if (map->count == MOST_RANGES)
-		refuse("there are too many of ", key);
+		refuse("%s can be given %d times at most", key, MOST_RANGES);
 	rest[len - 1] = 0;
 	rest++;
 	for (int i = 0; i < 3; i++)
 		value[i] = number(key, strsep(&rest, sign), i == 2, UINT32_MAX - (i == 2 ? 0 : 1));
 	if (rest || value[0] + value[2] > UINT32_MAX || value[1] + value[2] > UINT32_MAX)
-		refuse("three numbers of ids are wanted in ", key);
+		refuse("%s must have three numbers, and no id above 4294967294", key);
 	range = &map->ranges[map->count++];
 	*range = (struct id_range){ (uint32_t)value[0], (uint32_t)value[1], (uint32_t)value[2] };
 }
@@ -464,10 +486,8 @@ static void take_translation(const char *key, const char *rule, struct ids *ids)
 {
 	const char *why = ids_add(ids, rule);
 
-	if (!why)
-		return;
-	fprintf(stderr, "nizwarf-share: %s=%s: %s\n", key, rule, why);
-	refuse("it can't be, or not with those before it: ", rule);
+	if (why)
+		refuse("%s=%s: %s", key, rule, why);
 }
 
 /* Takes a word that has no value, and says that something is so, or not. Whether it is one. */
@@ -624,7 +644,7 @@ static void take_word(int word)
 	case TAG:
 		/* (as long as one of a virtio-fs device may be) */
 		if (!*optarg || strlen(optarg) > 36)
-			refuse("--tag has 1 to 36 bytes, and not ", optarg);
+			refuse("--tag must have 1 to 36 bytes, not '%s'", optarg);
 		words.tag = optarg;
 		break;
 	case 'h':
@@ -651,6 +671,14 @@ static bool is_of_word(const char *key, const char *name)
 	return !*key;
 }
 
+static enum values values_of_word(const char *key)
+{
+	for (const struct option *word = known_words; word->name; word++)
+		if (word->val >= CACHE && word->val <= TRACE && is_of_word(key, word->name))
+			return word->has_arg == required_argument ? TAKES_ONE : TAKES_NONE;
+	return NO_OPTION;
+}
+
 /* Takes an option that is a word, if it is one of what is served, and how. Whether it is one. Where a
  * value is missing, or there is one too many, it is none. */
 static bool take_as_word(const char *key, char *value)
@@ -675,99 +703,15 @@ static _Noreturn void refuse_word(int found, const char *word)
 	const char letter[] = { '-', (char)optopt, 0 };
 
 	if (found == ':')
-		refuse("it wants a value: ", word);
+		refuse_usage("option requires an argument: %s", word);
 	if (found == '?' && optopt >= SHARED_DIR)
-		refuse("it takes no value: ", word);
-	refuse("there is no such word: ", found == '?' && optopt ? letter : word);
+		refuse_usage("option doesn't take an argument: %s", word);
+	refuse_unknown(known_words, found == '?' && optopt ? letter : word);
 }
 
 bool is_mount(void)
 {
 	return !words.socket_path && words.fd < 0;
-}
-
-/* Refuses words of a mount, for its kernel, that can't be together: each line says why. */
-static void hold_mount_together(void)
-{
-	if (words.files.passthrough && !is_mount())
-		refuse("--passthrough is of a mount: a machine's kernel has no file of the host", "");
-	if (words.files.passthrough && words.files.writeback)
-		refuse("--passthrough and --writeback are not both wanted: Linux has one of them", "");
-	/* (Linux opens for writing what the server may have opened for reading alone) */
-	if (words.files.passthrough && words.files.fewer_capabilities & UINT64_C(1) << CAP_DAC_OVERRIDE)
-		refuse("--passthrough takes dac_override, which --modcaps takes away", "");
-	if (words.watches && !is_mount())
-		refuse("--watch is of a mount: a machine takes no notices", "");
-	if (words.watches && words.files.writeback)
-		refuse("--watch and --writeback are not both wanted: a client that writes later knows the size itself",
-		       "");
-	/* (a node that is held by a handle has no descriptor by which it is marked) */
-	if (words.watches && words.files.file_handles != HANDLES_NEVER)
-		refuse("--watch and --inode-file-handles are not both wanted: what is watched stays open",
-		       "");
-	/* (of what a client writes by itself the server doesn't know) */
-	if (words.files.passthrough && words.files.capability)
-		refuse("--passthrough and an --xattrmap of ",
-		       XATTR_NAME_CAPS " are not both wanted: Linux takes them away by their own name alone");
-	/* (over a mount data go through buffers that lie anywhere) */
-	if (words.files.allow_direct && is_mount())
-		refuse("--allow-direct-io is of a machine", "");
-}
-
-/* The same of words by which a machine migrates. */
-static void hold_migration_together(void)
-{
-	if (words.migrates && is_mount())
-		refuse("--migration-* are of a machine", "");
-	if (words.files.migration_mode == MIGRATES_BY_HANDLES && (words.files.verifies || words.confirms))
-		refuse("--migration-mode=file-handles wants no --migration-verify-handles and no "
-		       "--migration-confirm-paths: a handle is the file's own",
-		       "");
-	if (words.files.takes_unlinked && words.files.migration_mode != MIGRATES_BY_HANDLES)
-		refuse("--migration-unlinked-files requires --migration-mode=file-handles", "");
-}
-
-/* Refuses words that can't be together, or by whom it was started. It is looked at once all are taken,
- * so their order doesn't matter. */
-static void hold_together(void)
-{
-	struct xattr_name host;
-
-	/* What is served, and where. */
-	if (!words.folder || !*words.folder)
-		refuse("a folder is wanted", "");
-	if (is_mount() && !words.mount_point)
-		refuse("a mount point is wanted, or --socket-path", "");
-	if (words.socket_path && words.fd >= 0)
-		refuse("--socket-path and --fd are not both wanted", "");
-	if (words.socket_group && !words.socket_path)
-		refuse("--socket-group is of --socket-path", "");
-	/* As who it was started. */
-	if (is_mount() && geteuid() != 0)
-		refuse("only root may mount: run it as root", "");
-	/* (chroot(2) takes a capability: who isn't root gets such by a namespace of users, with the
-	 * other sandbox) */
-	if (words.sandbox == SANDBOX_CHROOT && geteuid() != 0)
-		refuse("root alone has --sandbox=chroot", "");
-	if ((words.files.more_capabilities || words.files.fewer_capabilities) && geteuid() != 0)
-		refuse("root alone has --modcaps", "");
-	/* (root makes no namespace of users, and needs none) */
-	if ((words.uids.count || words.gids.count) &&
-	    (geteuid() == 0 || (words.sandbox >= 0 && words.sandbox != SANDBOX_NAMESPACE)))
-		refuse("who isn't root has --uid-map and --gid-map, and with --sandbox=namespace", "");
-	/* What is served together. */
-	if (words.files.posix_acl && (is_renamed(XATTR_NAME_POSIX_ACL_ACCESS, &host) ||
-				      is_renamed(XATTR_NAME_POSIX_ACL_DEFAULT, &host)))
-		refuse("--posix-acl wants lists under their own names, which the host looks at: --xattrmap begins with ",
-		       ":ok:all:system.posix_acl_:system.posix_acl_:");
-	if (words.files.posix_acl &&
-	    (ids_are_translated(&words.files.users) || ids_are_translated(&words.files.groups)))
-		refuse("--translate-uid and --translate-gid go with no --posix-acl, whose lists have ids too",
-		       "");
-	hold_mount_together();
-	hold_migration_together();
-	if (words.filter > FILTER_NONE && !has_filter)
-		refuse("--seccomp: it was built without libseccomp", "");
 }
 
 /* Copies of the words, which are taken apart: /proc shows the process as it was started. They are one
@@ -817,7 +761,7 @@ static void take_given(int count, char **given)
 	if (is_mount() && optind < count)
 		words.mount_point = given[optind++];
 	if (optind < count)
-		refuse("there is a word too many: ", given[optind]);
+		refuse_usage("unexpected argument: %s", given[optind]);
 }
 
 /* It comes back with words that go together, or not at all. What wasn't said is filled in here, where

@@ -44,7 +44,4 @@ void take_capabilities(char *rest);
 /* Whether a folder is mounted, and not served on a socket. */
 bool is_mount(void);
 
-/* Ends with status 2, since something that was said can't be, which is named. */
-_Noreturn void refuse(const char *why, const char *word);
-
 #endif

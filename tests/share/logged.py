@@ -40,7 +40,7 @@ with socket.socket(socket.AF_UNIX, socket.SOCK_DGRAM) as log:
         lines, said = say(log)
     finally:
         subprocess.run(["umount", os.path.realpath(LOG)], check=True) if is_there else os.unlink(LOG)
-assert any("nizwarf-share[" in it and ": --tag=data is let pass" in it for it in lines), lines
+assert any("nizwarf-share[" in it and ": --tag=data is ignored" in it for it in lines), lines
 # (13: a notice of a user's program)
 assert all(it.startswith("<13>") for it in lines) and not said, (lines, said)
 if not is_there:

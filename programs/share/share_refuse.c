@@ -1,0 +1,158 @@
+/* Refuses command lines that cannot be served: share_refuse.h. Each message names what is wrong, in the words of getopt(3),
+ * and says why where that is not plain. */
+#define _GNU_SOURCE
+#include <linux/capability.h>
+#include <linux/xattr.h>
+#include <stdarg.h>
+#include <stdio.h>
+#include <stdlib.h>
+#include <string.h>
+#include <unistd.h>
+#include "share_refuse.h"
+#include "share_sandbox.h"
+#include "share_words.h"
+
+/* (2, as what the caller said is wrong, and not what the host has) */
+_Noreturn void refuse(const char *format, ...)
+{
+	va_list rest;
+
+	fputs("nizwarf-share: ", stderr);
+	va_start(rest, format);
+	/* (clang-tidy does not see va_start() where it looks at many files) */
+	vfprintf(stderr, format, rest); // NOLINT(clang-analyzer-valist.Uninitialized)
+	va_end(rest);
+	fputc('\n', stderr);
+	exit(2);
+}
+
+_Noreturn void refuse_usage(const char *format, ...)
+{
+	va_list rest;
+
+	fputs("nizwarf-share: ", stderr);
+	va_start(rest, format);
+	vfprintf(stderr, format, rest); // NOLINT(clang-analyzer-valist.Uninitialized)
+	va_end(rest);
+	fputs("\nTry 'nizwarf-share --help' for more information.\n", stderr);
+	exit(2);
+}
+
+/* Whether a name is mistyped from another one: it has one letter too many, too few or wrong, or two exchanged. */
+static bool is_typo(const char *typed, const char *name)
+{
+	while (*typed && *typed == *name) {
+		typed++;
+		name++;
+	}
+	if (*typed && *name &&
+	    (!strcmp(typed + 1, name + 1) ||
+	     (typed[1] == *name && *typed == name[1] && !strcmp(typed + 2, name + 2))))
+		return true;
+	return (*typed && !strcmp(typed + 1, name)) || (*name && !strcmp(typed, name + 1));
+}
+
+_Noreturn void refuse_unknown(const struct option *known, const char *word)
+{
+	char typed[64] = "";
+
+	if (!strncmp(word, "--", 2))
+		snprintf(typed, sizeof(typed), "%.*s", (int)strcspn(word + 2, "="), word + 2);
+	for (; known->name; known++)
+		if (is_typo(typed, known->name))
+			refuse_usage("unknown option: %s (did you mean --%s?)", word, known->name);
+	refuse_usage("unknown option: %s", word);
+}
+
+bool xattr_is_renamed(const char *name, struct xattr_name *host)
+{
+	return words.files.xattr_map && !xattr_map_to_host(words.files.xattr_map, name, host) &&
+	       strcmp(host->bytes, name) != 0;
+}
+
+/* Refuses options of a mount, for its kernel, that cannot be combined: each line says why. */
+static void hold_mount_together(void)
+{
+	if (words.files.passthrough && !is_mount())
+		refuse("--passthrough requires a mount point: a virtual machine's kernel cannot use files of the host");
+	if (words.files.passthrough && words.files.writeback)
+		refuse("--passthrough cannot be combined with --writeback: Linux has one of them");
+	/* (Linux opens for writing what the server may have opened for reading alone) */
+	if (words.files.passthrough && words.files.fewer_capabilities & UINT64_C(1) << CAP_DAC_OVERRIDE)
+		refuse("--passthrough requires dac_override, which --modcaps takes away");
+	if (words.watches && !is_mount())
+		refuse("--watch requires a mount point: a virtual machine receives no notices");
+	if (words.watches && words.files.writeback)
+		refuse("--watch cannot be combined with --writeback: a client that writes later decides the size itself");
+	/* (a node that is held by a handle has no descriptor by which it is marked) */
+	if (words.watches && words.files.file_handles != HANDLES_NEVER)
+		refuse("--watch cannot be combined with --inode-file-handles: what is watched must stay open");
+	/* (of what a client writes by itself the server doesn't know) */
+	if (words.files.passthrough && words.files.capability)
+		refuse("--passthrough cannot be combined with an --xattrmap that renames " XATTR_NAME_CAPS
+		       ": Linux takes capabilities away by that name alone");
+	/* (over a mount data go through buffers that lie anywhere) */
+	if (words.files.allow_direct && is_mount())
+		refuse("--allow-direct-io requires --socket-path or --fd");
+}
+
+/* The same of options by which a machine migrates. */
+static void hold_migration_together(void)
+{
+	if (words.migrates && is_mount())
+		refuse("--migration-* options require --socket-path or --fd");
+	if (words.files.migration_mode == MIGRATES_BY_HANDLES && (words.files.verifies || words.confirms))
+		refuse("--migration-mode=file-handles cannot be combined with --migration-verify-handles or "
+		       "--migration-confirm-paths: a handle is the file's own");
+	if (words.files.takes_unlinked && words.files.migration_mode != MIGRATES_BY_HANDLES)
+		refuse("--migration-unlinked-files requires --migration-mode=file-handles");
+}
+
+/* Refuses options that require another user, or another sandbox. */
+static void hold_to_user(void)
+{
+	if (is_mount() && geteuid() != 0)
+		refuse("a mount requires root");
+	/* (chroot(2) takes a capability: who isn't root gets such by a namespace of users, with the
+	 * other sandbox) */
+	if (words.sandbox == SANDBOX_CHROOT && geteuid() != 0)
+		refuse("--sandbox=chroot requires root");
+	if ((words.files.more_capabilities || words.files.fewer_capabilities) && geteuid() != 0)
+		refuse("--modcaps requires root");
+	/* (root makes no namespace of users, and needs none) */
+	if ((words.uids.count || words.gids.count) && geteuid() == 0)
+		refuse("--uid-map and --gid-map are for users other than root: root's server has all ids");
+	if ((words.uids.count || words.gids.count) && words.sandbox >= 0 &&
+	    words.sandbox != SANDBOX_NAMESPACE)
+		refuse("--uid-map and --gid-map require --sandbox=namespace");
+}
+
+void hold_together(void)
+{
+	struct xattr_name host;
+
+	/* What is served, and where. */
+	if (!words.folder || !*words.folder)
+		refuse_usage("missing directory to share");
+	if (words.socket_path && !*words.socket_path)
+		refuse("--socket-path must not be empty");
+	if (is_mount() && !words.mount_point)
+		refuse_usage("missing mount point, or --socket-path");
+	if (words.socket_path && words.fd >= 0)
+		refuse("--socket-path cannot be combined with --fd");
+	if (words.socket_group && !words.socket_path)
+		refuse("--socket-group requires --socket-path");
+	hold_to_user();
+	/* What is served together. */
+	if (words.files.posix_acl && (xattr_is_renamed(XATTR_NAME_POSIX_ACL_ACCESS, &host) ||
+				      xattr_is_renamed(XATTR_NAME_POSIX_ACL_DEFAULT, &host)))
+		refuse("--posix-acl requires access control lists under their own names, because the host looks at "
+		       "them: --xattrmap must begin with :ok:all:system.posix_acl_:system.posix_acl_:");
+	if (words.files.posix_acl &&
+	    (ids_are_translated(&words.files.users) || ids_are_translated(&words.files.groups)))
+		refuse("--posix-acl cannot be combined with --translate-uid or --translate-gid: lists have ids too");
+	hold_mount_together();
+	hold_migration_together();
+	if (words.filter > FILTER_NONE && !has_filter)
+		refuse("--seccomp: this program was built without libseccomp");
+}

@@ -1,0 +1,122 @@
+"""What nizwarf-share prints of a command line that cannot be served: it names what is wrong, in the words of getopt(3),
+and points to --help where that helps. The errors are those of Linux for the path that is named."""
+import os
+import shutil
+import subprocess
+
+import pytest
+
+HINT = "Try 'nizwarf-share --help' for more information.\n"
+
+
+@pytest.fixture
+def refuse(share, tmp_path):
+    """Returns what is printed, once the status is the expected one."""
+    def run(*options, status=2, user=None, program=share):
+        if user:
+            # (the program may lie where the user has no access)
+            program = shutil.copy(share, "/dev/shm/nizwarf-share-of-a-user")
+        try:
+            ran = subprocess.run([program, *options], stdin=subprocess.DEVNULL, stdout=subprocess.DEVNULL,
+                                 stderr=subprocess.PIPE, text=True, timeout=60, user=user, group=user,
+                                 extra_groups=[] if user else None)
+        finally:
+            if user:
+                os.remove(program)
+        assert ran.returncode == status, ran.stderr
+        return ran.stderr.replace("nizwarf-share: ", "", 1)
+
+    return run
+
+
+@pytest.fixture
+def point(scratch):
+    path = scratch / "point"
+    path.mkdir()
+    return path
+
+
+@pytest.mark.parametrize("option, message", [
+    ("--no-such-option", "unknown option: --no-such-option\n"),
+    ("-x", "unknown option: -x\n"),
+    ("--cahce=always", "unknown option: --cahce=always (did you mean --cache?)\n"),
+    ("--xatt", "unknown option: --xatt (did you mean --xattr?)\n"),
+    ("--xattr=1", "option doesn't take an argument: --xattr=1\n"),
+    ("-oallow_others", "unknown option: -o allow_others\n")])
+def test_an_unknown_option_is_named_and_help_is_pointed_to(refuse, directory, point, option, message):
+    assert refuse(option, directory, point) == message + HINT
+
+
+def test_an_option_without_its_argument_is_named(refuse, directory, point):
+    assert refuse(directory, point, "--cache") == "option requires an argument: --cache\n" + HINT
+
+
+@pytest.mark.parametrize("option, message", [
+    ("-oxattr=yes", "option doesn't take a value: -o xattr=yes\n"),
+    ("-oallow_other=1", "option doesn't take a value: -o allow_other=1\n"),
+    ("-oattr_timeout", "option requires a value: -o attr_timeout\n"),
+    ("-othread_pool_size", "option requires a value: -o thread_pool_size\n"),
+    ("-oattr_timeout=0x1", "-o attr_timeout must be a number of seconds from 0 to 1000000000, not '0x1'\n"),
+    ("--cache=some", "--cache must be one of never, auto, always, metadata, not 'some'\n"),
+    ("--node-limit=1", "--node-limit must be a number from 2 to 2147483647, not '1'\n"),
+    ("--thread-pool-size=-1", "--thread-pool-size must be a number from 0 to 4294967295, not '-1'\n"),
+    ("--modcaps=+some", "--modcaps: unknown capability: some\n"),
+    ("--tag=", "--tag must have 1 to 36 bytes, not ''\n"),
+    ("--allow-direct-io", "--allow-direct-io requires --socket-path or --fd\n")])
+def test_a_value_that_cannot_be_is_named_with_those_that_can(refuse, directory, point, option, message):
+    assert refuse(option, directory, point) == message
+
+
+def test_missing_and_unexpected_arguments_are_named(refuse, directory, point):
+    assert refuse() == "missing directory to share\n" + HINT
+    assert refuse(directory) == "missing mount point, or --socket-path\n" + HINT
+    assert refuse(directory, point, "more") == "unexpected argument: more\n" + HINT
+
+
+def test_a_directory_that_is_missing_or_a_file_is_named_itself(refuse, scratch, point):
+    (scratch / "file").write_text("content")
+    assert refuse(scratch / "file", point) == f"{scratch}/file: Not a directory\n"
+    assert refuse(scratch / "none", point) == f"{scratch}/none: No such file or directory\n"
+    assert refuse("--sandbox=none", f"--socket-path={scratch}/socket", scratch / "file") == \
+        f"{scratch}/file: Not a directory\n"
+
+
+@pytest.mark.root
+def test_a_directory_that_the_user_may_not_enter_is_named_itself(refuse, scratch, directory):
+    directory.chmod(0o700)
+    scratch.chmod(0o777)
+    assert refuse(f"--socket-path={scratch}/socket", directory, user=65534) == f"{directory}: Permission denied\n"
+
+
+def test_a_socket_whose_directory_is_missing_is_named(refuse, directory, scratch):
+    path = f"{scratch}/none/socket"
+    assert refuse(f"--socket-path={path}", directory, status=1) == f"{path}: No such file or directory\n"
+
+
+@pytest.mark.root
+def test_a_socket_whose_directory_may_not_be_written_is_named(refuse, directory, scratch):
+    path = f"{scratch}/socket"
+    assert refuse(f"--socket-path={path}", directory, user=65534, status=1) == f"{path}: Permission denied\n"
+
+
+def test_a_socket_path_that_is_too_long_is_named_with_the_limit(refuse, serve, directory, scratch):
+    assert "107 bytes" in refuse(f"--socket-path={scratch}/{'s' * 107}", directory)
+    server = serve("--log-level=error")
+    assert server.connect() and len(server.socket) <= 107
+
+
+@pytest.mark.root
+def test_options_of_another_user_are_named_with_who_may_use_them(refuse, directory, point):
+    for option, message in (("--sandbox=chroot", "--sandbox=chroot requires root\n"),
+                            ("--modcaps=-mknod", "--modcaps requires root\n")):
+        assert refuse(option, "--socket-path=/dev/shm/none", directory, user=65534) == message
+    assert refuse(directory, point, user=65534) == "a mount requires root\n"
+    assert refuse("--passthrough", "--writeback", directory, point) == \
+        "--passthrough cannot be combined with --writeback: Linux has one of them\n"
+
+
+@pytest.mark.fuse
+def test_allow_other_says_what_to_do_about_access_control_lists(mount):
+    server = mount("-o", "allow_other")
+    server.end()
+    assert "add it if files of the directory have access control lists" in server.stderr()
