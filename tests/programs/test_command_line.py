@@ -115,6 +115,15 @@ def test_options_of_another_user_are_named_with_who_may_use_them(refuse, directo
         "--passthrough cannot be combined with --writeback: Linux has one of them\n"
 
 
+def test_a_served_session_is_summed_up_in_words(serve, directory):
+    server = serve()
+    client = server.connect()
+    client.getattr(1)
+    client.close()
+    server.end()
+    assert "nizwarf-share: 2 requests answered\n" in server.stderr()
+
+
 @pytest.mark.fuse
 def test_allow_other_says_what_to_do_about_access_control_lists(mount):
     server = mount("-o", "allow_other")
