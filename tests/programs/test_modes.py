@@ -167,3 +167,31 @@ def test_with_handles_a_name_that_is_not_removed_takes_no_descriptor(serve, dire
     # (and with the last handle goes the descriptor by which handles are opened)
     assert len(server.descriptors()) == before - 1
 
+
+@pytest.mark.fuse
+def test_files_outlive_names_that_several_processes_remove_at_once(mount):
+    server = mount("--inode-file-handles=prefer", "-o", "attr_timeout=0,entry_timeout=0")
+
+    def exchange(number):
+        """Puts files in the places of others', and looks at each once its name may be gone."""
+        own, shared = server.path / f"own{number}", server.path / "shared"
+        for i in range(150):
+            (os.mkfifo if i & 1 else os.mknod)(own)
+            with opened(own, os.O_PATH) as fd:
+                inode = os.fstat(fd).st_ino
+                os.rename(own, shared)
+                with contextlib.suppress(FileNotFoundError):
+                    os.unlink(shared)
+                assert os.fstat(fd).st_ino == inode
+
+    children = []
+    for number in range(4):
+        children.append(os.fork())
+        if not children[-1]:
+            status = 1
+            try:
+                exchange(number)
+                status = 0
+            finally:
+                os._exit(status)
+    assert [os.waitpid(it, 0)[1] for it in children] == [0] * 4
