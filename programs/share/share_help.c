@@ -103,7 +103,7 @@ const char share_usage[] =
 	"Migration of a virtual machine:\n"
 	"      --migration-mode=MODE   how the destination finds files: find-paths (the default), or\n"
 	"                              file-handles, on both sides, which also finds files that were\n"
-	"                              renamed or unlinked\n"
+	"                              renamed\n"
 	"      --migration-on-error=WHAT\n"
 	"                              at a file that is not found: abort (the default), or guest-error:\n"
 	"                              the virtual machine sees errors in its place\n"
