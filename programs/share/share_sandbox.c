@@ -270,8 +270,8 @@ static int open_copy(void)
 #endif
 	if (fd >= 0)
 		return fd;
-	fputs("nizwarf-share: --sandbox=chroot: CAP_SYS_ADMIN or Linux 5.2 is missing, by which the server could "
-	      "not leave it\n",
+	fputs("nizwarf-share: warning: --sandbox=chroot without CAP_SYS_ADMIN, or before Linux 5.2: code that got "
+	      "into the server could leave the directory\n",
 	      stderr);
 	return open("/proc/self/fd", KEEPS_PATH);
 }

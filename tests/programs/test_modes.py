@@ -9,7 +9,7 @@ import pytest
 from vhost_user import Op
 
 pytestmark = pytest.mark.root
-ENOTEMPTY = 39
+ENOTEMPTY, ATOMIC_O_TRUNC = 39, 1 << 3
 
 
 def mode_of(path):
@@ -81,6 +81,26 @@ def test_with_no_killpriv_v2_bits_go_as_in_a_plain_directory(mount, directory, s
     server = mount("-o", "allow_other", "--no-killpriv-v2", "--log-level=warn")
     for mode in (0o6777, 0o2777, 0o4777):
         assert change(server.path / "shared", call, ids, mode) == change(scratch / "plain", call, ids, mode), oct(mode)
+
+
+@pytest.mark.parametrize("options, offered", [((), ATOMIC_O_TRUNC), (("--no-killpriv-v2",), 0)])
+def test_with_no_killpriv_v2_open_does_not_truncate_in_a_machine_either(serve, options, offered):
+    reply = serve(*options).connect(init=False).init()
+    # (the flags of INIT that the server accepts)
+    assert struct.unpack_from("<I", reply, 12)[0] & ATOMIC_O_TRUNC == offered
+
+
+def test_a_machine_that_kills_bits_itself_loses_those_of_a_file_that_open_truncates(serve, directory):
+    path = directory / "file"
+    path.write_bytes(b"content")
+    client = serve().connect(init=False)
+    # (as Linux before 5.11 does)
+    client.init(flags=ATOMIC_O_TRUNC)
+    node = client.lookup(b"file")
+    for user, mode in ((0, "0o6777"), (1000, "0o777")):
+        path.chmod(0o6777)
+        client.release(node, client.open(node, os.O_WRONLY | os.O_TRUNC, uid=user, gid=user))
+        assert mode_of(path) == mode
 
 
 @pytest.mark.parametrize("call", [write, truncate_by_open, truncate, allocate, copy], ids=lambda it: it.__name__)
