@@ -1,8 +1,8 @@
 /* Shares a folder of the host: mounts it on another one over /dev/fuse, or serves it to a virtual machine
  * over vhost-user, as its virtio-fs device.
  *
- * --help lists the words. Standard error says what is wrong. Status 0: it was unmounted, or a signal
- * ended it; 1: something failed; 2: the words or options can't be.
+ * --help lists the options. Standard error says what is wrong. Status 0: it was unmounted, or a signal
+ * ended it; 1: something failed; 2: the command line cannot be served.
  *
  * main() takes the words (share_words.c), opens what takes a path and root, and forks into the sandbox
  * (share_sandbox.c). There serve() begins the passthrough (passthrough.c) and hands it to a transport,
