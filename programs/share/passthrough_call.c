@@ -205,6 +205,15 @@ static int set_times(const struct call *call)
 	return failed(utimensat(call->node.fd, "", times, AT_EMPTY_PATH | AT_SYMLINK_NOFOLLOW));
 }
 
+/* Has the host do what it does at a chown(2) that changes neither owner nor group. Its error is nobody's: where it may not
+ * take the bits away here, it does so itself as the file's data are changed. */
+static void clear_bits(const struct call *call)
+{
+	lose_fsetid(call);
+	fchownat(call->node.fd, "", (uid_t)-1, (gid_t)-1, AT_EMPTY_PATH | AT_SYMLINK_NOFOLLOW);
+	regain_fsetid(call);
+}
+
 /* Sets one after the other, and stops at the first error: what was set by then stays. The owner is after
  * the mode, as a change of owner takes bits away from that; so the mode that is answered is looked at
  * last. */
@@ -213,6 +222,8 @@ static int set_attr(const struct call *call)
 	const uint32_t valid = nizwarf_setattr_fields(call->asked);
 	int error = 0;
 
+	if (sets_nothing(call->asked))
+		clear_bits(call);
 	if (valid & FATTR_MODE)
 		error = set_mode(call);
 	if (!error && valid & (FATTR_UID | FATTR_GID))

@@ -147,6 +147,9 @@ int begin_worker(struct worker *w, const struct passthrough_options *options);
  * Then it is root again. */
 int become(const struct call *call);
 void become_root(const struct call *call);
+/* Whether a SETATTR sets nothing. Linux sends it before somebody changes a file's data who may not keep its set-ID bits, if
+ * the server takes them away; and for a chown(2) that changes neither owner nor group, which takes them away too. */
+bool sets_nothing(const nizwarf_call *asked);
 /* Between the two the host takes set-user-ID and set-group-ID bits away, if that is asked for, as it
  * does for who lacks CAP_FSETID and isn't of the file's group. */
 void lose_fsetid(const struct call *call);

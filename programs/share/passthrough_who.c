@@ -111,6 +111,13 @@ void become_root(const struct call *call)
 	set_capabilities(w->capabilities, w->capabilities);
 }
 
+bool sets_nothing(const nizwarf_call *asked)
+{
+	return asked->call == NIZWARF_SETATTR &&
+	       !(nizwarf_setattr_fields(asked) &
+		 (FATTR_MODE | FATTR_UID | FATTR_GID | FATTR_SIZE | FATTR_ATIME | FATTR_MTIME));
+}
+
 /* Whether the client takes set-user-ID and set-group-ID bits away itself where it doesn't say that the server must: it did
  * not agree on HANDLE_KILLPRIV_V2. It does so by SETATTR, before it writes or calls truncate(2). */
 static bool takes_bits_itself(const struct call *call)
@@ -121,8 +128,9 @@ static bool takes_bits_itself(const struct call *call)
 /* Whether a request without a flag for it must take bits away. Root may keep them; which capabilities another user has is
  * not known. Since Linux 6.12 such a request does not name its user, whose id is UINT32_MAX then.
  *
- * A client leaves the bits of a file that OPEN truncates, also if it takes them away itself otherwise. Of FALLOCATE and
- * COPY_FILE_RANGE the same is so before Linux 6.0; a client that names no user is younger. */
+ * A client leaves the bits of a file that OPEN truncates, also if it takes them away itself otherwise. For FALLOCATE and
+ * COPY_FILE_RANGE it has sent a SETATTR before, since Linux 6.0 and so if it names no user, either of the new mode or,
+ * where the server takes the bits away, of nothing. */
 static bool kills_untold(const struct call *call)
 {
 	const nizwarf_call *asked = call->asked;
@@ -133,9 +141,9 @@ static bool kills_untold(const struct call *call)
 	case NIZWARF_FALLOCATE:
 	case NIZWARF_COPY:
 	case NIZWARF_COPY_64:
-		return asked->uid && (asked->uid != UINT32_MAX || !takes_bits_itself(call));
+		return asked->uid && asked->uid != UINT32_MAX;
 	default:
-		return false;
+		return asked->uid && sets_nothing(asked);
 	}
 }
 

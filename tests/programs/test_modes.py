@@ -4,6 +4,7 @@ import contextlib
 import os
 import stat
 import struct
+import time
 
 import pytest
 from vhost_user import Op
@@ -75,12 +76,27 @@ def change(path, call, ids, mode):
 USERS = [(0, 0), (1000, 1000), (2000, 2000)]
 
 
+@pytest.mark.parametrize("options", [(), ("--no-killpriv-v2",), ("--writeback",), ("--passthrough",)], ids=" ".join)
 @pytest.mark.parametrize("call", [write, truncate_by_open, truncate, allocate, copy], ids=lambda it: it.__name__)
 @pytest.mark.parametrize("ids", USERS, ids=lambda it: f"by{it[0]}")
-def test_with_no_killpriv_v2_bits_go_as_in_a_plain_directory(mount, directory, scratch, call, ids):
-    server = mount("-o", "allow_other", "--no-killpriv-v2", "--log-level=warn")
+def test_set_id_bits_go_as_in_a_plain_directory(mount, directory, scratch, options, call, ids):
+    server = mount("-o", "allow_other", "--log-level=warn", *options)
     for mode in (0o6777, 0o2777, 0o4777):
         assert change(server.path / "shared", call, ids, mode) == change(scratch / "plain", call, ids, mode), oct(mode)
+
+
+@pytest.mark.parametrize("options", [(), ("--no-killpriv-v2",)], ids=" ".join)
+def test_chown_to_nobody_else_clears_bits_and_moves_the_time_of_change(mount, directory, scratch, options):
+    server = mount("-o", "attr_timeout=0", *options)
+    for path in (scratch / "plain", server.path / "file"):
+        path.write_bytes(b"content")
+        path.chmod(0o6777)
+        before = path.stat().st_ctime_ns
+        # (times have the clock of timer interrupts)
+        time.sleep(0.02)
+        os.chown(path, -1, -1)
+        assert mode_of(path) == "0o777"
+        assert path.stat().st_ctime_ns > before
 
 
 @pytest.mark.parametrize("options, offered", [((), ATOMIC_O_TRUNC), (("--no-killpriv-v2",), 0)])
@@ -101,15 +117,6 @@ def test_a_machine_that_kills_bits_itself_loses_those_of_a_file_that_open_trunca
         path.chmod(0o6777)
         client.release(node, client.open(node, os.O_WRONLY | os.O_TRUNC, uid=user, gid=user))
         assert mode_of(path) == mode
-
-
-@pytest.mark.parametrize("call", [write, truncate_by_open, truncate, allocate, copy], ids=lambda it: it.__name__)
-@pytest.mark.parametrize("options", [(), ("--writeback",), ("--passthrough",)], ids=" ".join)
-def test_by_default_no_user_but_root_keeps_bits(mount, directory, scratch, call, options):
-    server = mount("-o", "allow_other", "--log-level=warn", *options)
-    for ids in USERS[1:]:
-        for mode in (0o6777, 0o2777, 0o4777):
-            assert change(server.path / "shared", call, ids, mode) == "0o777"
 
 
 @contextlib.contextmanager
