@@ -26,7 +26,7 @@ enum { MOST_MOUNTS = 1024, FIRST_PIECES = 256 };
 /* How many names a search looks at: so many, and besides so many for each node. */
 enum { NAMES = 1000000, NAMES_OF_NODE = 64 };
 
-/* A directory that the client does not know, and its entry. In the table a free place has the entry NOWHERE. */
+/* A directory that the client does not know, and its entry. In the table a free place has the entry of the folder. */
 struct ancestor {
 	struct file_id id;
 	uint32_t entry;
@@ -189,7 +189,7 @@ static struct ancestor *ancestor_at(const struct saving *s, const struct file_id
 	for (;; at++) {
 		struct ancestor *one = &s->ancestors[at & (s->ancestor_size - 1)];
 
-		if (one->entry == NOWHERE || is_id(&one->id, id))
+		if (one->entry == ROOT_ENTRY || is_id(&one->id, id))
 			return one;
 	}
 }
@@ -203,16 +203,14 @@ static int grow_ancestors(struct saving *s)
 	if (2 * (s->ancestor_count + 1) <= size)
 		return 0;
 	s->ancestor_size = size ? 2 * size : FIRST_PIECES;
-	s->ancestors = malloc(s->ancestor_size * sizeof(*old));
+	s->ancestors = calloc(s->ancestor_size, sizeof(*old));
 	if (!s->ancestors) {
 		s->ancestors = old;
 		s->ancestor_size = size;
 		return state_refuse("out of memory");
 	}
-	for (size_t i = 0; i < s->ancestor_size; i++)
-		s->ancestors[i].entry = NOWHERE;
 	for (size_t i = 0; i < size; i++)
-		if (old[i].entry != NOWHERE)
+		if (old[i].entry != ROOT_ENTRY)
 			*ancestor_at(s, &old[i].id) = old[i];
 	free(old);
 	return 0;
@@ -231,7 +229,7 @@ static int put_directory(struct saving *s, struct place place, const struct file
 	if (grow_ancestors(s))
 		return -1;
 	one = ancestor_at(s, id);
-	if (one->entry == NOWHERE) {
+	if (one->entry == ROOT_ENTRY) {
 		s->is_full = s->ancestor_count == s->most_ancestors;
 		if (s->is_full)
 			return 0;
@@ -249,10 +247,12 @@ static uint32_t entry_known(const struct saving *s, int fd, const struct statx *
 {
 	const uint64_t number = node_number(&s->all->nodes, fd, seen);
 	const struct file_id id = id_of(seen);
+	uint32_t entry;
 
 	if (number)
 		return entry_of(s, number);
-	return s->ancestor_size ? ancestor_at(s, &id)->entry : NOWHERE;
+	entry = s->ancestor_size ? ancestor_at(s, &id)->entry : ROOT_ENTRY;
+	return entry == ROOT_ENTRY ? NOWHERE : entry;
 }
 
 /* Makes an entry of a directory that is open and has none yet. */
@@ -617,7 +617,7 @@ static int save_mounts(struct saving *s)
 	if (!s->mounts)
 		return state_refuse("out of memory");
 	failed = for_each_node(s, note_mount);
-	for (size_t i = 0; i < s->mount_count && !failed; i++) {
+	for (size_t i = 0; i < s->mount_count && s->mounts[i].path && !failed; i++) {
 		const size_t len = strlen(s->mounts[i].path);
 
 		memcpy(s->record + STATE_RECORD, s->mounts[i].path, len);
