@@ -816,7 +816,8 @@ int vhost_user_listen(const transport *with, const char *path)
 	/* (an empty one would be a name that has no file) */
 	if (!*path || strlen(path) >= sizeof(address.sun_path))
 		return refuse(with, -2, path,
-			      *path ? "the path of a socket is not as long" : "it is no path");
+			      *path ? "the path of a socket may have 107 bytes at most" :
+				      "the path is empty");
 	memcpy(address.sun_path, path, strlen(path) + 1);
 	if (!lstat(path, &there)) {
 		if (!S_ISSOCK(there.st_mode))
