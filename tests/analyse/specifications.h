@@ -30,6 +30,19 @@ typedef unsigned long atomic_ulong;
 #define __atomic_fetch_or(at, value, order) ((void)(*(at) |= (value)))
 #define __atomic_signal_fence(order) ((void)0)
 
+#define atomic_fetch_add(at, value)                \
+	({                                         \
+		__typeof__(*(at)) before_ = *(at); \
+		*(at) += (value);                  \
+		before_;                           \
+	})
+
+/* ---- lines on standard error, which are not analysed, in place of say.h */
+
+#define SAY_H
+/*@ assigns \nothing; */
+void transport_say(const char *program, const char *format, ...);
+
 /* ---- chains */
 
 /*@ requires \valid(walk);

@@ -74,7 +74,9 @@ def await_that(condition, what):
 def end_by(number, folder, command, *more):
     """Mounts, reads the file, sends a signal, and returns the status of the program and what it printed."""
     folder.mkdir()
-    process = subprocess.Popen([*command, folder, *more], stdout=subprocess.PIPE, stderr=subprocess.STDOUT, text=True)
+    # (whoever starts the tests in the background of a shell has SIGINT ignored, and so would have the program)
+    process = subprocess.Popen([*command, folder, *more], stdout=subprocess.PIPE, stderr=subprocess.STDOUT, text=True,
+                               preexec_fn=lambda: signal.signal(signal.SIGINT, signal.SIG_DFL))
     try:
         await_that(lambda: mounted(folder) or process.poll() is not None, "nothing is mounted")
         assert (folder / "hello").read_text() == "Hello, world!\n"
