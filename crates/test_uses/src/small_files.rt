@@ -230,7 +230,7 @@ fn child_of_a_directory<T: ReadTree>(tree: &T, parent: u64, name: &[u8]) -> bool
 
 /// A name that a directory lists beside `.` and `..` is found there, with the node of its item.
 fn items_are_children()
-    ensures { (t : Tables) (dot item : Named) (attr : Attr) → ItemsAgree t →
+    ensures { (t : Tables) (dot item : Named) → ItemsAgree t →
         t.items 1 ≡ Some (dot ∷ item ∷ []) → item.name ≡ codes "a" →
         t.child 1 (codes "a") ≡ Some item.node }
 {}

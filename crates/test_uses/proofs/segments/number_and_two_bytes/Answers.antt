@@ -1,4 +1,4 @@
-use Rattle.std.proofs.Common.{◌≡◌, ◌∙◌, ◌+◌, ◌≤◌, ℕ, List, [], ◌∷◌, ◌++◌, ap, arith, drop, length, length-append, take, take_all}
+use Rattle.std.proofs.Common.{◌≡◌, ◌∙◌, ◌≤◌, ℕ, List, [], ◌∷◌, ◌++◌, ap, arith, drop, length, length-append, take, take_all}
 use Rattle.vfs_segments.specs.Written.{Written, wrote}
 use Rattle.vfs_wire.specs.Fields.{bytes_of, lone_number}
 use Rattle.vfs_wire.specs.FieldLaws.{length-bytes_of}
