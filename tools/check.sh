@@ -32,10 +32,10 @@ parts=(documents edits numbers shell rattle rust python c format door crate)
 declare -A wanted=(
     [documents]="rt python3" [edits]="bash" [numbers]="python3" [shell]="shellcheck" [rattle]="rt"
     [rust]="rustfmt" [python]="pyflakes3"
-    [c]="cc make python3" [format]="clang-format" [door]="rt cc" [crate]="cargo rt cc"
+    [c]="cc make python3" [format]="clang-format" [door]="rt cc pytest-3" [crate]="cargo rt cc"
 )
 # (a program that isn't here is in the package of its name)
-declare -A package=([cc]="gcc libc6-dev" [rt]="")
+declare -A package=([cc]="gcc libc6-dev" [pytest-3]="python3-pytest" [rt]="")
 
 # The programs of a part that are not there.
 missing_of() {
@@ -104,7 +104,7 @@ check_shell() { scripts | each shellcheck; }
 # shellcheck disable=SC2016
 check_rust() { files '*.rs' | each -n 1 bash -c 'rustfmt --check --color never < "$0" || { echo "$0" && exit 1; }'; }
 check_python() { files '*.py' | each pyflakes3; }
-check_door() { tests/c/check.sh --quick; }
+check_door() { pytest-3 -q -m "not slow" tests/c; }
 
 check_rattle() {
     mkdir "$folder/copy"

@@ -1,7 +1,7 @@
 /* A transport in C: it answers an INIT, a MKDIR and a LOOKUP that lie in memory, and checks the replies. A
  * real one takes requests from a queue, and completes each with the length that it is told.
  *
- * tests/c/check.sh builds it and runs it. Status 0: all is as it should be. */
+ * tests/c/test_libraries.py builds it and runs it. Status 0: all is as it should be. */
 #include <linux/fuse.h>
 #include <stdio.h>
 #include "nizwarf.h"

@@ -2,7 +2,7 @@
  * tree doesn't agree on, limits, counts and errors that can't be, what is given back, calls that
  * were not asked, and allocations that are refused.
  *
- * tests/c/check.sh links it with both libraries, and --wrap=malloc, --wrap=realloc and
+ * test_libraries.py links it with both libraries, and --wrap=malloc, --wrap=realloc and
  * --wrap=free. Status 0: all is as it should be, and no memory is left. */
 #include <errno.h>
 #include "allocations.h"

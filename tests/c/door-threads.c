@@ -2,7 +2,7 @@
  * answered on another, with a slot a thread and hundreds in flight. Replies are those of one thread
  * alone.
  *
- * tests/c/check.sh links it with the library, and runs it with -fsanitize=thread too. Status 0:
+ * test_libraries.py links it with the library, and runs it with -fsanitize=thread too. Status 0:
  * all is as it should be. */
 #define _GNU_SOURCE
 #include <errno.h>

@@ -8,7 +8,7 @@
  *
  * Requests that kernels were recorded to ask go to both too, if it is given a file of them.
  *
- * tests/c/check.sh links it with both libraries. Status 0: all is as it should be. */
+ * test_libraries.py links it with both libraries. Status 0: all is as it should be. */
 #include "door.h"
 
 enum { MOST_ITEMS = 512 };

@@ -1,7 +1,7 @@
 /* A client of examples/c/hello.c, at the other end of a socket: it asks a few requests as a kernel
  * does, and checks the replies.
  *
- * Usage: hello HELLO, the program. tests/c/check.sh runs it. Status 0: all is as it should
+ * Usage: hello HELLO, the program. test_libraries.py runs it. Status 0: all is as it should
  * be. */
 #define _GNU_SOURCE
 #include <errno.h>

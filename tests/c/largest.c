@@ -2,7 +2,7 @@
  * contract says when memory is refused, so that one refuses too early shows here. A slot, a server and a reply that was
  * taken keep what they have: then nothing is allocated.
  *
- * tests/c/check.sh links it with --wrap=malloc, --wrap=realloc and --wrap=free. Status 0: all is as it should be, and
+ * test_libraries.py links it with --wrap=malloc, --wrap=realloc and --wrap=free. Status 0: all is as it should be, and
  * no memory is left. It takes half a GiB. */
 #include <errno.h>
 #include <linux/fuse.h>

@@ -2,7 +2,7 @@
  * is told of a request in pieces of any lengths, where its record is cut short, what its answer is, and how it is
  * printed; and by a table of nizwarf_ops.h.
  *
- * tests/c/check.sh links it with the library, and --wrap=malloc, --wrap=realloc and --wrap=free. Status 0: all is as it
+ * test_libraries.py links it with the library, and --wrap=malloc, --wrap=realloc and --wrap=free. Status 0: all is as it
  * should be. */
 #define _GNU_SOURCE
 #include <fcntl.h>

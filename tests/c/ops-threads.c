@@ -1,7 +1,7 @@
 /* A table of nizwarf_ops.h with one session on several threads: on one INIT and DESTROY, on the others
  * LOOKUPs and INTERRUPTs. What is agreed on comes to all of them.
  *
- * tests/c/check.sh links it with the library, and runs it with -fsanitize=thread too. Status 0:
+ * test_libraries.py links it with the library, and runs it with -fsanitize=thread too. Status 0:
  * all is as it should be. */
 #include <linux/fuse.h>
 #include <pthread.h>

@@ -2,7 +2,7 @@
  * Each request comes to its function, with its arguments; what the client doesn't get is given
  * back; an empty table answers as the header says.
  *
- * tests/c/check.sh links it with the library. Status 0: all is as it should be. */
+ * test_libraries.py links it with the library. Status 0: all is as it should be. */
 #define _GNU_SOURCE
 #include <fcntl.h>
 #include <stdarg.h>

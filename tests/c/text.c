@@ -4,7 +4,7 @@
  *
  * Usage: text LINES
  * LINES are those of a session, as crates/test_sessions/stdin has them; others than requests are left out.
- * tests/c/check.sh links it with --wrap=malloc, --wrap=realloc and --wrap=free. Status 0: all is as it
+ * test_libraries.py links it with --wrap=malloc, --wrap=realloc and --wrap=free. Status 0: all is as it
  * should be. */
 #include <linux/fuse.h>
 #include <stdio.h>

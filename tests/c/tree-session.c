@@ -2,7 +2,7 @@
  * among whose many nodes one is held, and has no name any more, when they go.
  *
  * Usage: tree-session LINES
- * tests/c/check.sh links it with --wrap=malloc, --wrap=realloc and --wrap=free. Status 0: all is as it should be, and
+ * test_libraries.py links it with --wrap=malloc, --wrap=realloc and --wrap=free. Status 0: all is as it should be, and
  * no memory is left. */
 #define _GNU_SOURCE
 #include <errno.h>

@@ -2,7 +2,7 @@
  * which each allocation is refused in turn; replies that are taken out; codes of what can't be done; settings; what
  * stays in the rooms and after the library's own calls.
  *
- * tests/c/check.sh links it with --wrap=malloc, --wrap=realloc and --wrap=free. Status 0: all is as
+ * test_libraries.py links it with --wrap=malloc, --wrap=realloc and --wrap=free. Status 0: all is as
  * it should be, and no memory is left. */
 #include <errno.h>
 #include <linux/fuse.h>

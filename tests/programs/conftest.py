@@ -1,4 +1,5 @@
-"""Fixtures for tests of nizwarf-share: a built program, a directory, and servers over a socket or on a mount point.
+"""Fixtures for tests of nizwarf-share, nizwarf-mount and nizwarf-vhost: built programs, a directory, and servers over a
+socket or on a mount point.
 
     def test_something(serve, directory):
         (directory / "file").write_text("content")

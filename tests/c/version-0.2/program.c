@@ -1,7 +1,7 @@
 /* A program of version 0.2: it is compiled with the header beside it, which stays as it was then, and linked
  * with the library of today. It calls each function of that header, and looks at what each struct told.
  *
- * tests/c/check.sh runs it. Status 0: all is as it was then. */
+ * tests/c/test_libraries.py runs it. Status 0: all is as it was then. */
 #include <errno.h>
 #include <linux/fuse.h>
 #include <stdio.h>

@@ -3,7 +3,7 @@
  * without `open`; the caller is told; an INTERRUPT ends a call; `destroy` comes once. All that with
  * default_permissions and without.
  *
- * Usage: mounted, as root. tests/c/check.sh links it with the library, fuse_device.c and fuse_mount.c.
+ * Usage: mounted, as root. test_wrong_replies.py links it with the library, fuse_device.c and fuse_mount.c.
  * Status 0: all is as it should be. */
 #define _GNU_SOURCE
 #include <fcntl.h>

@@ -1,0 +1,97 @@
+"""The libraries as tools/package.sh packs them: installed, linked by pkg-config, shared and static, and removed."""
+import os
+import re
+import types
+
+import pytest
+from building import HERE, REPOSITORY, STRICT, need, run
+
+pytestmark = pytest.mark.slow
+VERSION = """#include "nizwarf.h"
+int main(void) { return nizwarf_version() != NIZWARF_VERSION; }"""
+
+
+@pytest.fixture(scope="module")
+def packages(tmp_path_factory, libraries):
+    """A folder into which tools/package.sh put its packages, beside those of an older version and of something else."""
+    need("pkg-config", "pkg-config")
+    folder = tmp_path_factory.mktemp("packages")
+    for name in ("libnizwarf0", "virtiofsd-nizwarf"):
+        (folder / f"{name}_0.1.deb").touch()
+    print(run(REPOSITORY / "tools/package.sh", "--unproved", "--no-demo", "--out", folder, seconds=1800))
+    return folder
+
+
+@pytest.fixture(scope="module")
+def installed(tmp_path_factory, packages):
+    """The folder into which the tarball is installed, and the environment in which programs are built and run with it."""
+    folder = tmp_path_factory.mktemp("installed")
+    run("tar", "-xzf", *packages.glob("*.tar.gz"), "-C", folder)
+    installer, root = next(folder.glob("nizwarf-*/install.sh")), folder / "root"
+    run(installer, root, "/usr/local")
+    environment = {**os.environ, "PKG_CONFIG_SYSROOT_DIR": str(root), "LD_LIBRARY_PATH": str(root / "usr/local/lib"),
+                   "PKG_CONFIG_LIBDIR": str(root / "usr/local/lib/pkgconfig")}
+    return types.SimpleNamespace(folder=folder, root=root, installer=installer, environment=environment)
+
+
+@pytest.fixture(scope="module", params=["shared", "static"])
+def linked(request, installed):
+    """Compiles a program with what pkg-config says alone: linked(SOURCE) returns its path."""
+    static = request.param == "static"
+    flags = run("pkg-config", "--cflags", "--libs", *["--static"] * static, "nizwarf", env=installed.environment).split()
+
+    def compile_one(source):
+        program = installed.folder / f"{source.stem}-{request.param}"
+        run("cc", "-std=c11", "-O2", "-o", program, source, *flags, *["-static"] * static, env=installed.environment)
+        return program
+
+    return types.SimpleNamespace(static=static, compile=compile_one, **vars(installed))
+
+
+@pytest.fixture(scope="module")
+def examples(linked):
+    """The folder in which the installed examples serve and hello are built with the installed Makefile."""
+    run("make", "-s", "-B", "-C", linked.folder, "-f", linked.root / "usr/local/share/doc/nizwarf/examples/Makefile",
+        "serve", "hello", "CFLAGS=" + " ".join(["-O2", *STRICT[1:]]), *["STATIC=yes"] * linked.static,
+        env=linked.environment)
+    return linked.folder
+
+
+def needed_by(program):
+    """The shared libraries that a program requires."""
+    return re.findall(r"NEEDED.*\[(.*)\]", run("readelf", "-d", program))
+
+
+def test_the_folder_of_packages_keeps_one_version_and_what_is_not_ours(packages):
+    assert not (packages / "libnizwarf0_0.1.deb").exists()
+    assert (packages / "virtiofsd-nizwarf_0.1.deb").exists()
+
+
+def test_the_library_has_the_version_of_its_header(linked, tmp_path):
+    (tmp_path / "version.c").write_text(VERSION)
+    run(linked.compile(tmp_path / "version.c"), env=linked.environment)
+
+
+def test_installed_examples_build_and_run(linked, examples, tmp_path):
+    run(examples / "serve", env=linked.environment)
+    client = tmp_path / "client"
+    run("cc", *STRICT, "-o", client, HERE / "hello.c")
+    run(client, examples / "hello", env=linked.environment)
+    assert ("libnizwarf.so.0" in needed_by(examples / "hello")) != linked.static
+
+
+def test_a_program_of_version_0_2_uses_each_function_of_its_header(linked):
+    older = linked.compile(HERE / "version-0.2/program.c")
+    run(older, env=linked.environment)
+    if not linked.static:
+        header = (HERE / "version-0.2/nizwarf.h").read_text()
+        declared = re.findall(r"^(?:u?int[0-9]+_t|size_t) (nizwarf_\w+)\(", header, re.M)
+        symbols = re.findall(r" (nizwarf_\S+)", run("nm", "-D", older))
+        assert declared and sorted(symbols) == sorted(f"{it}@NIZWARF_0.2" for it in declared)
+
+
+def test_the_installer_removes_all_that_it_installed(tmp_path, installed):
+    run(installed.installer, tmp_path, "/usr/local")
+    assert (tmp_path / "usr/local/include/nizwarf.h").exists()
+    run(installed.installer, "--uninstall", tmp_path, "/usr/local")
+    assert not [it for it in tmp_path.rglob("*") if not it.is_dir()]
