@@ -72,12 +72,28 @@ def pytest_runtest_setup(item):
 @pytest.fixture(scope="session")
 def share():
     """The path of nizwarf-share."""
-    if os.environ.get("NIZWARF_SHARE"):
-        return os.environ["NIZWARF_SHARE"]
-    script = ". tools/lib/usage.sh; . tools/lib/transport.sh; build_transport share nizwarf_door >&2; echo $transport"
-    built = subprocess.run(["bash", "-euc", script], cwd=REPOSITORY, stdout=subprocess.PIPE, text=True, timeout=1800)
+    return os.environ.get("NIZWARF_SHARE") or built_program("share", "nizwarf_door")
+
+
+@pytest.fixture(scope="session")
+def tree_mount():
+    """The path of nizwarf-mount, which mounts a tree in memory."""
+    return built_program("mount")
+
+
+@pytest.fixture(scope="session")
+def tree_vhost():
+    """The path of nizwarf-vhost, which serves such a tree on a vhost-user socket."""
+    return built_program("vhost")
+
+
+def built_program(name, library="nizwarf_tree"):
+    """Builds the program nizwarf-NAME with a library for C, and returns its path."""
+    script = '. tools/lib/usage.sh; . tools/lib/transport.sh; build_transport "$@" >&2; echo "$transport"'
+    built = subprocess.run(["bash", "-euc", script, "bash", name, library], cwd=REPOSITORY, stdout=subprocess.PIPE,
+                           text=True, timeout=1800)
     if built.returncode:
-        pytest.fail("nizwarf-share does not build")
+        pytest.fail(f"nizwarf-{name} does not build")
     return built.stdout.strip()
 
 
@@ -92,7 +108,7 @@ def build(tmp_path_factory):
             path = folder / f"{len(built)}"
             subprocess.run([*compiler, "-O2", "-Wall", "-Wextra", "-Werror", "-fPIC", "-pthread",
                             "-I", REPOSITORY / "include", "-I", REPOSITORY / "programs/transport", "-o", path,
-                            pathlib.Path(__file__).with_name(source), *flags], check=True, timeout=300)
+                            pathlib.Path(__file__).parent / source, *flags], check=True, timeout=300)
             built[source, *flags] = str(path)
         return built[source, *flags]
 
@@ -133,8 +149,9 @@ class Server:
             options += ("--sandbox=none", "--seccomp=none")
             environment = {"ASAN_OPTIONS": "verify_asan_link_order=0", **environment}
         with open(self.log, "wb") as log:
-            self.process = subprocess.Popen([share, *options, directory, *self.where(scratch)], stdin=subprocess.DEVNULL,
-                                            stdout=log, stderr=stderr or log, env={**os.environ, **environment})
+            self.process = subprocess.Popen([share, *options, *filter(None, [directory]), *self.where(scratch)],
+                                            stdin=subprocess.DEVNULL, stdout=log, stderr=stderr or log,
+                                            env={**os.environ, **environment})
 
     @property
     def pid(self):
@@ -149,6 +166,10 @@ class Server:
             with contextlib.suppress(OSError):
                 links.append(os.readlink(f"/proc/{self.pid}/fd/{it}"))
         return links
+
+    def memory(self):
+        """How many bytes of memory the serving process has in use."""
+        return 1024 * int(re.search(r"VmRSS:\s*(\d+) kB", setting(f"/proc/{self.pid}/status"))[1])
 
     def stderr(self):
         """What the server has printed so far."""
@@ -241,6 +262,21 @@ def mount(share, scratch, directory):
 
     def start(*options, folder=directory, environment=None):
         servers.append(MountServer(share, scratch, folder, options, environment or {}))
+        servers[-1].await_mount()
+        return servers[-1]
+
+    yield start
+    end_all(servers)
+
+
+@pytest.fixture
+def mount_tree(tree_mount, scratch):
+    """Mounts a new tree in memory: mount_tree("option,option..", environment={..})."""
+    require("fuse")
+    servers = []
+
+    def start(options="", environment=None):
+        servers.append(MountServer(tree_mount, scratch, None, ("-o", options) if options else (), environment or {}))
         servers[-1].await_mount()
         return servers[-1]
 
