@@ -9,7 +9,7 @@
 # The kernel is Debian's package linux-image-cloud-amd64, or that of the argument; of another suite of
 # Debian than the machine's where one is named, as linux-image-cloud-amd64/trixie. Kernel and busybox are
 # downloaded by apt-get, and unpacked into the folder `guest` of `out`, where a second run finds them. The
-# guest has one processor that QEMU computes, so no /dev/kvm is wanted; its session is tests/mount/session.sh.
+# guest has one processor that QEMU computes, so no /dev/kvm is wanted; its session is tests/programs/session.sh.
 #
 # It wants QEMU (apt-get install qemu-system-x86), xz, a C compiler and the Rattle toolchain, and no root.
 # It links the proved library where that is built and no source is newer; otherwise tools/lib/unproved.sh builds
@@ -48,7 +48,7 @@ trap 'kill "${started[@]}" 2> /dev/null || true; rm -rf "$work"' EXIT
 find_guest "$@"
 root=$work/root
 put_guest "$root" "$here/tests/guest/init.sh"
-cp "$here/tests/mount/session.sh" "$root/"
+cp "$here/tests/programs/session.sh" "$root/"
 # shellcheck disable=SC2154
 printf '%s\n' "modules='$modules'" "shared='$shared'" > "$root/settings"
 pack_guest "$root" "$work/files"

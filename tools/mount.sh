@@ -3,7 +3,7 @@
 # what another library for C has.
 #
 # Usage: tools/mount.sh [--library NAME] [-o OPTIONS] [--trace[=FILE]] FOLDER
-#        tools/mount.sh --check
+#        tools/mount.sh --check [OPTION OF PYTEST]..
 # `umount FOLDER` or Ctrl-C unmounts it, and what was written there is gone. The library is crates/NAME, which
 # tools/new-library.sh makes; nizwarf_tree where none is named. Options are those of other file systems, with commas
 # between them: allow_other, ro, rw, noexec, nosuid, nodev, fsname=NAME, max_read=BYTES, and for the tree in
@@ -12,7 +12,8 @@
 # io_uring. With --trace each request and each reply is printed, or their bytes go to a new
 # FILE for vfs_decode, which a package has as nizwarf-decode.
 #
-# --check tests it by tests/mount/check.sh.
+# --check tests it by tests/programs/test_mount.py and test_mount_files.py, in two minutes, which want pytest
+# (apt-get install python3-pytest).
 #
 # It wants root, /dev/fuse, a C compiler and the Rattle toolchain. It links the proved library where that
 # is built and no source is newer; otherwise tools/lib/unproved.sh builds it without a proof, which takes a
@@ -25,7 +26,7 @@ set -euo pipefail
 # Stops, since the words can't be.
 usage() {
     [ $# = 0 ] || echo "$1" >&2
-    echo "Usage: tools/mount.sh [--library NAME] [-o OPTIONS] [--trace[=FILE]] FOLDER, or tools/mount.sh --check" >&2
+    echo "Usage: tools/mount.sh [--library NAME] [-o OPTIONS] [--trace[=FILE]] FOLDER, or tools/mount.sh --check [OPTION OF PYTEST].." >&2
     exit 2
 }
 
@@ -45,9 +46,10 @@ while [[ ${1:-} == -* ]]; do
             shift
             ;;
         --check)
-            # (the number of words that are left, with it; no options; the library as it is)
-            [ "$# ${#options[@]} $name" = "1 0 nizwarf_tree" ] || usage "--check stands alone."
-            exec "$here/tests/mount/check.sh"
+            # (no options before it; the library as it is)
+            [ "${#options[@]} $name" = "0 nizwarf_tree" ] || usage "--check cannot be combined with other options."
+            need pytest-3 "Install it: apt-get install python3-pytest."
+            exec pytest-3 "$here"/tests/programs/test_mount{,_files}.py "${@:2}"
             ;;
         *) usage "There is no word $1." ;;
     esac

@@ -3,7 +3,7 @@
 #
 # Usage: tests/share/check.sh
 # It refuses words that can't be. Over /dev/fuse, by read(2), and by io_uring if Linux offers that,
-# tests/mount/session.sh does what a person does, with one worker, with four, with a cache of what is written later, with file handles, with few descriptors; after each the descriptors of
+# tests/programs/session.sh does what a person does, with one worker, with four, with a cache of what is written later, with file handles, with few descriptors; after each the descriptors of
 # the server are counted. A file that came after a remembered name is opened by who may alone. calls.py asks it what it
 # asks a plain folder. escape.c tries to leave the sandbox from within, and the server's capabilities and directories
 # are looked at. Words of virtiofsd come to what they do there (words.py). Files that the mount's kernel has by itself are as in the folder (apart.py), and what others change is
@@ -91,7 +91,7 @@ try_mount() {
     ls "$work/mount" > /dev/null
     goes_by "$@" || wrong "the way of requests is another one with $*"
     before=$(descriptors)
-    "$here/tests/mount/session.sh" --shared "${lists[@]}" "$work/mount" > "$work/said" || {
+    "$here/tests/programs/session.sh" --shared "${lists[@]}" "$work/mount" > "$work/said" || {
         grep -A 2 WRONG "$work/said" >&2 || true
         wrong "the session with $*"
     }

@@ -1,4 +1,4 @@
-/* Loaded before a server, for check.sh and tests/mount/check.sh: a signal that ends it comes as soon as there is a
+/* Loaded before a server, for check.sh and tests/programs/test_mount.py: a signal that ends it comes as soon as there is a
  * socket, or a mount. */
 #define _GNU_SOURCE
 #include <dlfcn.h>

@@ -1,6 +1,6 @@
 """Ends of a share, for check.sh: a request that waits, for a lease or a file system that does not answer, or
 an event that is full, keeps nobody: neither the next front end, nor a signal. And what is unmounted is what was
-mounted. Usage: ends.py SHARE WORK [WORDS]; and for tests/mount/check.sh ends.py --tree MOUNT VHOST WORK. It
+mounted. Usage: ends.py SHARE WORK [WORDS]; and for tests/programs/test_mount.py ends.py --tree MOUNT VHOST WORK. It
 wants root, in a namespace of mounts of its own. With LATE_CLOSE in the environment, the built late_close.c, a machine
 begins anew, which takes long, and goes meanwhile: what the next one has stays, and nothing else, also where it has the
 numbers that the one before had."""

@@ -1,4 +1,4 @@
-/* Loaded before a server, for check.sh and tests/mount/check.sh: a socket that is bound can't be listened on. */
+/* Loaded before a server, for check.sh and tests/programs/test_mount.py: a socket that is bound can't be listened on. */
 #include <errno.h>
 #include <sys/socket.h>
 

@@ -1,4 +1,4 @@
-/* Loaded before a server, for check.sh and tests/mount/check.sh: it may not unmount what it mounted. */
+/* Loaded before a server, for check.sh and tests/programs/test_mount.py: it may not unmount what it mounted. */
 #define _GNU_SOURCE
 #include <dlfcn.h>
 #include <errno.h>

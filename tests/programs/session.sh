@@ -1,8 +1,8 @@
 #!/bin/sh
 # What a person does with the mounted file system in memory, with what must come of it.
 #
-# Usage: tests/mount/session.sh [--shared] [--acl] FOLDER
-# FOLDER is a mount that nothing was done with. tests/mount/check.sh runs it, and tools/guest.sh in the guest, by
+# Usage: tests/programs/session.sh [--shared] [--acl] FOLDER
+# FOLDER is a mount that nothing was done with. test_mount_files.py runs it, and tools/guest.sh in the guest, by
 # busybox. With --shared it is a mount of a folder of the host, as tools/share.sh makes, where names are not
 # counted. What must come is written by hand, from what POSIX says, and of what that leaves open from what Linux
 # does on a tmpfs; but access control lists are refused without --acl. If git is there, a repository is cloned into it
@@ -27,7 +27,7 @@ if [ "${1:-}" = --acl ]; then
     shift
 fi
 if [ $# != 1 ] || [ ! -d "$1" ]; then
-    echo "Usage: tests/mount/session.sh [--shared] [--acl] FOLDER, which is there" >&2
+    echo "Usage: tests/programs/session.sh [--shared] [--acl] FOLDER, which is there" >&2
     exit 2
 fi
 export LC_ALL=C
