@@ -44,8 +44,8 @@ class Built:
     def compile(self, source, *more):
         """Compiles a source of the repository with other sources or flags, and returns the program's path."""
         program = self.folder / f"c-{pathlib.Path(source).stem}"
-        run("cc", *STRICT, "-I", REPOSITORY / "include", "-o", program, REPOSITORY / source, *self.libraries, *self.flags,
-            *more)
+        run("cc", *STRICT, "-I", REPOSITORY / "include", "-o", program, REPOSITORY / source, *more, *self.libraries,
+            *self.flags, seconds=900)
         return program
 
     def make(self, name):

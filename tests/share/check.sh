@@ -824,7 +824,7 @@ try_locks() {
     "$share" --log-level=error --flock --posix-lock --thread-pool-size=2 "$@" "$work/folder" "$work/mount" &
     server=$!
     await_mount
-    timeout 600 python3 -B "$here/tests/further/locks.py" "$work/mount/file" > "$work/said" ||
+    timeout 600 python3 -B "$here/tests/programs/locks.py" "$work/mount/file" > "$work/said" ||
         { grep WRONG "$work/said" >&2 && wrong "locks over a mount, with $*"; }
     flock "$work/mount/file" true || wrong "a lock of a program, with $*"
     ! flock "$work/mount/file" flock -n "$work/folder/file" true || wrong "a lock of a mount that the host does not see, with $*"

@@ -34,7 +34,7 @@ ABOUT = {
     "tar": "tar of the same, and what it kept",
     "cp": "cp -a of the same, and what it kept",
     "names": "100,000 names in a directory",
-    "locks": "flock(2) and fcntl(2): tests/further/locks.py, stress-ng, CPython, two Perl modules, Samba's ping_pong",
+    "locks": "flock(2) and fcntl(2): tests/programs/locks.py, stress-ng, CPython, two Perl modules, Samba's ping_pong",
     "two-mounts": "locks.py, ping_pong, sqlite and PostgreSQL over two mounts of one share",
 }
 # What a share has for a suite besides: a descriptor for each file may be more than there can be; locks are the host's;
@@ -389,10 +389,10 @@ def pgbench(run):
 # Locks.
 
 def locks_py(run, *words):
-    """Each step of tests/further/locks.py, by one path of a file or by two."""
+    """Each step of tests/programs/locks.py, by one path of a file or by two."""
     prefix = "locks.py" if len(words) == 1 else "two: locks.py"
     words[0].touch()
-    _, text = run.call([sys.executable, "-B", HERE.parent / "further/locks.py", "--cases", *words], 100, said="always")
+    _, text = run.call([sys.executable, "-B", HERE.parent / "programs/locks.py", "--cases", *words], 100, said="always")
     for line in text.splitlines():
         if "\t" in line:
             name, came = line.split("\t")

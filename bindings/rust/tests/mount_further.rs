@@ -481,7 +481,7 @@ fn locks_are_those_of_linux() {
     };
     let files = News::new();
     let mounted = spawn_mount(files.clone(), &folder.0, &[MountOption::Threads(1)]).unwrap();
-    let program = concat!(env!("CARGO_MANIFEST_DIR"), "/../../tests/further/locks.py");
+    let program = concat!(env!("CARGO_MANIFEST_DIR"), "/../../tests/programs/locks.py");
     // (the packed crate does not have it)
     if fs::metadata(program).is_ok() {
         let mut command = Command::new("python3");

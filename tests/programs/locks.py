@@ -1,7 +1,7 @@
 #!/usr/bin/env python3
 """Locks as programs see them, the same on any file system that keeps them.
 
-Usage: tests/further/locks.py [--no-ofd-close] [--cases] FILE [OTHER]
+Usage: tests/programs/locks.py [--no-ofd-close] [--cases] FILE [OTHER]
 
 It locks FILE by flock(2) and fcntl(2), from processes of its own: shared and exclusive, ranges that split and join,
 F_GETLK, waiting, which a signal or a kill ends, and what a close or an exit gives up. Whom it locks out opens OTHER, if
