@@ -1,6 +1,7 @@
 #!/usr/bin/env bash
 # Boots a virtual machine that mounts the file system in memory over virtio-fs, does there what a person does, also
-# after a reboot, and powers off: tests/guest/init.sh. Its console is shown, and tests/guest/check.sh judges that.
+# after a reboot, and powers off: tests/programs/guest_init.sh. Its console is shown, and
+# tests/programs/test_guest.py judges that.
 #
 # Usage: tools/guest.sh [--share | --virtiofsd] [KERNEL-PACKAGE[/SUITE]]
 # With --share it is a folder of the host that the guest mounts, which programs/share/share.c serves as tools/share.sh
@@ -47,7 +48,7 @@ trap 'kill "${started[@]}" 2> /dev/null || true; rm -rf "$work"' EXIT
 # shellcheck disable=SC2119
 find_guest "$@"
 root=$work/root
-put_guest "$root" "$here/tests/guest/init.sh"
+put_guest "$root" "$here/tests/programs/guest_init.sh"
 cp "$here/tests/programs/session.sh" "$root/"
 # shellcheck disable=SC2154
 printf '%s\n' "modules='$modules'" "shared='$shared'" > "$root/settings"

@@ -1,5 +1,5 @@
 // The public headers in a program in C++: they compile without a warning, their functions link by their names in C, and
-// a table of C++ functions is served. tests/c/check.sh compiles it with each compiler for C++ that is installed.
+// a table of C++ functions is served. tests/c/test_c_headers.py compiles it with each compiler for C++ that is installed.
 // Status 0: all is as it should be.
 #include <cstdio>
 #include <cstring>

@@ -87,10 +87,16 @@ def tree_vhost():
     return built_program("vhost")
 
 
-def built_program(name, library="nizwarf_tree"):
+@pytest.fixture(scope="session")
+def build_program():
+    """Builds a program with flags of the compiler: build_program(NAME, LIBRARY, FLAG..) returns its path."""
+    return built_program
+
+
+def built_program(name, library="nizwarf_tree", *flags):
     """Builds the program nizwarf-NAME with a library for C, and returns its path."""
     script = '. tools/lib/usage.sh; . tools/lib/transport.sh; build_transport "$@" >&2; echo "$transport"'
-    built = subprocess.run(["bash", "-euc", script, "bash", name, library], cwd=REPOSITORY, stdout=subprocess.PIPE,
+    built = subprocess.run(["bash", "-euc", script, "bash", name, library, *flags], cwd=REPOSITORY, stdout=subprocess.PIPE,
                            text=True, timeout=1800)
     if built.returncode:
         pytest.fail(f"nizwarf-{name} does not build")
@@ -118,7 +124,18 @@ def build(tmp_path_factory):
 @pytest.fixture
 def scratch():
     """A new directory for sockets and mount points, in memory if there is a file system in memory."""
-    path = pathlib.Path(tempfile.mkdtemp(dir="/dev/shm" if os.path.isdir("/dev/shm") else None))
+    yield from new_directory("/dev/shm" if os.path.isdir("/dev/shm") else None)
+
+
+@pytest.fixture
+def scratch_in_tmp():
+    """The same in /tmp, which is often on the file system of the root."""
+    yield from new_directory("/tmp")
+
+
+def new_directory(parent):
+    """Makes a directory, yields its path, and removes it with all that is mounted below."""
+    path = pathlib.Path(tempfile.mkdtemp(dir=parent))
     # (servers that change their user look below it)
     path.chmod(0o755)
     yield path

@@ -1,5 +1,5 @@
 /* Small file systems of nizwarf_ops.h, each of which behaves as the example of libfuse that has its name, so that
- * libfuse's own tests can judge it: libfuse.sh beside it. The last part of the program's name says which one it is:
+ * libfuse's own tests can judge it: test_libfuse_cases.py. The last part of the program's name says which one it is:
  *
  *	hello			a file that can be read
  *	notify_inval_inode	a file `current_time`, whose text changes: INVAL_INODE
@@ -557,7 +557,7 @@ static const char *take_words(int count, char **words)
 int main(int count, char **words)
 {
 	const transport by = {
-		.program = "examples", .workers = WORKERS, .notices = &notices, .serve = serve
+		.program = "libfuse_examples", .workers = WORKERS, .notices = &notices, .serve = serve
 	};
 	const char *folder = take_words(count, words), *name = strrchr(words[0], '/');
 	pthread_t changes;
@@ -568,7 +568,7 @@ int main(int count, char **words)
 		if (!strcmp(kinds[i].name, name))
 			kind = &kinds[i];
 	if (!folder || !kind)
-		return fputs("Usage: NAME [-f] [WORDS] MOUNTPOINT; the head of examples.c says which\n",
+		return fputs("Usage: NAME [-f] [WORDS] MOUNTPOINT; the head of libfuse_examples.c says which\n",
 			     stderr),
 		       2;
 	used = ops;

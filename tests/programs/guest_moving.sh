@@ -1,5 +1,5 @@
 #!/bin/busybox sh
-# The first program of the virtual machine that tests/guest/migrate.sh moves: it reads on in a file, writes on in another,
+# The first program of the virtual machine that test_guest.py moves: it reads on in a file, writes on in another,
 # lists a directory and makes files, two hundred times.
 # shellcheck shell=dash disable=SC2154,SC2012
 # shellcheck source=../lib/guest-begin.sh
@@ -15,7 +15,7 @@ for i in $(seq 1 200); do
     echo "written $i" >&4 || echo "WRONG: it can't write at $i"
     [ "$(ls many | wc -l)" = 500 ] || echo "WRONG: a list at $i"
     echo new > "new$i" && [ "$(cat "new$i")" = new ] || echo "WRONG: a new file at $i"
-    # (migrate.sh waits for the first of these)
+    # (test_guest.py waits for the first of these)
     [ $((i % 20)) != 0 ] || echo "step $i"
 done
 [ "$(wc -l < written)" = 200 ] || echo "WRONG: $(wc -l < written) lines were written"

@@ -1,13 +1,13 @@
 #!/usr/bin/env bash
-# nizwarf-share by the words of libfuse's passthroughs, for libfuse.sh beside it.
+# nizwarf-share by the words of libfuse's passthroughs, for test_libfuse_cases.py.
 #
-# Usage: tests/further/passthrough.sh SHARE NAME [WORDS] [FOLDER] MOUNTPOINT
+# Usage: tests/programs/passthrough.sh SHARE NAME [WORDS] [FOLDER] MOUNTPOINT
 # A passthrough_hp mounts the folder, and a passthrough_ll all that there is: a copy of it, since nizwarf-share refuses
 # what its mount point is in. Locks are the host's.
 set -euo pipefail
 . "$(dirname "$0")/../../tools/lib/usage.sh"
 
-[ $# -ge 3 ] || { echo "Usage: tests/further/passthrough.sh SHARE NAME [WORDS] [FOLDER] MOUNTPOINT" >&2 && exit 2; }
+[ $# -ge 3 ] || { echo "Usage: tests/programs/passthrough.sh SHARE NAME [WORDS] [FOLDER] MOUNTPOINT" >&2 && exit 2; }
 share=$1 name=$2 words=(--flock --posix-lock --xattr --log-level=warn -o "suid,dev,allow_other")
 at_once=entry_timeout=0,attr_timeout=0 folders=()
 for word in "${@:3}"; do
