@@ -12,7 +12,6 @@ import time
 import pytest
 from building import REPOSITORY, run
 
-pytestmark = pytest.mark.fuse
 SHARE_TESTS = REPOSITORY / "tests/share"
 MIB = 1 << 20
 
@@ -74,6 +73,7 @@ def test_a_signal_unmounts_and_is_a_good_end(mount_tree):
     assert not os.path.ismount(server.path)
 
 
+@pytest.mark.fuse
 def test_a_signal_just_after_the_mount_leaves_no_mount(tree_mount, scratch, preload):
     run(tree_mount, scratch, env={**os.environ, **preload("early_signal.c")})
     assert not os.path.ismount(scratch)
@@ -141,6 +141,7 @@ def serving(program, socket):
         assert ends(process) == 0
 
 
+@pytest.mark.fuse
 def test_full_events_a_hung_directory_of_a_socket_and_a_moved_mount_point_keep_no_end(tree_mount, tree_vhost, scratch):
     print(run("unshare", "--mount", "timeout", "60", sys.executable, "-B", SHARE_TESTS / "ends.py", "--tree", tree_mount,
               tree_vhost, scratch))
