@@ -209,8 +209,11 @@ static int set_times(const struct call *call)
  * take the bits away here, it does so itself as the file's data are changed. */
 static void clear_bits(const struct call *call)
 {
+	int ignored;
+
 	lose_fsetid(call);
-	fchownat(call->node.fd, "", (uid_t)-1, (gid_t)-1, AT_EMPTY_PATH | AT_SYMLINK_NOFOLLOW);
+	ignored = fchownat(call->node.fd, "", (uid_t)-1, (gid_t)-1, AT_EMPTY_PATH | AT_SYMLINK_NOFOLLOW);
+	(void)ignored;
 	regain_fsetid(call);
 }
 
