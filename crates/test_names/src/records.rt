@@ -486,5 +486,12 @@ pub(crate) fn all_records() -> bool {
         uid: GuestUid::from(4),
         gid: GuestGid::from(5),
     };
-    records_1(f) && records_2(f) && records_3(f) && records_4(f) && records_5(f) && records_6(f)
+    let sizes = has_size::<u8>(1) && has_size::<u16>(2) && has_size::<u32>(4) && has_size::<u64>(8);
+    sizes
+        && records_1(f)
+        && records_2(f)
+        && records_3(f)
+        && records_4(f)
+        && records_5(f)
+        && records_6(f)
 }

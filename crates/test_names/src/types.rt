@@ -8,7 +8,8 @@ use std::io::{Read, Write};
 use std::time::Duration;
 use vfs_server::descriptor_utils;
 use vfs_server::descriptor_utils::{
-    Counted, PositionedFile, Reader, Slices, SlicesMut, Totals, Writer, WritevFlags, find_segment,
+    Counted, DescriptorType, PositionedFile, Reader, Slices, SlicesMut, Totals, Writer,
+    WritevFlags, find_segment,
 };
 use vfs_server::filesystem::{
     CStr, CString, Context, DirEntry, DirectoryIterator, Entry, Extensions, GetxattrReply,
@@ -119,6 +120,18 @@ fn segment_errors(e: descriptor_utils::Error) -> usize {
 
 fn segment_at<T: Totals>(totals: &mut T) -> usize {
     find_segment(totals, 8)
+}
+
+fn segment_by_laws(totals: &[usize]) -> usize {
+    let mut counted: vfs_segments::laws::Counted<'_> = vfs_segments::laws::Counted::new(totals);
+    vfs_segments::laws::find_segment(&mut counted, 8)
+}
+
+fn can_be_written(kind: DescriptorType) -> bool {
+    match kind {
+        DescriptorType::Readable => false,
+        DescriptorType::Writable => true,
+    }
 }
 
 fn found(totals: &[usize]) -> (usize, u32) {
@@ -280,6 +293,8 @@ pub(crate) fn all_values() -> bool {
     let (st, system) = stat(9, -9, 3);
     let who = context(GuestUid::from(1), GuestGid::from(2));
     found(&[8, 24, 42, 106]).0 == 1
+        && segment_by_laws(&[8, 24, 42, 106]) == 1
+        && can_be_written(DescriptorType::Writable)
         && segment_errors(descriptor_utils::Error::SplitOutOfBounds(9)) == 9
         && number::<u64>(7) == 7
         && who.pid == 7
