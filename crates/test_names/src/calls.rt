@@ -17,69 +17,76 @@ fn handle<F: FileSystem>() -> F::Handle {
     F::Handle::from_number(1)
 }
 
-pub(crate) fn names<F: FileSystem>(fs: &mut F, ctx: Context, name: CStr<'_>) {
-    let none = Extensions::none;
-    let _: Result<Entry, Fault> = fs.lookup(ctx, node::<F>(), name);
-    fs.forget(ctx, node::<F>(), 1u64);
-    let _: Result<Vec<u8>, Fault> = fs.readlink(ctx, node::<F>());
-    let _: Result<Entry, Fault> = fs.symlink(ctx, name, node::<F>(), name, none());
-    let _: Result<Entry, Fault> = fs.mknod(ctx, node::<F>(), name, 1u32, 2u32, 3u32, none());
-    let _: Result<Entry, Fault> = fs.mkdir(ctx, node::<F>(), name, 1u32, 2u32, none());
-    let _: Result<(), Fault> = fs.unlink(ctx, node::<F>(), name);
-    let _: Result<(), Fault> = fs.rmdir(ctx, node::<F>(), name);
-    let _: Result<(), Fault> = fs.rename(ctx, node::<F>(), name, node::<F>(), name, 1u32);
-    let _: Result<Entry, Fault> = fs.link(ctx, node::<F>(), node::<F>(), name);
+pub(crate) fn names<F: FileSystem>(fs: &mut F, ctx: &Context, name: CStr<'_>) {
+    let _: Result<Entry, Fault> = fs.lookup(*ctx, node::<F>(), name);
+    fs.forget(*ctx, node::<F>(), 1u64);
+    let _: Result<Vec<u8>, Fault> = fs.readlink(*ctx, node::<F>());
+    let _: Result<Entry, Fault> = fs.symlink(*ctx, name, node::<F>(), name, Extensions::none());
+    let _: Result<Entry, Fault> = fs.mknod(
+        *ctx,
+        node::<F>(),
+        name,
+        1u32,
+        2u32,
+        3u32,
+        Extensions::none(),
+    );
+    let _: Result<Entry, Fault> = fs.mkdir(*ctx, node::<F>(), name, 1u32, 2u32, Extensions::none());
+    let _: Result<(), Fault> = fs.unlink(*ctx, node::<F>(), name);
+    let _: Result<(), Fault> = fs.rmdir(*ctx, node::<F>(), name);
+    let _: Result<(), Fault> = fs.rename(*ctx, node::<F>(), name, node::<F>(), name, 1u32);
+    let _: Result<Entry, Fault> = fs.link(*ctx, node::<F>(), node::<F>(), name);
     let _: Result<(Entry, Option<F::Handle>, OpenOptions), Fault> = fs.create(
-        ctx,
+        *ctx,
         node::<F>(),
         name,
         1u32,
         true,
         2u32,
         3u32,
-        none(),
+        Extensions::none(),
     );
 }
 
 pub(crate) fn attributes<F: FileSystem>(
     fs: &mut F,
-    ctx: Context,
+    ctx: &Context,
     attr: SetattrIn,
     name: CStr<'_>,
     value: &[u8],
 ) {
-    let _: Result<(Attr, Duration), Fault> = fs.getattr(ctx, node::<F>(), Some(handle::<F>()));
+    let _: Result<(Attr, Duration), Fault> = fs.getattr(*ctx, node::<F>(), Some(handle::<F>()));
     let _: Result<(Attr, Duration), Fault> = fs.setattr(
-        ctx,
+        *ctx,
         node::<F>(),
         attr,
         None,
         SetattrValid::SIZE,
     );
-    let _: Result<Statvfs64, Fault> = fs.statfs(ctx, node::<F>());
+    let _: Result<Statvfs64, Fault> = fs.statfs(*ctx, node::<F>());
     let _: Result<(), Fault> = fs.setxattr(
-        ctx,
+        *ctx,
         node::<F>(),
         name,
         value,
         1u32,
         SetxattrFlags::empty(),
     );
-    let _: Result<GetxattrReply, Fault> = fs.getxattr(ctx, node::<F>(), name, 1u32);
-    let _: Result<ListxattrReply, Fault> = fs.listxattr(ctx, node::<F>(), 1u32);
-    let _: Result<(), Fault> = fs.removexattr(ctx, node::<F>(), name);
-    let _: Result<(), Fault> = fs.access(ctx, node::<F>(), 1u32);
+    let _: Result<GetxattrReply, Fault> = fs.getxattr(*ctx, node::<F>(), name, 1u32);
+    let _: Result<ListxattrReply, Fault> = fs.listxattr(*ctx, node::<F>(), 1u32);
+    let _: Result<(), Fault> = fs.removexattr(*ctx, node::<F>(), name);
+    let _: Result<(), Fault> = fs.access(*ctx, node::<F>(), 1u32);
 }
 
 pub(crate) fn files<F: FileSystem, R: ZeroCopyReader, W: ZeroCopyWriter>(
     fs: &mut F,
-    ctx: Context,
+    ctx: &Context,
     r: &mut R,
     w: &mut W,
 ) {
-    let _: Result<(Option<F::Handle>, OpenOptions), Fault> = fs.open(ctx, node::<F>(), true, 1u32);
+    let _: Result<(Option<F::Handle>, OpenOptions), Fault> = fs.open(*ctx, node::<F>(), true, 1u32);
     let _: Result<usize, Fault> = fs.read(
-        ctx,
+        *ctx,
         node::<F>(),
         handle::<F>(),
         w,
@@ -89,7 +96,7 @@ pub(crate) fn files<F: FileSystem, R: ZeroCopyReader, W: ZeroCopyWriter>(
         4u32,
     );
     let _: Result<u32, Fault> = fs.write(
-        ctx,
+        *ctx,
         node::<F>(),
         handle::<F>(),
         r,
@@ -101,7 +108,7 @@ pub(crate) fn files<F: FileSystem, R: ZeroCopyReader, W: ZeroCopyWriter>(
         4u32,
     );
     let _: Result<(), Fault> = fs.release(
-        ctx,
+        *ctx,
         node::<F>(),
         1u32,
         handle::<F>(),
@@ -109,12 +116,12 @@ pub(crate) fn files<F: FileSystem, R: ZeroCopyReader, W: ZeroCopyWriter>(
         false,
         Some(2u64),
     );
-    let _: Result<(), Fault> = fs.fsync(ctx, node::<F>(), true, handle::<F>());
-    let _: Result<(), Fault> = fs.flush(ctx, node::<F>(), handle::<F>(), 1u64);
-    let _: Result<(), Fault> = fs.fallocate(ctx, node::<F>(), handle::<F>(), 1u32, 2u64, 3u64);
-    let _: Result<u64, Fault> = fs.lseek(ctx, node::<F>(), handle::<F>(), 1u64, 2u32);
+    let _: Result<(), Fault> = fs.fsync(*ctx, node::<F>(), true, handle::<F>());
+    let _: Result<(), Fault> = fs.flush(*ctx, node::<F>(), handle::<F>(), 1u64);
+    let _: Result<(), Fault> = fs.fallocate(*ctx, node::<F>(), handle::<F>(), 1u32, 2u64, 3u64);
+    let _: Result<u64, Fault> = fs.lseek(*ctx, node::<F>(), handle::<F>(), 1u64, 2u32);
     let _: Result<u32, Fault> = fs.copyfilerange(
-        ctx,
+        *ctx,
         node::<F>(),
         handle::<F>(),
         1u64,
@@ -126,16 +133,16 @@ pub(crate) fn files<F: FileSystem, R: ZeroCopyReader, W: ZeroCopyWriter>(
     );
 }
 
-pub(crate) fn directories<F: FileSystem>(fs: &mut F, ctx: Context) -> Result<F::DirIter, Fault> {
-    let _: Result<(Option<F::Handle>, OpenOptions), Fault> = fs.opendir(ctx, node::<F>(), 1u32);
-    let _: Result<(), Fault> = fs.releasedir(ctx, node::<F>(), 1u32, handle::<F>());
-    let _: Result<(), Fault> = fs.fsyncdir(ctx, node::<F>(), true, handle::<F>());
-    fs.readdir(ctx, node::<F>(), handle::<F>(), 1u32, 2u64)
+pub(crate) fn directories<F: FileSystem>(fs: &mut F, ctx: &Context) -> Result<F::DirIter, Fault> {
+    let _: Result<(Option<F::Handle>, OpenOptions), Fault> = fs.opendir(*ctx, node::<F>(), 1u32);
+    let _: Result<(), Fault> = fs.releasedir(*ctx, node::<F>(), 1u32, handle::<F>());
+    let _: Result<(), Fault> = fs.fsyncdir(*ctx, node::<F>(), true, handle::<F>());
+    fs.readdir(*ctx, node::<F>(), handle::<F>(), 1u32, 2u64)
 }
 
 pub(crate) fn others<F: FileSystem>(
     fs: &mut F,
-    ctx: Context,
+    ctx: &Context,
     requests: Vec<(F::Inode, u64)>,
 ) -> Fault {
     let _: Result<FsOptions, Fault> = fs.init(FsOptions::ASYNC_READ);
@@ -146,17 +153,17 @@ pub(crate) fn others<F: FileSystem>(
     let _: Result<(), Fault> = fs.ioctl();
     let _: Result<(), Fault> = fs.poll();
     let _: Result<(), Fault> = fs.notify_reply();
-    fs.batch_forget(ctx, requests);
-    let _: Result<(), Fault> = fs.syncfs(ctx, node::<F>());
+    fs.batch_forget(*ctx, requests);
+    let _: Result<(), Fault> = fs.syncfs(*ctx, node::<F>());
     fs.destroy();
     fs.tmpfile()
 }
 
 /// Whether a call that is left to its default fails with ENOSYS.
 fn is_missing<T: Drop>(answer: Result<T, Fault>) -> bool {
-    match answer {
-        Ok(_) => false,
-        Err(fault) => fault == Some(Errno::ENOSYS),
+    match answer.err() {
+        Some(fault) => fault == Some(Errno::ENOSYS),
+        None => false,
     }
 }
 

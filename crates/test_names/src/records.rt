@@ -30,7 +30,7 @@ struct Fields {
     gid: GuestGid,
 }
 
-fn records_1(f: Fields) -> bool {
+fn records_1(f: &Fields) -> bool {
     let _ = Attr {
         ino: f.quad,
         size: f.quad,
@@ -114,7 +114,7 @@ fn records_1(f: Fields) -> bool {
         && has_size::<RenameIn>(8)
 }
 
-fn records_2(f: Fields) -> bool {
+fn records_2(f: &Fields) -> bool {
     let _ = Rename2In {
         newdir: f.quad,
         flags: f.word,
@@ -201,7 +201,7 @@ fn records_2(f: Fields) -> bool {
         && has_size::<WriteOut>(8)
 }
 
-fn records_3(f: Fields) -> bool {
+fn records_3(f: &Fields) -> bool {
     let _ = FsyncIn {
         fh: f.quad,
         fsync_flags: f.word,
@@ -284,7 +284,7 @@ fn records_3(f: Fields) -> bool {
         && has_size::<InHeader>(40)
 }
 
-fn records_4(f: Fields) -> bool {
+fn records_4(f: &Fields) -> bool {
     let _ = OutHeader {
         len: f.word,
         error: f.int,
@@ -350,7 +350,7 @@ fn records_4(f: Fields) -> bool {
         && has_size::<LkIn>(48)
 }
 
-fn records_5(f: Fields) -> bool {
+fn records_5(f: &Fields) -> bool {
     let _ = LkOut {
         lk: FileLock::default(),
     };
@@ -407,7 +407,7 @@ fn records_5(f: Fields) -> bool {
         && has_size::<Direntplus>(152)
 }
 
-fn records_6(f: Fields) -> bool {
+fn records_6(f: &Fields) -> bool {
     let _ = NotifyInvalInodeOut {
         ino: f.quad,
         off: f.long,
@@ -488,10 +488,10 @@ pub(crate) fn all_records() -> bool {
     };
     let sizes = has_size::<u8>(1) && has_size::<u16>(2) && has_size::<u32>(4) && has_size::<u64>(8);
     sizes
-        && records_1(f)
-        && records_2(f)
-        && records_3(f)
-        && records_4(f)
-        && records_5(f)
-        && records_6(f)
+        && records_1(&f)
+        && records_2(&f)
+        && records_3(&f)
+        && records_4(&f)
+        && records_5(&f)
+        && records_6(&f)
 }
