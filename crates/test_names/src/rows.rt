@@ -53,6 +53,9 @@ fn a_held_place_is_filled(alloc: Global) -> Result<bool, Fail> {
     let mut w = Writer::new(alloc, rooms(alloc, &[10, 10])?)?;
     let a = w.hold(16).is_ok() && wcounts(&w) == (4, 16) && w.held() == 16;
     let b = matches!(w.write(b"\xaa\xbb"), Ok(2));
+    if w.held() != 16 {
+        return Ok(false);
+    }
     w.fill_held(&[0, 1, 2, 3, 4, 5, 6, 7, 8, 9, 10, 11, 12, 13, 14, 15]);
     let c = w.held() == 0
         && w.hold(3) == Err(descriptor_utils::Error::SplitOutOfBounds(3))
@@ -138,27 +141,39 @@ fn no_segments(alloc: Global) -> Result<bool, Fail> {
             && wcounts(&w) == (0, 0),
     )
 }
-/// A number over four segments of one byte comes back.
-fn objects_over_segments(alloc: Global) -> Result<bool, Fail> {
+
+/// Whether the segment of this number is these bytes.
+fn is_at(segments: &[Vec<u8>], number: usize, bytes: &[u8]) -> bool {
+    match segments.get(number) {
+        Some(segment) => segment.as_slice() == bytes,
+        None => false,
+    }
+}
+
+/// What is read into a buffer, and written of one, ends with the segments.
+fn bytes_over_segments(alloc: Global) -> Result<bool, Fail> {
     let seg = rooms(alloc, &[16, 16, 96])?;
     let sl = slices(&seg, alloc)?;
     let mut r = Reader::new(alloc, &sl)?;
     let mut b = [7u8; 200];
     let mut w = Writer::new(alloc, rooms(alloc, &[64, 1, 3])?)?;
-    let ok = matches!(r.read(&mut b), Ok(128))
-        && w.write_all(&b[..68]).is_ok()
-        && counts(&r) == (0, 128)
-        && wcounts(&w) == (0, 68);
+    let read = matches!(r.read(&mut b), Ok(128)) && counts(&r) == (0, 128);
+    let written = w.write_all(&[0u8; 68]).is_ok() && wcounts(&w) == (0, 68);
+    Ok(read && written)
+}
+
+/// A number over four segments of one byte comes back.
+fn objects_over_segments(alloc: Global) -> Result<bool, Fail> {
     let mut x = Writer::new(alloc, rooms(alloc, &[1, 1, 1, 1])?)?;
     let wrote = x.write_obj(0x12345678u32).is_ok();
     let s = x.into_segments();
-    let bytes = s[0].as_slice() == b"\x78".as_slice()
-        && s[1].as_slice() == b"\x56".as_slice()
-        && s[2].as_slice() == b"\x34".as_slice()
-        && s[3].as_slice() == b"\x12".as_slice();
+    let bytes = is_at(&s, 0, b"\x78")
+        && is_at(&s, 1, b"\x56")
+        && is_at(&s, 2, b"\x34")
+        && is_at(&s, 3, b"\x12");
     let sl2 = slices(&s, alloc)?;
     let mut y = Reader::new(alloc, &sl2)?;
-    Ok(ok && wrote && bytes && matches!(y.read_obj::<u32>(), Ok(0x12345678)))
+    Ok(wrote && bytes && matches!(y.read_obj::<u32>(), Ok(0x12345678)))
 }
 
 fn split_once(alloc: Global, at: usize, first: usize, rest: usize) -> Result<bool, Fail> {
@@ -301,6 +316,12 @@ fn segments_are_read_and_written_test(rt: HostRuntime) -> Result<(), Fail> {
 #[test]
 fn no_segments_test(rt: HostRuntime) -> Result<(), Fail> {
     assert!(rt; no_segments(rt.alloc())?);
+    Ok(())
+}
+
+#[test]
+fn bytes_over_segments_test(rt: HostRuntime) -> Result<(), Fail> {
+    assert!(rt; bytes_over_segments(rt.alloc())?);
     Ok(())
 }
 

@@ -118,12 +118,18 @@ fn segment_errors(e: descriptor_utils::Error) -> usize {
     }
 }
 
-fn segment_at<T: Totals>(totals: &mut T) -> usize {
-    find_segment(totals, 8)
+fn count_of<T: Totals>(totals: &T) -> usize {
+    totals.count()
 }
 
-fn segment_by_laws(totals: &[usize]) -> usize {
-    let mut counted: vfs_segments::laws::Counted<'_> = vfs_segments::laws::Counted::new(totals);
+fn found() -> (usize, u32, usize) {
+    let mut counted: Counted<'_> = Counted::new(&[8, 24, 42, 106]);
+    let index = find_segment(&mut counted, 8);
+    (index, counted.looks(), count_of(&counted))
+}
+
+fn segment_by_laws() -> usize {
+    let mut counted = vfs_segments::laws::Counted::new(&[8, 24, 42, 106]);
     vfs_segments::laws::find_segment(&mut counted, 8)
 }
 
@@ -132,12 +138,6 @@ fn can_be_written(kind: DescriptorType) -> bool {
         DescriptorType::Readable => false,
         DescriptorType::Writable => true,
     }
-}
-
-fn found(totals: &[usize]) -> (usize, u32) {
-    let mut counted: Counted<'_> = Counted::new(totals);
-    let index = segment_at(&mut counted);
-    (index, counted.looks())
 }
 
 pub(crate) fn name(alloc: Global, bytes: &[u8]) -> Option<CString> {
@@ -292,8 +292,10 @@ pub(crate) fn all_values() -> bool {
     is_error::<vfs_server::Error>();
     let (st, system) = stat(9, -9, 3);
     let who = context(GuestUid::from(1), GuestGid::from(2));
-    found(&[8, 24, 42, 106]).0 == 1
-        && segment_by_laws(&[8, 24, 42, 106]) == 1
+    let (index, looks, count) = found();
+    (index, count) == (1, 4)
+        && looks <= 3
+        && segment_by_laws() == 1
         && can_be_written(DescriptorType::Writable)
         && segment_errors(descriptor_utils::Error::SplitOutOfBounds(9)) == 9
         && number::<u64>(7) == 7
