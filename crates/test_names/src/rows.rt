@@ -48,7 +48,7 @@ fn records_in_little_endian() -> bool {
         && i.max_readahead == 131072
         && i.flags == 0xffffffff
 }
-/// `hold` passes over bytes that `fill_held` writes later; a hold of more than is left changes nothing.
+/// `hold` passes over bytes that `fill_held` writes later. A hold of more than is left changes nothing.
 fn a_held_place_is_filled(alloc: Global) -> Result<bool, Fail> {
     let mut w = Writer::new(alloc, rooms(alloc, &[10, 10])?)?;
     let a = w.hold(16).is_ok() && wcounts(&w) == (4, 16) && w.held() == 16;
@@ -150,7 +150,7 @@ fn is_at(segments: &[Vec<u8>], number: usize, bytes: &[u8]) -> bool {
     }
 }
 
-/// What is read into a buffer, and written of one, ends with the segments.
+/// A read and a write end where the segments end.
 fn bytes_over_segments(alloc: Global) -> Result<bool, Fail> {
     let seg = rooms(alloc, &[16, 16, 96])?;
     let sl = slices(&seg, alloc)?;
