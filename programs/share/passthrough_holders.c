@@ -133,10 +133,32 @@ struct holder *holder_take(const struct call *call, bool makes)
 
 /* ---- what is granted */
 
+/* Whether an unlock makes two ranges of one. */
+static bool divides(const struct holder *h, const struct range *cut)
+{
+	for (size_t i = 0; i < h->count; i++)
+		if (h->ranges[i].first < cut->first && h->ranges[i].last > cut->last)
+			return true;
+	return false;
+}
+
+/* Frees memory of ranges that have been joined or unlocked; what the users reserved stays. */
+static void trim(struct holder *h)
+{
+	const size_t wanted = 2 * (h->count + 2 * (size_t)h->users);
+	struct range *less = h->size / 4 > wanted ? realloc(h->ranges, wanted * sizeof(*less)) : NULL;
+
+	if (less) {
+		h->ranges = less;
+		h->size = wanted;
+	}
+}
+
 /* Makes memory for two more ranges for each user: a lock or an unlock divides one range at most, and adds one. So what
  * the host grants can always be noted. */
-bool holder_reserve(struct locks *all, struct holder *h, bool locks)
+bool holder_reserve(struct locks *all, struct holder *h, const nizwarf_lock *lock)
 {
+	const struct range range = range_of(lock);
 	struct range *more;
 	size_t wanted;
 	bool may_be;
@@ -144,7 +166,7 @@ bool holder_reserve(struct locks *all, struct holder *h, bool locks)
 	pthread_mutex_lock(&h->turn);
 	pthread_mutex_lock(&all->lock);
 	wanted = h->count + 2 * (size_t)h->users;
-	may_be = !locks || all->ranges < MOST_RANGES;
+	may_be = all->ranges < MOST_RANGES || (range.type == F_UNLCK && !divides(h, &range));
 	if (may_be && wanted > h->size) {
 		more = realloc(h->ranges, 2 * wanted * sizeof(*more));
 		may_be = more;
@@ -313,6 +335,7 @@ int try_range(struct locks *all, struct holder *h, const nizwarf_lock *lock)
 		all->ranges -= h->count;
 		note_range(h, range);
 		all->ranges += h->count;
+		trim(h);
 		error = h->is_listed ? 0 : ENOLCK;
 		pthread_mutex_unlock(&all->lock);
 	}

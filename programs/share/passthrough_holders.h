@@ -83,7 +83,7 @@ struct holder *holder_take(const struct call *call, bool makes);
 void holder_put(struct locks *all, struct holder *h);
 /* Makes memory for what the calling user changes, which locks or unlocks. False: out of memory, or there are as many locks
  * as may be. */
-bool holder_reserve(struct locks *all, struct holder *h, bool locks);
+bool holder_reserve(struct locks *all, struct holder *h, const nizwarf_lock *lock);
 /* Gives up all locks of a holder, and puts it. */
 void holder_drop(struct locks *all, struct holder *h);
 

@@ -76,7 +76,8 @@ static int get(struct loading *l, void *bytes, size_t len)
 static const char *printable(char *name)
 {
 	for (unsigned char *at = (unsigned char *)name; *at; at++)
-		if (*at < 32 || *at == 127)
+		/* (U+0080 to U+009F are controls, too; a 0 ends the name, so a byte follows this one) */
+		if (*at < 32 || *at == 127 || (*at == 0xc2 && (at[1] & 0xe0) == 0x80))
 			*at = '?';
 	return name;
 }
@@ -298,7 +299,7 @@ static int load_node(struct loading *l)
 		return state_refuse("the state has more files than --node-limit allows here");
 	error = restore_node(l, &told);
 	if (error == EEXIST)
-		return state_refuse("a state with a file, or a number, twice");
+		return state_refuse("a state with a number twice");
 	if (add_entry(l, told.number, -1, error))
 		return -1;
 	if (!error)

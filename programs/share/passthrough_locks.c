@@ -97,9 +97,14 @@ int get_lock(const struct call *call)
 	if (asked.start > range.last)
 		return EINVAL;
 	h = holder_take(call, false);
-	error = failed(fcntl(h ? h->fd : call->file->counted.fd, F_OFD_GETLK, &host));
+	/* (while its descriptor is exchanged, its locks are those of another one, too) */
 	if (h)
+		pthread_mutex_lock(&h->turn);
+	error = failed(fcntl(h ? h->fd : call->file->counted.fd, F_OFD_GETLK, &host));
+	if (h) {
+		pthread_mutex_unlock(&h->turn);
 		holder_put(call->all->locks, h);
+	}
 	if (error)
 		return error;
 	told.type = F_UNLCK;
@@ -397,7 +402,7 @@ static int set_range(const struct call *call, const nizwarf_lock *lock)
 		pthread_mutex_unlock(&all->lock);
 	}
 	/* (to unlock all takes no memory, and so can't fail for want of it) */
-	error = is_all || holder_reserve(all, h, locks) ? try_range(all, h, lock) : ENOLCK;
+	error = is_all || holder_reserve(all, h, lock) ? try_range(all, h, lock) : ENOLCK;
 	if (error == EAGAIN && call->asked->call == NIZWARF_SETLKW)
 		error = start_waiter(call, h);
 	if (error != LOCK_WAITS)

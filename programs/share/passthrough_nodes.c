@@ -509,10 +509,14 @@ struct node *node_keep(struct nodes *all, int directory, const char *name)
 
 void node_kept(struct nodes *all, struct node *node, bool is_removed)
 {
+	struct stat seen;
 	int fd = -1;
 
 	if (!node)
 		return;
+	/* (another call, or a program of the host, may have removed the last name meanwhile) */
+	if (fstat(node->counted.fd, &seen) || !seen.st_nlink)
+		is_removed = true;
 	/* (nobody has the descriptor in hand if the users are the table and this one: who comes next opens the handle) */
 	pthread_rwlock_wrlock(&all->nodes.lock);
 	if (!is_removed && atomic_load(&node->counted.users) == 2 &&
@@ -829,7 +833,8 @@ int node_restore(struct nodes *all, int fd, const struct statx *seen, uint64_t n
 	/* (make() compared its mount with the root's, and not with that of its directory) */
 	made->is_apart = is_apart;
 	pthread_rwlock_wrlock(&all->nodes.lock);
-	error = known(all, seen, handle) ? EEXIST : place_in(&all->nodes, &made->counted, number);
+	/* (somebody may have given both names to one file since the state was saved: then the second one is lost) */
+	error = known(all, seen, handle) ? EXDEV : place_in(&all->nodes, &made->counted, number);
 	if (!error)
 		enchain(all, made);
 	pthread_rwlock_unlock(&all->nodes.lock);

@@ -474,10 +474,12 @@ static int for_each_node(struct saving *s, int (*call)(struct saving *s, uint64_
 
 /* ---- the search */
 
-/* (it may take long: it ends if the front end goes, or a signal comes) */
+/* (it may take long: it ends if the front end goes, a signal comes, or the state has failed) */
 static bool goes_on(void *user)
 {
-	return !transport_wants_state(((struct saving *)user)->to);
+	const struct saving *s = user;
+
+	return !s->has_failed && !transport_wants_state(s->to);
 }
 
 static uint32_t known_to_search(void *user, int fd, const struct statx *seen)

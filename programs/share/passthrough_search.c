@@ -289,18 +289,27 @@ static int if_level(const struct search *s, int fd)
 	return -1;
 }
 
-/* Opens the directory of the level by its names from the folder on. -1: it is not there. */
-static int open_by_names(const struct search *s)
+/* Opens the directory of the level by its names from the folder on, or the deepest one above it that is still there, whose
+ * level is the last one then. -1: there is none. It is one walk, because the names may be changed again and again. */
+static int open_by_names(struct search *s)
 {
-	int fd = open_below(s->paths, "", O_RDONLY | O_DIRECTORY);
+	const int most = s->depth;
+	int fd, below;
 
-	for (int at = 0; fd >= 0 && at < s->depth; at++) {
-		const int above = fd;
-
-		fd = open_in(above, s->names + s->levels[at].visited, O_RDONLY | O_DIRECTORY);
-		close(above);
+	s->depth = 0;
+	fd = if_level(s, open_below(s->paths, "", O_RDONLY | O_DIRECTORY));
+	while (fd >= 0 && s->depth < most) {
+		below = open_in(fd, s->names + s->levels[s->depth].visited, O_RDONLY | O_DIRECTORY);
+		s->depth++;
+		below = if_level(s, below);
+		if (below < 0) {
+			s->depth--;
+			break;
+		}
+		close(fd);
+		fd = below;
 	}
-	return if_level(s, fd);
+	return fd;
 }
 
 /* Goes back to the level above the one whose descriptor this is, or to the next one above whose directory is still there:
@@ -313,13 +322,7 @@ static int go_back(struct search *s, int below)
 	/* (If the one below was moved out of the folder, this opens a directory outside of it: it is closed again.) */
 	fd = if_level(s, openat(below, "..", O_RDONLY | O_DIRECTORY | O_CLOEXEC));
 	close(below);
-	if (fd < 0)
-		fd = open_by_names(s);
-	while (fd < 0 && s->depth) {
-		s->depth--;
-		fd = open_by_names(s);
-	}
-	return fd;
+	return fd < 0 ? open_by_names(s) : fd;
 }
 
 /* Visits the next directory of the level: its descriptor if it has directories to be visited, or else that of the level. */

@@ -489,8 +489,8 @@ static const uint32_t controls[] = { FUSE_DEV_IOC_CLONE, TCGETS };
 /* And by fcntl: flags, copies of descriptors, the size of a pipe, and locks of open files. Others, as F_SETOWN, would
  * let it send signals to processes outside of a chroot. A command that the server begins to use must be added here, or
  * the filter ends the server. */
-static const uint32_t commands[] = { F_GETFL,	  F_SETFL,     F_DUPFD_CLOEXEC, F_SETPIPE_SZ,
-				     F_OFD_GETLK, F_OFD_SETLK, F_OFD_SETLKW };
+static const uint32_t commands[] = { F_GETFL,	  F_DUPFD_CLOEXEC, F_SETPIPE_SZ,
+				     F_OFD_GETLK, F_OFD_SETLK,	   F_OFD_SETLKW };
 
 /* The flags of clone(2) that make a thread, and those that make a namespace. */
 static const uint64_t of_thread = CLONE_THREAD, of_namespace = CLONE_NEWNS | CLONE_NEWCGROUP | CLONE_NEWUTS |
@@ -536,6 +536,16 @@ static int let_limited(scmp_filter_ctx rules)
 
 	if (!error)
 		error = let_values(rules, SCMP_SYS(fcntl), 1, commands, sizeof(commands) / sizeof(*commands));
+	/* (with O_ASYNC a terminal sends signals to its foreground processes; an error, since a front end may have set
+	 * it for a descriptor whose flags are changed here) */
+	if (!error)
+		error = seccomp_rule_add(rules, SCMP_ACT_ALLOW, SCMP_SYS(fcntl), 2,
+					 SCMP_A1(SCMP_CMP_MASKED_EQ, UINT32_MAX, F_SETFL),
+					 SCMP_A2(SCMP_CMP_MASKED_EQ, O_ASYNC, 0));
+	if (!error)
+		error = seccomp_rule_add(rules, SCMP_ACT_ERRNO(EPERM), SCMP_SYS(fcntl), 2,
+					 SCMP_A1(SCMP_CMP_MASKED_EQ, UINT32_MAX, F_SETFL),
+					 SCMP_A2(SCMP_CMP_MASKED_EQ, O_ASYNC, O_ASYNC));
 	/* (as abort(3) does) */
 	if (!error)
 		error = let_values(rules, SCMP_SYS(tgkill), 0, &own, 1);

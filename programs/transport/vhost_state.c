@@ -54,7 +54,7 @@ transport_state *state_new(int descriptor, int signals, int client)
 	state->client = client;
 	state->at = state->end = 0;
 	state->puts = 0;
-	fcntl(descriptor, F_SETFL, fcntl(descriptor, F_GETFL) | O_NONBLOCK);
+	fcntl(descriptor, F_SETFL, O_NONBLOCK);
 	return state;
 }
 
