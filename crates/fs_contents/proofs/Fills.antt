@@ -2,7 +2,7 @@
 use Rattle.std.proofs.Common.{◌≡◌, ◌≤◌, ◌<◌, ◌+◌, ◌-◌, ◌/◌, ◌^◌, ℕ, zero, suc, Bool, true, false, if◌then◌else◌, List, [], ◌∷◌, ◌++◌, length, take, drop, get_or, min, Option, Result, Ok, refl, sym, ap, ◌∙◌, ⊎_elim, arith, length-append, length-take, length-drop, take_at, nat_cmp, Ordering, Less, Equal, Greater}
 use Rattle.std.specs.List.{concat}
 use Rattle.std.proofs.lemmas.List.Folds.{concat-append}
-use Rattle.vfs_views.specs.ViewLaws.{concat-take_more, take-append_past}
+use Rattle.vfs_segments.specs.ViewLaws.{concat-take_more, take-append_past}
 use Rattle.std.specs.Map.{keys_of}
 use Rattle.std.specs.BTreeMap.{is_at}
 use Rattle.std.specs.BTreeSet.{insert_key}
@@ -11,7 +11,7 @@ use Rattle.std.proofs.Math.Seq.{take-add}
 use Rattle.std.proofs.lemmas.Bool.{cases_lt, cases_eq, cases_Bool, or_left}
 use Rattle.std.proofs.lemmas.List.{get_or_append_left, get_or-append_right, drop-drop, take-append-drop, take-append-le}
 use Rattle.std.proofs.lemmas.List.Sums.{sum_by-cons}
-use Rattle.vfs_views.specs.declared.file.WritevFlags.{WritevFlags}
+use Rattle.vfs_segments.specs.declared.file.WritevFlags.{WritevFlags}
 use Rattle.vfs_files.specs.Transfers.{Ending, Finished, Stuck, Broken, Past, last_bytes, bytes_moved, count_moved, writes_of, view_len, Goes, EndsBy, Transfers}
 use Rattle.vfs_files.specs.TransferLaws.{goes_within}
 use Rattle.fs_contents.specs.Pages.{Pages, byte_at, byte_over, holds, with_page, with_pages}

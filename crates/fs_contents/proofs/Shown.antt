@@ -5,7 +5,7 @@ use Rattle.std.specs.Map.{keys_of}
 use Rattle.std.proofs.lemmas.Bool.{cases_lt, cond-true, cond-false, lt-ltb, le-ltb}
 use Rattle.std.proofs.lemmas.List.{ext_get_or, get_or_append_left, get_or-append_right, get_or-take, get_or-drop, length-replicate, drop-drop}
 use Rattle.std.proofs.lemmas.List.FromFn.{length-map-range_with_len, get_or-map-range_with_len}
-use Rattle.vfs_views.specs.Segments.{with_bytes_at}
+use Rattle.vfs_segments.specs.Memory.{with_bytes_at}
 use Rattle.vfs_files.specs.Bytes.{lengthened}
 use Rattle.fs_contents.specs.Pages.{Pages, byte_at, byte_over, with_pages}
 use Rattle.fs_contents.specs.Contents.{Contents, AreZeroAfter, bytes_of, contents_of, resized, allocated, written, pages_over}

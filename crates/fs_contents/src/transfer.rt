@@ -11,7 +11,7 @@ use crate::pages::Pages;
 use std::marker::Model;
 use vfs_files::{Bytes, ZeroCopyReader};
 use vfs_flags::{Errno, Fault};
-use vfs_views::{PositionedFile, Slices, SlicesMut, WritevFlags};
+use vfs_segments::{PositionedFile, Slices, SlicesMut, WritevFlags};
 
 /// Pages that are read.
 #[derive(Drop)]

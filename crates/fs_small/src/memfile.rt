@@ -6,7 +6,7 @@ ghost use Rattle.fs_small.specs.MemFile.{Writes};
 use std::marker::Model;
 use vfs_files::{Bytes, BytesMut, ZeroCopyReader, write_bytes};
 use vfs_flags::Fault;
-use vfs_views::{PositionedFile, Slices, SlicesMut, WritevFlags};
+use vfs_segments::{PositionedFile, Slices, SlicesMut, WritevFlags};
 
 /// How many bytes a file has at most.
 const MOST_BYTES: usize = 65_536;

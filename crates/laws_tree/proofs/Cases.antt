@@ -1,6 +1,6 @@
 -- What the calls leave: a fact of all states that are left follows from that fact of each change.
 use Rattle.std.proofs.Common.{◌≡◌, ◌≤◌, ◌+◌, ◌-◌, ◌^◌, ◌/◌, ◌==◌, ◌&&◌, ◌||◌, not, nat_lt, nat_le, ℕ, min, max, ◌⊎◌, inl, inr, ⊎_elim, Bool, true, false, List, [], ◌∷◌, ◌++◌, length, take, drop, replicate, Option, Some, None, is_some, is_none, refl, sym, ap, subst, ◌∙◌, arith, if◌then◌else◌, bit_and, length-append, length-take, length-drop}
-use Rattle.vfs_views.specs.Segments.{with_bytes_at}
+use Rattle.vfs_segments.specs.Memory.{with_bytes_at}
 use Rattle.vfs_flags.specs.Numbers.{enoent, eperm, eexist, eisdir, einval, enodata, enospc, enosys, enotdir, enotempty, eoverflow, erange, efbig, enxio}
 use Rattle.vfs_files.specs.Bytes.{part_of, most_put, fitting, written, lengthened}
 use Rattle.vfs_files.specs.Values.{Item}

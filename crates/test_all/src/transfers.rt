@@ -8,9 +8,8 @@ use std::alloc::Global;
 use std::test::Fail;
 use vfs_files::{ZeroCopyReader, ZeroCopyWriter};
 use vfs_flags::{Errno, Fault};
-use vfs_segments::Reader;
+use vfs_segments::{PositionedFile, Reader, Slices, SlicesMut, WritevFlags};
 use vfs_server::server::{ZcReader, ZcWriter};
-use vfs_views::{PositionedFile, Slices, SlicesMut, WritevFlags};
 
 /// A file that moves at most that many bytes a call, fails with EIO at one of its calls, and notes
 /// what it was lent.

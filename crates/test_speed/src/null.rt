@@ -8,7 +8,7 @@ use vfs_files::{
     ZeroCopyReader, ZeroCopyWriter, unserved,
 };
 use vfs_flags::{Errno, Fault, FsOptions, MAX_REPLY_DATA};
-use vfs_views::{PositionedFile, Slices, SlicesMut, WritevFlags};
+use vfs_segments::{PositionedFile, Slices, SlicesMut, WritevFlags};
 use vfs_wire::Attr;
 
 /// The kind and permissions of a file.

@@ -79,7 +79,7 @@ fn directory_is_not_read<W: ZeroCopyWriter>(tree: &mut TreeFs, w: &mut W) -> Res
 
 /// WRITE over the beginning of a file: those bytes are written and no others, and no memory is
 /// wanted.
-#[tactic(auto, unfolding(vfs_views::specs::Segments::with_bytes_at))]
+#[tactic(auto, unfolding(vfs_segments::specs::Memory::with_bytes_at))]
 fn written_over<R: ZeroCopyReader>(tree: &mut TreeFs, r: &mut R) -> Result<u32, Fault>
     requires tree { tree.old ≡ file_tree wide (codes "hello") }
     requires bytes { R.left r.old ≡ codes "HEY" }
@@ -91,7 +91,7 @@ fn written_over<R: ZeroCopyReader>(tree: &mut TreeFs, r: &mut R) -> Result<u32, 
 
 /// WRITE two bytes after the end of a file: zeros fill the gap. The page has place for them, so that
 /// no memory is wanted.
-#[tactic(auto, unfolding(vfs_views::specs::Segments::with_bytes_at))]
+#[tactic(auto, unfolding(vfs_segments::specs::Memory::with_bytes_at))]
 fn written_after_the_end<R: ZeroCopyReader>(tree: &mut TreeFs, r: &mut R) -> Result<u32, Fault>
     requires tree { tree.old ≡ file_tree wide (codes "hello") }
     requires bytes { R.left r.old ≡ codes "HEY" }
@@ -102,7 +102,7 @@ fn written_after_the_end<R: ZeroCopyReader>(tree: &mut TreeFs, r: &mut R) -> Res
 }
 
 /// WRITE into a file without a page. Memory for one can be wanting, and then nothing changes.
-#[tactic(auto, unfolding(vfs_views::specs::Segments::with_bytes_at))]
+#[tactic(auto, unfolding(vfs_segments::specs::Memory::with_bytes_at))]
 fn first_page<R: ZeroCopyReader>(tree: &mut TreeFs, r: &mut R) -> Result<u32, Fault>
     requires tree { tree.old ≡ tree_of wide empty_file }
     requires bytes { R.left r.old ≡ codes "HEY" }

@@ -13,7 +13,7 @@ use vfs_flags::{Fault, SetattrValid, SetxattrFlags};
 use vfs_wire::{Attr, SetattrIn};
 
 /// WRITE of three bytes where a file may become longer by one: that one is written.
-#[tactic(auto, unfolding(vfs_views::specs::Segments::with_bytes_at))]
+#[tactic(auto, unfolding(vfs_segments::specs::Memory::with_bytes_at))]
 fn written_to_the_limit<R: ZeroCopyReader>(tree: &mut TreeFs, r: &mut R) -> Result<u32, Fault>
     requires tree { tree.old ≡ file_tree short (codes "hello") }
     requires bytes { R.left r.old ≡ codes "HEY" }
@@ -24,7 +24,7 @@ fn written_to_the_limit<R: ZeroCopyReader>(tree: &mut TreeFs, r: &mut R) -> Resu
 }
 
 /// WRITE of three bytes into a page that is held, where there is room for no other: they are written.
-#[tactic(auto, unfolding(vfs_views::specs::Segments::with_bytes_at))]
+#[tactic(auto, unfolding(vfs_segments::specs::Memory::with_bytes_at))]
 fn written_without_room<R: ZeroCopyReader>(tree: &mut TreeFs, r: &mut R) -> Result<u32, Fault>
     requires tree { tree.old ≡ file_tree narrow (codes "hello") }
     requires bytes { R.left r.old ≡ codes "HEY" }

@@ -14,7 +14,7 @@ use vfs_wire::{Attr, SetattrIn};
 
 /// WRITE over the beginning of a program takes its capabilities, and where the request says so its
 /// set-user-ID and set-group-ID too; a delayed one takes nothing. Its other attributes stay.
-#[tactic(auto, unfolding(vfs_views::specs::Segments::with_bytes_at))]
+#[tactic(auto, unfolding(vfs_segments::specs::Memory::with_bytes_at))]
 fn written<R: ZeroCopyReader>(
     tree: &mut TreeFs,
     r: &mut R,

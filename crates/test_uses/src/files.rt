@@ -16,7 +16,7 @@ use vfs_files::{
     MigrateError, Number, SecContext, SerializableFileSystem, ZeroCopyWriter, defaults, first_nul,
 };
 use vfs_flags::{Fault, GuestGid};
-use vfs_views::PositionedFile;
+use vfs_segments::PositionedFile;
 use vfs_wire::{Attr, EntryOut, InHeader};
 
 /// A name ends at its only 0.

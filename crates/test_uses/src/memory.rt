@@ -154,7 +154,7 @@ fn no_file_to_read<W: ZeroCopyWriter>(
 }
 
 /// WRITE of `HEY` over the beginning of node 2, which takes no memory, and READ of it then.
-#[tactic(auto, unfolding(vfs_views::specs::Segments::with_bytes_at))]
+#[tactic(auto, unfolding(vfs_segments::specs::Memory::with_bytes_at))]
 fn written_and_read<R: ZeroCopyReader, W: ZeroCopyWriter>(
     fs: &mut MemFs,
     ctx: &Context,
@@ -175,7 +175,7 @@ fn written_and_read<R: ZeroCopyReader, W: ZeroCopyWriter>(
 
 /// WRITE of `HEY` two bytes after the end of node 2: zeros fill the gap. Memory alone can be
 /// wanting, and then the files stay.
-#[tactic(auto, unfolding(vfs_views::specs::Segments::with_bytes_at))]
+#[tactic(auto, unfolding(vfs_segments::specs::Memory::with_bytes_at))]
 fn written_after_the_end<R: ZeroCopyReader>(
     fs: &mut MemFs,
     ctx: Context,

@@ -2,12 +2,12 @@
 //! contracts alone.
 
 ghost use Rattle.std.specs.Prelude.{◌≡◌, ◌+◌, ◌-◌, ◌<◌, ◌++◌, [], length, take, drop, IfOk, IfErr, MatchResult, OnOk, OnErr, Ok, Some, replicate, slice_index_or};
-ghost use Rattle.vfs_views.specs.Segments.{contents, flat_bytes, lengths_of, with_bytes_at};
-ghost use Rattle.vfs_views.specs.Views.{IsSpan, room_of};
+ghost use Rattle.vfs_segments.specs.Memory.{contents, flat_bytes, lengths_of, with_bytes_at};
+ghost use Rattle.vfs_segments.specs.Views.{IsSpan, room_of};
 
 use std::alloc::Global;
 use vfs_flags::{Errno, Fault};
-use vfs_views::{PositionedFile, Slices, SlicesMut, Span, WritevFlags};
+use vfs_segments::{PositionedFile, Slices, SlicesMut, Span, WritevFlags};
 
 /// A file that keeps what is written one write after another, wherever it is to be written. It
 /// takes all bytes that it is lent, and has none to be read.

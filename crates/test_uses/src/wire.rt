@@ -12,7 +12,6 @@ use vfs_wire::{
 };
 
 mod defaults;
-mod layouts;
 
 /// The bytes of a reply that refuses the request 9 with ENOSYS: the error is negated.
 #[tactic(auto, unfolding(vfs_wire::specs::Fields::little))]

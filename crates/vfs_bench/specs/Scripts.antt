@@ -1,6 +1,6 @@
 -- What the tests' file system may do.
 use Rattle.std.specs.Prelude.{◌≡◌, ◌==◌, ◌≤◌, ◌<◌, ◌+◌, ◌-◌, ◌^◌, ◌⊎◌, ℕ, List, length, min, replicate, Option, Some, None, Result, Ok, Err, Bool, true, false, if◌then◌else◌}
-use Rattle.vfs_views.specs.declared.file.WritevFlags.{WritevFlags}
+use Rattle.vfs_segments.specs.declared.file.WritevFlags.{WritevFlags}
 use Rattle.vfs_files.specs.Answers.{Answer, Done, Failed, Text, Handed, Plain, Iterator, Kind, Quiet, Agreements, Entries, TimedAttributes, Openings, Creations, Capacities, Texts, TextsOrCounts, Offsets, Writes, Faults, init_answer, entry_answer, attr_answer, done_answer, opened_answer, created_answer, statistics_answer, text_answer, getxattr_answer, listxattr_answer, offset_answer, written_answer, read_answer}
 use Rattle.vfs_files.specs.Calls.{Call, Read, Write, Readdir, Listxattr, kind_of, no_such_call, out_of_memory}
 use Rattle.vfs_files.specs.Transfers.{Transfers, reads_of, writes_of}

@@ -2,11 +2,11 @@
 
 ghost use Rattle.std.specs.Prelude.{◌≡◌, ◌≤◌, length, replicate, IfOk};
 ghost use Rattle.std.specs.List.{concat};
-ghost use Rattle.vfs_views.specs.Views.{IsSameRoom};
+ghost use Rattle.vfs_segments.specs.Views.{IsSameRoom};
 ghost use Rattle.vfs_bench.specs.Scripts.{script_answer, called};
 
 use vfs_flags::Fault;
-use vfs_views::{PositionedFile, Slices, SlicesMut, WritevFlags};
+use vfs_segments::{PositionedFile, Slices, SlicesMut, WritevFlags};
 
 /// A file that moves a number of bytes a call at most, whatever the position, and fails at one of
 /// its calls.

@@ -1,7 +1,7 @@
 -- Bytes that are copied piece by piece.
 use Rattle.std.proofs.Common.{◌≡◌, ◌≤◌, ◌<◌, ◌+◌, ◌-◌, ℕ, zero, suc, List, [], ◌∷◌, ◌++◌, length, take, drop, min, refl, sym, ap, ◌∙◌, arith, length-append, length-take, length-drop}
 use Rattle.std.proofs.lemmas.List.{take_all, take_min, take-append-le, drop-drop}
-use Rattle.vfs_views.specs.Segments.{with_bytes_at}
+use Rattle.vfs_segments.specs.Memory.{with_bytes_at}
 use Rattle.vfs_files.specs.Bytes.{lengthened, written}
 
 -- the beginning of two lists, one after the other

@@ -1,7 +1,7 @@
 -- Bytes in memory, as a file: what one read moves, what a READ puts, and what a write leaves.
 use Rattle.std.specs.Prelude.{◌≡◌, ◌<◌, ◌^◌, ◌+◌, ◌-◌, ℕ, List, [], ◌∷◌, ◌++◌, length, min, take, drop, replicate, Option, Some, Result, Ok, Err}
 use Rattle.vfs_flags.specs.Numbers.{enomem}
-use Rattle.vfs_views.specs.Segments.{with_bytes_at}
+use Rattle.vfs_segments.specs.Memory.{with_bytes_at}
 
 -- the bytes from place off on, at most that many
 abbrev pub part_of : List ℕ → (off most : ℕ) → List ℕ

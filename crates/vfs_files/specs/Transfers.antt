@@ -2,7 +2,7 @@
 -- both directions.
 use Rattle.std.specs.Prelude.{◌≡◌, ◌≤◌, ◌<◌, ◌+◌, ◌-◌, ◌^◌, ℕ, List, [], ◌∷◌, ◌++◌, length, take, drop, min, sum_by, Option, None, Result, Ok, Err}
 use Rattle.std.specs.List.{flat_map}
-use Rattle.vfs_views.specs.declared.file.WritevFlags.{WritevFlags}
+use Rattle.vfs_segments.specs.declared.file.WritevFlags.{WritevFlags}
 
 -- a call of a file that is read from, by the bytes that it moved: none where it failed. How many
 -- were moved before makes no difference

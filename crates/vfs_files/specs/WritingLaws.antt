@@ -3,8 +3,8 @@
 use Rattle.std.proofs.Common.{◌≡◌, ◌≤◌, ◌<◌, ◌+◌, ◌-◌, ◌^◌, ℕ, List, [], ◌∷◌, length, take, min, max, Option, Result, Ok, Err, refl, sym, ap, ◌∙◌, arith, length-append, length-take, length-drop, add-zero}
 use Rattle.std.proofs.lemmas.List.{take_min, nil_from_length, length-replicate}
 use Rattle.std.proofs.lemmas.List.Sums.{sum_by-cons}
-use Rattle.vfs_views.specs.Segments.{with_bytes_at}
-use Rattle.vfs_views.specs.declared.file.WritevFlags.{WritevFlags}
+use Rattle.vfs_segments.specs.Memory.{with_bytes_at}
+use Rattle.vfs_segments.specs.declared.file.WritevFlags.{WritevFlags}
 use Rattle.vfs_files.specs.Transfers.{Ending, Finished, Stuck, Broken, Past, outcome, count_moved, writes_of, Goes, EndsBy, Transfers}
 use Rattle.vfs_files.specs.declared.bytes_mut.BytesMut.{BytesMut}
 use Rattle.vfs_files.specs.Bytes.{fitting, lengthened, written, Writes}

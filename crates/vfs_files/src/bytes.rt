@@ -3,13 +3,13 @@
 ghost use Rattle.std.specs.Prelude.{◌≡◌, ◌≤◌, ◌++◌, ℕ, List, length, take, drop, min, Err, Some};
 ghost use Rattle.std.specs.List.{concat};
 ghost use Rattle.vfs_flags.specs.Numbers.{ebadf};
-ghost use Rattle.vfs_views.specs.Views.{IsSameRoom};
+ghost use Rattle.vfs_segments.specs.Views.{IsSameRoom};
 ghost use Rattle.vfs_files.specs.Bytes.{PutsPart};
 
 use crate::ZeroCopyWriter;
 use std::marker::Model;
 use vfs_flags::{Errno, Fault, MAX_REPLY_DATA};
-use vfs_views::{PositionedFile, Slices, SlicesMut, WritevFlags};
+use vfs_segments::{PositionedFile, Slices, SlicesMut, WritevFlags};
 
 /// A file of bytes that are only read. A read moves what is there, and nothing at or past the end.
 #[derive(Debug, Drop)]

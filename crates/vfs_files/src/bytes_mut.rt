@@ -3,13 +3,13 @@
 ghost use Rattle.std.specs.Prelude.{◌≡◌, ◌-◌, ◌<◌, ◌≤◌, ℕ, List, IfErr, IfOk, OnOk, Some, length, take, replicate, vec_len, vec_capacity};
 ghost use Rattle.std.specs.List.{concat};
 ghost use Rattle.vfs_flags.specs.Numbers.{enomem};
-ghost use Rattle.vfs_views.specs.Segments.{with_bytes_at};
+ghost use Rattle.vfs_segments.specs.Memory.{with_bytes_at};
 ghost use Rattle.vfs_files.specs.Bytes.{lengthened, Writes};
 
 use crate::ZeroCopyReader;
 use crate::bytes::{Bytes, fill_front};
 use vfs_flags::{Errno, Fault};
-use vfs_views::{PositionedFile, Slices, SlicesMut, WritevFlags};
+use vfs_segments::{PositionedFile, Slices, SlicesMut, WritevFlags};
 
 /// How many zeros are written at a time.
 const BLOCK: usize = 4096;

@@ -6,7 +6,7 @@ ghost use Rattle.std.proofs.Common.{refl, ◌∙◌};
 ghost use Rattle.vfs_files.specs.Transfers.{Transfers, reads_of, writes_of};
 
 use vfs_flags::Fault;
-use vfs_views::{PositionedFile, WritevFlags};
+use vfs_segments::{PositionedFile, WritevFlags};
 
 /// What the bytes of a file can be put into, as the room of a reply to READ.
 ///

@@ -1,3 +1,5 @@
+pub mod ViewCuts
+pub mod ViewPieces
 pub mod Lists
 pub mod Flat
 pub mod Halves

@@ -2,8 +2,8 @@
 use Rattle.std.proofs.Common.{◌≡◌, ℕ, ◌+◌, ◌-◌, ◌<◌, ◌≤◌, List, [], ◌++◌, length, take, drop, get_or, ap, arith, ◌∙◌, length-append, length-drop, length-take}
 use Rattle.std.specs.List.{concat}
 use Rattle.vfs_segments.proofs.Flat.{length-concat-drop_more, length-concat-split}
-use Rattle.vfs_views.specs.Views.{IsSpan, room}
-use Rattle.vfs_views.specs.SpanLaws.{whole-room}
+use Rattle.vfs_segments.specs.Views.{IsSpan, room}
+use Rattle.vfs_segments.specs.SpanLaws.{whole-room}
 
 -- n bytes from place `at` on begin `skip` bytes into the segment `first`, and the last of them is
 -- `inside` bytes into the segment `last`

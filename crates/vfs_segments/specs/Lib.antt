@@ -1,3 +1,9 @@
+pub mod Memory
+pub mod Views
+pub mod ViewInside
+pub mod Lending
+pub mod ViewLaws
+pub mod SpanLaws
 pub mod Segments
 pub mod SegmentLaws
 pub mod Lengths

@@ -6,8 +6,8 @@
 //! it, and `Writer::write_padded` aligns what it writes to 8 bytes, as a directory's records are;
 //! what a record says is not looked at. The crate `test_uses` has examples.
 //!
-//! A transfer moves bytes between segments and a file without a copy in between: the file is lent
-//! a view of just the next bytes, of `vfs_views`, and moves a beginning of them.
+//! A transfer moves bytes between segments and a file without a copy in between: a `PositionedFile`
+//! is lent a view of just the next bytes, `Slices` or `SlicesMut`, and moves a beginning of them.
 //!
 //! Both keep the running totals of their segments' lengths, for which `new`, `split_at` and `clone`
 //! take memory where they are more than four. A call finds the segment of its place by one search
@@ -20,6 +20,7 @@ mod beside;
 mod cut;
 mod descriptor_type;
 mod error;
+mod file;
 mod gather;
 pub mod laws;
 mod lend;
@@ -29,13 +30,17 @@ mod record;
 mod running;
 mod scatter;
 mod segments;
+mod span;
 mod spelled;
 mod transfer;
+mod views;
 mod writer;
 
 pub use descriptor_type::DescriptorType;
 pub use error::{Error, Result};
+pub use file::{PositionedFile, WritevFlags};
 pub use reader::Reader;
 pub use record::LARGEST_RECORD;
-pub use vfs_views::{PositionedFile, Slices, SlicesMut, WritevFlags};
+pub use span::Span;
+pub use views::{Slices, SlicesMut};
 pub use writer::Writer;

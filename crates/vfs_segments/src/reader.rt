@@ -18,7 +18,7 @@ use std::io::{ErrorKind, Read};
 use std::marker::Model;
 use std::{io, result};
 use vfs_flags::Fault;
-use vfs_views::{PositionedFile, WritevFlags};
+use crate::{PositionedFile, WritevFlags};
 use vfs_wire::ByteValued;
 
 /// Reads bytes from segments, wherever they are cut. It lends the segments, and takes each byte

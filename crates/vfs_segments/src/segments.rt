@@ -3,13 +3,13 @@
 ghost use Rattle.std.specs.Prelude.{◌≡◌, ℕ, ◌+◌, ◌-◌, ◌^◌, ◌<◌, ◌≤◌, List, [], length, take, drop, slice_index_or, IfOk, IfSome, IsOk, MatchOption, OnSome};
 ghost use Rattle.vfs_segments.specs.Segments.{contents, flat_bytes, lengths_of, segments_of};
 ghost use Rattle.vfs_segments.specs.Totals.{totals_of};
-ghost use Rattle.vfs_views.specs.Views.{IsSpan, room_of};
+ghost use Rattle.vfs_segments.specs.Views.{IsSpan, room_of};
 
 use crate::laws::{Counted, find_segment};
 use crate::running::{FEW, Running};
 use std::alloc::{AllocError, Global};
 use std::marker::Model;
-use vfs_views::Span;
+use crate::Span;
 
 // A list of segments: those that a reader lends, or those that a writer holds.
 pub(crate) trait SegmentList {

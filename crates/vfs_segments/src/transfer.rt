@@ -7,7 +7,7 @@ ghost use Rattle.vfs_segments.specs.Transfer.{moved_bytes};
 use crate::segments::Segments;
 use std::mem;
 use vfs_flags::Fault;
-use vfs_views::{PositionedFile, Slices, SlicesMut, WritevFlags};
+use crate::{PositionedFile, Slices, SlicesMut, WritevFlags};
 
 impl<'a> Segments<&'a [&'a [u8]]> {
     // Lends a file the `n` bytes from place `at` on, to be written into it.

@@ -18,7 +18,7 @@ use std::io::{ErrorKind, Write};
 use std::marker::Model;
 use std::{io, result};
 use vfs_flags::Fault;
-use vfs_views::PositionedFile;
+use crate::PositionedFile;
 use vfs_wire::ByteValued;
 
 /// Writes bytes over those of its segments, wherever they are cut. The segments' lengths are its

@@ -1,6 +1,6 @@
 -- A writer and a reader as what bytes are put into and taken from, and what one call of each does.
 use Rattle.std.proofs.Common.{◌≡◌, ◌≤◌, ◌<◌, ◌-◌, ◌⊎◌, inl, inr, ℕ, zero, suc, List, [], length, take, drop, min, IfOk, take-append-drop, drop_at, length-append, length-take, length-drop, Option, Result, Ok, Err, arith, refl, sym, ap, subst, ◌∙◌, append-nil}
-use Rattle.vfs_views.specs.declared.file.WritevFlags.{WritevFlags}
+use Rattle.vfs_segments.specs.declared.file.WritevFlags.{WritevFlags}
 use Rattle.vfs_segments.specs.Written.{Written, Moves}
 use Rattle.vfs_segments.specs.Unread.{Unread}
 use Rattle.vfs_segments.specs.Transfer.{moved_bytes, taken_in, taken_out}

@@ -3,4 +3,4 @@
 
 pub use vfs_segments::laws::{Counted, Totals, find_segment};
 pub use vfs_segments::{DescriptorType, Error, Reader, Result, Writer};
-pub use vfs_views::{PositionedFile, Slices, SlicesMut, WritevFlags};
+pub use vfs_segments::{PositionedFile, Slices, SlicesMut, WritevFlags};

@@ -1,5 +1,4 @@
 pub mod Decoders
 pub mod FieldLaws
 pub mod Fields
-pub mod Layouts
 pub mod Records

@@ -16,7 +16,6 @@ mod extensions;
 mod headers;
 mod init;
 mod laws;
-pub mod layouts;
 mod listings;
 mod numbers;
 pub mod parts;

@@ -1,8 +1,7 @@
 -- The requests BMAP, IOCTL, POLL and STATX.
 use Rattle.std.specs.Int.{w32, cast_unsigned, cast_signed}
-use Rattle.std.specs.Prelude.{pos, ℕ, List, slice_index, [], ◌∷◌}
+use Rattle.std.specs.Prelude.{ℕ, List, slice_index, [], ◌∷◌}
 use Rattle.vfs_wire.specs.Fields.{Table, table}
-use Rattle.vfs_wire.specs.Layouts.{LiesAs}
 use Rattle.vfs_wire_more.specs.declared.devices.BmapIn.{BmapIn}
 use Rattle.vfs_wire_more.specs.declared.devices.BmapOut.{BmapOut}
 use Rattle.vfs_wire_more.specs.declared.devices.IoctlIn.{IoctlIn}
@@ -25,14 +24,6 @@ made_bmap_in xs = record {
 abbrev pub bmap_in : Table BmapIn
 bmap_in = table (8 ∷ 4 ∷ 4 ∷ []) (λ r. r.block ∷ r.blocksize ∷ r.padding ∷ []) made_bmap_in
 
--- the bytes 1, 2, 3, .. of it
-abbrev pub BmapInLies : Type 0
-BmapInLies = LiesAs bmap_in 16 (record {
-  block = 0x0807060504030201;
-  blocksize = 0x0c0b0a09;
-  padding = 0x100f0e0d;
-})
-
 -- the BmapOut of its fields
 abbrev pub made_bmap_out : List ℕ → BmapOut
 made_bmap_out xs = record {
@@ -42,12 +33,6 @@ made_bmap_out xs = record {
 -- BmapOut: 8 bytes
 abbrev pub bmap_out : Table BmapOut
 bmap_out = table (8 ∷ []) (λ r. r.block ∷ []) made_bmap_out
-
--- the bytes 1, 2, 3, .. of it
-abbrev pub BmapOutLies : Type 0
-BmapOutLies = LiesAs bmap_out 8 (record {
-  block = 0x0807060504030201;
-})
 
 -- the IoctlIn of its fields
 abbrev pub made_ioctl_in : List ℕ → IoctlIn
@@ -65,17 +50,6 @@ abbrev pub ioctl_in : Table IoctlIn
 ioctl_in = table (8 ∷ 4 ∷ 4 ∷ 8 ∷ 4 ∷ 4 ∷ [])
     (λ r. r.fh ∷ r.flags ∷ r.cmd ∷ r.arg ∷ r.in_size ∷ r.out_size ∷ []) made_ioctl_in
 
--- the bytes 1, 2, 3, .. of it
-abbrev pub IoctlInLies : Type 0
-IoctlInLies = LiesAs ioctl_in 32 (record {
-  fh = 0x0807060504030201;
-  flags = 0x0c0b0a09;
-  cmd = 0x100f0e0d;
-  arg = 0x1817161514131211;
-  in_size = 0x1c1b1a19;
-  out_size = 0x201f1e1d;
-})
-
 -- the IoctlIovec of its fields
 abbrev pub made_ioctl_iovec : List ℕ → IoctlIovec
 made_ioctl_iovec xs = record {
@@ -86,13 +60,6 @@ made_ioctl_iovec xs = record {
 -- IoctlIovec: 16 bytes
 abbrev pub ioctl_iovec : Table IoctlIovec
 ioctl_iovec = table (8 ∷ 8 ∷ []) (λ r. r.base ∷ r.len ∷ []) made_ioctl_iovec
-
--- the bytes 1, 2, 3, .. of it
-abbrev pub IoctlIovecLies : Type 0
-IoctlIovecLies = LiesAs ioctl_iovec 16 (record {
-  base = 0x0807060504030201;
-  len = 0x100f0e0d0c0b0a09;
-})
 
 -- the IoctlOut of its fields
 abbrev pub made_ioctl_out : List ℕ → IoctlOut
@@ -108,15 +75,6 @@ abbrev pub ioctl_out : Table IoctlOut
 ioctl_out = table (4 ∷ 4 ∷ 4 ∷ 4 ∷ [])
     (λ r. cast_unsigned w32 r.result ∷ r.flags ∷ r.in_iovs ∷ r.out_iovs ∷ []) made_ioctl_out
 
--- the bytes 1, 2, 3, .. of it
-abbrev pub IoctlOutLies : Type 0
-IoctlOutLies = LiesAs ioctl_out 16 (record {
-  result = pos 0x04030201;
-  flags = 0x08070605;
-  in_iovs = 0x0c0b0a09;
-  out_iovs = 0x100f0e0d;
-})
-
 -- the PollIn of its fields
 abbrev pub made_poll_in : List ℕ → PollIn
 made_poll_in xs = record {
@@ -130,15 +88,6 @@ made_poll_in xs = record {
 abbrev pub poll_in : Table PollIn
 poll_in = table (8 ∷ 8 ∷ 4 ∷ 4 ∷ []) (λ r. r.fh ∷ r.kh ∷ r.flags ∷ r.events ∷ []) made_poll_in
 
--- the bytes 1, 2, 3, .. of it
-abbrev pub PollInLies : Type 0
-PollInLies = LiesAs poll_in 24 (record {
-  fh = 0x0807060504030201;
-  kh = 0x100f0e0d0c0b0a09;
-  flags = 0x14131211;
-  events = 0x18171615;
-})
-
 -- the PollOut of its fields
 abbrev pub made_poll_out : List ℕ → PollOut
 made_poll_out xs = record {
@@ -150,13 +99,6 @@ made_poll_out xs = record {
 abbrev pub poll_out : Table PollOut
 poll_out = table (4 ∷ 4 ∷ []) (λ r. r.revents ∷ r.padding ∷ []) made_poll_out
 
--- the bytes 1, 2, 3, .. of it
-abbrev pub PollOutLies : Type 0
-PollOutLies = LiesAs poll_out 8 (record {
-  revents = 0x04030201;
-  padding = 0x08070605;
-})
-
 -- the SyncfsIn of its fields
 abbrev pub made_syncfs_in : List ℕ → SyncfsIn
 made_syncfs_in xs = record {
@@ -166,12 +108,6 @@ made_syncfs_in xs = record {
 -- SyncfsIn: 8 bytes
 abbrev pub syncfs_in : Table SyncfsIn
 syncfs_in = table (8 ∷ []) (λ r. r.padding ∷ []) made_syncfs_in
-
--- the bytes 1, 2, 3, .. of it
-abbrev pub SyncfsInLies : Type 0
-SyncfsInLies = LiesAs syncfs_in 8 (record {
-  padding = 0x0807060504030201;
-})
 
 -- the StatxIn of its fields
 abbrev pub made_statx_in : List ℕ → StatxIn
@@ -187,25 +123,3 @@ made_statx_in xs = record {
 abbrev pub statx_in : Table StatxIn
 statx_in = table (4 ∷ 4 ∷ 8 ∷ 4 ∷ 4 ∷ [])
     (λ r. r.getattr_flags ∷ r.reserved ∷ r.fh ∷ r.sx_flags ∷ r.sx_mask ∷ []) made_statx_in
-
--- the bytes 1, 2, 3, .. of it
-abbrev pub StatxInLies : Type 0
-StatxInLies = LiesAs statx_in 24 (record {
-  getattr_flags = 0x04030201;
-  reserved = 0x08070605;
-  fh = 0x100f0e0d0c0b0a09;
-  sx_flags = 0x14131211;
-  sx_mask = 0x18171615;
-})
-
--- the records of requests to devices lie so
-pub record DevicesLie : Type 0 where
-  pub bmap_in : BmapInLies
-  pub bmap_out : BmapOutLies
-  pub ioctl_in : IoctlInLies
-  pub ioctl_iovec : IoctlIovecLies
-  pub ioctl_out : IoctlOutLies
-  pub poll_in : PollInLies
-  pub poll_out : PollOutLies
-  pub syncfs_in : SyncfsInLies
-  pub statx_in : StatxInLies

@@ -1,7 +1,6 @@
 -- The header of all security contexts.
 use Rattle.std.specs.Prelude.{ℕ, List, slice_index, [], ◌∷◌}
 use Rattle.vfs_wire.specs.Fields.{Table, table}
-use Rattle.vfs_wire.specs.Layouts.{LiesAs}
 use Rattle.vfs_wire_more.specs.declared.extensions.SecctxHeader.{SecctxHeader}
 
 -- the SecctxHeader of its fields
@@ -14,10 +13,3 @@ made_secctx_header xs = record {
 -- SecctxHeader: 8 bytes
 abbrev pub secctx_header : Table SecctxHeader
 secctx_header = table (4 ∷ 4 ∷ []) (λ r. r.size ∷ r.nr_secctx ∷ []) made_secctx_header
-
--- the bytes 1, 2, 3, .. of it
-abbrev pub SecctxHeaderLies : Type 0
-SecctxHeaderLies = LiesAs secctx_header 8 (record {
-  size = 0x04030201;
-  nr_secctx = 0x08070605;
-})

@@ -1,8 +1,7 @@
 -- The notifications.
 use Rattle.std.specs.Int.{w64, cast_unsigned, cast_signed}
-use Rattle.std.specs.Prelude.{pos, ℕ, List, slice_index, [], ◌∷◌}
+use Rattle.std.specs.Prelude.{ℕ, List, slice_index, [], ◌∷◌}
 use Rattle.vfs_wire.specs.Fields.{Table, table}
-use Rattle.vfs_wire.specs.Layouts.{LiesAs}
 use Rattle.vfs_wire_more.specs.declared.notifications.NotifyDeleteOut.{NotifyDeleteOut}
 use Rattle.vfs_wire_more.specs.declared.notifications.NotifyInvalEntryOut.{NotifyInvalEntryOut}
 use Rattle.vfs_wire_more.specs.declared.notifications.NotifyInvalInodeOut.{NotifyInvalInodeOut}
@@ -22,12 +21,6 @@ made_notify_poll_wakeup_out xs = record {
 abbrev pub notify_poll_wakeup_out : Table NotifyPollWakeupOut
 notify_poll_wakeup_out = table (8 ∷ []) (λ r. r.kh ∷ []) made_notify_poll_wakeup_out
 
--- the bytes 1, 2, 3, .. of it
-abbrev pub NotifyPollWakeupOutLies : Type 0
-NotifyPollWakeupOutLies = LiesAs notify_poll_wakeup_out 8 (record {
-  kh = 0x0807060504030201;
-})
-
 -- the NotifyInvalInodeOut of its fields
 abbrev pub made_notify_inval_inode_out : List ℕ → NotifyInvalInodeOut
 made_notify_inval_inode_out xs = record {
@@ -42,14 +35,6 @@ notify_inval_inode_out = table (8 ∷ 8 ∷ 8 ∷ [])
     (λ r. r.ino ∷ cast_unsigned w64 r.off ∷ cast_unsigned w64 r.len ∷ [])
     made_notify_inval_inode_out
 
--- the bytes 1, 2, 3, .. of it
-abbrev pub NotifyInvalInodeOutLies : Type 0
-NotifyInvalInodeOutLies = LiesAs notify_inval_inode_out 24 (record {
-  ino = 0x0807060504030201;
-  off = pos 0x100f0e0d0c0b0a09;
-  len = pos 0x1817161514131211;
-})
-
 -- the NotifyInvalEntryOut of its fields
 abbrev pub made_notify_inval_entry_out : List ℕ → NotifyInvalEntryOut
 made_notify_inval_entry_out xs = record {
@@ -62,14 +47,6 @@ made_notify_inval_entry_out xs = record {
 abbrev pub notify_inval_entry_out : Table NotifyInvalEntryOut
 notify_inval_entry_out = table (8 ∷ 4 ∷ 4 ∷ [])
     (λ r. r.parent ∷ r.namelen ∷ r.flags ∷ []) made_notify_inval_entry_out
-
--- the bytes 1, 2, 3, .. of it
-abbrev pub NotifyInvalEntryOutLies : Type 0
-NotifyInvalEntryOutLies = LiesAs notify_inval_entry_out 16 (record {
-  parent = 0x0807060504030201;
-  namelen = 0x0c0b0a09;
-  flags = 0x100f0e0d;
-})
 
 -- the NotifyDeleteOut of its fields
 abbrev pub made_notify_delete_out : List ℕ → NotifyDeleteOut
@@ -85,15 +62,6 @@ abbrev pub notify_delete_out : Table NotifyDeleteOut
 notify_delete_out = table (8 ∷ 8 ∷ 4 ∷ 4 ∷ [])
     (λ r. r.parent ∷ r.child ∷ r.namelen ∷ r.padding ∷ []) made_notify_delete_out
 
--- the bytes 1, 2, 3, .. of it
-abbrev pub NotifyDeleteOutLies : Type 0
-NotifyDeleteOutLies = LiesAs notify_delete_out 24 (record {
-  parent = 0x0807060504030201;
-  child = 0x100f0e0d0c0b0a09;
-  namelen = 0x14131211;
-  padding = 0x18171615;
-})
-
 -- the NotifyStoreOut of its fields
 abbrev pub made_notify_store_out : List ℕ → NotifyStoreOut
 made_notify_store_out xs = record {
@@ -107,15 +75,6 @@ made_notify_store_out xs = record {
 abbrev pub notify_store_out : Table NotifyStoreOut
 notify_store_out = table (8 ∷ 8 ∷ 4 ∷ 4 ∷ [])
     (λ r. r.nodeid ∷ r.offset ∷ r.size ∷ r.padding ∷ []) made_notify_store_out
-
--- the bytes 1, 2, 3, .. of it
-abbrev pub NotifyStoreOutLies : Type 0
-NotifyStoreOutLies = LiesAs notify_store_out 24 (record {
-  nodeid = 0x0807060504030201;
-  offset = 0x100f0e0d0c0b0a09;
-  size = 0x14131211;
-  padding = 0x18171615;
-})
 
 -- the Notify_Retrieve_Out of its fields
 abbrev pub made_notify_retrieve_out : List ℕ → Notify_Retrieve_Out
@@ -131,16 +90,6 @@ made_notify_retrieve_out xs = record {
 abbrev pub notify_retrieve_out : Table Notify_Retrieve_Out
 notify_retrieve_out = table (8 ∷ 8 ∷ 8 ∷ 4 ∷ 4 ∷ [])
     (λ r. r.notify_unique ∷ r.nodeid ∷ r.offset ∷ r.size ∷ r.padding ∷ []) made_notify_retrieve_out
-
--- the bytes 1, 2, 3, .. of it
-abbrev pub NotifyRetrieveOutLies : Type 0
-NotifyRetrieveOutLies = LiesAs notify_retrieve_out 32 (record {
-  notify_unique = 0x0807060504030201;
-  nodeid = 0x100f0e0d0c0b0a09;
-  offset = 0x1817161514131211;
-  size = 0x1c1b1a19;
-  padding = 0x201f1e1d;
-})
 
 -- the NotifyRetrieveIn of its fields
 abbrev pub made_notify_retrieve_in : List ℕ → NotifyRetrieveIn
@@ -159,17 +108,6 @@ notify_retrieve_in = table (8 ∷ 8 ∷ 4 ∷ 4 ∷ 8 ∷ 8 ∷ [])
     (λ r. r.dummy1 ∷ r.offset ∷ r.size ∷ r.dummy2 ∷ r.dummy3 ∷ r.dummy4 ∷ [])
     made_notify_retrieve_in
 
--- the bytes 1, 2, 3, .. of it
-abbrev pub NotifyRetrieveInLies : Type 0
-NotifyRetrieveInLies = LiesAs notify_retrieve_in 40 (record {
-  dummy1 = 0x0807060504030201;
-  offset = 0x100f0e0d0c0b0a09;
-  size = 0x14131211;
-  dummy2 = 0x18171615;
-  dummy3 = 0x201f1e1d1c1b1a19;
-  dummy4 = 0x2827262524232221;
-})
-
 -- the NotifyPruneOut of its fields
 abbrev pub made_notify_prune_out : List ℕ → NotifyPruneOut
 made_notify_prune_out xs = record {
@@ -181,22 +119,3 @@ made_notify_prune_out xs = record {
 -- NotifyPruneOut: 16 bytes
 abbrev pub notify_prune_out : Table NotifyPruneOut
 notify_prune_out = table (4 ∷ 4 ∷ 8 ∷ []) (λ r. r.count ∷ r.padding ∷ r.spare ∷ []) made_notify_prune_out
-
--- the bytes 1, 2, 3, .. of it
-abbrev pub NotifyPruneOutLies : Type 0
-NotifyPruneOutLies = LiesAs notify_prune_out 16 (record {
-  count = 0x04030201;
-  padding = 0x08070605;
-  spare = 0x100f0e0d0c0b0a09;
-})
-
--- the records of notifications lie so
-pub record NotificationsLie : Type 0 where
-  pub notify_poll_wakeup_out : NotifyPollWakeupOutLies
-  pub notify_inval_inode_out : NotifyInvalInodeOutLies
-  pub notify_inval_entry_out : NotifyInvalEntryOutLies
-  pub notify_delete_out : NotifyDeleteOutLies
-  pub notify_store_out : NotifyStoreOutLies
-  pub notify_retrieve_out : NotifyRetrieveOutLies
-  pub notify_retrieve_in : NotifyRetrieveInLies
-  pub notify_prune_out : NotifyPruneOutLies

@@ -4,7 +4,6 @@
 -- compiles the tables against the kernel's header.
 use Rattle.std.specs.Prelude.{ℕ, List, slice_index, [], ◌∷◌}
 use Rattle.vfs_wire.specs.Fields.{Table, table}
-use Rattle.vfs_wire.specs.Layouts.{LiesAs}
 use Rattle.vfs_wire_more.specs.declared.files.FlushIn.{FlushIn}
 use Rattle.vfs_wire_more.specs.declared.files.FsyncIn.{FsyncIn}
 use Rattle.vfs_wire_more.specs.declared.files.OpenIn.{OpenIn}
@@ -42,13 +41,6 @@ made_open_in xs = record {
 abbrev pub open_in : Table OpenIn
 open_in = table (4 ∷ 4 ∷ []) (λ r. r.flags ∷ r.open_flags ∷ []) made_open_in
 
--- the bytes 1, 2, 3, .. of it
-abbrev pub OpenInLies : Type 0
-OpenInLies = LiesAs open_in 8 (record {
-  flags = 0x04030201;
-  open_flags = 0x08070605;
-})
-
 -- the OpenOut of its fields
 abbrev pub made_open_out : List ℕ → OpenOut
 made_open_out xs = record {
@@ -60,14 +52,6 @@ made_open_out xs = record {
 -- OpenOut: 16 bytes
 abbrev pub open_out : Table OpenOut
 open_out = table (8 ∷ 4 ∷ 4 ∷ []) (λ r. r.fh ∷ r.open_flags ∷ r.padding ∷ []) made_open_out
-
--- the bytes 1, 2, 3, .. of it
-abbrev pub OpenOutLies : Type 0
-OpenOutLies = LiesAs open_out 16 (record {
-  fh = 0x0807060504030201;
-  open_flags = 0x0c0b0a09;
-  padding = 0x100f0e0d;
-})
 
 -- the ReleaseIn of its fields
 abbrev pub made_release_in : List ℕ → ReleaseIn
@@ -83,15 +67,6 @@ abbrev pub release_in : Table ReleaseIn
 release_in = table (8 ∷ 4 ∷ 4 ∷ 8 ∷ [])
     (λ r. r.fh ∷ r.flags ∷ r.release_flags ∷ r.lock_owner ∷ []) made_release_in
 
--- the bytes 1, 2, 3, .. of it
-abbrev pub ReleaseInLies : Type 0
-ReleaseInLies = LiesAs release_in 24 (record {
-  fh = 0x0807060504030201;
-  flags = 0x0c0b0a09;
-  release_flags = 0x100f0e0d;
-  lock_owner = 0x1817161514131211;
-})
-
 -- the FlushIn of its fields
 abbrev pub made_flush_in : List ℕ → FlushIn
 made_flush_in xs = record {
@@ -105,15 +80,6 @@ made_flush_in xs = record {
 abbrev pub flush_in : Table FlushIn
 flush_in = table (8 ∷ 4 ∷ 4 ∷ 8 ∷ [])
     (λ r. r.fh ∷ r.unused ∷ r.padding ∷ r.lock_owner ∷ []) made_flush_in
-
--- the bytes 1, 2, 3, .. of it
-abbrev pub FlushInLies : Type 0
-FlushInLies = LiesAs flush_in 24 (record {
-  fh = 0x0807060504030201;
-  unused = 0x0c0b0a09;
-  padding = 0x100f0e0d;
-  lock_owner = 0x1817161514131211;
-})
 
 -- the ReadIn of its fields
 abbrev pub made_read_in : List ℕ → ReadIn
@@ -133,18 +99,6 @@ read_in = table (8 ∷ 8 ∷ 4 ∷ 4 ∷ 8 ∷ 4 ∷ 4 ∷ [])
     (λ r. r.fh ∷ r.offset ∷ r.size ∷ r.read_flags ∷ r.lock_owner ∷ r.flags ∷ r.padding ∷ [])
     made_read_in
 
--- the bytes 1, 2, 3, .. of it
-abbrev pub ReadInLies : Type 0
-ReadInLies = LiesAs read_in 40 (record {
-  fh = 0x0807060504030201;
-  offset = 0x100f0e0d0c0b0a09;
-  size = 0x14131211;
-  read_flags = 0x18171615;
-  lock_owner = 0x201f1e1d1c1b1a19;
-  flags = 0x24232221;
-  padding = 0x28272625;
-})
-
 -- the WriteIn of its fields
 abbrev pub made_write_in : List ℕ → WriteIn
 made_write_in xs = record {
@@ -163,18 +117,6 @@ write_in = table (8 ∷ 8 ∷ 4 ∷ 4 ∷ 8 ∷ 4 ∷ 4 ∷ [])
     (λ r. r.fh ∷ r.offset ∷ r.size ∷ r.write_flags ∷ r.lock_owner ∷ r.flags ∷ r.padding ∷ [])
     made_write_in
 
--- the bytes 1, 2, 3, .. of it
-abbrev pub WriteInLies : Type 0
-WriteInLies = LiesAs write_in 40 (record {
-  fh = 0x0807060504030201;
-  offset = 0x100f0e0d0c0b0a09;
-  size = 0x14131211;
-  write_flags = 0x18171615;
-  lock_owner = 0x201f1e1d1c1b1a19;
-  flags = 0x24232221;
-  padding = 0x28272625;
-})
-
 -- the WriteOut of its fields
 abbrev pub made_write_out : List ℕ → WriteOut
 made_write_out xs = record {
@@ -185,13 +127,6 @@ made_write_out xs = record {
 -- WriteOut: 8 bytes
 abbrev pub write_out : Table WriteOut
 write_out = table (4 ∷ 4 ∷ []) (λ r. r.size ∷ r.padding ∷ []) made_write_out
-
--- the bytes 1, 2, 3, .. of it
-abbrev pub WriteOutLies : Type 0
-WriteOutLies = LiesAs write_out 8 (record {
-  size = 0x04030201;
-  padding = 0x08070605;
-})
 
 -- the FsyncIn of its fields
 abbrev pub made_fsync_in : List ℕ → FsyncIn
@@ -204,14 +139,6 @@ made_fsync_in xs = record {
 -- FsyncIn: 16 bytes
 abbrev pub fsync_in : Table FsyncIn
 fsync_in = table (8 ∷ 4 ∷ 4 ∷ []) (λ r. r.fh ∷ r.fsync_flags ∷ r.padding ∷ []) made_fsync_in
-
--- the bytes 1, 2, 3, .. of it
-abbrev pub FsyncInLies : Type 0
-FsyncInLies = LiesAs fsync_in 16 (record {
-  fh = 0x0807060504030201;
-  fsync_flags = 0x0c0b0a09;
-  padding = 0x100f0e0d;
-})
 
 -- ---- the requests that make, move or link a name
 
@@ -229,15 +156,6 @@ abbrev pub mknod_in : Table MknodIn
 mknod_in = table (4 ∷ 4 ∷ 4 ∷ 4 ∷ [])
     (λ r. r.mode ∷ r.rdev ∷ r.umask ∷ r.padding ∷ []) made_mknod_in
 
--- the bytes 1, 2, 3, .. of it
-abbrev pub MknodInLies : Type 0
-MknodInLies = LiesAs mknod_in 16 (record {
-  mode = 0x04030201;
-  rdev = 0x08070605;
-  umask = 0x0c0b0a09;
-  padding = 0x100f0e0d;
-})
-
 -- the MkdirIn of its fields
 abbrev pub made_mkdir_in : List ℕ → MkdirIn
 made_mkdir_in xs = record {
@@ -249,13 +167,6 @@ made_mkdir_in xs = record {
 abbrev pub mkdir_in : Table MkdirIn
 mkdir_in = table (4 ∷ 4 ∷ []) (λ r. r.mode ∷ r.umask ∷ []) made_mkdir_in
 
--- the bytes 1, 2, 3, .. of it
-abbrev pub MkdirInLies : Type 0
-MkdirInLies = LiesAs mkdir_in 8 (record {
-  mode = 0x04030201;
-  umask = 0x08070605;
-})
-
 -- the RenameIn of its fields
 abbrev pub made_rename_in : List ℕ → RenameIn
 made_rename_in xs = record {
@@ -265,12 +176,6 @@ made_rename_in xs = record {
 -- RenameIn: 8 bytes
 abbrev pub rename_in : Table RenameIn
 rename_in = table (8 ∷ []) (λ r. r.newdir ∷ []) made_rename_in
-
--- the bytes 1, 2, 3, .. of it
-abbrev pub RenameInLies : Type 0
-RenameInLies = LiesAs rename_in 8 (record {
-  newdir = 0x0807060504030201;
-})
 
 -- the Rename2In of its fields
 abbrev pub made_rename2_in : List ℕ → Rename2In
@@ -284,14 +189,6 @@ made_rename2_in xs = record {
 abbrev pub rename2_in : Table Rename2In
 rename2_in = table (8 ∷ 4 ∷ 4 ∷ []) (λ r. r.newdir ∷ r.flags ∷ r.padding ∷ []) made_rename2_in
 
--- the bytes 1, 2, 3, .. of it
-abbrev pub Rename2InLies : Type 0
-Rename2InLies = LiesAs rename2_in 16 (record {
-  newdir = 0x0807060504030201;
-  flags = 0x0c0b0a09;
-  padding = 0x100f0e0d;
-})
-
 -- the LinkIn of its fields
 abbrev pub made_link_in : List ℕ → LinkIn
 made_link_in xs = record {
@@ -301,12 +198,6 @@ made_link_in xs = record {
 -- LinkIn: 8 bytes
 abbrev pub link_in : Table LinkIn
 link_in = table (8 ∷ []) (λ r. r.oldnodeid ∷ []) made_link_in
-
--- the bytes 1, 2, 3, .. of it
-abbrev pub LinkInLies : Type 0
-LinkInLies = LiesAs link_in 8 (record {
-  oldnodeid = 0x0807060504030201;
-})
 
 -- the CreateIn of its fields
 abbrev pub made_create_in : List ℕ → CreateIn
@@ -322,15 +213,6 @@ abbrev pub create_in : Table CreateIn
 create_in = table (4 ∷ 4 ∷ 4 ∷ 4 ∷ [])
     (λ r. r.flags ∷ r.mode ∷ r.umask ∷ r.open_flags ∷ []) made_create_in
 
--- the bytes 1, 2, 3, .. of it
-abbrev pub CreateInLies : Type 0
-CreateInLies = LiesAs create_in 16 (record {
-  flags = 0x04030201;
-  mode = 0x08070605;
-  umask = 0x0c0b0a09;
-  open_flags = 0x100f0e0d;
-})
-
 -- the AccessIn of its fields
 abbrev pub made_access_in : List ℕ → AccessIn
 made_access_in xs = record {
@@ -341,13 +223,6 @@ made_access_in xs = record {
 -- AccessIn: 8 bytes
 abbrev pub access_in : Table AccessIn
 access_in = table (4 ∷ 4 ∷ []) (λ r. r.mask ∷ r.padding ∷ []) made_access_in
-
--- the bytes 1, 2, 3, .. of it
-abbrev pub AccessInLies : Type 0
-AccessInLies = LiesAs access_in 8 (record {
-  mask = 0x04030201;
-  padding = 0x08070605;
-})
 
 -- ---- the requests on ranges of a file
 
@@ -365,15 +240,6 @@ abbrev pub lseek_in : Table LseekIn
 lseek_in = table (8 ∷ 8 ∷ 4 ∷ 4 ∷ [])
     (λ r. r.fh ∷ r.offset ∷ r.whence ∷ r.padding ∷ []) made_lseek_in
 
--- the bytes 1, 2, 3, .. of it
-abbrev pub LseekInLies : Type 0
-LseekInLies = LiesAs lseek_in 24 (record {
-  fh = 0x0807060504030201;
-  offset = 0x100f0e0d0c0b0a09;
-  whence = 0x14131211;
-  padding = 0x18171615;
-})
-
 -- the LseekOut of its fields
 abbrev pub made_lseek_out : List ℕ → LseekOut
 made_lseek_out xs = record {
@@ -383,12 +249,6 @@ made_lseek_out xs = record {
 -- LseekOut: 8 bytes
 abbrev pub lseek_out : Table LseekOut
 lseek_out = table (8 ∷ []) (λ r. r.offset ∷ []) made_lseek_out
-
--- the bytes 1, 2, 3, .. of it
-abbrev pub LseekOutLies : Type 0
-LseekOutLies = LiesAs lseek_out 8 (record {
-  offset = 0x0807060504030201;
-})
 
 -- the CopyfilerangeIn of its fields
 abbrev pub made_copyfilerange_in : List ℕ → CopyfilerangeIn
@@ -408,18 +268,6 @@ copyfilerange_in = table (8 ∷ 8 ∷ 8 ∷ 8 ∷ 8 ∷ 8 ∷ 8 ∷ [])
     (λ r. r.fh_in ∷ r.off_in ∷ r.nodeid_out ∷ r.fh_out ∷ r.off_out ∷ r.len ∷ r.flags ∷ [])
     made_copyfilerange_in
 
--- the bytes 1, 2, 3, .. of it
-abbrev pub CopyfilerangeInLies : Type 0
-CopyfilerangeInLies = LiesAs copyfilerange_in 56 (record {
-  fh_in = 0x0807060504030201;
-  off_in = 0x100f0e0d0c0b0a09;
-  nodeid_out = 0x1817161514131211;
-  fh_out = 0x201f1e1d1c1b1a19;
-  off_out = 0x2827262524232221;
-  len = 0x302f2e2d2c2b2a29;
-  flags = 0x3837363534333231;
-})
-
 -- the FallocateIn of its fields
 abbrev pub made_fallocate_in : List ℕ → FallocateIn
 made_fallocate_in xs = record {
@@ -434,16 +282,6 @@ made_fallocate_in xs = record {
 abbrev pub fallocate_in : Table FallocateIn
 fallocate_in = table (8 ∷ 8 ∷ 8 ∷ 4 ∷ 4 ∷ [])
     (λ r. r.fh ∷ r.offset ∷ r.length ∷ r.mode ∷ r.padding ∷ []) made_fallocate_in
-
--- the bytes 1, 2, 3, .. of it
-abbrev pub FallocateInLies : Type 0
-FallocateInLies = LiesAs fallocate_in 32 (record {
-  fh = 0x0807060504030201;
-  offset = 0x100f0e0d0c0b0a09;
-  length = 0x1817161514131211;
-  mode = 0x1c1b1a19;
-  padding = 0x201f1e1d;
-})
 
 -- ---- the requests on extended attributes
 
@@ -461,15 +299,6 @@ abbrev pub setxattr_in : Table SetxattrIn
 setxattr_in = table (4 ∷ 4 ∷ 4 ∷ 4 ∷ [])
     (λ r. r.size ∷ r.flags ∷ r.setxattr_flags ∷ r.padding ∷ []) made_setxattr_in
 
--- the bytes 1, 2, 3, .. of it
-abbrev pub SetxattrInLies : Type 0
-SetxattrInLies = LiesAs setxattr_in 16 (record {
-  size = 0x04030201;
-  flags = 0x08070605;
-  setxattr_flags = 0x0c0b0a09;
-  padding = 0x100f0e0d;
-})
-
 -- the SetxattrInCompat of its fields
 abbrev pub made_setxattr_in_compat : List ℕ → SetxattrInCompat
 made_setxattr_in_compat xs = record {
@@ -480,13 +309,6 @@ made_setxattr_in_compat xs = record {
 -- SetxattrInCompat: 8 bytes
 abbrev pub setxattr_in_compat : Table SetxattrInCompat
 setxattr_in_compat = table (4 ∷ 4 ∷ []) (λ r. r.size ∷ r.flags ∷ []) made_setxattr_in_compat
-
--- the bytes 1, 2, 3, .. of it
-abbrev pub SetxattrInCompatLies : Type 0
-SetxattrInCompatLies = LiesAs setxattr_in_compat 8 (record {
-  size = 0x04030201;
-  flags = 0x08070605;
-})
 
 -- the GetxattrIn of its fields
 abbrev pub made_getxattr_in : List ℕ → GetxattrIn
@@ -499,13 +321,6 @@ made_getxattr_in xs = record {
 abbrev pub getxattr_in : Table GetxattrIn
 getxattr_in = table (4 ∷ 4 ∷ []) (λ r. r.size ∷ r.padding ∷ []) made_getxattr_in
 
--- the bytes 1, 2, 3, .. of it
-abbrev pub GetxattrInLies : Type 0
-GetxattrInLies = LiesAs getxattr_in 8 (record {
-  size = 0x04030201;
-  padding = 0x08070605;
-})
-
 -- the GetxattrOut of its fields
 abbrev pub made_getxattr_out : List ℕ → GetxattrOut
 made_getxattr_out xs = record {
@@ -516,45 +331,3 @@ made_getxattr_out xs = record {
 -- GetxattrOut: 8 bytes
 abbrev pub getxattr_out : Table GetxattrOut
 getxattr_out = table (4 ∷ 4 ∷ []) (λ r. r.size ∷ r.padding ∷ []) made_getxattr_out
-
--- the bytes 1, 2, 3, .. of it
-abbrev pub GetxattrOutLies : Type 0
-GetxattrOutLies = LiesAs getxattr_out 8 (record {
-  size = 0x04030201;
-  padding = 0x08070605;
-})
-
--- the records of requests on open files lie so
-pub record FilesLie : Type 0 where
-  pub open_in : OpenInLies
-  pub open_out : OpenOutLies
-  pub release_in : ReleaseInLies
-  pub flush_in : FlushInLies
-  pub read_in : ReadInLies
-  pub write_in : WriteInLies
-  pub write_out : WriteOutLies
-  pub fsync_in : FsyncInLies
-
--- the records of requests on names lie so
-pub record NamesLie : Type 0 where
-  pub mknod_in : MknodInLies
-  pub mkdir_in : MkdirInLies
-  pub rename_in : RenameInLies
-  pub rename2_in : Rename2InLies
-  pub link_in : LinkInLies
-  pub create_in : CreateInLies
-  pub access_in : AccessInLies
-
--- the records of ranges of a file lie so
-pub record RangesLie : Type 0 where
-  pub lseek_in : LseekInLies
-  pub lseek_out : LseekOutLies
-  pub copyfilerange_in : CopyfilerangeInLies
-  pub fallocate_in : FallocateInLies
-
--- the records of extended attributes lie so
-pub record XattrsLie : Type 0 where
-  pub setxattr_in : SetxattrInLies
-  pub setxattr_in_compat : SetxattrInCompatLies
-  pub getxattr_in : GetxattrInLies
-  pub getxattr_out : GetxattrOutLies

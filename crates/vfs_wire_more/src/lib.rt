@@ -10,15 +10,13 @@
 
 ghost use Rattle.std.specs.Prelude.{◌≡◌, refl, replicate};
 ghost use Rattle.std.proofs.Common.{lit≤};
-ghost use Rattle.vfs_wire.specs.Fields.{bytes_of, value_of};
-ghost use Rattle.vfs_wire.specs.Layouts.{counting};
+ghost use Rattle.vfs_wire.specs.Fields.{bytes_of};
 ghost use Rattle.vfs_wire_more.specs.Devices.{syncfs_in};
 ghost use Rattle.vfs_wire_more.specs.Records.{copyfilerange_in, fallocate_in, lseek_in, lseek_out};
 
 mod devices;
 mod extensions;
 mod files;
-pub mod layouts;
 mod listings;
 mod locks;
 mod mappings;
@@ -398,17 +396,4 @@ fn unset() -> (LseekIn, LseekOut, CopyfilerangeIn, FallocateIn, SyncfsIn)
         FallocateIn::default(),
         SyncfsIn::default(),
     )
-}
-
-/// The last field of each, as the bytes 1, 2, 3, .. are read there: what `layouts` gives to a caller.
-fn last_fields()
-    ensures lseek_in { (value_of lseek_in (counting 1 24)).padding ≡ 0x18171615 }
-    ensures lseek_out { (value_of lseek_out (counting 1 8)).offset ≡ 0x0807060504030201 }
-    ensures copyfilerange_in { (value_of copyfilerange_in (counting 1 56)).flags
-        ≡ 0x3837363534333231 }
-    ensures fallocate_in { (value_of fallocate_in (counting 1 32)).padding ≡ 0x201f1e1d }
-    ensures syncfs_in { (value_of syncfs_in (counting 1 8)).padding ≡ 0x0807060504030201 }
-{
-    layouts::ranges();
-    layouts::devices();
 }

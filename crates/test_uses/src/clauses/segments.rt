@@ -11,8 +11,7 @@ use std::io::ErrorKind;
 use std::result;
 use vfs_flags::Fault;
 use vfs_segments::laws::{equal_bytes_answer_alike, together_after_a_place};
-use vfs_segments::{Reader, Writer};
-use vfs_views::PositionedFile;
+use vfs_segments::{PositionedFile, Reader, Writer};
 use vfs_wire::{ByteValued, take_after_put};
 
 /// An answer to a question of a count is that count, and a read moves what fits.

@@ -1,31 +1,16 @@
 //! Records as numbers, and owners whom a map refuses.
 
 ghost use Rattle.std.specs.Prelude.{◌≡◌, ◌<◌, ℕ, List, [], ◌∷◌, slice_index, None, Some, Err};
-ghost use Rattle.vfs_wire.specs.Fields.{AreBytes, value_of};
-ghost use Rattle.vfs_wire.specs.Layouts.{counting};
-ghost use Rattle.vfs_wire_more.specs.Devices.{syncfs_in};
-ghost use Rattle.vfs_wire_more.specs.Records.{lseek_in, lseek_out, fallocate_in};
+ghost use Rattle.vfs_wire.specs.Fields.{AreBytes};
 
 use vfs_flags::{Errno, Fault, GuestGid, GuestUid};
 use vfs_wire::{Attr, ByteValued, Stat64, decoding_is_the_inverse};
-use vfs_wire_more::layouts;
 
 /// Values of the same numbers are the same.
 fn numbers_tell_values<T: ByteValued>()
     ensures { (x y : T) → T.in_range x → T.in_range y → T.table.fields x ≡ T.table.fields y → x ≡ y }
 {
     decoding_is_the_inverse::<T>();
-}
-
-/// The records of ranges of a file, and that of SYNCFS: what is read last.
-fn last_of_ranges()
-    ensures lseek_in { (value_of lseek_in (counting 1 24)).padding ≡ 0x18171615 }
-    ensures lseek_out { (value_of lseek_out (counting 1 8)).offset ≡ 0x0807060504030201 }
-    ensures fallocate_in { (value_of fallocate_in (counting 1 32)).padding ≡ 0x201f1e1d }
-    ensures syncfs_in { (value_of syncfs_in (counting 1 8)).padding ≡ 0x0807060504030201 }
-{
-    layouts::ranges();
-    layouts::devices();
 }
 
 /// Of bytes none is 256.

@@ -2,8 +2,7 @@
 
 use vfs_files::ZeroCopyReader;
 use vfs_flags::Fault;
-use vfs_segments::Reader;
-use vfs_views::{PositionedFile, WritevFlags};
+use vfs_segments::{PositionedFile, Reader, WritevFlags};
 
 /// A reader whose bytes are put into files. What is taken are exactly its next bytes.
 #[derive(Drop)]

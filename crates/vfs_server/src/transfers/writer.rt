@@ -2,8 +2,7 @@
 
 use vfs_files::ZeroCopyWriter;
 use vfs_flags::Fault;
-use vfs_segments::Writer;
-use vfs_views::PositionedFile;
+use vfs_segments::{PositionedFile, Writer};
 
 /// A writer whose room bytes of files are put into.
 ///

@@ -3,7 +3,7 @@ use Rattle.std.specs.List.{concat}
 use Rattle.std.specs.Map.{keys_of}
 use Rattle.std.proofs.lemmas.Bool.{cases_lt}
 use Rattle.std.proofs.lemmas.List.{take_all}
-use Rattle.vfs_views.specs.ViewLaws.{concat-take_more}
+use Rattle.vfs_segments.specs.ViewLaws.{concat-take_more}
 use Rattle.fs_contents.specs.Pages.{byte_at, byte_over, holds}
 use Rattle.fs_contents.proofs.Fills.{over_none, over_more, front_pieces, front_size, front_part}
 use Rattle.fs_contents.proofs.transfer.put_pieces.Goals as goal

@@ -1,5 +1,5 @@
 use Rattle.std.proofs.Common.{◌∙◌, ℕ, List, [], codes, ap, arith}
-use Rattle.vfs_views.specs.Segments.{with_bytes_at}
+use Rattle.vfs_segments.specs.Memory.{with_bytes_at}
 use Rattle.vfs_files.specs.Bytes.{most_put}
 use Rattle.fs_small.specs.MemFs.{Stock, with_contents}
 use Rattle.test_uses.specs.Files.{one_file}

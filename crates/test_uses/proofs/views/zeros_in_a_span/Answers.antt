@@ -1,10 +1,10 @@
 use Rattle.std.proofs.Common.{arith, ap, ◌∙◌, ◌≡◌, sym, take, length, replicate}
 use Rattle.std.specs.List.{concat}
 use Rattle.std.proofs.lemmas.List.{take_all}
-use Rattle.vfs_views.specs.Segments.{contents, with_bytes_at}
-use Rattle.vfs_views.specs.Views.{Room, room_of, whole_of}
-use Rattle.vfs_views.specs.ViewLaws.{IsSameRoom-total}
-use Rattle.vfs_views.specs.SpanLaws.{whole-same_room, whole-room_of}
+use Rattle.vfs_segments.specs.Memory.{contents, with_bytes_at}
+use Rattle.vfs_segments.specs.Views.{Room, room_of, whole_of}
+use Rattle.vfs_segments.specs.ViewLaws.{IsSameRoom-total}
+use Rattle.vfs_segments.specs.SpanLaws.{whole-same_room, whole-room_of}
 use Rattle.test_uses.proofs.views.zeros_in_a_span.Goals as goal
 
 pub returns-clause-bytes : goal.returns-clause-bytes

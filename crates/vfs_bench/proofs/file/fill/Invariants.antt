@@ -1,7 +1,7 @@
 use Rattle.std.proofs.Common.{◌≡◌, take, length}
 use Rattle.std.specs.Prelude.{replicate}
 use Rattle.std.specs.List.{concat}
-use Rattle.vfs_views.specs.Views.{IsSameRoom}
+use Rattle.vfs_segments.specs.Views.{IsSameRoom}
 use Rattle.vfs_bench.proofs.file.fill.Given as goal
 
 abbrev pub invariant-loop-i : goal.invariant-loop-i

@@ -2,8 +2,8 @@ use Rattle.std.proofs.Common.{◌≡◌, ◌<◌, ◌+◌, ◌-◌, ◌++◌, []
 use Rattle.std.proofs.Math.Seq.{take-add}
 use Rattle.std.proofs.lemmas.List.{take_all, take_rest}
 use Rattle.std.specs.List.{concat}
-use Rattle.vfs_views.specs.Views.{with_any_piece}
-use Rattle.vfs_views.specs.ViewLaws.{concat-take-set, IsSameRoom-count, IsSameRoom-total, IsSameRoom-then_piece, pieces-with_any_piece}
+use Rattle.vfs_segments.specs.Views.{with_any_piece}
+use Rattle.vfs_segments.specs.ViewLaws.{concat-take-set, IsSameRoom-count, IsSameRoom-total, IsSameRoom-then_piece, pieces-with_any_piece}
 use Rattle.vfs_files.proofs.Pieces.{take_piece}
 use Rattle.vfs_files.proofs.bytes.put_pieces.Goals as goal
 

@@ -1,6 +1,6 @@
 use Rattle.std.proofs.Common.{◌≡◌, length, min, take}
 use Rattle.std.specs.List.{concat}
-use Rattle.vfs_views.specs.Views.{IsSameRoom}
+use Rattle.vfs_segments.specs.Views.{IsSameRoom}
 use Rattle.vfs_files.proofs.bytes.put_pieces.Given as goal
 
 abbrev pub invariant-loop-i : goal.invariant-loop-i

@@ -1,6 +1,6 @@
 use Rattle.std.proofs.Common.{◌≡◌, ◌-◌, length, take, arith, rules, ap, ◌∙◌, length-take}
 use Rattle.std.specs.List.{concat}
-use Rattle.vfs_views.specs.Segments.{with_bytes_at}
+use Rattle.vfs_segments.specs.Memory.{with_bytes_at}
 use Rattle.vfs_files.proofs.Pieces.{vec_written}
 use Rattle.vfs_files.proofs.bytes_mut.overwrite.Goals as goal
 

@@ -1,7 +1,7 @@
 use Rattle.std.proofs.Common.{◌≡◌, ◌<◌, ◌+◌, ◌-◌, ◌++◌, ℕ, length, take, drop, min, sym, ap, ◌∙◌, arith, length-append, length-take, length-drop, take_at}
 use Rattle.std.proofs.lemmas.List.{take-append-le}
 use Rattle.std.specs.List.{concat}
-use Rattle.vfs_views.specs.ViewLaws.{concat-take_more}
+use Rattle.vfs_segments.specs.ViewLaws.{concat-take_more}
 use Rattle.vfs_files.proofs.Pieces.{room_filled}
 use borrow.Rule.Slice.PartMut.{put_mid, post_of, same_len_mid}
 use Rattle.vfs_files.proofs.bytes_mut.take_pieces.Goals as goal

@@ -1,7 +1,7 @@
 use Rattle.std.proofs.Common.{◌≡◌, ◌-◌, ◌<◌, length, min, take, ℕ, ◌+◌, List, arith, ap, ◌∙◌, sym, length-take}
 use Rattle.std.proofs.lemmas.List.{take_min}
 use Rattle.std.specs.List.{concat}
-use Rattle.vfs_views.specs.Segments.{with_bytes_at}
+use Rattle.vfs_segments.specs.Memory.{with_bytes_at}
 use Rattle.vfs_files.specs.Bytes.{lengthened, fitting}
 use Rattle.vfs_files.proofs.Pieces.{written_some}
 use Rattle.vfs_files.proofs.bytes_mut.write_view.Goals as goal

@@ -1,5 +1,5 @@
 use Rattle.std.proofs.Common.{◌≡◌, ℕ, List, [], ◌∷◌, take, codes, Option, Result, Ok, Err, OnOk}
-use Rattle.vfs_views.specs.Segments.{with_bytes_at}
+use Rattle.vfs_segments.specs.Memory.{with_bytes_at}
 use Rattle.vfs_files.specs.Bytes.{Writes}
 use Rattle.vfs_files.proofs.uses.two_of_three.Goals as goal
 

@@ -1,6 +1,6 @@
 use Rattle.std.proofs.Common.{rules, ap, ◌∙◌, ◌++◌, ◌≡◌, sym, take, append_assoc}
 use Rattle.std.specs.List.{concat}
-use Rattle.vfs_views.specs.ViewLaws.{concat-take_more}
+use Rattle.vfs_segments.specs.ViewLaws.{concat-take_more}
 use Rattle.test_uses.proofs.views.JournalPositionedFile.write_vectored_at.Goals as goal
 
 pub loop-i-preserved : goal.loop-i-preserved

@@ -1,8 +1,8 @@
 use Rattle.std.proofs.Common.{arith, ap, ◌∙◌, ◌+◌, ◌++◌, ◌≡◌, ◌<◌, sym, refl, take, length, List, ℕ, [], get_or, replicate, length-append}
 use Rattle.std.specs.List.{concat}
 use Rattle.std.proofs.lemmas.List.{take_all, replicate-append-replicate}
-use Rattle.vfs_views.specs.Views.{with_any_piece}
-use Rattle.vfs_views.specs.ViewLaws.{concat-take-set, IsSameRoom-count, IsSameRoom-total, IsSameRoom-then_piece, pieces-with_any_piece}
+use Rattle.vfs_segments.specs.Views.{with_any_piece}
+use Rattle.vfs_segments.specs.ViewLaws.{concat-take-set, IsSameRoom-count, IsSameRoom-total, IsSameRoom-then_piece, pieces-with_any_piece}
 use Rattle.test_uses.proofs.views.ZerosPositionedFile.read_vectored_at.Goals as goal
 
 -- zeros and more zeros

@@ -5,9 +5,9 @@ use Rattle.std.specs.declared.alloc.Global.{Global}
 use Rattle.vfs_segments.specs.Segments.{contents, with_bytes_at}
 use Rattle.vfs_segments.specs.Totals.{totals_of}
 use Rattle.vfs_segments.specs.Transfer.{moved_bytes}
-use Rattle.vfs_views.specs.Views.{Room, moved, room_of, whole_of}
-use Rattle.vfs_views.specs.ViewLaws.{IsSameRoom-total}
-use Rattle.vfs_views.specs.SpanLaws.{whole-room_of, whole-same_room}
+use Rattle.vfs_segments.specs.Views.{Room, moved, room_of, whole_of}
+use Rattle.vfs_segments.specs.ViewLaws.{IsSameRoom-total}
+use Rattle.vfs_segments.specs.SpanLaws.{whole-room_of, whole-same_room}
 use Rattle.vfs_segments.proofs.transfer.Segments+Vec+Vec+u8.read_into.Goals as goal
 
 -- what was moved, by the bytes of the room

@@ -1,7 +1,7 @@
 use Rattle.std.proofs.Common.{ap, ◌∙◌, ◌≡◌, sym, length, take, drop, List, ℕ}
 use Rattle.std.specs.List.{concat}
-use Rattle.vfs_views.specs.Views.{pieces_of, room_of}
-use Rattle.vfs_views.specs.SpanLaws.{concat-pieces_of}
+use Rattle.vfs_segments.specs.Views.{pieces_of, room_of}
+use Rattle.vfs_segments.specs.SpanLaws.{concat-pieces_of}
 use Rattle.vfs_segments.proofs.transfer.Segments+ref+slice+ref+slice+u8.write_from.Goals as goal
 
 pub returns-clause-bound : goal.returns-clause-bound

@@ -1,2 +1,0 @@
-pub mod ViewCuts
-pub mod ViewPieces
