@@ -1,3 +1,10 @@
+pub mod Counts
+pub mod Fills
+pub mod First
+pub mod Held
+pub mod Moves
+pub mod Punch
+pub mod Shown
 mod Attributes
 pub mod Finds
 mod Index

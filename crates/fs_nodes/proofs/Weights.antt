@@ -2,9 +2,9 @@
 use Rattle.std.proofs.Common.{◌≡◌, ◌≤◌, ◌+◌, ◌*◌, ◌/◌, ◌==◌, ◌||◌, ℕ, Bool, true, false, not, List, [], ◌∷◌, length, filter, nat_lt, bit_and, ◌⊎◌, ⊎_elim, if◌then◌else◌, codes, refl, arith}
 use Rattle.std.specs.Int.{div_ceil}
 use Rattle.vfs_wire.specs.declared.attributes.SetattrIn.{SetattrIn}
-use Rattle.fs_contents.specs.Contents.{Contents, resized, allocated, punched, zeroed, fallocated, pages_over}
-use Rattle.fs_contents.specs.Pages.{is_outside, reach}
-use Rattle.fs_contents.proofs.Counts.{held_within}
+use Rattle.fs_nodes.specs.Contents.{Contents, resized, allocated, punched, zeroed, fallocated, pages_over}
+use Rattle.fs_nodes.specs.Pages.{is_outside, reach}
+use Rattle.fs_nodes.proofs.Counts.{held_within}
 use Rattle.fs_nodes.specs.Node.{weight, stripped, rewritten, set_attr, takes_ids, is_other, truncates, opened, overwritten}
 use Rattle.fs_nodes.specs.Xattrs.{Xattr, xattr_bytes, without_xattr}
 use Rattle.fs_nodes.specs.declared.node.Node.{Node}

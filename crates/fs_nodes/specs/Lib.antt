@@ -1,3 +1,7 @@
+pub mod Contents
+pub mod Filling
+pub mod Pages
+pub mod Reading
 pub mod Children
 pub mod Flags
 pub mod Held

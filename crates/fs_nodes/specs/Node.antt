@@ -4,7 +4,7 @@ use Rattle.std.specs.declared.time.Duration.{Duration}
 use Rattle.vfs_wire.specs.declared.attributes.Attr.{Attr}
 use Rattle.vfs_wire.specs.declared.attributes.SetattrIn.{SetattrIn}
 use Rattle.vfs_files.specs.declared.entry.Entry.{Entry}
-use Rattle.fs_contents.specs.Contents.{Contents, no_contents, resized, written}
+use Rattle.fs_nodes.specs.Contents.{Contents, no_contents, resized, written}
 use Rattle.fs_nodes.specs.Children.{kind_bits, is_directory, is_file, is_link, no_children, directories_of}
 use Rattle.fs_nodes.specs.Xattrs.{xattr_bytes, without_xattr}
 use Rattle.fs_nodes.specs.declared.kind.Kind.{Kind}

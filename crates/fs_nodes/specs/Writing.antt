@@ -2,7 +2,7 @@
 use Rattle.std.specs.Prelude.{◌≡◌, ℕ, Bool, List, length, Option, Some, Result, Ok, Err}
 use Rattle.vfs_flags.specs.Numbers.{enomem}
 use Rattle.vfs_files.specs.Bytes.{fitting}
-use Rattle.fs_contents.specs.Contents.{Lacks}
+use Rattle.fs_nodes.specs.Contents.{Lacks}
 use Rattle.fs_nodes.specs.Node.{overwritten}
 use Rattle.fs_nodes.specs.declared.node.Node.{Node}
 use Rattle.fs_nodes.specs.declared.node.Time.{Time}

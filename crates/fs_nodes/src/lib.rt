@@ -1,23 +1,29 @@
-//! What the file system in memory of `fs_tree` is made of: nodes, with what they hold.
+//! The nodes of the file system in memory of `fs_tree`.
 //!
-//! A [`Node`] is a directory, with its names in [`Children`], a file, with its bytes in
-//! [`Contents`](fs_contents::Contents), or a symbolic link, with its [`Text`]. Each has extended
-//! attributes, [`Xattrs`].
+//! A [`Node`] is a directory, with its names in [`Children`], a file, with its bytes in [`Contents`],
+//! or a symbolic link, with its [`Text`]. Each has extended attributes, [`Xattrs`].
+//!
+//! [`Contents`] has pages of 4096 bytes. A page that was never written takes no memory and reads as
+//! zeros.
 #![tactic(auto)]
 
 mod children;
+mod contents;
 mod flags;
 mod held;
 mod kind;
 mod listing;
 mod node;
+mod pages;
 mod refusals;
 mod renames;
 mod statx;
 mod text;
+mod transfer;
 mod xattrs;
 
 pub use children::{Child, Children};
+pub use contents::{Contents, KEEP_SIZE, PUNCH_HOLE, ZERO_RANGE, is_mode};
 pub use held::{Held, first_held, is_idle};
 pub use kind::Kind;
 pub use listing::entries_after;

@@ -10,12 +10,12 @@ ghost use Rattle.fs_nodes.specs.Children.{is_link};
 ghost use Rattle.fs_nodes.specs.Node.{attr_of, nlink_of, entry_of, weight, new_node, opened, set_attr, stripped, rewritten, lasting, is_chown, is_other, takes_ids, truncates, without_set_ids, accessed, is_no_later, ordered_seconds};
 ghost use Rattle.fs_nodes.specs.Writing.{Overwrites};
 
+use crate::Contents;
 use crate::children::Children;
 use crate::kind::Kind;
 use crate::text::Text;
 use crate::xattrs::Xattrs;
 use bitflags::Flags;
-use fs_contents::Contents;
 use std::alloc::Global;
 use std::collections::BTreeMap;
 use std::time::Duration;

@@ -10,7 +10,7 @@ use Rattle.vfs_files.specs.declared.entry.Entry.{Entry}
 use Rattle.fs_nodes.specs.Children.{leading, is_directory}
 use Rattle.fs_nodes.specs.Node.{entry_of, overwritten}
 use Rattle.vfs_files.specs.Bytes.{fitting}
-use Rattle.fs_contents.specs.Contents.{lacking}
+use Rattle.fs_nodes.specs.Contents.{lacking}
 use Rattle.fs_nodes.specs.declared.children.Child.{Child}
 use Rattle.fs_nodes.specs.declared.node.Node.{Node}
 use Rattle.fs_tree.specs.Naming.{directory_refusal, is_directory_at, is_improper, is_nameless, is_crowded, name_refusal}

@@ -4,8 +4,8 @@ use Rattle.std.specs.List.{list_any}
 use Rattle.std.proofs.lemmas.Bool.{ltb-false}
 use Rattle.vfs_flags.specs.Numbers.{einval, enospc, eopnotsupp, efbig, enodev}
 use Rattle.vfs_files.specs.Bytes.{fitting}
-use Rattle.fs_contents.specs.Contents.{fallocated, pages_over}
-use Rattle.fs_contents.specs.Pages.{reach}
+use Rattle.fs_nodes.specs.Contents.{fallocated, pages_over}
+use Rattle.fs_nodes.specs.Pages.{reach}
 use Rattle.fs_nodes.specs.Children.{is_file}
 use Rattle.fs_nodes.specs.Node.{weight, rewritten, overwritten}
 use Rattle.fs_nodes.specs.Writing.{Overwrites}

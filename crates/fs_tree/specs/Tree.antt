@@ -8,8 +8,8 @@ use Rattle.vfs_files.specs.declared.entry.Entry.{Entry}
 use Rattle.vfs_files.specs.Values.{Item}
 use Rattle.vfs_files.specs.Bytes.{part_of, most_put, fitting}
 use Rattle.vfs_files.specs.Calls.{Call, Init, Lookup, Forget, BatchForget, Getattr, Setattr, Symlink, Readlink, Open, Unlink, Rmdir, Rename, Link, Mknod, Mkdir, Create, Read, Write, Fallocate, Lseek, Statfs, Readdir, Setxattr, Getxattr, Listxattr, Removexattr, Opendir, Fsync, Release, Fsyncdir, Releasedir, Destroy, Answer, Options, Found, Created, Attributes, Opened, Text, Count, Put, Wrote, Done, Offset, Statistics, Handed, Plain, Iterator, default_answer}
-use Rattle.fs_contents.specs.Pages.{reach}
-use Rattle.fs_contents.specs.Contents.{fallocated, data_from, hole_from, lacking, pages_over}
+use Rattle.fs_nodes.specs.Pages.{reach}
+use Rattle.fs_nodes.specs.Contents.{fallocated, data_from, hole_from, lacking, pages_over}
 use Rattle.fs_nodes.specs.Children.{is_directory, is_file, is_link}
 use Rattle.fs_nodes.specs.Listing.{items_after}
 use Rattle.fs_nodes.specs.Node.{attr_of, lasting, entry_of, kind_by_mode, new_node, picked, set_attr, rewritten, truncates, is_other, opened, overwritten, accessed}

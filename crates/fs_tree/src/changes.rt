@@ -6,8 +6,7 @@ ghost use Rattle.fs_tree.specs.State.{node_at};
 ghost use Rattle.fs_tree.specs.Tree.{fallocate_refusal, longest, most_size};
 
 use crate::fs::TreeFs;
-use fs_contents::{PUNCH_HOLE, is_mode};
-use fs_nodes::{Node, no_device, too_big};
+use fs_nodes::{Node, PUNCH_HOLE, is_mode, no_device, too_big};
 use vfs_flags::Errno;
 
 /// How many bytes a page of a file's contents has.

@@ -13,7 +13,7 @@ use Rattle.vfs_wire.specs.declared.attributes.SetattrIn.{SetattrIn}
 use Rattle.std.specs.Option.{unwrap_or}
 use Rattle.std.proofs.lemmas.Bool.{ltb-false, eqb-true, not-false}
 use Rattle.std.proofs.lemmas.List.{length-replicate}
-use Rattle.fs_contents.specs.Contents.{Contents, resized, allocated, punched, zeroed, fallocated, data_from, hole_from, lacking}
+use Rattle.fs_nodes.specs.Contents.{Contents, resized, allocated, punched, zeroed, fallocated, data_from, hole_from, lacking}
 use Rattle.fs_tree.specs.Children.{leading, is_directory, is_file, is_link}
 use Rattle.fs_tree.specs.Listing.{items_after}
 use Rattle.fs_tree.specs.Node.{attr_of, entry_of, lasting, weight, rewritten, is_other, truncates, opened, set_attr, overwritten, kind_by_mode, new_node, accessed}

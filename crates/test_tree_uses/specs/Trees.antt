@@ -1,6 +1,6 @@
 -- Trees to call, written out.
 use Rattle.std.specs.Prelude.{ℕ, ◌^◌, ◌+◌, ◌-◌, Bool, true, false, List, [], ◌∷◌, codes, Some}
-use Rattle.fs_contents.specs.Contents.{Contents, no_contents}
+use Rattle.fs_nodes.specs.Contents.{Contents, no_contents}
 use Rattle.fs_nodes.specs.Children.{Children, Link, no_children}
 use Rattle.fs_nodes.specs.Node.{weight}
 use Rattle.fs_nodes.specs.Xattrs.{Xattr}

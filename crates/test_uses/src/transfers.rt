@@ -4,8 +4,8 @@ ghost use Rattle.std.specs.Prelude.{◌≡◌, ◌≤◌, ◌+◌, length, drop,
 
 use vfs_files::{ZeroCopyReader, ZeroCopyWriter};
 use vfs_flags::Fault;
-use vfs_server::server::{ZcReader, ZcWriter};
 use vfs_segments::PositionedFile;
+use vfs_server::server::{ZcReader, ZcWriter};
 
 /// Where no byte is to be put the file isn't called.
 fn nothing_is_put<P: PositionedFile>(w: &mut ZcWriter, f: &mut P, off: u64) -> Result<usize, Fault>

@@ -13,12 +13,12 @@ ghost use Rattle.vfs_wire.specs.Fields.{Fit, value_of};
 
 use crate::error::{Error, Result};
 use crate::segments::{Segments, total_of};
+use crate::{PositionedFile, WritevFlags};
 use std::alloc::Global;
 use std::io::{ErrorKind, Read};
 use std::marker::Model;
 use std::{io, result};
 use vfs_flags::Fault;
-use crate::{PositionedFile, WritevFlags};
 use vfs_wire::ByteValued;
 
 /// Reads bytes from segments, wherever they are cut. It lends the segments, and takes each byte

@@ -5,11 +5,11 @@ ghost use Rattle.vfs_segments.specs.Segments.{contents, flat_bytes, lengths_of, 
 ghost use Rattle.vfs_segments.specs.Totals.{totals_of};
 ghost use Rattle.vfs_segments.specs.Views.{IsSpan, room_of};
 
+use crate::Span;
 use crate::laws::{Counted, find_segment};
 use crate::running::{FEW, Running};
 use std::alloc::{AllocError, Global};
 use std::marker::Model;
-use crate::Span;
 
 // A list of segments: those that a reader lends, or those that a writer holds.
 pub(crate) trait SegmentList {

@@ -5,9 +5,9 @@ ghost use Rattle.vfs_segments.specs.Segments.{flat_bytes, lengths_of, with_bytes
 ghost use Rattle.vfs_segments.specs.Transfer.{moved_bytes};
 
 use crate::segments::Segments;
+use crate::{PositionedFile, Slices, SlicesMut, WritevFlags};
 use std::mem;
 use vfs_flags::Fault;
-use crate::{PositionedFile, Slices, SlicesMut, WritevFlags};
 
 impl<'a> Segments<&'a [&'a [u8]]> {
     // Lends a file the `n` bytes from place `at` on, to be written into it.

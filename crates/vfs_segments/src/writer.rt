@@ -9,6 +9,7 @@ ghost use Rattle.vfs_segments.specs.Transfer.{moved_bytes, taken_in};
 ghost use Rattle.vfs_segments.specs.Written.{unwritten, wrote, first_room, rest_room, rewound, held_over, held_filled, whole};
 ghost use Rattle.vfs_wire.specs.Fields.{Fit, bytes_of};
 
+use crate::PositionedFile;
 use crate::error::{Error, Result};
 use crate::record::LARGEST_RECORD;
 use crate::segments::{Segments, total_of};
@@ -18,7 +19,6 @@ use std::io::{ErrorKind, Write};
 use std::marker::Model;
 use std::{io, result};
 use vfs_flags::Fault;
-use crate::PositionedFile;
 use vfs_wire::ByteValued;
 
 /// Writes bytes over those of its segments, wherever they are cut. The segments' lengths are its

@@ -2,5 +2,6 @@
 //! bytes; and the search by which a reader and a writer find their place.
 
 pub use vfs_segments::laws::{Counted, Totals, find_segment};
-pub use vfs_segments::{DescriptorType, Error, Reader, Result, Writer};
-pub use vfs_segments::{PositionedFile, Slices, SlicesMut, WritevFlags};
+pub use vfs_segments::{
+    DescriptorType, Error, PositionedFile, Reader, Result, Slices, SlicesMut, Writer, WritevFlags,
+};

@@ -1,6 +1,6 @@
 use Rattle.std.proofs.Common.{length, ap, sym, ◌∙◌, arith, rules}
 use Rattle.std.proofs.lemmas.Map.Steps.{set_value_same}
-use Rattle.fs_contents.specs.Contents.{Contents}
+use Rattle.fs_nodes.specs.Contents.{Contents}
 use Rattle.fs_nodes.specs.Node.{weight}
 use Rattle.fs_tree.specs.contracts.fs.TreeFs.{the_view}
 use Rattle.fs_tree.specs.Holding.{is_idle}

@@ -1,6 +1,6 @@
 use Rattle.std.proofs.Common.{◌/◌, arith}
-use Rattle.fs_contents.specs.Contents.{pages_over}
-use Rattle.fs_contents.proofs.Counts.{reach_from}
+use Rattle.fs_nodes.specs.Contents.{pages_over}
+use Rattle.fs_nodes.proofs.Counts.{reach_from}
 use Rattle.fs_tree.specs.State.{room_of}
 use Rattle.fs_tree.proofs.fs.TreeFs.most_size.Goals as goal
 

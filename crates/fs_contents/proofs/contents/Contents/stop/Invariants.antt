@@ -1,8 +1,0 @@
-use Rattle.std.proofs.Common.{◌≡◌, ◌-◌}
-use Rattle.fs_contents.specs.Pages.{reach}
-use Rattle.fs_contents.proofs.contents.Contents.stop.Given as goal
-
-abbrev pub invariant-go : goal.invariant-go
-invariant-go l =
-    reach l.self.held l.left l.page (l.fn.end - l.page)
-    ≡ reach l.self.held l.fn.free l.fn.first (l.fn.end - l.fn.first)

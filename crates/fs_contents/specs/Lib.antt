@@ -1,4 +1,0 @@
-pub mod Contents
-pub mod Filling
-pub mod Pages
-pub mod Reading
