@@ -11,8 +11,8 @@ use crate::makers::{TIMEOUT_SECONDS, node_entry};
 use crate::tree::ReadTree;
 use std::time::Duration;
 use vfs_files::{
-    CStr, CallValue, Context, Given, PartialFileSystem, ZeroCopyReader, ZeroCopyWriter, read_bytes,
-    unserved,
+    CStr, CallValue, Context, Given, PartialFileSystem, ReadValue, WriteValue, ZeroCopyReader,
+    ZeroCopyWriter, read_bytes, unserved,
 };
 use vfs_flags::{Errno, Fault};
 
@@ -134,33 +134,19 @@ impl<T: ReadTree> PartialFileSystem for ReadOnly<T> {
 
     fn read_data<W: ZeroCopyWriter>(
         &mut self,
-        _ctx: Context,
-        inode: u64,
-        _handle: u64,
+        asked: ReadValue,
         w: &mut W,
-        size: u32,
-        offset: u64,
-        _lock_owner: Option<u64>,
-        _flags: u32,
     ) -> Result<usize, Fault> {
-        match self.tree.contents(inode) {
-            Some(bytes) => read_bytes(bytes, w, size, offset),
-            None => Err(self.refusal(inode, Errno::EISDIR)),
+        match self.tree.contents(asked.inode) {
+            Some(bytes) => read_bytes(bytes, w, asked.size, asked.offset),
+            None => Err(self.refusal(asked.inode, Errno::EISDIR)),
         }
     }
 
     fn write_data<R: ZeroCopyReader>(
         &mut self,
-        _ctx: Context,
-        _inode: u64,
-        _handle: u64,
+        _asked: WriteValue,
         _r: &mut R,
-        _size: u32,
-        _offset: u64,
-        _lock_owner: Option<u64>,
-        _delayed_write: bool,
-        _kill_priv: bool,
-        _flags: u32,
     ) -> Result<u32, Fault> {
         Err(Some(Errno::EROFS))
     }

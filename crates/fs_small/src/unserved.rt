@@ -4,7 +4,8 @@
 use std::io;
 use vfs_files::{
     CallValue, Context, DirEntry, DirectoryIterator, Given, MigrateError, PartialFileSystem,
-    SerializableFileSystem, ZeroCopyReader, ZeroCopyWriter, defaults, unserved,
+    ReadValue, SerializableFileSystem, WriteValue, ZeroCopyReader, ZeroCopyWriter, defaults,
+    unserved,
 };
 use vfs_flags::Fault;
 
@@ -40,30 +41,16 @@ impl PartialFileSystem for Unserved {
 
     fn read_data<W: ZeroCopyWriter>(
         &mut self,
-        ctx: Context,
-        inode: u64,
-        handle: u64,
+        asked: ReadValue,
         w: &mut W,
-        size: u32,
-        offset: u64,
-        lock_owner: Option<u64>,
-        flags: u32,
     ) -> Result<usize, Fault> {
         defaults::no_such_call::<usize>()
     }
 
     fn write_data<R: ZeroCopyReader>(
         &mut self,
-        ctx: Context,
-        inode: u64,
-        handle: u64,
+        asked: WriteValue,
         r: &mut R,
-        size: u32,
-        offset: u64,
-        lock_owner: Option<u64>,
-        delayed_write: bool,
-        kill_priv: bool,
-        flags: u32,
     ) -> Result<u32, Fault> {
         defaults::no_such_call::<u32>()
     }

@@ -5,7 +5,7 @@ ghost use Rattle.std.specs.Prelude.{⊤};
 use std::time::Duration;
 use vfs_files::{
     CStr, CallValue, Context, DirEntry, DirectoryIterator, Entry, Given, PartialFileSystem,
-    ZeroCopyReader, ZeroCopyWriter, unserved,
+    ReadValue, WriteValue, ZeroCopyReader, ZeroCopyWriter, unserved,
 };
 use vfs_flags::{Errno, Fault, FsOptions, MAX_REPLY_DATA};
 use vfs_segments::{PositionedFile, Slices, SlicesMut, WritevFlags};
@@ -123,32 +123,22 @@ impl PartialFileSystem for NullFs {
 
     fn read_data<W: ZeroCopyWriter>(
         &mut self,
-        ctx: Context,
-        inode: u64,
-        handle: u64,
+        asked: ReadValue,
         w: &mut W,
-        size: u32,
-        offset: u64,
-        lock_owner: Option<u64>,
-        flags: u32,
     ) -> Result<usize, Fault> {
-        w.read_from_file_at(&mut NullFile {}, size.min(MAX_REPLY_DATA) as usize, offset)
+        w.read_from_file_at(
+            &mut NullFile {},
+            asked.size.min(MAX_REPLY_DATA) as usize,
+            asked.offset,
+        )
     }
 
     fn write_data<R: ZeroCopyReader>(
         &mut self,
-        ctx: Context,
-        inode: u64,
-        handle: u64,
+        asked: WriteValue,
         r: &mut R,
-        size: u32,
-        offset: u64,
-        lock_owner: Option<u64>,
-        delayed_write: bool,
-        kill_priv: bool,
-        flags: u32,
     ) -> Result<u32, Fault> {
-        match r.write_to_file_at(&mut NullFile {}, size as usize, offset, None) {
+        match r.write_to_file_at(&mut NullFile {}, asked.size as usize, asked.offset, None) {
             Ok(count) => Ok(count as u32),
             Err(fault) => Err(fault),
         }

@@ -11,7 +11,7 @@ use crate::file::ScriptFile;
 use std::time::Duration;
 use vfs_files::{
     AnswerKind, CallValue, Context, Entry, GetxattrReply, Given, ListxattrReply, PartialFileSystem,
-    ZeroCopyReader, ZeroCopyWriter, copy_of, defaults,
+    ReadValue, WriteValue, ZeroCopyReader, ZeroCopyWriter, copy_of, defaults,
 };
 use vfs_flags::{Errno, Fault, FsOptions, MAX_REPLY_DATA, OpenOptions};
 use vfs_wire::{Attr, Statvfs64};
@@ -292,36 +292,26 @@ impl PartialFileSystem for Script {
 
     fn read_data<W: ZeroCopyWriter>(
         &mut self,
-        ctx: Context,
-        inode: u64,
-        handle: u64,
+        asked: ReadValue,
         w: &mut W,
-        size: u32,
-        offset: u64,
-        lock_owner: Option<u64>,
-        flags: u32,
     ) -> Result<usize, Fault> {
         match &mut self.file {
-            Some(file) => w.read_from_file_at(file, size.min(MAX_REPLY_DATA) as usize, offset),
+            Some(file) => w.read_from_file_at(
+                file,
+                asked.size.min(MAX_REPLY_DATA) as usize,
+                asked.offset,
+            ),
             None => defaults::no_such_call::<usize>(),
         }
     }
 
     fn write_data<R: ZeroCopyReader>(
         &mut self,
-        ctx: Context,
-        inode: u64,
-        handle: u64,
+        asked: WriteValue,
         r: &mut R,
-        size: u32,
-        offset: u64,
-        lock_owner: Option<u64>,
-        delayed_write: bool,
-        kill_priv: bool,
-        flags: u32,
     ) -> Result<u32, Fault> {
         match &mut self.file {
-            Some(file) => write_file(file, r, size, offset),
+            Some(file) => write_file(file, r, asked.size, asked.offset),
             None => defaults::no_such_call::<u32>(),
         }
     }

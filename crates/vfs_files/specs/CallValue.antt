@@ -1,12 +1,24 @@
 -- Answers as values of the code: which answer each is, and of which kinds. Of calls by value Calls says it.
-use Rattle.std.specs.Prelude.{⊤, ℕ, Option, Result, Ok, Err}
+use Rattle.std.specs.Prelude.{⊤, ℕ, List, Option, Result, Ok, Err}
 use Rattle.vfs_flags.specs.Flags.{fs_options_bits, open_options_bits}
 use Rattle.vfs_files.specs.Answers.{Answer, Done, Failed, Options, Found, Attributes, Opened, Created, Statistics, Text, Count, Offset, Wrote, FitsText, Kind, Quiet, Told, Untold, Data, Agreements, Entries, TimedAttributes, Openings, Creations, Capacities, Texts, TextsOrCounts, Offsets, Writes, Iterators, Faults}
+use Rattle.vfs_files.specs.Calls.{Call, Read, Write}
 pub use Rattle.vfs_files.specs.Calls.{call_of}
 use Rattle.vfs_files.specs.declared.call_value.AnswerKind.{AnswerKind}
 use Rattle.vfs_files.specs.declared.call_value.AnswerKind.TheVariants as said
 use Rattle.vfs_files.specs.declared.call_value.Given.{Given}
+use Rattle.vfs_files.specs.declared.call_value.ReadValue.{ReadValue}
+use Rattle.vfs_files.specs.declared.call_value.WriteValue.{WriteValue}
 use Rattle.vfs_files.specs.declared.call_value.Given.TheVariants as given
+
+-- the call of a READ whose writer has `room` bytes
+abbrev pub read_of : ReadValue → (room : ℕ) → Call
+read_of r room = Read r.ctx r.inode r.handle room r.size r.offset r.lock_owner r.flags
+
+-- the call of a WRITE whose reader has `left`
+abbrev pub write_of : WriteValue → (left : List ℕ) → Call
+write_of w left = Write w.ctx w.inode w.handle left w.size w.offset w.lock_owner w.delayed_write
+    w.kill_priv w.flags
 
 -- the answer that is given
 abbrev pub answer_of : Result Given (Option ℕ) → Answer

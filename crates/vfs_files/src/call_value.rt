@@ -12,6 +12,30 @@ use std::time::Duration;
 use vfs_flags::{FsOptions, Opcode, OpenOptions, SetattrValid, SetxattrFlags};
 use vfs_wire::{Attr, SetattrIn, Statvfs64};
 
+/// The arguments of a READ besides the writer that its data go into.
+pub struct ReadValue {
+    pub ctx: Context,
+    pub inode: u64,
+    pub handle: u64,
+    pub size: u32,
+    pub offset: u64,
+    pub lock_owner: Option<u64>,
+    pub flags: u32,
+}
+
+/// The arguments of a WRITE besides the reader that its data come from.
+pub struct WriteValue {
+    pub ctx: Context,
+    pub inode: u64,
+    pub handle: u64,
+    pub size: u32,
+    pub offset: u64,
+    pub lock_owner: Option<u64>,
+    pub delayed_write: bool,
+    pub kill_priv: bool,
+    pub flags: u32,
+}
+
 /// A call of a [`FileSystem`](crate::FileSystem), with its arguments: nodes and handles by number.
 /// Reading and writing, which are lent a reply's or a request's bytes, and the listing of a
 /// directory are none of these.

@@ -29,7 +29,7 @@ mod xattr;
 
 pub use bytes::{Bytes, read_bytes};
 pub use bytes_mut::{BytesMut, lengthen, write_bytes};
-pub use call_value::{AnswerKind, CallValue, Given};
+pub use call_value::{AnswerKind, CallValue, Given, ReadValue, WriteValue};
 pub use directory::{DirEntry, DirectoryIterator};
 pub use entry::{Context, Entry};
 pub use extensions::{Extensions, SecContext};

@@ -4,9 +4,9 @@ ghost use Rattle.std.specs.Prelude.{◌≡◌, ℕ, List, map};
 ghost use Rattle.vfs_flags.specs.Flags.{setattr_valid_bits};
 ghost use Rattle.vfs_files.specs.Calls.{Call, Getattr, Setattr, Read, Write, Readdir, BatchForget, kind_of, default_answer};
 ghost use Rattle.vfs_files.specs.Answers.{Handed, Plain, Done, attr_answer, read_answer, Counts, written_answer, directory_answer};
-ghost use Rattle.vfs_files.specs.CallValue.{call_of, answer_of, IsOfKind};
+ghost use Rattle.vfs_files.specs.CallValue.{call_of, answer_of, IsOfKind, read_of, write_of};
 
-use crate::call_value::{CallValue, Given};
+use crate::call_value::{CallValue, Given, ReadValue, WriteValue};
 use crate::directory::DirectoryIterator;
 use crate::entry::{Context, Entry};
 use crate::extensions::Extensions;
@@ -36,42 +36,19 @@ pub trait PartialFileSystem {
             self.new }
         ensures kind { IsOfKind (kind_of (call_of asked.entry)) result };
 
-    /// As [`FileSystem::read`].
-    fn read_data<W: ZeroCopyWriter>(
-        &mut self,
-        ctx: Context,
-        inode: u64,
-        handle: u64,
-        w: &mut W,
-        size: u32,
-        offset: u64,
-        lock_owner: Option<u64>,
-        flags: u32,
-    ) -> Result<usize, Fault>
-        ensures { (bytes : List ℕ) × W.puts w.old bytes w.new × Counts result bytes size
+    /// As [`FileSystem::read`], whose data go into `w`.
+    fn read_data<W: ZeroCopyWriter>(&mut self, asked: ReadValue, w: &mut W) -> Result<usize, Fault>
+        ensures { (bytes : List ℕ) × W.puts w.old bytes w.new × Counts result bytes asked.size
             × permits self.old
-            (Read ctx inode handle (W.room w.old) size offset lock_owner flags)
+            (read_of asked (W.room w.old))
             (Plain (read_answer result bytes))
             self.new };
 
-    /// As [`FileSystem::write`].
-    fn write_data<R: ZeroCopyReader>(
-        &mut self,
-        ctx: Context,
-        inode: u64,
-        handle: u64,
-        r: &mut R,
-        size: u32,
-        offset: u64,
-        lock_owner: Option<u64>,
-        delayed_write: bool,
-        kill_priv: bool,
-        flags: u32,
-    ) -> Result<u32, Fault>
+    /// As [`FileSystem::write`], whose data come from `r`.
+    fn write_data<R: ZeroCopyReader>(&mut self, asked: WriteValue, r: &mut R) -> Result<u32, Fault>
         ensures { (bytes : List ℕ) × R.takes r.old bytes r.new
             × permits self.old
-            (Write ctx inode handle (R.left r.old) size offset lock_owner delayed_write kill_priv
-            flags)
+            (write_of asked (R.left r.old))
             (Plain (written_answer result))
             self.new };
 
@@ -288,7 +265,16 @@ impl<F: PartialFileSystem> FileSystem for F {
         lock_owner: Option<u64>,
         flags: u32,
     ) -> Result<usize, Fault> {
-        self.read_data(ctx, inode, handle, w, size, offset, lock_owner, flags)
+        let asked = ReadValue {
+            ctx,
+            inode,
+            handle,
+            size,
+            offset,
+            lock_owner,
+            flags,
+        };
+        self.read_data(asked, w)
     }
 
     fn write<R: ZeroCopyReader>(
@@ -304,18 +290,18 @@ impl<F: PartialFileSystem> FileSystem for F {
         kill_priv: bool,
         flags: u32,
     ) -> Result<u32, Fault> {
-        self.write_data(
+        let asked = WriteValue {
             ctx,
             inode,
             handle,
-            r,
             size,
             offset,
             lock_owner,
             delayed_write,
             kill_priv,
             flags,
-        )
+        };
+        self.write_data(asked, r)
     }
 
     fn statfs(&mut self, ctx: Context, inode: u64) -> Result<Statvfs64, Fault> {

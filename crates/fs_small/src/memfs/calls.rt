@@ -12,8 +12,8 @@ use crate::node_attr;
 use bitflags::Flags;
 use std::time::Duration;
 use vfs_files::{
-    CStr, CallValue, Context, EntryList, Given, PartialFileSystem, ZeroCopyReader, ZeroCopyWriter,
-    read_bytes, unserved,
+    CStr, CallValue, Context, EntryList, Given, PartialFileSystem, ReadValue, WriteValue,
+    ZeroCopyReader, ZeroCopyWriter, read_bytes, unserved,
 };
 use vfs_flags::{Errno, Fault, FsOptions, OpenOptions, ROOT_ID};
 
@@ -118,40 +118,26 @@ impl PartialFileSystem for MemFs {
 
     fn read_data<W: ZeroCopyWriter>(
         &mut self,
-        _ctx: Context,
-        inode: u64,
-        _handle: u64,
+        asked: ReadValue,
         w: &mut W,
-        size: u32,
-        offset: u64,
-        _lock_owner: Option<u64>,
-        _flags: u32,
     ) -> Result<usize, Fault> {
-        let Some(place) = self.place_of_node(inode) else {
+        let Some(place) = self.place_of_node(asked.inode) else {
             return Err(not_found());
         };
         let file = &self.files[place];
-        read_bytes(file.contents.bytes(), w, size, offset)
+        read_bytes(file.contents.bytes(), w, asked.size, asked.offset)
     }
 
     fn write_data<R: ZeroCopyReader>(
         &mut self,
-        _ctx: Context,
-        inode: u64,
-        _handle: u64,
+        asked: WriteValue,
         r: &mut R,
-        size: u32,
-        offset: u64,
-        _lock_owner: Option<u64>,
-        _delayed_write: bool,
-        _kill_priv: bool,
-        _flags: u32,
     ) -> Result<u32, Fault> {
-        let Some(place) = self.place_of_node(inode) else {
+        let Some(place) = self.place_of_node(asked.inode) else {
             return Err(not_found());
         };
         let file = &mut self.files[place];
-        file.contents.write_from(r, size, offset)
+        file.contents.write_from(r, asked.size, asked.offset)
     }
 
     fn read_directory(

@@ -8,7 +8,8 @@ use crate::listing::DirectoryItems;
 use crate::rules::statistics;
 use bitflags::Flags;
 use vfs_files::{
-    AnswerKind, CallValue, Context, Given, PartialFileSystem, ZeroCopyReader, ZeroCopyWriter,
+    AnswerKind, CallValue, Context, Given, PartialFileSystem, ReadValue, WriteValue,
+    ZeroCopyReader, ZeroCopyWriter,
 };
 use vfs_flags::{Errno, Fault};
 
@@ -88,40 +89,43 @@ impl PartialFileSystem for SeededFs<'_> {
 
     fn read_data<W: ZeroCopyWriter>(
         &mut self,
-        ctx: Context,
-        inode: u64,
-        handle: u64,
+        asked: ReadValue,
         w: &mut W,
-        size: u32,
-        offset: u64,
-        lock_owner: Option<u64>,
-        flags: u32,
     ) -> Result<usize, Fault> {
-        self.notes
-            .note_read(&ctx, inode, handle, size, offset, lock_owner, flags);
-        let answer = self.read_file(w, size, offset);
+        self.notes.note_read(
+            &asked.ctx,
+            asked.inode,
+            asked.handle,
+            asked.size,
+            asked.offset,
+            asked.lock_owner,
+            asked.flags,
+        );
+        let answer = self.read_file(w, asked.size, asked.offset);
         self.notes.note_moved(&answer);
         answer
     }
 
     fn write_data<R: ZeroCopyReader>(
         &mut self,
-        ctx: Context,
-        inode: u64,
-        handle: u64,
+        asked: WriteValue,
         r: &mut R,
-        size: u32,
-        offset: u64,
-        lock_owner: Option<u64>,
-        delayed_write: bool,
-        kill_priv: bool,
-        flags: u32,
     ) -> Result<u32, Fault> {
-        self.notes
-            .begin_transfer("write", &ctx, inode, handle, size, offset);
-        self.notes
-            .end_write(lock_owner, delayed_write, kill_priv, flags);
-        let answer = self.write_file(r, size, offset);
+        self.notes.begin_transfer(
+            "write",
+            &asked.ctx,
+            asked.inode,
+            asked.handle,
+            asked.size,
+            asked.offset,
+        );
+        self.notes.end_write(
+            asked.lock_owner,
+            asked.delayed_write,
+            asked.kill_priv,
+            asked.flags,
+        );
+        let answer = self.write_file(r, asked.size, asked.offset);
         self.notes.note_moved(&answer);
         match answer {
             Ok(count) => Ok(count as u32),

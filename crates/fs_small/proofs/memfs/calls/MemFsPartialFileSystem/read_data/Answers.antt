@@ -6,7 +6,7 @@ use Rattle.fs_small.proofs.memfs.calls.MemFsPartialFileSystem.read_data.Goals as
 
 pub returns-in_default : goal.returns-in_default
 returns-in_default g c =
-    let none : node_place c.args.self.now c.args.inode ≡ None = sym c.in_default.ensures.place in (
+    let none : node_place c.args.self.now c.args.asked.inode ≡ None = sym c.in_default.ensures.place in (
       [],
       g.met.W.ZeroCopyWriter.nothing c.args.w.now,
       tt,
@@ -30,7 +30,7 @@ returns g c =
       c.in-Some.ensures.within,
       ap (λ (s : Stock). length s.files) c.self.view_is,
     ) in
-    let some : node_place c.args.self.now c.args.inode ≡ Some place = sym c.in-Some.ensures.place in
+    let some : node_place c.args.self.now c.args.asked.inode ≡ Some place = sym c.in-Some.ensures.place in
     let same = c.bytes.ensures in
     let t = rw same at c.read_bytes.ensures in
     let a =

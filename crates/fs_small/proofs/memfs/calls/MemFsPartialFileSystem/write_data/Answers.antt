@@ -7,7 +7,7 @@ use Rattle.fs_small.proofs.memfs.calls.MemFsPartialFileSystem.write_data.Goals a
 
 pub returns-in_default : goal.returns-in_default
 returns-in_default g c =
-    let none : node_place c.args.self.now c.args.inode ≡ None = sym c.in_default.ensures.place in (
+    let none : node_place c.args.self.now c.args.asked.inode ≡ None = sym c.in_default.ensures.place in (
       [],
       g.met.R.ZeroCopyReader.nothing c.args.r.now,
       rw none (ap (λ f. Failed f) c.not_found.ensures, refl),
@@ -49,7 +49,7 @@ returns g c =
       c.in-Some.ensures.within,
       ap (λ (s : Stock). length s.files) c.self.view_is,
     ) in
-    let some : node_place c.args.self.now c.args.inode ≡ Some place = sym c.in-Some.ensures.place in
+    let some : node_place c.args.self.now c.args.asked.inode ≡ Some place = sym c.in-Some.ensures.place in
     let t = c.write_from.ensures in (
       t.0,
       t.1,
