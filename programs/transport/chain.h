@@ -4,7 +4,7 @@
  * A guest may write its memory at any time. So the transport copies each descriptor of a chain once, and a
  * function of the library says of the copy what it is: a piece of the request or of the room for its reply, as a
  * place in the memory that the guest shares, an indirect table, or why there is no chain. That the pieces are
- * those of the chain, that each lies in a region, and that a walk ends is proved (crates/vhost_chains).
+ * those of the chain, that each lies in a region, and that a walk ends is proved (crates/vhost_protocol).
  *
  *	int32_t step = nizwarf_chain_begin_at(size, most, head, &walk);
  *

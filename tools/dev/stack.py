@@ -25,7 +25,7 @@ WORD = 8
 RED_ZONE = 128
 # How many calls of itself are under way at most: a map of std is no higher than 11, as its MAX_HEIGHT, and a table of
 # memory has eight regions.
-LEVELS = {"std_collections::btree::": 12, "vhost_messages::table::": 9}
+LEVELS = {"std_collections::btree::": 12, "vhost_protocol::messages::table::": 9}
 
 
 class Function:

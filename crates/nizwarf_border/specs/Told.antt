@@ -1,11 +1,11 @@
 -- What C is told: a value and 0, or the number of a refusal.
 use Rattle.std.specs.Prelude.{◌≡◌, ◌⊎◌, ℕ, List, Result, MatchResult}
-use Rattle.vhost_messages.specs.Places.{IsNowhere, IsPlace}
-use Rattle.vhost_messages.specs.declared.message.Refusal.{Refusal}
-use Rattle.vhost_messages.specs.declared.message.Refusal.TheVariants.{Cut, WrongVersion, IsReply, NotServed, WrongSize, WrongDescriptors, NotOffered, NoQueue, WrongQueueSize, WrongBase, WrongEnable, Logs, Misaligned, WrongCount, EmptyRegion, GuestRange, UserRange, FileRange, Overlap, WrongLog, WrongTransfer}
-use Rattle.vhost_messages.specs.declared.place.Place.{Place}
-use Rattle.vhost_messages.specs.declared.place.View.{View}
-use Rattle.vhost_messages.specs.declared.records.Region.{Region}
+use Rattle.vhost_protocol.specs.Places.{IsNowhere, IsPlace}
+use Rattle.vhost_protocol.specs.declared.messages.message.Refusal.{Refusal}
+use Rattle.vhost_protocol.specs.declared.messages.message.Refusal.TheVariants.{Cut, WrongVersion, IsReply, NotServed, WrongSize, WrongDescriptors, NotOffered, NoQueue, WrongQueueSize, WrongBase, WrongEnable, Logs, Misaligned, WrongCount, EmptyRegion, GuestRange, UserRange, FileRange, Overlap, WrongLog, WrongTransfer}
+use Rattle.vhost_protocol.specs.declared.messages.place.Place.{Place}
+use Rattle.vhost_protocol.specs.declared.messages.place.View.{View}
+use Rattle.vhost_protocol.specs.declared.messages.records.Region.{Region}
 
 -- the number of a refusal
 abbrev pub number_of : Refusal → ℕ

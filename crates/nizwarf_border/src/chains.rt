@@ -1,11 +1,11 @@
-//! Chains of a virtio queue, for C: see the functions of `vhost_chains` that are called.
+//! Chains of a virtio queue, for C: see the functions of `vhost_protocol::chains` that are called.
 
 ghost use Rattle.std.specs.Prelude.{◌≡◌, ◌≢◌, ◌%◌, pos, negsuc, if◌then◌else◌, MatchOption};
-ghost use Rattle.vhost_chains.specs.Descriptors.{of_words};
-ghost use Rattle.vhost_chains.specs.Rings.{needs_event_at, waiting_of};
-ghost use Rattle.vhost_chains.specs.Walks.{begun, code_of, piece_after, step_at, walk_after};
+ghost use Rattle.vhost_protocol.specs.Descriptors.{of_words};
+ghost use Rattle.vhost_protocol.specs.Rings.{needs_event_at, waiting_of};
+ghost use Rattle.vhost_protocol.specs.Walks.{begun, code_of, piece_after, step_at, walk_after};
 
-use vhost_chains::{
+use vhost_protocol::chains::{
     MORE, Piece, Refusal, Region, Walk, begin, needs_event, slot, take_step, waiting,
 };
 

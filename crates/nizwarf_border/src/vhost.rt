@@ -1,11 +1,13 @@
 //! Messages of a vhost-user front end. Each function answers 0, or the number of a refusal: then nothing is told.
 
 ghost use Rattle.std.specs.Prelude.{◌≡◌, ◌<◌, ◌≤◌};
-ghost use Rattle.vhost_messages.specs.Messages.{message_of, size_in};
-ghost use Rattle.vhost_messages.specs.Tables.{HasMemory};
+ghost use Rattle.vhost_protocol.specs.Messages.{message_of, size_in};
+ghost use Rattle.vhost_protocol.specs.Tables.{HasMemory};
 ghost use Rattle.nizwarf_border.specs.Told.{IsFound, IsTold};
 
-use vhost_messages::{Message, Offer, Place, Region, View, payload_size, place_of, read_message};
+use vhost_protocol::messages::{
+    Message, Offer, Place, Region, View, payload_size, place_of, read_message,
+};
 
 /// Tells how many bytes of payload follow the 12 bytes of a header.
 #[unsafe(no_mangle)]

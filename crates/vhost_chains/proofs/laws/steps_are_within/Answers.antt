@@ -1,5 +1,0 @@
-use Rattle.vhost_chains.proofs.Steps.{within}
-use Rattle.vhost_chains.proofs.laws.steps_are_within.Goals as goal
-
-pub returns : goal.returns
-returns c regions w d = within regions w d

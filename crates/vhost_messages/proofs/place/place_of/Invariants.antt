@@ -1,5 +1,0 @@
-use Rattle.vhost_messages.specs.Places.{NoneHas}
-use Rattle.vhost_messages.proofs.place.place_of.Given as goal
-
-abbrev pub invariant-loop-i : goal.invariant-loop-i
-invariant-loop-i l = NoneHas l.view l.address l.len l.regions l.i

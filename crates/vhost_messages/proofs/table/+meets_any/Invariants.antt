@@ -1,5 +1,0 @@
-use Rattle.std.proofs.Common.{length}
-use Rattle.vhost_messages.proofs.table.+meets_any.Given as goal
-
-abbrev pub decreases-meets_any : goal.decreases-meets_any
-decreases-meets_any l = length l.others.now

@@ -1,0 +1,11 @@
+pub mod Chains
+pub mod Descriptors
+pub mod Messages
+pub mod Places
+pub mod Records
+pub mod Regions
+pub mod Requests
+pub mod Rings
+pub mod Samples
+pub mod Tables
+pub mod Walks
