@@ -28,14 +28,17 @@ name_copy() {
     sed -i "/^$1\b/{p;s/^$1/$2/}" crates.txt
 }
 
-# A crate with the tree of example_tree, without its callers and edits, which are of those three files.
+# A crate with the tree of example_tree, without its client, and without its callers and edits, which are of those
+# three files.
 new_tree() {
     mkdir -p "crates/$tree"
     cp -R crates/example_tree/{src,specs} "crates/$tree/"
-    rm "crates/$tree/src/uses.rt"
+    rm -r "crates/$tree/src"/{uses.rt,client.rt,client} "crates/$tree/specs/Requests.antt"
     # (the line, and the empty one after it)
-    sed -i '/^mod uses;$/,+1d' "crates/$tree/src/lib.rt"
+    sed -i '/^pub mod client;$/d; /^mod uses;$/,+1d' "crates/$tree/src/lib.rt"
+    sed -i '/^pub mod Requests$/d' "crates/$tree/specs/Lib.antt"
     name_copy example_tree "$tree"
+    sed -i "/^$tree\b/s/ vfs_wire_more\b//" crates.txt
     echo "The tree is in crates/$tree/src/lib.rt, and what is there in crates/$tree/specs/Docs.antt."
 }
 

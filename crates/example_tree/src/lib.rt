@@ -5,6 +5,7 @@
 ghost use Rattle.std.proofs.Common.{rules};
 ghost use Rattle.example_tree.specs.Docs.{docs};
 
+pub mod client;
 mod uses;
 
 use fs_small::{ReadTree, TreeItem, directory_attr, directory_item, file_attr, file_item};

@@ -1,8 +1,8 @@
 //! The tree of three files, served: a client's requests, handed over by the simplest transport.
 
 use crate::support::{have_texts, holds, request};
-use example_client::{data, lookup, read, said};
 use example_tree::Docs;
+use example_tree::client::{data, lookup, read, said};
 use fs_small::ReadOnly;
 use std::alloc::Global;
 use std::test::Fail;

@@ -1,6 +1,6 @@
 use Rattle.std.proofs.Common.{arith}
 use Rattle.std.proofs.lemmas.Grind.{common_steps}
-use Rattle.example_client.proofs.lookup.Goals as goal
+use Rattle.example_tree.proofs.client.lookup.Goals as goal
 
 pub returns : goal.returns
 returns c = grind (arith, common_steps)

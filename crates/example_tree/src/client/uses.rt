@@ -4,7 +4,7 @@ ghost use Rattle.std.specs.Prelude.{◌≡◌, ◌+◌, ◌≤◌, [], ◌∷◌
 ghost use Rattle.vfs_wire.specs.Fields.{number, value_of};
 ghost use Rattle.vfs_wire.specs.Records.{out_header};
 
-use crate::{data, lookup, read, said};
+use crate::client::{data, lookup, read, said};
 use std::alloc::{AllocError, Global};
 use vfs_wire::EntryOut;
 

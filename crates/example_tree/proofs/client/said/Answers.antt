@@ -1,5 +1,5 @@
 use Rattle.std.proofs.Common.{rules}
-use Rattle.example_client.proofs.said.Goals as goal
+use Rattle.example_tree.proofs.client.said.Goals as goal
 
 pub returns-clause-record : goal.returns-clause-record
 returns-clause-record c = search rules

@@ -3,12 +3,11 @@
 //!
 //! A record is put into a part of some bytes by `split_at_mut`, which the prover follows by itself. It
 //! does not follow a `put` into `&mut bytes[..40]`.
-#![tactic(auto)]
 
 ghost use Rattle.std.specs.Prelude.{◌≡◌, ◌≢◌, ◌+◌, ◌<◌, ◌≤◌, ◌^◌, pos, length, drop, IfOk, IfSome, IsNone, IsOk, IsSomeAnd};
 ghost use Rattle.vfs_wire.specs.Fields.{numbers_at, value_of};
 ghost use Rattle.vfs_wire.specs.Records.{out_header};
-ghost use Rattle.example_client.specs.Requests.{lookup_request, read_request};
+ghost use Rattle.example_tree.specs.Requests.{lookup_request, read_request};
 
 mod uses;
 
