@@ -5,7 +5,7 @@ Usage: tools/dev/numbers.py
 
 The tables are in crates: opcodes in vfs_flags/src/opcode.rt, with their names where vfs_print has opcode_name; calls,
 kinds of answers, bits of `has` and the records of a call in door_calls/src/call.rt; the rows that a file system offers
-in door_further/src/offers.rt, with opcodes that virtiofsd lacks in vfs_print/src/further.rt; the records of an answer
+in door_ask/src/offers.rt, with opcodes that virtiofsd lacks in vfs_print/src/further.rt; the records of an answer
 in door_calls/src/data.rt; what is told in nizwarf_door/src/data.rt; codes in c_rooms/specs/Codes.antt.
 
 It prints a line for each difference, with the file and the name, and ends with their count. Status 0: there is none;
@@ -148,7 +148,7 @@ hold(HEADER, enum_with("PLUS"), CALLS, {in_header[it]: bit for it, bit in HAS.it
 hold(HEADER, {**enum_with("OK"), **enum_with("ASKED")}, CODES, CODE, "code")
 
 # The rows that are offered: each with a bit of its own, also beside the header's INIT, which is no row.
-OFFERS, RUST_OFFERS = "crates/door_further/src/offers.rt", "bindings/rust/src/flags.rs"
+OFFERS, RUST_OFFERS = "crates/door_ask/src/offers.rt", "bindings/rust/src/flags.rs"
 OFFER = {name: value(n) for name, n in re.findall(r"^pub const (\w+): u32 = ([\d <]+);", read(OFFERS), re.M)}
 offers_in_c = enum_with("OFFER_LOCKS")
 hold(HEADER, {name: bit for name, bit in offers_in_c.items() if name != "OFFER_INIT"}, OFFERS,

@@ -6,3 +6,5 @@ pub mod Telling
 pub mod Using
 pub mod One
 pub mod Adding
+pub mod Texts
+pub mod Locks

@@ -4,3 +4,5 @@ pub mod Offered
 pub mod Listing
 pub mod Answering
 pub mod Told
+pub mod Fitting
+pub mod Uses

@@ -5,10 +5,13 @@
 
 mod answered;
 mod call;
+mod fitting;
 mod listing;
 mod reply;
 mod uses;
+mod uses_fitting;
 mod value;
 
 pub use answered::Answered;
 pub use call::answer;
+pub use fitting::{EIO, answer_offered, is_unfit};

@@ -10,3 +10,5 @@ pub mod Short
 pub mod Checking
 pub mod WithOpcode
 pub mod AtOnce
+pub mod Beginning
+pub mod Gathering

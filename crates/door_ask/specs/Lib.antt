@@ -10,3 +10,5 @@ pub mod Terms
 pub mod WithOpcode
 pub mod AtOnce
 pub mod Room
+pub mod Further
+pub mod RowUses

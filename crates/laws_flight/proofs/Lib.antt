@@ -5,4 +5,8 @@ pub mod Telling
 pub mod Made
 pub mod Running
 pub mod Table
+pub mod Books
+pub mod Rows
+pub mod Creating
+pub mod OneOfferedTurn
 pub mod Servable

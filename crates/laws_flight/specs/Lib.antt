@@ -4,3 +4,6 @@ pub mod ToldCall
 pub mod Made
 pub mod Running
 pub mod Table
+pub mod OfferedTurns
+pub mod OneOfferedTurn
+pub mod Uses

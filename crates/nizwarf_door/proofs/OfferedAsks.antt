@@ -15,11 +15,11 @@ use Rattle.door_calls.specs.declared.call.number.TheConstants.{CREATE}
 use Rattle.door_ask.specs.Memory.{MayWant}
 use Rattle.door_ask.specs.WithOpcode.{unread_with_opcode}
 use Rattle.door_ask.proofs.WithOpcode.{same_length}
-use Rattle.door_further.specs.OneTurn.{named_tmpfile}
-use Rattle.door_further.specs.Turns.{as_create}
-use Rattle.door_further.specs.Further.{What, Ordinary, Short, Row, Unnamed, Tells, told_under, what_after, what_of}
-use Rattle.door_further.specs.declared.row.Further.{Further}
-use Rattle.door_further.specs.declared.row.Further.TheVariants as further
+use Rattle.laws_flight.specs.OneOfferedTurn.{named_tmpfile}
+use Rattle.laws_flight.specs.OfferedTurns.{as_create}
+use Rattle.door_ask.specs.Further.{What, Ordinary, Short, Row, Unnamed, Tells, told_under, what_after, what_of}
+use Rattle.door_ask.specs.declared.row.Further.{Further}
+use Rattle.door_ask.specs.declared.row.Further.TheVariants as further
 use Rattle.c_rooms.specs.Codes.{is_asked, no_memory, outcome_code}
 use Rattle.nizwarf_door.specs.Asking.{AsksOrNot, finished}
 use Rattle.nizwarf_door.specs.Checking.{Checks, IsWhole}

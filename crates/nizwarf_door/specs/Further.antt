@@ -12,9 +12,9 @@ use Rattle.door_calls.specs.declared.data.AnswerData.{AnswerData}
 use Rattle.door_calls.specs.declared.call.number.TheConstants as number
 use Rattle.door_ask.specs.Memory.{MayWant}
 use Rattle.door_ask.specs.WithOpcode.{unread_with_opcode}
-use Rattle.door_further.specs.Further.{What, Ordinary, Short, Row, Unnamed, told_under}
-use Rattle.door_further.specs.OneTurn.{named_tmpfile}
-use Rattle.door_further.specs.Turns.{as_create}
+use Rattle.door_ask.specs.Further.{What, Ordinary, Short, Row, Unnamed, told_under}
+use Rattle.laws_flight.specs.OneOfferedTurn.{named_tmpfile}
+use Rattle.laws_flight.specs.OfferedTurns.{as_create}
 use Rattle.c_rooms.specs.Codes.{is_asked, outcome_code}
 use Rattle.nizwarf_door.specs.Asking.{AsksOrNot, finished}
 use Rattle.nizwarf_door.specs.Checking.{Checks}

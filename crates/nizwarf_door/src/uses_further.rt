@@ -5,7 +5,8 @@ ghost use Rattle.vfs_segments.specs.Segments.{segments_of, flat_bytes};
 ghost use Rattle.vfs_grammar.specs.Forms.{Ask};
 ghost use Rattle.vfs_grammar.specs.Samples.{lookup_of_a};
 ghost use Rattle.laws_flight.specs.Table.{AreOf};
-ghost use Rattle.door_further.specs.Uses.{getlk, getlk_asked};
+ghost use Rattle.door_answer.specs.Uses.{getlk_asked};
+ghost use Rattle.laws_flight.specs.Uses.{getlk};
 ghost use Rattle.c_rooms.specs.Codes.{is_asked, no_memory};
 ghost use Rattle.nizwarf_door.specs.Answering.{AnswersOrNot};
 ghost use Rattle.nizwarf_door.specs.Shown.{shown_in};
@@ -17,8 +18,8 @@ ghost use Rattle.nizwarf_door.specs.Uses.{usual_limits};
 use crate::data::{SessionData, ToldData};
 use crate::further::{nizwarf_answer_offered_at, nizwarf_ask_offered_at, nizwarf_check_offered_at};
 use crate::handle::Handle;
+use door_ask::offers;
 use door_calls::{AnswerData, CallData};
-use door_further::offers;
 use std::alloc::Global;
 
 /// A session before its INIT, as virtiofsd has it.

@@ -36,8 +36,8 @@ use crate::data::{SessionData, ToldData};
 use crate::further::{nizwarf_answer_offered_at, nizwarf_ask_offered_at, nizwarf_check_offered_at};
 use crate::handle::Handle;
 use crate::{nizwarf_answer_at, nizwarf_ask_at};
+use door_ask::offers;
 use door_calls::{AnswerData, CallData, ItemData};
-use door_further::offers;
 use std::alloc::Global;
 
 /// A session before its INIT, as virtiofsd has it.

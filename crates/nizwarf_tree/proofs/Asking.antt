@@ -12,10 +12,10 @@ use Rattle.vfs_grammar.specs.declared.limits.Limits.{Limits}
 use Rattle.door_calls.specs.declared.call.CallData.{CallData}
 use Rattle.door_calls.specs.declared.call.kind.TheConstants as kind
 use Rattle.door_calls.specs.declared.call.number.TheConstants as number
-use Rattle.door_further.specs.declared.offers.TheConstants as row
-use Rattle.door_further.specs.Further.{What, Ordinary, Short, Row, Unnamed, Tells, ioctl_place, or_short, row_of, told_under, what_after}
-use Rattle.door_further.specs.declared.row.Further.{Further}
-use Rattle.door_further.specs.declared.row.Further.TheVariants as further
+use Rattle.door_ask.specs.declared.offers.TheConstants as row
+use Rattle.door_ask.specs.Further.{What, Ordinary, Short, Row, Unnamed, Tells, ioctl_place, or_short, row_of, told_under, what_after}
+use Rattle.door_ask.specs.declared.row.Further.{Further}
+use Rattle.door_ask.specs.declared.row.Further.TheVariants as further
 use Rattle.vfs_server.specs.Step.{ServerState}
 use Rattle.nizwarf_tree.specs.Files.{State}
 use Rattle.nizwarf_tree.specs.Offered.{AsksRow, row_limits, what_asked}

@@ -4,8 +4,8 @@ use Rattle.std.proofs.lemmas.List.{append_cancel_left}
 use Rattle.vfs_server.specs.Step.{ServerState}
 use Rattle.laws_history.specs.History.{GoesOnHandled, GoesOnChanged, turn_of}
 use Rattle.nizwarf_tree.specs.Files.{State, Allows, Gives}
-use Rattle.door_further.specs.Further.{What, Ordinary, Short, Row, Unnamed}
-use Rattle.door_further.specs.Turns.{as_create}
+use Rattle.door_ask.specs.Further.{What, Ordinary, Short, Row, Unnamed}
+use Rattle.laws_flight.specs.OfferedTurns.{as_create}
 use Rattle.nizwarf_tree.specs.History.{Answered, AnsweredAs, Told, Turned}
 use Rattle.nizwarf_tree.specs.Offered.{what_asked}
 use Rattle.nizwarf_tree.specs.Served.{ServedAs, ServedInC, SteppedInC, told_time}

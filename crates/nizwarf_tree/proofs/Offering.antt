@@ -8,7 +8,7 @@ use Rattle.std.specs.Prelude.{min}
 use Rattle.vfs_segments.proofs.Flat.{concat-split}
 use Rattle.vfs_segments.specs.Segments.{flat_bytes, segments_of}
 use Rattle.vfs_wire.specs.Fields.{little}
-use Rattle.door_further.specs.Turns.{as_create}
+use Rattle.laws_flight.specs.OfferedTurns.{as_create}
 
 -- ---- the first bytes of two pieces, and those after
 

@@ -18,10 +18,10 @@ use Rattle.door_answer.specs.Kinds.{kind_told}
 use Rattle.door_answer.specs.Said.{IsSaid}
 use Rattle.door_answer.specs.Told.{AnswersEachCall, AnswersEachListing}
 use Rattle.door_answer.specs.declared.answered.Answered.{Answered}
-use Rattle.door_further.specs.Fitting.{answer_offered, fits, is_unfit}
-use Rattle.door_further.specs.Further.{What, Short, Row, told_under, what_of}
-use Rattle.door_further.specs.OneTurn.{AreOneOfferedTurn, HappenedOffered, IsAnsweredOffered, IsToldOffered, offered_turn}
-use Rattle.door_further.specs.Turns.{FollowsOffered, IsOfferedTurn, OfferedTurn, row_kind}
+use Rattle.door_answer.specs.Fitting.{answer_offered, fits, is_unfit}
+use Rattle.door_ask.specs.Further.{What, Short, Row, told_under, what_of}
+use Rattle.laws_flight.specs.OneOfferedTurn.{AreOneOfferedTurn, HappenedOffered, IsAnsweredOffered, IsToldOffered, offered_turn}
+use Rattle.laws_flight.specs.OfferedTurns.{FollowsOffered, IsOfferedTurn, OfferedTurn, row_kind}
 use Rattle.c_rooms.specs.Codes.{outcome_code, length_of, shown_of}
 use Rattle.vfs_server.specs.Step.{ServerState}
 use Rattle.nizwarf_tree.specs.Files.{State, row_answer}

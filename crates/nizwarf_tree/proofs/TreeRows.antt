@@ -7,9 +7,9 @@ use Rattle.vfs_wire.specs.Fields.{little, number}
 use Rattle.vfs_files.specs.Calls.{Answer}
 use Rattle.vfs_grammar.specs.declared.limits.Limits.{Limits}
 use Rattle.door_calls.specs.declared.call.CallData.{CallData}
-use Rattle.door_further.specs.Further.{What, Ordinary, Row, told_under, what_of}
-use Rattle.door_further.specs.Turns.{FollowsOffered}
-use Rattle.door_further.specs.Uses.{statx, statx_asked}
+use Rattle.door_ask.specs.Further.{What, Ordinary, Row, told_under, what_of}
+use Rattle.laws_flight.specs.OfferedTurns.{FollowsOffered}
+use Rattle.door_ask.specs.RowUses.{statx, statx_asked}
 use Rattle.c_rooms.specs.Codes.{ok}
 use Rattle.vfs_server.specs.Step.{ServerState}
 use Rattle.fs_tree.specs.Rows.{ioctl_answer, statx_answer}

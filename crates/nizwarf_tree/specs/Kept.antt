@@ -5,7 +5,7 @@ use Rattle.vfs_segments.specs.Segments.{flat_bytes, lengths_of}
 use Rattle.vfs_segments.specs.Unread.{Unread}
 use Rattle.vfs_server.specs.Memory.{WantsNoMemory}
 use Rattle.vfs_server.specs.Step.{ServerState}
-use Rattle.door_further.specs.Further.{Ordinary}
+use Rattle.door_ask.specs.Further.{Ordinary}
 use Rattle.c_rooms.specs.Places.{Lends}
 use Rattle.nizwarf_tree.specs.Files.{State}
 use Rattle.nizwarf_tree.specs.Offered.{what_asked}

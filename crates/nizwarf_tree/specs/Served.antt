@@ -6,9 +6,9 @@ use Rattle.vfs_server.specs.Step.{ServerState, IsStep, ReadsDirectories}
 use Rattle.vfs_files.specs.Calls.{Answer, Failed, Text}
 use Rattle.door_calls.specs.declared.call.CallData.{CallData}
 use Rattle.door_calls.specs.declared.data.AnswerData.{AnswerData}
-use Rattle.door_further.specs.Fitting.{fits}
-use Rattle.door_further.specs.Further.{What, Ordinary, Short, Row, Unnamed}
-use Rattle.door_further.specs.Turns.{OfferedTurn, IsOfferedTurn, as_create}
+use Rattle.door_answer.specs.Fitting.{fits}
+use Rattle.door_ask.specs.Further.{What, Ordinary, Short, Row, Unnamed}
+use Rattle.laws_flight.specs.OfferedTurns.{OfferedTurn, IsOfferedTurn, as_create}
 use Rattle.nizwarf_tree.specs.Files.{State, new_state, at_time, Allows, Gives, row_answer}
 use Rattle.nizwarf_tree.specs.Offered.{row_limits, what_asked}
 use Rattle.nizwarf_tree.specs.declared.files.TheConstants.{OFFERS}

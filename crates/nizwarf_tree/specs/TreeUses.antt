@@ -13,8 +13,8 @@ use Rattle.door_calls.specs.Shapes.{nothing}
 use Rattle.door_calls.specs.declared.call.CallData.{CallData}
 use Rattle.door_calls.specs.declared.call.kind.TheConstants as kind
 use Rattle.door_calls.specs.declared.call.number.TheConstants as number
-use Rattle.door_further.specs.Further.{Ordinary}
-use Rattle.door_further.specs.Turns.{OfferedTurn, IsOfferedTurn}
+use Rattle.door_ask.specs.Further.{Ordinary}
+use Rattle.laws_flight.specs.OfferedTurns.{OfferedTurn, IsOfferedTurn}
 use Rattle.vfs_server.specs.Step.{ServerState}
 use Rattle.c_rooms.specs.Codes.{ok, length_of, no_memory, outcome_code, too_long}
 use Rattle.nizwarf_tree.specs.Files.{State, Allows, Gives}

@@ -5,7 +5,7 @@ ghost use Rattle.vfs_flags.specs.declared.constants.TheConstants.{LEAST_MAX_BUFF
 ghost use Rattle.vfs_segments.specs.Segments.{segments_of, contents, flat_bytes, lengths_of};
 ghost use Rattle.vfs_segments.specs.Written.{whole};
 ghost use Rattle.vfs_server.specs.Memory.{WantsNoMemory};
-ghost use Rattle.door_further.specs.Turns.{as_create};
+ghost use Rattle.laws_flight.specs.OfferedTurns.{as_create};
 ghost use Rattle.laws_history.specs.History.{Handled, turn_of_end};
 ghost use Rattle.nizwarf_tree.specs.History.{Extends};
 ghost use Rattle.nizwarf_tree.specs.Served.{new_server, told_time, Refused, ServedInC, SteppedInC};
@@ -20,8 +20,8 @@ use crate::offered::{as_create, asked};
 use crate::settings::Settings;
 use c_rooms::codes::{OK, OUT_OF_MEMORY, TOO_LONG, told};
 use c_rooms::{copy_part, lend, only_room};
+use door_ask::Further;
 use door_calls::CallData;
-use door_further::Further;
 use laws_history::laws::history_goes_on;
 use std::alloc::Global;
 use std::mem;

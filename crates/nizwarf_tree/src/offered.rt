@@ -4,14 +4,14 @@ ghost use Rattle.std.specs.Prelude.{◌≡◌, ◌++◌, take, drop, IfOk, OnOk}
 ghost use Rattle.vfs_segments.specs.Segments.{segments_of, flat_bytes};
 ghost use Rattle.vfs_grammar.specs.Limits.{AreLimits};
 ghost use Rattle.door_calls.specs.declared.call.kind.TheConstants as kind;
-ghost use Rattle.door_further.specs.Further.{Ordinary, Short, Tells, Unnamed, told_under};
-ghost use Rattle.door_further.specs.declared.row.Further.TheVariants.{Ordinary as IsOrdinary, Row as IsRow, Short as IsShort, Unnamed as IsUnnamed};
-ghost use Rattle.door_further.specs.Turns.{as_create};
+ghost use Rattle.door_ask.specs.Further.{Ordinary, Short, Tells, Unnamed, told_under};
+ghost use Rattle.door_ask.specs.declared.row.Further.TheVariants.{Ordinary as IsOrdinary, Row as IsRow, Short as IsShort, Unnamed as IsUnnamed};
+ghost use Rattle.laws_flight.specs.OfferedTurns.{as_create};
 ghost use Rattle.nizwarf_tree.specs.Offered.{AsksRow, row_limits, what_asked};
 
 use crate::files::{Files, OFFERS};
+use door_ask::{Further, what};
 use door_calls::CallData;
-use door_further::{Further, what};
 use std::alloc::{AllocError, Global};
 use vfs_flags::{GREATEST_MAX_BUFFER, LEAST_MAX_BUFFER};
 use vfs_grammar::Limits;

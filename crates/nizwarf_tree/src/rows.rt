@@ -2,7 +2,7 @@
 
 ghost use Rattle.std.specs.Prelude.{◌≡◌, ◌≢◌, ◌⊎◌, ℕ, List, drop};
 ghost use Rattle.door_calls.specs.declared.call.kind.TheConstants as kind;
-ghost use Rattle.door_further.specs.Further.{Short};
+ghost use Rattle.door_ask.specs.Further.{Short};
 ghost use Rattle.nizwarf_tree.specs.Files.{row_answer};
 ghost use Rattle.c_rooms.specs.Codes.{no_memory, too_long};
 ghost use Rattle.nizwarf_tree.specs.Kept.{KeepsFor};
@@ -13,9 +13,9 @@ use crate::files::{MOST_TEXT, answer_row};
 use crate::instance::Instance;
 use crate::offered::row_limits;
 use c_rooms::codes::OUT_OF_MEMORY;
+use door_answer::answer_offered;
 use door_calls::{AnswerData, CallData};
-use door_further::answer_offered;
-use door_further::laws::{
+use laws_flight::laws::{
     a_short_request_is_one_offered_turn, asked_and_answered_is_one_offered_turn,
 };
 use std::alloc::Global;

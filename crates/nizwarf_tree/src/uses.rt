@@ -4,8 +4,8 @@ ghost use Rattle.std.specs.Prelude.{◌≡◌, ◌≢◌, ◌≤◌, ◌^◌, �
 ghost use Rattle.vfs_segments.specs.Segments.{segments_of, flat_bytes};
 ghost use Rattle.vfs_server.specs.Step.{ServerState};
 ghost use Rattle.door_calls.specs.declared.call.CallData.{CallData};
-ghost use Rattle.door_further.specs.Further.{Ordinary, Row, Short, Unnamed};
-ghost use Rattle.door_further.specs.Turns.{as_create};
+ghost use Rattle.door_ask.specs.Further.{Ordinary, Row, Short, Unnamed};
+ghost use Rattle.laws_flight.specs.OfferedTurns.{as_create};
 ghost use Rattle.laws_history.specs.History.{Moment, turns_in};
 ghost use Rattle.c_rooms.specs.Codes.{no_memory, ok, too_long};
 ghost use Rattle.nizwarf_tree.specs.Files.{State};

@@ -3,7 +3,7 @@
 ghost use Rattle.std.specs.Prelude.{◌≡◌, IfSome, MatchOption, drop};
 ghost use Rattle.vfs_segments.specs.Segments.{segments_of, flat_bytes};
 ghost use Rattle.c_rooms.specs.Codes.{ok};
-ghost use Rattle.door_further.specs.Uses.{statx, statx_asked};
+ghost use Rattle.door_ask.specs.RowUses.{statx, statx_asked};
 ghost use Rattle.fs_tree.specs.Rows.{ioctl_answer, statx_answer};
 ghost use Rattle.nizwarf_tree.specs.TreeUses.{IsRow, getflags, getflags_asked};
 

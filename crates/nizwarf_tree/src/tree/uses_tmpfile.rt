@@ -3,8 +3,8 @@
 ghost use Rattle.std.specs.Prelude.{◌≡◌, IfSome, MatchOption, drop};
 ghost use Rattle.vfs_segments.specs.Segments.{segments_of, flat_bytes};
 ghost use Rattle.c_rooms.specs.Codes.{ok};
-ghost use Rattle.door_further.specs.Turns.{as_create};
-ghost use Rattle.door_further.specs.Uses.{tmpfile};
+ghost use Rattle.laws_flight.specs.OfferedTurns.{as_create};
+ghost use Rattle.door_ask.specs.RowUses.{tmpfile};
 ghost use Rattle.nizwarf_tree.specs.History.{Turned};
 
 use crate::handle::Handle;

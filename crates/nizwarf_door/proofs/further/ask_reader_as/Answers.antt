@@ -1,7 +1,7 @@
 use Rattle.std.proofs.Common.{◌≡◌, ◌≤◌, true, length, rules}
 use Rattle.vfs_flags.specs.Flags.{fs_options_bits}
 use Rattle.c_rooms.specs.Codes.{is_asked, no_memory, outcome_code}
-use Rattle.door_further.specs.Turns.{as_create}
+use Rattle.laws_flight.specs.OfferedTurns.{as_create}
 use Rattle.nizwarf_door.proofs.Asking.{finished_room, kept_for, no_call, other_number, told_call, told_finished, told_has, told_or_not}
 use Rattle.nizwarf_door.proofs.Leaving.{keeps_room, nothing_shown}
 use Rattle.nizwarf_door.proofs.further.ask_reader_as.Goals as goal

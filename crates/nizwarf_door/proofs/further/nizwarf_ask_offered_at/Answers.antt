@@ -1,6 +1,6 @@
 use Rattle.std.proofs.Common.{◌≡◌, rules}
 use Rattle.vfs_segments.specs.Segments.{segments_of, flat_bytes}
-use Rattle.door_further.specs.Further.{what_of}
+use Rattle.door_ask.specs.Further.{what_of}
 use Rattle.nizwarf_door.specs.Asking.{unread_in}
 use Rattle.nizwarf_door.specs.Session.{limits_of, options_of}
 use Rattle.c_rooms.specs.Codes.{is_asked, no_memory}

@@ -1,5 +1,5 @@
 use Rattle.std.proofs.Common.{◌≡◌, ◌++◌, [], append-nil, rules}
-use Rattle.door_further.specs.Further.{what_of}
+use Rattle.door_ask.specs.Further.{what_of}
 use Rattle.nizwarf_door.specs.Session.{limits_of, options_of}
 use Rattle.nizwarf_door.proofs.OfferedAsks.{checks_ordinary, checks_row, checks_short, checks_unnamed, recode_checks, unnamed_whole}
 use Rattle.nizwarf_door.proofs.further.nizwarf_check_offered_at.Goals as goal

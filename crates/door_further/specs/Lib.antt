@@ -1,5 +1,0 @@
-pub mod Further
-pub mod Fitting
-pub mod Turns
-pub mod OneTurn
-pub mod Uses
