@@ -6,7 +6,7 @@ use Rattle.std.specs.BTreeSet.{insert_key}
 use Rattle.std.proofs.lemmas.Bool.{eqb-false, eqb-true}
 use Rattle.fs_nodes.specs.Pages.{holds, with_page, with_pages, missing, reach}
 use Rattle.fs_nodes.specs.Contents.{pages_over}
-use Rattle.fs_nodes.proofs.Held.{is_at_other}
+use Rattle.fs_nodes.proofs.HeldPages.{is_at_other}
 
 -- one page more
 length-insert_key : (ks : List ℕ) (n : ℕ) → holds ks n ≡ false

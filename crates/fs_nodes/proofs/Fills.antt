@@ -17,7 +17,7 @@ use Rattle.vfs_files.specs.TransferLaws.{goes_within}
 use Rattle.fs_nodes.specs.Pages.{Pages, byte_at, byte_over, holds, with_page, with_pages}
 use Rattle.fs_nodes.specs.Filling.{Fills}
 use Rattle.fs_nodes.specs.declared.transfer.Counting.{Counting}
-use Rattle.fs_nodes.proofs.Held.{over_in, over_before, over_after, at_itself, grown_by, page_new, page_there}
+use Rattle.fs_nodes.proofs.HeldPages.{over_in, over_before, over_after, at_itself, grown_by, page_new, page_there}
 
 -- ---- bytes over bytes
 

@@ -11,7 +11,7 @@ use Rattle.std.specs.BTreeMap.Range.{entries_between}
 use Rattle.std.proofs.lemmas.Bool.{both_ways, cases_lt, false_from_ne_true, le-leb, lt-leb, or_cases, or_left, or_right}
 use Rattle.std.proofs.lemmas.List.Elements.{filter_agree}
 use Rattle.fs_nodes.specs.Pages.{Pages, first_from, holds}
-use Rattle.fs_nodes.proofs.Held.{at_itself, found-any, is_at_same}
+use Rattle.fs_nodes.proofs.HeldPages.{at_itself, found-any, is_at_same}
 
 -- the first of some pages
 abbrev pub IsFirst : Pages → Option ℕ → Type 0

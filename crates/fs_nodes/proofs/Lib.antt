@@ -1,7 +1,7 @@
 pub mod Counts
 pub mod Fills
 pub mod First
-pub mod Held
+pub mod HeldPages
 pub mod Moves
 pub mod Punch
 pub mod Shown

@@ -12,7 +12,7 @@ use Rattle.std.proofs.lemmas.Bool.{both_ways, cases_lt, cond-true, cond-false, a
 use Rattle.std.proofs.lemmas.List.{ext_get_or, get_or_append_left, get_or-append_right, get_or-take, get_or-drop, length-replicate}
 use Rattle.fs_nodes.specs.Pages.{Pages, byte_at, byte_over, is_outside}
 use Rattle.fs_nodes.specs.Contents.{bytes_of, contents_of, punched, zeroed}
-use Rattle.fs_nodes.proofs.Held.{over_in, over_before, over_after, zeros_at}
+use Rattle.fs_nodes.proofs.HeldPages.{over_in, over_before, over_after, zeros_at}
 use Rattle.fs_nodes.proofs.Shown.{length-bytes_of, shown, both}
 
 -- ---- pages that stay and pages that go

@@ -9,7 +9,7 @@ use Rattle.vfs_segments.specs.Memory.{with_bytes_at}
 use Rattle.vfs_files.specs.Bytes.{lengthened}
 use Rattle.fs_nodes.specs.Pages.{Pages, byte_at, byte_over, with_pages}
 use Rattle.fs_nodes.specs.Contents.{Contents, AreZeroAfter, bytes_of, contents_of, resized, allocated, written, pages_over}
-use Rattle.fs_nodes.proofs.Held.{zeros_at, over_in, over_before, over_after, list_over}
+use Rattle.fs_nodes.proofs.HeldPages.{zeros_at, over_in, over_before, over_after, list_over}
 
 pub length-bytes_of : (pages : Pages) (size : ℕ) → length (bytes_of pages size) ≡ size
 length-bytes_of pages size = length-map-range_with_len (byte_at pages) 0 size

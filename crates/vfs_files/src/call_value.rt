@@ -13,6 +13,7 @@ use vfs_flags::{FsOptions, Opcode, OpenOptions, SetattrValid, SetxattrFlags};
 use vfs_wire::{Attr, SetattrIn, Statvfs64};
 
 /// The arguments of a READ besides the writer that its data go into.
+#[derive(Clone, Copy)]
 pub struct ReadValue {
     pub ctx: Context,
     pub inode: u64,
@@ -24,6 +25,7 @@ pub struct ReadValue {
 }
 
 /// The arguments of a WRITE besides the reader that its data come from.
+#[derive(Clone, Copy)]
 pub struct WriteValue {
     pub ctx: Context,
     pub inode: u64,

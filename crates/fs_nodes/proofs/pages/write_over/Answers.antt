@@ -1,6 +1,6 @@
 use Rattle.std.proofs.Common.{◌≡◌, ◌≤◌, ◌+◌, ◌-◌, ◌++◌, ℕ, List, length, take, replicate, get_or, is_ok, vec_len, vec_capacity, ap, ◌∙◌, arith}
 use Rattle.std.proofs.lemmas.Bool.{cond-true}
-use Rattle.fs_nodes.proofs.Held.{list_on}
+use Rattle.fs_nodes.proofs.HeldPages.{list_on}
 use Rattle.fs_nodes.proofs.pages.write_over.Goals as goal
 
 pub returns-clause-bytes : goal.returns-clause-bytes

@@ -2,7 +2,7 @@ use Rattle.std.proofs.Common.{◌≡◌, ◌-◌, ◌/◌, ℕ, true, false, sym
 use Rattle.std.proofs.lemmas.Bool.{cond-true, cond-false}
 use Rattle.fs_nodes.specs.Pages.{holds, missing}
 use Rattle.fs_nodes.specs.Contents.{Contents, pages_over}
-use Rattle.fs_nodes.proofs.Held.{missing_more}
+use Rattle.fs_nodes.proofs.HeldPages.{missing_more}
 use Rattle.fs_nodes.proofs.contents.Contents.lacking.Goals as goal
 use Rattle.fs_nodes.proofs.contents.Contents.lacking.Goals.{then-not-holds, else-not-holds}
 

@@ -3,7 +3,7 @@ use Rattle.std.proofs.lemmas.Bool.{cond-true, cond-false, ne_eqb}
 use Rattle.fs_nodes.specs.Pages.{holds, reach}
 use Rattle.fs_nodes.specs.Contents.{Contents}
 use Rattle.fs_nodes.proofs.Counts.{reach_all}
-use Rattle.fs_nodes.proofs.Held.{reach_more}
+use Rattle.fs_nodes.proofs.HeldPages.{reach_more}
 use Rattle.fs_nodes.proofs.contents.Contents.stop.Goals as goal
 
 pub returns-then-end-first-clause-stop : goal.returns-then-end-first-clause-stop

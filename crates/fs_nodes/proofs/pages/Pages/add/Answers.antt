@@ -3,7 +3,7 @@ use Rattle.std.specs.Map.{keys_of, remove_entry}
 use Rattle.std.specs.BTreeMap.{is_at}
 use Rattle.std.specs.BTreeSet.{insert_key}
 use Rattle.fs_nodes.specs.Pages.{Pages, byte_at, holds}
-use Rattle.fs_nodes.proofs.Held.{keys-insert_entry, remove-insert, lookup_free, bytes_added}
+use Rattle.fs_nodes.proofs.HeldPages.{keys-insert_entry, remove-insert, lookup_free, bytes_added}
 use Rattle.fs_nodes.proofs.pages.Pages.add.Goals as goal
 
 pub returns-in-Ok-insert-clause-keys : goal.returns-in-Ok-insert-clause-keys

@@ -1,6 +1,6 @@
 use Rattle.std.proofs.Common.{ℕ, List, ap, ◌∙◌}
 use Rattle.fs_nodes.specs.Pages.{undone}
-use Rattle.fs_nodes.proofs.Held.{undone-append}
+use Rattle.fs_nodes.proofs.HeldPages.{undone-append}
 use Rattle.fs_nodes.proofs.pages.Pages.add_noted.Goals as goal
 
 pub returns-in-Ok-add-clause-noted : goal.returns-in-Ok-add-clause-noted

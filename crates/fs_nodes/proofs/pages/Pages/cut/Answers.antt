@@ -2,7 +2,7 @@ use Rattle.std.proofs.Common.{◌≡◌, [], nat_lt, filter, sym, ap, ◌∙◌,
 use Rattle.std.specs.Map.{keys_of}
 use Rattle.std.proofs.lemmas.Bool.{le-ltb}
 use Rattle.fs_nodes.specs.Pages.{Pages}
-use Rattle.fs_nodes.proofs.Held.{filter_removed, filter_none, keys-filter, bytes_filtered, none_after, none_there, pages_less}
+use Rattle.fs_nodes.proofs.HeldPages.{filter_removed, filter_none, keys-filter, bytes_filtered, none_after, none_there, pages_less}
 use Rattle.fs_nodes.proofs.pages.Pages.cut.Goals as goal
 
 pub cut-preserved-else-last-page : goal.cut-preserved-else-last-page

@@ -2,7 +2,7 @@ use Rattle.std.proofs.Common.{nat_cmp, filter, sym, ap, ◌∙◌, arith}
 use Rattle.std.specs.Map.{keys_of}
 use Rattle.std.specs.BTreeMap.{is_at}
 use Rattle.fs_nodes.specs.Pages.{Pages, is_outside}
-use Rattle.fs_nodes.proofs.Held.{filter_removed, filter_none, keys-filter, bytes_filtered, pages_less}
+use Rattle.fs_nodes.proofs.HeldPages.{filter_removed, filter_none, keys-filter, bytes_filtered, pages_less}
 use Rattle.fs_nodes.proofs.Punch.{between, first_goes, none_goes}
 use Rattle.fs_nodes.proofs.pages.Pages.cut_out.Goals as goal
 

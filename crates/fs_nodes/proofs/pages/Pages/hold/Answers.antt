@@ -5,7 +5,7 @@ use Rattle.std.proofs.lemmas.Bool.{false_from_ne_true, both_ways}
 use Rattle.fs_nodes.specs.Pages.{holds, undone}
 use Rattle.fs_nodes.proofs.Counts.{holds_inserted}
 use Rattle.fs_nodes.proofs.First.{none_from}
-use Rattle.fs_nodes.proofs.Held.{held_more, page_new, grown_by, missing_some}
+use Rattle.fs_nodes.proofs.HeldPages.{held_more, page_new, grown_by, missing_some}
 use Rattle.fs_nodes.proofs.pages.Pages.hold.Goals as goal
 use Rattle.fs_nodes.proofs.pages.Pages.hold.Goals.{else-some-via-then-some+else-holds, else-some-via-else-some}
 

@@ -2,7 +2,7 @@ use Rattle.std.proofs.Common.{nat_cmp, ◌∙◌, ap}
 use Rattle.std.specs.BTreeMap.{is_at}
 use Rattle.std.specs.Map.{keys_of}
 use Rattle.fs_nodes.specs.Pages.{Pages, holds}
-use Rattle.fs_nodes.proofs.Held.{found-any}
+use Rattle.fs_nodes.proofs.HeldPages.{found-any}
 use Rattle.fs_nodes.proofs.pages.Pages.holds.Goals as goal
 
 pub returns : goal.returns

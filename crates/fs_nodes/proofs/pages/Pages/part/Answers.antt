@@ -1,7 +1,7 @@
 use Rattle.std.proofs.Common.{◌<◌, ◌+◌, ◌%◌, ℕ, List, get_or, length, sym, ap, ◌∙◌, arith}
 use Rattle.std.proofs.lemmas.List.{length-replicate}
 use Rattle.fs_nodes.specs.Pages.{Pages, byte_at}
-use Rattle.fs_nodes.proofs.Held.{part_read, part_zero, zeros_at}
+use Rattle.fs_nodes.proofs.HeldPages.{part_read, part_zero, zeros_at}
 use Rattle.fs_nodes.proofs.pages.Pages.part.Goals as goal
 
 pub returns-in-Some-clause-bytes : goal.returns-in-Some-clause-bytes

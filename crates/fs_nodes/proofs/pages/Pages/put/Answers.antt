@@ -2,7 +2,7 @@ use Rattle.std.proofs.Common.{◌≡◌, ◌≤◌, ◌+◌, ◌-◌, ◌/◌, �
 use Rattle.std.specs.Map.{keys_of}
 use Rattle.std.proofs.lemmas.Bool.{cond-true, cond-false}
 use Rattle.fs_nodes.specs.Pages.{Pages, byte_at, byte_over, holds}
-use Rattle.fs_nodes.proofs.Held.{held_found, bytes_put}
+use Rattle.fs_nodes.proofs.HeldPages.{held_found, bytes_put}
 use Rattle.fs_nodes.proofs.pages.Pages.put.Goals as goal
 
 pub returns-in_default-clause-count : goal.returns-in_default-clause-count

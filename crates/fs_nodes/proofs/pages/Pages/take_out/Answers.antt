@@ -1,7 +1,7 @@
 use Rattle.std.proofs.Common.{ℕ, List, nat_cmp, arith, sym, ap, ◌∙◌}
 use Rattle.std.specs.BTreeMap.{is_at}
 use Rattle.fs_nodes.specs.Pages.{undone}
-use Rattle.fs_nodes.proofs.Held.{undone-append, pages_less}
+use Rattle.fs_nodes.proofs.HeldPages.{undone-append, pages_less}
 use Rattle.fs_nodes.proofs.pages.Pages.take_out.Goals as goal
 
 pub out-preserved : goal.out-preserved

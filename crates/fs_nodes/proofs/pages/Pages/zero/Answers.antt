@@ -3,7 +3,7 @@ use Rattle.std.specs.Map.{keys_of}
 use Rattle.std.proofs.lemmas.Bool.{cases_lt}
 use Rattle.std.proofs.lemmas.List.{length-replicate}
 use Rattle.fs_nodes.specs.Pages.{byte_at, holds}
-use Rattle.fs_nodes.proofs.Held.{over_in, over_before, over_after, part_zero, lookup_free, zeros_at}
+use Rattle.fs_nodes.proofs.HeldPages.{over_in, over_before, over_after, part_zero, lookup_free, zeros_at}
 use Rattle.fs_nodes.proofs.pages.Pages.zero.Goals as goal
 
 pub returns-else-holds-clause-bytes : goal.returns-else-holds-clause-bytes
