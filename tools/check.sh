@@ -6,7 +6,7 @@
 #        tools/check.sh --missing
 #
 #   documents  the pages against the sources
-#   edits      that each wrong body of tests/edits can still be tried
+#   edits      that each edit of tests/edits can still be tried
 #   numbers    opcodes, calls, kinds, bits, codes and fields, wherever they are, against their one table
 #   shell      scripts, by shellcheck
 #   rattle     the format of Rattle's files, by `rt fmt` on a copy
@@ -143,7 +143,7 @@ check_crate() {
 count_of() {
     case $1 in
         documents) echo "$(files '*.md' | wc -l) pages" ;;
-        edits) echo "$(files 'tests/edits/*.edit' | wc -l) edits" ;;
+        edits) echo "$(cat tests/edits/*.edits | grep -c '^== ') edits" ;;
         numbers) tools/dev/numbers.py | sed 's/:.*//' ;;
         shell) echo "$(scripts | wc -l) scripts" ;;
         rattle) echo "$(files 'crates/*.rt' 'crates/*.antt' | wc -l) files" ;;

@@ -1,56 +1,81 @@
 #!/usr/bin/env bash
-# Tries wrong bodies that the gate leaves out, and wrong definitions: the prover must refuse each. The gate tries the
-# telling ones, which are in the must-fail of their crates, at least one of each with contracts but vfs_wire_more and
-# test_*. The rest are here: the files CRATE/NAME.edit beside this script, in the form of must-fail's. With both most
-# public functions have a wrong body, of their own or of what they call; of many that are alike, as records, some have.
+# Tries wrong bodies and wrong definitions that the gate leaves out: the prover must refuse each of them.
 #
-# Usage: tests/edits/run.sh [CRATE..]
+# Usage: tests/edits/run.sh [-k NAME] [CRATE..]
 #        tests/edits/run.sh --texts
-# Works on a copy of the crates below out/, with what `rt check` kept of them by links; what is not proved yet is
-# proved there first. --texts proves nothing: it looks whether each text that an edit replaces is once in its file.
 #
-# It takes 20 to 80 seconds an edit, and a gigabyte of disk where nothing is proved yet. Status 0: each is refused; 1:
-# one is not, or can't be applied; 2: it could not start.
+#   -k NAME    tries only the edits whose names contain NAME
+#   --texts    proves nothing: checks that the files have the form below, and that each text that an edit replaces
+#              is in its file exactly once
+#
+# The edits of a crate are in CRATE.edits beside this script. An edit begins with a heading, `== NAME`, whose name says
+# what goes wrong; then come the lines of a must-fail edit of `rt`: `file: PATH` in the crate, and pairs of `old: TEXT`
+# and `new: TEXT`. Empty lines are skipped.
+#
+# The gate tries the edits in crates/CRATE/must-fail, of which each crate with contracts has at least one but
+# vfs_wire_more and test_*. An edit here must say what no edit of the gate and no other edit here says: of functions or
+# records that are alike, and of a function and its helpers, one has an edit. At most 150 are here, because trying all
+# of them takes one to three hours.
+#
+# The script works on a copy of the crates below out/, which shares by links what `rt check` kept of them; a crate that
+# is not proved yet is proved there first. An edit takes 20 to 80 seconds, and the copy a gigabyte of disk where nothing
+# is proved yet.
+# Status 0: each edit is refused; 1: one is not refused, or cannot be applied; 2: the script could not start.
 set -euo pipefail
 . "$(dirname "$0")/../../tools/lib/usage.sh"
 here=$(realpath "$(dirname "$0")")
 root=$(realpath "$here/../..")
 
-# Looks whether each text that an edit replaces is once in its file.
-look_at_texts() {
-    local edit crate line file count=0 bad=0
-    for edit in "$here"/*/*.edit; do
-        crate=$root/crates/$(basename "$(dirname "$edit")") file=""
-        count=$((count + 1))
+# Writes each edit of a crate whose name contains $only as a file into a folder: split_edits CRATE FOLDER.
+only=
+split_edits() {
+    mkdir -p "$2"
+    awk -v folder="$2" -v only="$only" '
+        sub(/^== /, "") { name = $0; taken = only == "" || index(name, only); next }
+        NF && taken { print > (folder "/" name ".edit") }' "$here/$1.edits"
+}
+
+# Checks the form of the files, and that each text that an edit replaces is in its file exactly once.
+check_texts() {
+    local edits crate line file bad=0
+    ! grep -HnvE '^(== [a-z0-9_]+|(file|old): .+|new:.*|)$' "$here"/*.edits || bad=1
+    # (two edits of one name would become one file)
+    ! grep -H '^== ' "$here"/*.edits | sort | uniq -d | grep . || bad=1
+    for edits in "$here"/*.edits; do
+        crate=$(basename "$edits" .edits)
         while IFS= read -r line; do
             case $line in
-                "file: "*) file=$crate/${line#file: } ;;
+                "file: "*) file=$root/crates/$crate/${line#file: } ;;
                 "old: "*)
-                    # (counted by occurrences, of which a line may have several)
+                    # (occurrences are counted, because a line may have several)
                     if [ "$(grep -oF -e "${line#old: }" "$file" | wc -l)" != 1 ]; then
-                        echo "${edit#"$root"/}: what it replaces does not stand once in ${file#"$root"/}: ${line#old: }"
+                        echo "${edits#"$root"/}: the text is not in ${file#"$root"/} exactly once: ${line#old: }"
                         bad=1
                     fi
                     ;;
             esac
-        done < "$edit"
+        done < "$edits"
     done
-    [ $bad = 1 ] || echo "The texts of $count edits stand once each."
+    [ $bad = 1 ] || echo "Each text of the $(cat "$here"/*.edits | grep -c '^== ') edits is in its file exactly once."
     return $bad
 }
 
-if [ "${1:-}" = --texts ]; then
-    look_at_texts
-    exit
-fi
+case ${1:-} in
+    --texts)
+        check_texts
+        exit
+        ;;
+    -k)
+        only=${2:-}
+        [ -n "$only" ] || { echo "option requires an argument: -k" >&2 && exit 2; }
+        shift 2
+        ;;
+esac
 need rt "The folder bin of the Rattle toolchain has it; README.md says where that is."
 crates=("$@")
-[ $# != 0 ] || mapfile -t crates < <(cd "$here" && printf '%s\n' */ | tr -d /)
+[ $# != 0 ] || mapfile -t crates < <(cd "$here" && basename -s .edits -- *.edits)
 for it in "${crates[@]}"; do
-    if [ ! -d "$here/$it" ]; then
-        echo "There are no edits of $it here: $(cd "$here" && printf '%s ' */ | tr -d /)" >&2
-        exit 2
-    fi
+    [ -f "$here/$it.edits" ] || { echo "there is no file $here/$it.edits" >&2 && exit 2; }
 done
 
 mkdir -p "$root/out"
@@ -68,9 +93,14 @@ for it in "$root"/crates/*/; do
     # (a check replaces such a file, and changes none)
     [ ! -d "${it}out/rlib" ] || cp -al "${it}out/rlib" "$copy/crates/$name/out/"
 done
+tried=()
 for it in "${crates[@]}"; do
+    split_edits "$it" "$copy/crates/$it/must-fail"
+    # (of a crate that has no edit of such a name the folder is empty)
+    ! rmdir "$copy/crates/$it/must-fail" 2> /dev/null || continue
     [ ! -d "$root/crates/$it/out/incremental" ] || cp -al "$root/crates/$it/out/incremental" "$copy/crates/$it/out/"
-    cp -R "$here/$it" "$copy/crates/$it/must-fail"
+    tried+=("$it")
 done
+[ ${#tried[@]} != 0 ] || { echo "no edit's name contains $only: ${crates[*]}" >&2 && exit 2; }
 cd "$copy"
-rt must-fail "${crates[@]}"
+rt must-fail "${tried[@]}"

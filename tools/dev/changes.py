@@ -74,8 +74,8 @@ def main():
         files = {path for path in left if any(fnmatch.fnmatchcase(path, it) for it in patterns)}
         left -= files
         if files and "CRATE" in command:
-            # (crates/NAME/.., tests/edits/NAME/..)
-            crates = sorted({part for path in files for part in path.split("/")[1:3]} & set(crates_used()))
+            # (crates/NAME/.., tests/edits/NAME.edits)
+            crates = sorted({part.partition(".")[0] for path in files for part in path.split("/")[1:3]} & set(crates_used()))
             command = command.replace("CRATE", " ".join(crates))
             takes = takes.replace("ABOVE", f"the {crates_above(crates)} crates above")
             files = crates
