@@ -6,7 +6,7 @@ use std::alloc::{AllocError, Global};
 use std::cell::RefCell;
 use std::collections::VecDeque;
 use std::test::Fail;
-use test_seeded::SeededFs;
+use vfs_bench::seeded::SeededFs;
 use vfs_run::{PAGE_SIZE, answer_to, parse_line};
 use vfs_segments::{Reader, Writer};
 use vfs_server::server::Server;

@@ -6,7 +6,7 @@ use crate::table::Message;
 use std::alloc::{AllocError, Global};
 use std::cell::RefCell;
 use std::collections::VecDeque;
-use test_seeded::{Notes, SeededFs};
+use vfs_bench::seeded::{Notes, SeededFs};
 use vfs_flags::FsOptions;
 use vfs_run::{PAGE_SIZE, RunError, answer_to, lines_of, parse_line};
 use vfs_segments::{Reader, Writer};

@@ -19,7 +19,7 @@
 //! The first line of all may be `limit N` in place of one of these, as in `vfs_demo`.
 //!
 //! What each call is answered else is a function of its caller's process, by the file system of
-//! `test_seeded`, so that any request can be made to meet any answer, and another implementation of
+//! `vfs_bench::seeded`, so that any request can be made to meet any answer, and another implementation of
 //! the protocol with the same file system must write the same lines. The program takes no arguments
 //! and opens no file; one that is started otherwise, or whose first line is bad, prints to standard
 //! error what it takes. What is wrong with a bad line goes there too, and at a terminal that the

@@ -7,7 +7,7 @@ use std::alloc::Global;
 use std::cell::RefCell;
 use std::collections::VecDeque;
 use std::io;
-use test_seeded::{SeededFs, Told, parse_told};
+use vfs_bench::seeded::{SeededFs, Told, parse_told};
 use vfs_run::{
     Line, RunError, answer_to, lines_before_requests, lines_of, parse_line, server_for, write_all,
 };

@@ -1,5 +1,6 @@
 //! File systems for tests and for hosts that want to see what a client asks: one that notes the
-//! calls of another, and one that answers what its maker says.
+//! calls of another, and one that answers what its maker says. `seeded` has one for tests, whose
+//! answers follow from a seed.
 #![tactic(auto)]
 
 mod directory;
@@ -9,6 +10,7 @@ mod note;
 mod outcome;
 mod recorder;
 mod script;
+pub mod seeded;
 
 pub use directory::{ScriptDirectory, ScriptEntries, ScriptItem};
 pub use file::ScriptFile;

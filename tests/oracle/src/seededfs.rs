@@ -1,4 +1,4 @@
-//! The scripted file system of `test_seeded`, written again for virtiofsd's trait, from the rules at the
+//! The scripted file system of `vfs_bench::seeded`, written again for virtiofsd's trait, from the rules at the
 //! head of the modules there: each answer is told, or else a function of the caller's process.
 use crate::file::{File, Positioned};
 use crate::filesystem::*;

@@ -1,4 +1,4 @@
-//! Answers that a session's lines tell, for the calls of the requests that follow, as `test_seeded` has them.
+//! Answers that a session's lines tell, for the calls of the requests that follow, as `vfs_bench::seeded` has them.
 use crate::request::unhex;
 use std::collections::VecDeque;
 use std::ffi::CString;

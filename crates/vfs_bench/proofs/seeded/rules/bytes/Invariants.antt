@@ -1,5 +1,5 @@
 use Rattle.std.proofs.Common.{◌≡◌, length}
-use Rattle.test_seeded.proofs.rules.bytes.Given as goal
+use Rattle.vfs_bench.proofs.seeded.rules.bytes.Given as goal
 
 abbrev pub invariant-loop-index : goal.invariant-loop-index
 invariant-loop-index l = length l.bytes.items ≡ l.index

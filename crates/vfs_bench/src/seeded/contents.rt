@@ -14,7 +14,7 @@ ghost use Rattle.std.specs.Prelude.{◌≤◌, ℕ, List, IfOk};
 ghost use Rattle.vfs_files.specs.Answers.{Counts};
 ghost use Rattle.vfs_segments.specs.Views.{IsSameRoom};
 
-use crate::notes::Notes;
+use crate::seeded::notes::Notes;
 use vfs_files::{ZeroCopyReader, ZeroCopyWriter};
 use vfs_flags::{Errno, Fault, MAX_REPLY_DATA};
 use vfs_segments::{PositionedFile, Slices, SlicesMut, WritevFlags};

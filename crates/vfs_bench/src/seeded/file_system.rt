@@ -32,11 +32,11 @@ ghost use Rattle.std.specs.Prelude.{◌≤◌, ℕ, List, IfOk};
 ghost use Rattle.vfs_files.specs.Answers.{Counts};
 ghost use Rattle.vfs_files.specs.CallValue.{IsOptions, IsEntry, IsAttributes, IsText, IsTextOrCount};
 
-use crate::contents::Contents;
-use crate::listing::{DirectoryItems, Seeded};
-use crate::notes::Notes;
-use crate::rules::{attr, bytes, fault_of, time, wanted_bits};
-use crate::told::{Source, Told};
+use crate::seeded::contents::Contents;
+use crate::seeded::listing::{DirectoryItems, Seeded};
+use crate::seeded::notes::Notes;
+use crate::seeded::rules::{attr, bytes, fault_of, time, wanted_bits};
+use crate::seeded::told::{Source, Told};
 use bitflags::Flags;
 use std::alloc::{AllocError, Global};
 use std::cell::RefCell;

@@ -1,6 +1,6 @@
 use Rattle.std.proofs.Common.{◌≡◌, ◌<◌, [], length, get_or, ap, ◌∙◌, arith}
 use Rattle.vfs_segments.specs.ViewLaws.{IsSameRoom-count, IsSameRoom-then_piece}
-use Rattle.test_seeded.proofs.contents.fill_pieces.Goals as goal
+use Rattle.vfs_bench.proofs.seeded.contents.fill_pieces.Goals as goal
 
 pub get_mut-requires : goal.get_mut-requires
 get_mut-requires c =

@@ -15,7 +15,7 @@
 
 ghost use Rattle.std.specs.Prelude.{◌<◌, ◌≤◌, ◌^◌};
 
-use vfs_bench::ScriptEntries;
+use crate::directory::ScriptEntries;
 use vfs_files::{CStr, DirEntry, DirectoryIterator};
 
 /// How many bytes a name has at most, with the 0 after it.

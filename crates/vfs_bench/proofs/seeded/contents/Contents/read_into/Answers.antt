@@ -1,6 +1,6 @@
 use Rattle.std.proofs.Common.{◌++◌, arith, length-append}
 use Rattle.vfs_files.specs.TransferLaws.{transfer_counts, transfer_tells}
-use Rattle.test_seeded.proofs.contents.Contents.read_into.Goals as goal
+use Rattle.vfs_bench.proofs.seeded.contents.Contents.read_into.Goals as goal
 
 pub returns-then-self-eq0 : goal.returns-then-self-eq0
 returns-then-self-eq0 g c =

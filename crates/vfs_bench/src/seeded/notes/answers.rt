@@ -1,7 +1,7 @@
 //! The line of each answer.
 
 use super::Notes;
-use crate::listing::DirectoryItems;
+use crate::seeded::listing::DirectoryItems;
 use bitflags::Flags;
 use vfs_files::Given;
 use vfs_flags::{Fault, OpenOptions};

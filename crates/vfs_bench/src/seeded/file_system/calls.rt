@@ -4,8 +4,8 @@ ghost use Rattle.vfs_files.specs.Calls.{kind_of};
 ghost use Rattle.vfs_files.specs.CallValue.{call_of, IsOfKind};
 
 use super::SeededFs;
-use crate::listing::DirectoryItems;
-use crate::rules::statistics;
+use crate::seeded::listing::DirectoryItems;
+use crate::seeded::rules::statistics;
 use bitflags::Flags;
 use vfs_files::{
     AnswerKind, CallValue, Context, Given, PartialFileSystem, ReadValue, WriteValue,

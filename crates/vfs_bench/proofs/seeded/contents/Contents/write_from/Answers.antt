@@ -1,6 +1,6 @@
 use Rattle.std.proofs.Common.{◌++◌, ◌≡◌, ◌≤◌, IfOk, Result, Ok, Err, Option, ℕ, arith}
 use Rattle.vfs_files.specs.TransferLaws.{transfer_tells}
-use Rattle.test_seeded.proofs.contents.Contents.write_from.Goals as goal
+use Rattle.vfs_bench.proofs.seeded.contents.Contents.write_from.Goals as goal
 
 -- a number that is told is within the count
 at_most : (len count : ℕ) (result : Result ℕ (Option ℕ))

@@ -1,11 +1,11 @@
 //! Answers that the input tells, for the calls of the requests that follow.
 
-use crate::rules::{entry, opening};
+use crate::directory::{ScriptDirectory, ScriptItem};
+use crate::seeded::rules::{entry, opening};
 use bitflags::Flags;
 use hex::FromHexError;
 use std::alloc::{AllocError, Global};
 use std::time::Duration;
-use vfs_bench::{ScriptDirectory, ScriptItem};
 use vfs_files::{CStr, CString, Context, Entry};
 use vfs_flags::{Errno, Fault, OpenOptions};
 use vfs_wire::Attr;
