@@ -1,3 +1,4 @@
 pub mod Requests
 pub mod Files
 pub mod History
+pub mod Trees

@@ -22,6 +22,7 @@ mod small_files;
 mod small_laws;
 mod trait_values;
 mod transfers;
+mod tree;
 mod tree_laws;
 mod views;
 mod wire;

@@ -1,5 +1,5 @@
 use Rattle.std.proofs.Common.{◌≡◌, ℕ, length, Option, Result, Ok, Err, arith, ap}
-use Rattle.test_tree_uses.proofs.parts.reads_of_pages.Goals as goal
+use Rattle.test_uses.proofs.tree.parts.reads_of_pages.Goals as goal
 
 abbrev count_of : Result ℕ (Option ℕ) → ℕ
 count_of (Ok n) = n

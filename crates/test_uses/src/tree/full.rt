@@ -2,9 +2,9 @@
 
 ghost use Rattle.std.specs.Prelude.{◌≡◌, false, codes, Ok, Err, Some};
 ghost use Rattle.fs_tree.specs.Tree.{first_state};
-ghost use Rattle.test_tree_uses.specs.Trees.{file_tree, narrow, pair, second_7, short, single};
+ghost use Rattle.test_uses.specs.Trees.{file_tree, narrow, pair, second_7, short, single};
 
-use crate::support::root;
+use crate::tree::support::root;
 use bitflags::Flags;
 use fs_tree::TreeFs;
 use std::time::Duration;

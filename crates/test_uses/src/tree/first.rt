@@ -6,9 +6,9 @@ ghost use Rattle.vfs_files.specs.Answers.{Count, value_or_count};
 ghost use Rattle.fs_nodes.specs.Listing.{dot_items};
 ghost use Rattle.fs_nodes.specs.Children.{is_directory};
 ghost use Rattle.fs_tree.specs.State.{node_at};
-ghost use Rattle.test_tree_uses.specs.Trees.{empty_directory, empty_file, small_tree, with_one};
+ghost use Rattle.test_uses.specs.Trees.{empty_directory, empty_file, small_tree, with_one};
 
-use crate::support::root;
+use crate::tree::support::root;
 use bitflags::Flags;
 use fs_tree::{Capacity, Time, TreeFs};
 use std::alloc::Global;

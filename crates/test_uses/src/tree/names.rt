@@ -3,9 +3,9 @@
 ghost use Rattle.std.specs.Prelude.{◌≡◌, ◌⊎◌, ◌-◌, ◌^◌, [], ◌∷◌, false, codes, length, Ok, Err, Some, IfOk, IfSome, MatchResult};
 ghost use Rattle.vfs_files.specs.Values.{name_text};
 ghost use Rattle.fs_tree.specs.Tree.{first_state};
-ghost use Rattle.test_tree_uses.specs.Trees.{empty_file, second_7, small_tree, to_directory, to_file, to_whiteout, tree_of, tree_of_two, whitened_tree, wide};
+ghost use Rattle.test_uses.specs.Trees.{empty_file, second_7, small_tree, to_directory, to_file, to_whiteout, tree_of, tree_of_two, whitened_tree, wide};
 
-use crate::support::root;
+use crate::tree::support::root;
 use fs_tree::TreeFs;
 use vfs_files::{CStr, Context, Entry, EntryList, Extensions, FileSystem};
 use vfs_flags::{Fault, GuestGid, GuestUid};

@@ -3,9 +3,9 @@
 ghost use Rattle.std.specs.Prelude.{◌≡◌, codes, None, Some, Err, IfOk, MatchResult};
 ghost use Rattle.std.specs.Duration.{as_nanos};
 ghost use Rattle.vfs_flags.specs.Flags.{open_options_bits};
-ghost use Rattle.test_tree_uses.specs.Trees.{file_of, file_tree, small_tree, tree_of, wide};
+ghost use Rattle.test_uses.specs.Trees.{file_of, file_tree, small_tree, tree_of, wide};
 
-use crate::support::root;
+use crate::tree::support::root;
 use fs_tree::TreeFs;
 use std::time::Duration;
 use vfs_files::{CStr, Entry, Extensions, FileSystem};

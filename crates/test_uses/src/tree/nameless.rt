@@ -2,9 +2,9 @@
 
 ghost use Rattle.std.specs.Prelude.{◌≡◌, true, false, Err, Some, IfOk, IfSome, MatchResult};
 ghost use Rattle.fs_tree.specs.Tree.{first_state};
-ghost use Rattle.test_tree_uses.specs.Trees.{empty_file, nameless_tree, of_client, pair, second_7, single, small_tree, tree_of, wide};
+ghost use Rattle.test_uses.specs.Trees.{empty_file, nameless_tree, of_client, pair, second_7, single, small_tree, tree_of, wide};
 
-use crate::support::root;
+use crate::tree::support::root;
 use fs_tree::TreeFs;
 use vfs_files::{CStr, Entry, Extensions, FileSystem};
 use vfs_flags::{Fault, OpenOptions};

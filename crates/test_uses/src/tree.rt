@@ -1,9 +1,5 @@
 //! Small callers of a tree in memory, as examples: each makes a few calls and says what comes of
 //! them, in numbers, by the relation of a tree alone.
-//!
-//! They are in a crate of their own, since nothing calls them: what they hold is the definitions
-//! that they rest on.
-#![tactic(auto)]
 
 mod accesses;
 mod attributes;

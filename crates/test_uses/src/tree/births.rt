@@ -4,9 +4,9 @@ ghost use Rattle.std.specs.Prelude.{◌≡◌, length, Ok, Err, IfOk};
 ghost use Rattle.vfs_wire.specs.Fields.{spelled};
 ghost use Rattle.fs_nodes.specs.Node.{attr_of};
 ghost use Rattle.fs_nodes.specs.Statx.{statx_fields};
-ghost use Rattle.test_tree_uses.specs.Trees.{empty_file, fifo_tree, later, second_7, small_tree, tree_of, wide};
+ghost use Rattle.test_uses.specs.Trees.{empty_file, fifo_tree, later, second_7, small_tree, tree_of, wide};
 
-use crate::support::root;
+use crate::tree::support::root;
 use fs_tree::TreeFs;
 use vfs_files::FileSystem;
 use vfs_flags::{Errno, Fault, SetattrValid};

@@ -2,9 +2,9 @@
 
 ghost use Rattle.std.specs.Prelude.{◌≡◌, ◌++◌, [], ◌∷◌, false, true, codes, Ok, MatchResult};
 ghost use Rattle.std.specs.Duration.{as_nanos};
-ghost use Rattle.test_tree_uses.specs.Trees.{capability, directory_tree, program, program_tree, tree_of, user_a, wide};
+ghost use Rattle.test_uses.specs.Trees.{capability, directory_tree, program, program_tree, tree_of, user_a, wide};
 
-use crate::support::root;
+use crate::tree::support::root;
 use bitflags::Flags;
 use fs_tree::TreeFs;
 use std::time::Duration;

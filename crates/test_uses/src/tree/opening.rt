@@ -3,9 +3,9 @@
 ghost use Rattle.std.specs.Prelude.{◌≡◌, codes, None, Some, Ok, Err, MatchResult};
 ghost use Rattle.vfs_flags.specs.Flags.{fs_options_bits, open_options_bits};
 ghost use Rattle.vfs_files.specs.Answers.{Options, init_answer};
-ghost use Rattle.test_tree_uses.specs.Trees.{file_tree, later, of_client, small_tree, tree_of, wide, empty_file, hollow_file, written_later};
+ghost use Rattle.test_uses.specs.Trees.{file_tree, later, of_client, small_tree, tree_of, wide, empty_file, hollow_file, written_later};
 
-use crate::support::root;
+use crate::tree::support::root;
 use fs_tree::TreeFs;
 use std::time::Duration;
 use vfs_files::{CStr, Entry, Extensions, FileSystem};

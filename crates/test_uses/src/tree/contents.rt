@@ -3,9 +3,9 @@
 ghost use Rattle.std.specs.Prelude.{◌≡◌, [], ◌∷◌, ◌++◌, codes, Ok, Err, Some, None, MatchResult, OnOk};
 ghost use Rattle.std.specs.Duration.{as_nanos};
 ghost use Rattle.vfs_flags.specs.Flags.{open_options_bits};
-ghost use Rattle.test_tree_uses.specs.Trees.{empty_file, file_tree, later, narrow, small_tree, tree_of, wide, written_later};
+ghost use Rattle.test_uses.specs.Trees.{empty_file, file_tree, later, narrow, small_tree, tree_of, wide, written_later};
 
-use crate::support::root;
+use crate::tree::support::root;
 use fs_tree::TreeFs;
 use std::time::Duration;
 use vfs_files::{CStr, Extensions, FileSystem, ZeroCopyReader, ZeroCopyWriter};

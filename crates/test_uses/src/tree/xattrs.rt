@@ -2,9 +2,9 @@
 
 ghost use Rattle.std.specs.Prelude.{◌≡◌, ◌++◌, ◌^◌, ◌-◌, [], ◌∷◌, codes, Ok, Err, Some, MatchResult, ⊤};
 ghost use Rattle.vfs_files.specs.Answers.{Text, Count, value_or_count, names_or_count};
-ghost use Rattle.test_tree_uses.specs.Trees.{attribute_tree, trusted_a, user_a, user_b, wide};
+ghost use Rattle.test_uses.specs.Trees.{attribute_tree, trusted_a, user_a, user_b, wide};
 
-use crate::support::root;
+use crate::tree::support::root;
 use bitflags::Flags;
 use fs_tree::TreeFs;
 use vfs_files::{CStr, Context, FileSystem, GetxattrReply, ListxattrReply};

@@ -2,9 +2,9 @@
 
 ghost use Rattle.std.specs.Prelude.{◌≡◌, [], ◌∷◌, codes, false, true, None, IfSome};
 ghost use Rattle.fs_tree.specs.State.{node_at};
-ghost use Rattle.test_tree_uses.specs.Trees.{file_tree, small_tree, wide};
+ghost use Rattle.test_uses.specs.Trees.{file_tree, small_tree, wide};
 
-use crate::support::root;
+use crate::tree::support::root;
 use fs_tree::TreeFs;
 use vfs_files::{CStr, Extensions, FileSystem};
 use vfs_flags::FsOptions;

@@ -1,9 +1,9 @@
 //! Times of access: which readings move them.
 
 ghost use Rattle.std.specs.Prelude.{◌≡◌, Ok, Some, MatchResult};
-ghost use Rattle.test_tree_uses.specs.Trees.{later, read_tree, small_tree};
+ghost use Rattle.test_uses.specs.Trees.{later, read_tree, small_tree};
 
-use crate::support::root;
+use crate::tree::support::root;
 use fs_tree::{Time, TreeFs};
 use vfs_files::{CStr, Extensions, FileSystem, ZeroCopyWriter};
 use vfs_flags::Fault;
