@@ -5,6 +5,8 @@
 #![tactic(auto)]
 
 #[cfg(test)]
+mod every_asked_item;
+#[cfg(test)]
 mod files;
 #[cfg(test)]
 mod flags;
@@ -16,6 +18,8 @@ mod long_requests;
 mod migration;
 #[cfg(test)]
 mod mock;
+#[cfg(test)]
+mod rows;
 #[cfg(test)]
 mod segments;
 #[cfg(test)]
