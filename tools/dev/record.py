@@ -44,7 +44,7 @@ def table_of(name):
 
 
 def derive(name, fields):
-    """The impl, the decoder, the table and the layout of a record of these fields."""
+    """The impl, the decoder and the table of a record of these fields."""
     table = table_of(name)
     widths = [WIDTHS[it][1] for _, it in fields]
     places = [sum(widths[:at]) for at in range(len(widths) + 1)]
@@ -52,9 +52,6 @@ def derive(name, fields):
     put = ", ".join(f"{WIDTHS[it][0]}(self.{field})" for field, it in fields)
     take = "".join(f"            {field}: {it}_at(b, {at}),\n" for (field, it), at in zip(fields, places))
     made = "".join(f"  {field} = slice_index xs {at};\n" for at, (field, _) in enumerate(fields))
-    # (of the bytes 1, 2, 3, .. in their order, little endian)
-    numbers = ["0x" + "".join(f"{it:02x}" for it in range(at + width, at, -1)) for at, width in zip(places, widths)]
-    lies = "".join(f"  {field} = {number};\n" for (field, _), number in zip(fields, numbers))
     return (f"""impl ByteValued for {name} {{
     const SIZE: usize = {size};
 
@@ -82,9 +79,7 @@ def derive(name, fields):
 made_{table} xs = record {{
 {made}}}""", f"""abbrev pub {table} : Table {name}
 {table} = table ({' ∷ '.join(map(str, widths))} ∷ [])
-    (λ r. {' ∷ '.join('r.' + field for field, _ in fields)} ∷ []) made_{table}""", f"""abbrev pub {name}Lies : Type 0
-{name}Lies = LiesAs {table} {size} (record {{
-{lies}}})""")
+    (λ r. {' ∷ '.join('r.' + field for field, _ in fields)} ∷ []) made_{table}""")
 
 
 def plain(text):
@@ -116,7 +111,7 @@ def tell(name, fields):
     path = next(it for it, text in SOURCES.items() if f"pub struct {name} {{" in text)
     crate, module = path.split("/")[1], os.path.basename(path).removesuffix(".rt")
     declared = f"declared.{name}" if module == "lib" else f"declared.{module}.{name}"
-    after, made, table, lies = derive(name, fields)
+    after, made, table = derive(name, fields)
     size = re.search(r"SIZE: usize = (\d+)", after)[1]
     specs = specs_of(crate, SOURCES[path])
     place = f"/{specs[0]}.antt" if len(specs) == 1 else ", in the file that has records like it"
@@ -138,12 +133,6 @@ use Rattle.{crate}.specs.{declared}.{{{name}}}
 
 -- {name}: {size} bytes
 {table}
-
--- the bytes 1, 2, 3, .. of it
-{lies}
-
--- the same file, in one of the records `..Lie`, of which src/layouts.rt has the laws:
-  pub {table_of(name)} : {name}Lies
 
 // then crates/vfs_print/src/opcodes.rt has what is printed of it: impl Fields for {name}""")
 
