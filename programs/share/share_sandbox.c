@@ -479,9 +479,6 @@ static const char *const calls[] = {
  * system is opened. */
 static const char *const handle_calls[] = { "name_to_handle_at", "open_by_handle_at" };
 
-/* And to use rings that are there. (By a ring that it made it would call what it likes.) */
-static const char *const ring_calls[] = { "io_uring_enter", "sched_setaffinity" };
-
 /* And by ioctl: a worker's descriptor of the device; whether what is written to is a terminal. (Others would let it
  * type at a terminal.) */
 static const uint32_t controls[] = { FUSE_DEV_IOC_CLONE, TCGETS };
@@ -564,16 +561,18 @@ static int let_limited(scmp_filter_ctx rules)
 	return error;
 }
 
-/* Of io_uring_register(2) it has one operation, by which a ring begins that was made disabled: others
- * could give it more. */
+/* Lets through those that use rings which are there. By a ring that it made itself a server would call what it likes;
+ * so io_uring_register(2) may only enable a ring that was made disabled. A thread moves itself alone to a processor. */
 static int let_rings(scmp_filter_ctx rules)
 {
-	const int error = let(rules, ring_calls, sizeof(ring_calls) / sizeof(*ring_calls));
+	const uint32_t itself = 0, enable = IORING_REGISTER_ENABLE_RINGS;
+	int error = seccomp_rule_add(rules, SCMP_ACT_ALLOW, SCMP_SYS(io_uring_enter), 0);
 
-	return error ? error :
-		       seccomp_rule_add(
-			       rules, SCMP_ACT_ALLOW, SCMP_SYS(io_uring_register), 1,
-			       SCMP_A1(SCMP_CMP_MASKED_EQ, UINT32_MAX, IORING_REGISTER_ENABLE_RINGS));
+	if (!error)
+		error = let_values(rules, SCMP_SYS(sched_setaffinity), 0, &itself, 1);
+	if (!error)
+		error = let_values(rules, SCMP_SYS(io_uring_register), 1, &enable, 1);
+	return error;
 }
 
 /* No rules: what isn't let through comes to what is said. NULL: it failed, and said why. */
