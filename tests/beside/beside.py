@@ -1,10 +1,10 @@
 #!/usr/bin/env python3
-"""Asks two daemons the same requests, sorts what comes, and holds a page against it.
+"""Asks two daemons the same requests, and sorts what comes.
 
-Usage: beside.py show|compare|write ASK OURS FOLDER VERSIONS THEIRS..
+Usage: beside.py show|compare ASK OURS FOLDER VERSIONS THEIRS..
 ASK and OURS are the built ask.c and programs/vhost/vhost.c. THEIRS are the words that start virtiofsd; in them
 SOCKET and SHARE stand for its socket and the folder to share, which are made in FOLDER. What came is shown,
-and then compared with the tables of docs/generated/beside-virtiofsd.md, or written there, with VERSIONS above it.
+with VERSIONS, and with `compare` the numbers of requests are compared with EXPECTED, which are of virtiofsd 1.13.2.
 
 It judges a request by what virtiofsd and the server here made of it:
   the same bytes
@@ -13,17 +13,13 @@ It judges a request by what virtiofsd and the server here made of it:
   virtiofsd's queue is served no more: by a refusal of its protocol layer, which is completed with no byte
     here; by another panic of that layer; or by one of its file system
 What is of no kind is printed whole. Status 1: something is of no kind, the server here did not go on, or
-the page says otherwise; 2: it could not start.
+the numbers are not those expected; 2: it could not start.
 """
 import collections
 import concurrent.futures
-import datetime
-import difflib
 import errno
 import os
-import pathlib
 import re
-import shutil
 import struct
 import subprocess
 import sys
@@ -31,8 +27,6 @@ import tempfile
 
 import requests
 
-PAGE = pathlib.Path(__file__).resolve().parents[2] / "docs/generated/beside-virtiofsd.md"
-MARKS = "<!-- the tables of a run: tests/beside/virtiofsd.sh --page -->\n", "<!-- the end of the tables -->\n"
 # How ask.c prints a reply of 16 bytes with ENOSYS (-38, 0xda) to the request whose unique is 7: that of LAST in requests.py.
 ENOSYS = "16 10000000daffffff0700000000000000"
 # What virtiofsd prints as a refusal ends it, of 1.13.2 and of 1.14.0; and the files of its protocol layer.
@@ -52,7 +46,16 @@ REFUSED, PANIC, OTHER_PANIC, LACKED, SAME, DIFFER = KINDS = (
     "a call that virtiofsd has not, and the tree has: ENOSYS there; completed with no byte here",
     "the same bytes from both",
     "served by both, whose file systems differ")
-ENDED = REFUSED, PANIC, OTHER_PANIC
+# How many requests come to what, by kind and part; and how many sessions virtiofsd answers to the end.
+EXPECTED = {
+    REFUSED: {"DecodeMessage": 34, "EncodeMessage": 14, "InvalidCString": 12, "MissingParameter": 8, "InvalidXattrSize": 2},
+    PANIC: {f"server.rs, line {line}; no byte here": 1 for line in (580, 1010, 1104, 1730)},
+    OTHER_PANIC: {"file_traits.rs, line 153; EFBIG here": 1, "passthrough/mod.rs, line 2358; success here": 1},
+    LACKED: {"": 3},
+    SAME: {"": 54},
+    DIFFER: {"the options that INIT agrees on": 23, "attributes": 12, "EBADF there, EISDIR here": 3,
+             "EBADF there, ENOENT here": 1, "success there, ENOSYS here": 1}}
+ANSWERED = 95
 # What the tree serves beyond virtiofsd: IOCTL, TMPFILE, STATX.
 OF_THE_TREE = 39, 51, 52
 
@@ -230,64 +233,8 @@ def count(parts):
     return sum(map(len, parts.values()))
 
 
-def some(names):
-    """At most three of the names: the first, one from the middle, the last."""
-    return "; ".join(dict.fromkeys((names[0], names[len(names) // 2], names[-1])))
-
-
-def tables(kinds, judged):
-    """The tables of the page."""
-    total = sum(map(count, kinds.values()))
-    here, there = (sum(it[at] for it in judged) for at in (1, 2))
-    yield f"| What came of {total} requests | How many |"
-    yield "|---|---|"
-    for kind in KINDS:
-        yield f"| {kind} | {count(kinds.get(kind, {}))} |"
-    yield ""
-    yield (f"A last request after each of the {len(judged)} sessions was answered in {here} by the server here, and in "
-           f"{there} by virtiofsd.")
-    for title, shown in (("Why virtiofsd's queue was served no more", ENDED),
-                         ("What differs by the file systems", (DIFFER,))):
-        yield ""
-        yield f"| {title} | How many | For example |"
-        yield "|---|---|---|"
-        for kind in shown:
-            for part, names in kinds.get(kind, {}).items():
-                yield f"| {part} | {len(names)} | {some(names)} |"
-
-
-def of_today():
-    """The day and the commit that a run is of."""
-    today = datetime.datetime.now(datetime.timezone.utc)
-    words = ["git", "-C", str(PAGE.parent), "describe", "--always", "--dirty", "--exclude", "*"]
-    commit = ""
-    # (a page can be printed where git is not installed)
-    if shutil.which("git"):
-        commit = subprocess.run(words, stdout=subprocess.PIPE, stderr=subprocess.DEVNULL, text=True, check=False).stdout.strip()
-    return f"Of {today.day} {today:%B %Y}, {f'commit {commit}' if commit else 'of no commit'}"
-
-
-def hold(made, versions, write):
-    """Writes the tables into the page, or says whether it has them. Above them the page says of when they are."""
-    text = PAGE.read_text(encoding="utf-8")
-    if any(text.count(mark) != 1 for mark in MARKS):
-        raise Stopped(f"{PAGE.name} lacks the two marks of the tables.")
-    start, end = text.index(MARKS[0]) + len(MARKS[0]), text.index(MARKS[1])
-    # (the first paragraph says when it was made)
-    stands = text[start:end].strip("\n").partition("\n\n")[2]
-    if write:
-        when = f"{of_today()}, with {versions}."
-        PAGE.write_text(f"{text[:start]}\n{when}\n\n{made}\n\n{text[end:]}", encoding="utf-8")
-    elif stands != made:
-        print(f"{PAGE.name} says otherwise:", file=sys.stderr)
-        print("\n".join(difflib.unified_diff(stands.splitlines(), made.splitlines(), "page", "run", "", "", 0, "")),
-              file=sys.stderr)
-        return False
-    return True
-
-
 def main(how, versions):
-    """Judges all sessions, shows what came by kind and part, and holds the page against it, or writes it."""
+    """Judges all sessions, and shows what came by kind and part."""
     judged = judge_all()
     kinds = by_parts(judged)
     for kind in filter(kinds.get, (*KINDS, None)):
@@ -299,19 +246,22 @@ def main(how, versions):
         for *_, came in found:
             if came:
                 print(f"\n{came}")
-    made = "\n".join(tables(kinds, judged))
-    print(f"\nWith {versions}.\n\n{made}")
+    answered = sum(there for _, _, there in judged)
+    print(f"\nWith {versions}: of {len(judged)} sessions virtiofsd answered {answered} to the end.")
     if None in kinds or not all(here for _, here, _ in judged):
         print("Something is of no kind, or the server here did not go on.", file=sys.stderr)
         sys.exit(1)
-    sys.exit(how != "show" and not hold(made, versions, how == "write"))
+    numbers = {kind: {part: len(names) for part, names in parts.items()} for kind, parts in kinds.items()}
+    if how == "compare" and (numbers != EXPECTED or answered != ANSWERED):
+        print(f"Expected were other numbers: {EXPECTED}, {ANSWERED} sessions.", file=sys.stderr)
+        sys.exit(1)
 
 
 if __name__ == "__main__":
     if sys.argv[1:2] in (["-h"], ["--help"]):
         print(__doc__.rstrip())
         sys.exit()
-    if len(sys.argv) < 7 or sys.argv[1] not in ("show", "compare", "write"):
+    if len(sys.argv) < 7 or sys.argv[1] not in ("show", "compare"):
         print(__doc__.rstrip(), file=sys.stderr)
         sys.exit(2)
     how_to_end, ask, ours, folder, both, *theirs = sys.argv[1:]

@@ -1,7 +1,7 @@
 #!/usr/bin/env python3
 """Asks several servers of FUSE the same sessions, and sorts what comes. tests/beside/run.sh builds them.
 
-Usage: others.py [--seed N --count M] [--page] PEERS FOLDER
+Usage: others.py [--seed N --count M] PEERS FOLDER
 A line of the file PEERS has, with tabs between: `pair` or `vhost`, a name, a version, what its documents say of
 whom it trusts, and the words that start it. Of a pair, DESCRIPTOR in them stands for a socket that keeps
 messages apart, which it serves in place of /dev/fuse; of a vhost, SOCKET and SHARE stand for its socket and
@@ -17,7 +17,7 @@ one more request after it, by which it is judged:
   panicked: the process said so, or was aborted
   read past: a sanitizer or a page that can't be read caught a look past the message
 With --count it makes M sessions more, the same for each N of --seed, and shrinks what breaks a server, one for
-each place in its source. With --page the tables are markdown, and that of where a server broke is short.
+each place in its source.
 Status 1: the server here did not go on, or read past a message, alone or in front of another; 2: it could not
 start.
 """
@@ -268,14 +268,6 @@ def shown(asked):
     return "; then ".join(made)
 
 
-def table(head, rows):
-    """The lines of a table in markdown."""
-    yield "| " + " | ".join(head) + " |"
-    yield "|" + "---|" * len(head)
-    for row in rows:
-        yield "| " + " | ".join(str(cell) for cell in row) + " |"
-
-
 def plain(head, rows):
     """The lines of a table in columns."""
     rows = [head, *([str(cell) for cell in row] for row in rows)]
@@ -288,13 +280,13 @@ def of_one(peer):
     return f"{peer.name} {peer.version}"
 
 
-def counts(peers, found, what, draw):
+def counts(peers, found, what):
     """How many sessions of each kind."""
     rows = []
     for peer in peers:
         number = collections.Counter(one.kind for one in found[peer])
         rows.append([of_one(peer), *(number[kind] for kind in KINDS)])
-    yield from draw([what, *KINDS], rows)
+    yield from plain([what, *KINDS], rows)
     for peer in peers:
         asked, handed = (sum(one.handed[at] for one in found[peer]) for at in (0, 1))
         if asked:
@@ -320,24 +312,7 @@ def failures(peers, found, names):
         yield from plain(["Server", "What came", "Where", "How many", "Of which requests"], rows)
 
 
-def failures_in_short(peers, found, names):
-    """The same in a row for each server and what came, with three requests."""
-    rows = []
-    for peer, kind, by_place in broken(peers, found, names):
-        lines = collections.defaultdict(set)
-        for place, _ in by_place:
-            line = re.match(r"(\S+):(\d+)", place)
-            lines[line[1] if line else place].add(int(line[2]) if line else 0)
-        where = "; ".join(f"{file}, line{'s' * (len(at) > 1)} {', '.join(map(str, sorted(at)))}" if max(at) else file
-                          for file, at in lines.items() if file)
-        which = [name for _, of_place in by_place for name in of_place]
-        # (three of the requests: the first, and two further on)
-        rows.append([of_one(peer), kind, len(which), where or "-", "; ".join(which[::max(1, len(which) // 3)][:3])])
-    if rows:
-        yield from table(["Server", "What came", "How many", "Where", "For example"], rows)
-
-
-def smallest(peers, found, sessions, draw):
+def smallest(peers, found, sessions):
     """Of each place in a server's source, the smallest request that was found."""
     rows = []
     for peer in peers:
@@ -348,31 +323,29 @@ def smallest(peers, found, sessions, draw):
                 print(f"{of_one(peer)}: shrinking what breaks it in {one.place or 'an unknown place'}", file=sys.stderr)
                 rows.append([of_one(peer), one.kind, one.place or "-", shown(shrink(peer, asked, one[:2]))])
     if rows:
-        yield from draw(["Server", "What came", "Where", "The smallest found"], rows)
+        yield from plain(["Server", "What came", "Where", "The smallest found"], rows)
 
 
 def show(lines):
     print("\n" + "\n".join(lines), flush=True)
 
 
-def main(peers, seed, count, page):
+def main(peers, seed, count):
     """Asks each server all sessions, and prints the tables. It ends with 1 if the server here broke."""
-    draw, fail = (table, failures_in_short) if page else (plain, failures)
     known = list(known_sessions())
     names = [name for name, _, _ in known]
-    print(f"{beside.of_today()}. {len(known)} sessions, each to a new process.")
-    show(draw(["Server", "Whom it trusts, by its documents"],
-              [[of_one(peer), peer.trusts] for peer in peers]))
+    print(f"{len(known)} sessions, each to a new process.")
+    show(plain(["Server", "Whom it trusts, by its documents"], [[of_one(peer), peer.trusts] for peer in peers]))
     found = {peer: judge_all(peer, known) for peer in peers}
-    show(counts(peers, found, f"What came of {len(known)} sessions", draw))
-    show(fail(peers, found, names))
+    show(counts(peers, found, f"What came of {len(known)} sessions"))
+    show(failures(peers, found, names))
     every = [one for peer in peers if is_ours(peer) for one in found[peer]]
     if count:
         made = [(f"{seed}/{number}", [FIRST, *generate.session(seed, number)], 1) for number in range(count)]
         found = {peer: judge_all(peer, made) for peer in peers}
         every += [one for peer in peers if is_ours(peer) for one in found[peer]]
-        show(counts(peers, found, f"What came of {count} generated sessions (--seed {seed})", draw))
-        show(smallest(peers, found, made, draw))
+        show(counts(peers, found, f"What came of {count} generated sessions (--seed {seed})"))
+        show(smallest(peers, found, made))
     bad = [one for one in every if one.kind in (SILENT, ERROR, PANIC, PAST)]
     if bad:
         print(f"The server here did not go on, or not in front of another: {len(bad)} times.", file=sys.stderr)
@@ -396,7 +369,6 @@ if __name__ == "__main__":
     words = argparse.ArgumentParser(usage=__doc__.split("Usage: ")[1].split("\n")[0], add_help=False)
     words.add_argument("--seed", type=int, default=1)
     words.add_argument("--count", type=int, default=0)
-    words.add_argument("--page", action="store_true")
     words.add_argument("peers")
     words.add_argument("folder")
     if sys.argv[1:2] in (["-h"], ["--help"]):
@@ -405,7 +377,7 @@ if __name__ == "__main__":
     given = words.parse_args()
     folder = given.folder
     try:
-        main(list(read_peers(given.peers)), given.seed, given.count, given.page)
+        main(list(read_peers(given.peers)), given.seed, given.count)
     except (OSError, ValueError, beside.Stopped) as why:
         print(f"others.py: {why}", file=sys.stderr)
         sys.exit(2)

@@ -3,7 +3,7 @@
 # to the one here, and sorts what comes: it went on, it ended, it panicked, it read past the message, or it
 # left a request without the reply that is due.
 #
-# Usage: tests/beside/run.sh [--seed N] [--count M] [--only NAME] [--suite SUITE] [--page]
+# Usage: tests/beside/run.sh [--seed N] [--count M] [--only NAME] [--suite SUITE]
 # The others are the newest libfuse, fuser, go-fuse and virtiofsd of Debian's suite SUITE, which is sid if none
 # is given, and virtiofsd 1.13.2 of trixie. apt-get downloads them, and the compilers of Rust and Go, by lists of
 # its own into the folder `beside` of `out`, where they are unpacked and never installed; compilers go once they
@@ -17,8 +17,7 @@
 #
 # The sessions are those of tests/beside/requests.py. With --count it makes M sessions more, which are
 # the same for each N of --seed, and shrinks what breaks a server to its smallest request. With --only it asks
-# the servers alone whose name has that text. With --page it prints the tables in markdown, for
-# docs/generated/beside.md.
+# the servers alone whose name has that text.
 #
 # It wants root, apt-get, a C compiler with the address sanitizer, Python 3 and the Rattle toolchain. It takes a
 # minute, and ten more the first time. It links the proved library if that is built and no source is newer;
@@ -32,14 +31,13 @@ set -euo pipefail
 
 # Tells how it is used, and stops.
 usage() {
-    echo "Usage: tests/beside/run.sh [--seed N] [--count M] [--only NAME] [--suite SUITE] [--page]" >&2
+    echo "Usage: tests/beside/run.sh [--seed N] [--count M] [--only NAME] [--suite SUITE]" >&2
     exit 2
 }
 
 suite=sid only='' ask=()
 while [ $# != 0 ]; do
     case $1 in
-        --page) ask+=(--page) && shift ;;
         --seed | --count)
             if ! [[ ${2:-} =~ ^[0-9]{1,9}$ ]]; then usage; fi
             ask+=("$1" "$2") && shift 2

@@ -1,32 +1,29 @@
 #!/usr/bin/env bash
 # Asks virtiofsd 1.13.2 and the server here the same hostile requests over vhost-user, and sorts what comes.
 #
-# Usage: tests/beside/virtiofsd.sh [--page | --suite SUITE]
+# Usage: tests/beside/virtiofsd.sh [--suite SUITE]
 # virtiofsd and its libraries are packages of Debian 13, which apt-get downloads by lists of its own and
 # which are unpacked into the folder `beside` of `out`, and never installed. It shares an empty folder; the
 # server here has its files in memory. Each session goes to a new process of both, and one more request
 # after it, which shows whether the queue is still served. It prints the judged requests by the kind of
-# what came, and the tables of docs/generated/beside-virtiofsd.md, and compares that page with them; with
-# --page it writes them there. With --suite it asks the virtiofsd of another suite of Debian, as sid, whatever its
-# version is, and leaves the page alone.
+# what came, and compares their numbers with those that tests/beside/beside.py expects. With --suite it asks the virtiofsd
+# of another suite of Debian, as sid, whatever its version is, and compares no numbers.
 #
 # It wants root, apt-get, a C compiler, Python 3 and the Rattle toolchain, and takes a minute. It links the
 # proved library if that is built and no source is newer; otherwise tools/lib/unproved.sh builds it without a
 # proof, which takes a minute more. The transport is programs/vhost/vhost.c.
-# Status 0: each request is of a kind, the server here went on each time, and the page, unless --suite is
-# given, says what came; 1: not so; 2: it could not start.
+# Status 0: each request is of a kind, the server here went on each time, and the numbers, unless --suite is
+# given, are those expected; 1: not so; 2: it could not start.
 set -euo pipefail
 . "$(dirname "$0")/../../tools/lib/usage.sh"
 . "$(dirname "$0")/../../tools/lib/transport.sh"
 . "$(dirname "$0")/../../tools/lib/debian.sh"
 
 how=compare suite=trixie
-if [ $# = 1 ] && [ "$1" = --page ]; then
-    how="write"
-elif [ $# = 2 ] && [ "$1" = --suite ] && [[ $2 =~ ^[a-z]+$ ]]; then
+if [ $# = 2 ] && [ "$1" = --suite ] && [[ $2 =~ ^[a-z]+$ ]]; then
     how=show suite=$2
 elif [ $# != 0 ]; then
-    echo "Usage: tests/beside/virtiofsd.sh [--page | --suite SUITE]" >&2
+    echo "Usage: tests/beside/virtiofsd.sh [--suite SUITE]" >&2
     exit 2
 fi
 for command in apt-get dpkg-deb; do

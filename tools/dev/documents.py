@@ -1,7 +1,8 @@
 """Holds the Markdown pages against the sources, for documents.sh, which says how: the toolchain is that of $kit."""
 import glob, os, re, subprocess, sys
 
-sys.path.append("tools/measure")
+sys.path += ["tools/measure", "tools/lib"]
+from opcodes import Op
 from statement import WORD, Specs, is_held, start_of
 
 KIT = os.environ["kit"]
@@ -235,6 +236,9 @@ def check_block(fault, language, comment, block):
     elif path:
         for line in set(block.splitlines()) - set(read(path).splitlines()):
             fault(f"{path} has no line {line}")
+    elif language == "mermaid":
+        for name in set(re.findall(r"\b(?:vfs|fs|laws|door|nizwarf)_\w+", block)) - CRATE_NAMES:
+            fault(f"there is no crate {name}")
     elif language:
         fault("no comment <!-- FILE --> above this block says where it stands")
 
@@ -356,14 +360,6 @@ for page in ("README.md", "docs/PROMISE.md"):
     said = [it.replace(",", "") for it in re.search(COUNT, read(page)).groups() if it]
     if said != re.findall(r"\d+(?= (?:definitions|lines|files|types))", counted)[:len(said)]:
         faults.append(f"{page}: tools/measure/statement.sh counts otherwise: {counted}")
-# The rows of README.md on hostile requests are those of the page that the tests print, whose versions have the package's
-# revision too.
-OF_SERVER = re.compile(r"^\| (\S.*?)(?:-[\w.+]+)?((?: \| \d+){6}) \|$", re.M)
-came = dict(OF_SERVER.findall(read("docs/generated/beside.md")))
-shown = dict(OF_SERVER.findall(read("README.md")))
-faults += [f"README.md: {name} has other counts than in docs/generated/beside.md" for name in shown if shown[name] != came.get(name)]
-if not shown:
-    faults.append("README.md: it has no table of hostile requests")
 # Each crate has a place and a README.
 families = re.findall(r"^\| ([a-z][^|]*) \| ([^|]*) \|$",
                       read("docs/ARCHITECTURE.md").split("| Family |")[1].split("\n\n")[0], re.M)
@@ -409,9 +405,10 @@ for path in filter(os.path.exists, VERSIONS):
     version = version or said
     if said != version and f"{said}.0" != version:
         faults.append(f"{path}: the version is {said or 'not there'}, and that of CHANGELOG.md {version}")
-# (these print a line for each page or picture that is old)
-for maker in ("tools/dev/pictures.sh", "tools/dev/begin.py"):
-    faults += subprocess.run([maker, "--check"], stdout=subprocess.PIPE, stderr=subprocess.STDOUT, text=True).stdout.splitlines()
+# The table of opcodes has each of them, by its name in Linux.
+listed = re.findall(r"^\| ([\d, ]+) ([A-Z][A-Z_0-9, ]+) \|", read("docs/PROTOCOL.md").partition("### ")[0], re.M)
+rows = {name: int(number) for numbers, them in listed for number, name in zip(numbers.split(", "), them.split(", "))}
+faults += [f"docs/PROTOCOL.md: the table of opcodes differs in {name}" for name, _ in rows.items() ^ Op.__members__.items()]
 
 print("\n".join([*faults, f"{len(DOCUMENTS) + len(LINKED)} documents, {len(faults)} faults"]))
 sys.exit(1 if faults else 0)

@@ -24,14 +24,13 @@
 #   counts              of opcodes, calls of a file system, records, stored requests and hostile forms are those
 #                       of the sources; others that several pages say are the same on each
 #   what is trusted     README.md names each crate of the kit that crates.txt does
-#   hostile requests    README.md's counts are those of docs/generated/beside.md
 #   the promise         in the table of PROMISE.md, the words are those of the promise above it
 #   the toolchain       README.md's has the logic of `rt version`, whose kits have several letters for one
 #                       logic; figures keep the one that they were made with
 #   the manual          names no field that the headers lack
 #   the version         is one in CHANGELOG.md, the header, the library, its newest symbols, and the crate
-#   pictures            are those that tools/dev/pictures.sh draws
-#   what to begin with  docs/BEGIN.md and docs/generated/protocol.md are as tools/dev/begin.py makes them
+#   opcodes             PROTOCOL.md's table has each, by its name in Linux
+#   diagrams            name crates that are there
 set -eu
 . "$(dirname "$0")/../lib/usage.sh"
 take_none "$@"
