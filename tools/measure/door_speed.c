@@ -1,20 +1,16 @@
-/* Asks and answers one request again and again, for tools/measure/door-speed.sh.
+/* Decodes one request and encodes its reply again and again, for tools/measure/door-speed.sh.
  *
- * Usage: door_speed CLASS TIMES [ask | table]
+ * Usage: door_speed CLASS TIMES [ask]
  *
- * With `ask` it is only asked; with `table` it is served by a table of functions, that of door_speed_table.c. Standard
- * output gets the nanoseconds of one: the least of 500 runs of TIMES
- * each, or of one run where TIMES is at most 1000. Without a CLASS the classes are listed. Status 2: the
- * words can't be. */
-#define _POSIX_C_SOURCE 199309L
+ * With `ask` each request is only decoded. Without a CLASS the classes are listed. Exit status 2: the arguments are
+ * invalid. */
 #include <linux/fuse.h>
 #include <stdio.h>
 #include <stdlib.h>
 #include <string.h>
-#include <time.h>
-#include "door_speed.h"
+#include "nizwarf.h"
 
-enum { MEBIBYTE = 1 << 20, RUNS = 500 };
+enum { MEBIBYTE = 1 << 20, ITEMS = 100 };
 
 static const char *const classes[] = { "none",	  "getattr",  "lookup",	 "read-4k",    "write-4k",
 				       "read-1m", "write-1m", "readdir", "readdirplus" };
@@ -40,7 +36,7 @@ static void begin(uint32_t opcode)
 /* The request of a class and its answer. Gives the room of its reply. */
 static size_t make(const char *class, nizwarf_answer *answer)
 {
-	static const char name[] = ITEM_NAME;
+	static const char name[] = "file-0123456789-0000";
 	const size_t bytes = strstr(class, "1m") ? MEBIBYTE : 4096;
 	struct fuse_getattr_in getattr = { .getattr_flags = 0 };
 	struct fuse_read_in read = { .size = (uint32_t)bytes };
@@ -92,15 +88,6 @@ static size_t make(const char *class, nizwarf_answer *answer)
 	return 16 + read.size;
 }
 
-/* By the clock. */
-static double nanoseconds(void)
-{
-	struct timespec now;
-
-	clock_gettime(CLOCK_MONOTONIC, &now);
-	return 1e9 * (double)now.tv_sec + (double)now.tv_nsec;
-}
-
 int main(int argc, char **argv)
 {
 	static const nizwarf_session session = { 0, 4096, MEBIBYTE };
@@ -110,17 +97,14 @@ int main(int argc, char **argv)
 	nizwarf_told told;
 	nizwarf_segment segment;
 	nizwarf_room space;
-	double least = 0; /* nanoseconds of a run */
 	long times, i;
 	uint32_t len;
-	int run, serves;
 	size_t at;
 
 	for (at = 0; argc > 2 && at < sizeof(classes) / sizeof(*classes); at++)
 		if (!strcmp(argv[1], classes[at]))
 			break;
 	times = argc > 2 ? strtol(argv[2], NULL, 10) : 0;
-	serves = argc > 3 && !strcmp(argv[3], "table");
 	if (argc < 3 || at == sizeof(classes) / sizeof(*classes) || times < 1) {
 		for (at = 0; at < sizeof(classes) / sizeof(*classes); at++)
 			puts(classes[at]);
@@ -130,21 +114,12 @@ int main(int argc, char **argv)
 	len = (uint32_t)request_len;
 	memcpy(request, &len, sizeof(len)); /* the header's length */
 	segment = (nizwarf_segment){ request, request_len };
-	for (run = 0; run < (times > 1000 ? RUNS : 1); run++) {
-		const double start = nanoseconds();
-
-		for (i = 0; serves && i < times; i++)
-			serve_by_table(&slot, &answer, request, request_len, room, space.len);
-		for (i = 0; !serves && i < times; i++) {
-			if (nizwarf_ask(&slot, &session, &segment, 1, &space, 1, &call, &told) == NIZWARF_OK)
-				continue;
-			/* (each answer must be taken: else the time would be of a refusal) */
-			if (argc == 3 && nizwarf_reply(&slot, &session, &call, &answer, &space, 1, &told))
-				abort();
-		}
-		if (!run || nanoseconds() - start < least)
-			least = nanoseconds() - start;
+	for (i = 0; i < times; i++) {
+		if (nizwarf_ask(&slot, &session, &segment, 1, &space, 1, &call, &told) == NIZWARF_OK)
+			continue;
+		/* (a refused answer must not be measured as one that is encoded) */
+		if (argc == 3 && nizwarf_reply(&slot, &session, &call, &answer, &space, 1, &told))
+			abort();
 	}
-	printf("%.0f\n", least / (double)times);
 	return nizwarf_end_slot(&slot);
 }

@@ -2,18 +2,16 @@
 # Measures how nizwarf-share grows with what it serves, beside Debian's virtiofsd and libfuse's passthrough_ll: the
 # memory of a file from 1,000 to 3,000,000, the time of a LOOKUP among them, of a FORGET of all, of DESTROY and INIT; of
 # a name of a folder of 10 to 1,000,000; requests a second over 1 to 8 queues, by 1 to 64 in flight, and of eight machines
-# at once; how long its locks are waited for; and where the processor's time of a request goes. It prints a page; how far it
-# is goes to standard error.
+# at once. It prints tables in Markdown; the progress goes to standard error.
 #
-# Usage: tools/measure/growth.sh [--unproved] [--page] [MOST]
-# With --page it writes docs/generated/growth.md once all is measured, and has tools/dev/pictures.sh draw it. MOST is the
-# most files, 3000000 if none is given, which take 5 GB of memory in a tmpfs of its own, and some five minutes.
-# Nothing is mounted by FUSE: tests/beside/pace.c asks the daemons by itself.
+# Usage: tools/measure/growth.sh [--unproved] [MOST]
+# MOST is the greatest number of files, 3000000 if none is given, which take 5 GB of memory in a tmpfs of its own, and some
+# five minutes. Nothing is mounted by FUSE, because tests/beside/pace.c takes the place of a guest.
 #
-# It wants root, python3, a C compiler and the Rattle toolchain. It gets passthrough_ll, from libfuse's sources, and virtiofsd
-# from Debian's packages, by apt-get, into ignored folders; nothing is installed. It requires the proved libraries;
+# It requires root, python3, a C compiler and the Rattle toolchain. It gets passthrough_ll, from libfuse's sources, and
+# virtiofsd from Debian's packages, by apt-get, into ignored folders; nothing is installed. It requires the proved libraries;
 # with --unproved it measures libraries without a proof where these are not built, which are up to five times slower.
-# Status 0: it was measured; 1: not so; 2: it could not start.
+# Exit status 0: it was measured; 1: it failed; 2: it could not start.
 set -euo pipefail
 . "$(dirname "$0")/../lib/usage.sh"
 . "$(dirname "$0")/../lib/transport.sh"
@@ -21,19 +19,14 @@ set -euo pipefail
 . "$(dirname "$0")/../lib/front.sh"
 . "$(dirname "$0")/../lib/mounts.sh"
 
-given=("$@")
-page='' unproved=''
+given=("$@") unproved=''
 if [ "${1:-}" = --unproved ]; then
     unproved=yes
     shift
 fi
-if [ "${1:-}" = --page ]; then
-    page=yes
-    shift
-fi
 most=${1:-3000000}
 if [ $# -gt 1 ] || ! [[ $most =~ ^[1-9][0-9]{3,6}$ ]] || [ "$most" -gt 3000000 ]; then
-    echo "Usage: tools/measure/growth.sh [--unproved] [--page] [MOST], of 1000 to 3000000 files" >&2
+    echo "Usage: tools/measure/growth.sh [--unproved] [MOST], of 1000 to 3000000 files" >&2
     exit 2
 fi
 need_proved "$unproved" nizwarf_door nizwarf_border
@@ -44,31 +37,14 @@ done
 own_mounts "${given[@]}"
 get_passthrough
 find_virtiofsd trixie "$here/out/beside/trixie"
-# The share twice: with each lock counted by locks.c, which is included before all else, and as it is.
-build_transport share nizwarf_door "$here/tools/measure/locks.c" -I "$here/tools/measure" -include locks.h
-counting=$transport
 build_transport share nizwarf_door
-find_border
 folder=$here/out/c
 build_front pace
-sources=("$here"/programs/transport/{vhost_user,vhost_queue,vhost_state,later}.c)
-cc -std=c11 -O2 -Wall -Wextra -Werror -pthread -I "$here/include" -I "$here/programs/transport" \
-    -o "$folder/floor_vhost" "$here/tools/measure/floor_vhost.c" "${sources[@]}" "$border" "${library[@]}"
 # shellcheck disable=SC2119
 own_work
 # (no limit of inodes: each file is one)
 mount -t tmpfs -o nr_inodes=0,size=90% growth "$work"
-facts="Begun on $(LC_ALL=C date '+%-d %B %Y'), commit $(git -C "$here" describe --always --dirty --exclude '*'), $(library_kind nizwarf_door nizwarf_border); \
-Linux $(uname -r), $(nproc) processors, load $(cut -d ' ' -f 1-3 /proc/loadavg); $version, libfuse $(head -n 1 "$beside/versions")."
-measure() {
-    python3 -B "$here/tools/measure/growth.py" "$folder/pace" "$folder/floor_vhost" "$work" "$most" "$facts" "$transport" \
-        "$counting" "$beside/passthrough_ll" "${virtiofsd[@]}"
-}
-if [ -z "$page" ]; then
-    measure
-else
-    # (first aside: a run that fails leaves the old page)
-    measure > "$work/page.md"
-    cp "$work/page.md" "$here/docs/generated/growth.md"
-    "$here/tools/dev/pictures.sh"
-fi
+echo "Measured on $(LC_ALL=C date '+%-d %B %Y') at commit $(git -C "$here" describe --always --dirty --exclude '*'), \
+$(library_kind nizwarf_door nizwarf_border); Linux $(uname -r), $(nproc) processors, load $(cut -d ' ' -f 1-3 /proc/loadavg); \
+$version, libfuse $(head -n 1 "$beside/versions")."
+python3 -B "$here/tools/measure/growth.py" "$folder/pace" "$work" "$most" "$transport" "$beside/passthrough_ll" "${virtiofsd[@]}"

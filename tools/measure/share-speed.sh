@@ -198,7 +198,6 @@ list_calls() {
 list_tree() {
     line "the tree" tree "$tree" '{mount}'
     line tmpfs tmpfs
-    line "the transport alone" floor "$floor" '{mount}'
     list_libfuse "$libfuse" "$examples"
     list_bindfs
 }
@@ -241,9 +240,6 @@ for table in "${tables[@]}"; do
             build_libfuse
             get_passthrough
             unset LD_LIBRARY_PATH
-            # (floor.c is between the transport and the library)
-            build_transport mount nizwarf_tree "$here/tools/measure/floor.c" -Wl,--wrap=nizwarf_message_at -Wl,--wrap=nizwarf_take_at
-            floor=$transport
             build_transport mount
             tree=$transport
             printf 'The tree, %s; fuse.enable_uring is %s.\n\n' "$(library_kind nizwarf_tree)" "$uring"

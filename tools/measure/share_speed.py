@@ -39,8 +39,8 @@ DATA = ("read-4k", "write-4k", "read-1m", "write-1m", "overwrite-1m")
 # The classes that are run where none is named: the others take long, or are of a tree.
 USUAL = [it for it in CLASSES if it not in ("overwrite-1m", "names-100k")]
 # What a server of a kind can do. `folder` shares a folder. `data` does too, and is only of interest for data. `tree` has
-# its files itself, `tmpfs` is the kernel's, and `floor` is a tree's transport alone, tools/measure/floor.c.
-KINDS = {"folder": CLASSES, "data": DATA, "tree": CLASSES, "tmpfs": CLASSES, "floor": ("getattr",)}
+# its files itself, and `tmpfs` is the kernel's.
+KINDS = {"folder": CLASSES, "data": DATA, "tree": CLASSES, "tmpfs": CLASSES}
 # Of mount(2).
 MS_REMOUNT = 32
 # Seconds that nothing here takes: a server that hangs ends the measurement.
@@ -84,10 +84,6 @@ class Server:
         self.begin()
         self.fill(self.mount, what)
         self.forget()
-        if self.kind == "floor":
-            # (it repeats replies, so that everything must have been asked once before)
-            self.run(what, "0", stdout=subprocess.DEVNULL)
-            self.forget()
 
     def run(self, what, server, **more):
         """Runs a class over the mount."""

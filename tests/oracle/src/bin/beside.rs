@@ -1,5 +1,5 @@
 //! Measures what a request costs, by classes, in nanoseconds of processor time and in allocations, by
-//! virtiofsd's own code and by the library of `test_speed` in one process: `tools/measure/speed.sh --beside`.
+//! virtiofsd's own code and by the library of `test_speed` in one process: `tools/measure/speed.sh`.
 //!
 //! A row is a class under one cutting; `segments` are the pieces of its first request and room. For each
 //! side: the least of the runs for a request, how far the middle and the greatest run lie above it, and
