@@ -7,7 +7,7 @@
 #
 #   documents  the pages against the sources
 #   edits      that each edit of tests/edits can still be tried
-#   numbers    opcodes, calls, kinds, bits, codes and fields, wherever they are, against their one table
+#   numbers    the numbers and structs of the bindings, by the header for C
 #   shell      scripts, by shellcheck
 #   rattle     the format of Rattle's files, by `rt fmt` on a copy
 #   rust       the format of Rust's, by rustfmt
@@ -30,7 +30,7 @@ cd "$here"
 parts=(documents edits numbers shell rattle rust python c format door crate)
 # What a part runs, by its package. The toolchain is none of Debian's.
 declare -A wanted=(
-    [documents]="rt python3" [edits]="bash" [numbers]="python3" [shell]="shellcheck" [rattle]="rt"
+    [documents]="rt python3" [edits]="bash" [numbers]="python3 cc" [shell]="shellcheck" [rattle]="rt"
     [rust]="rustfmt" [python]="pyflakes3"
     [c]="cc make python3" [format]="clang-format" [door]="rt cc pytest-3" [crate]="cargo rt cc"
 )
