@@ -10,7 +10,7 @@ use bitflags::Flags;
 use std::alloc::Global;
 use vfs_files::{
     CStr, Context, DirEntry, Entry, EntryList, Extensions, FileSystem, GetxattrReply,
-    ListxattrReply, Number, PartialFileSystem, SerializableFileSystem, ZeroCopyReader,
+    ListxattrReply, Number, PartialFileSystem, ReadValue, SerializableFileSystem, ZeroCopyReader,
     ZeroCopyWriter, defaults, lengthen,
 };
 use vfs_flags::{Fault, FsOptions};
@@ -110,7 +110,16 @@ fn part_that_is_read<F: PartialFileSystem, W: ZeroCopyWriter>(
 ) -> Result<usize, Fault>
     ensures { IfOk result (λ count. count ≤ 4096) }
 {
-    fs.read_data(ctx, 1, 0, w, 4096, 0, None, 0)
+    let asked = ReadValue {
+        ctx,
+        inode: 1,
+        handle: 0,
+        size: 4096,
+        offset: 0,
+        lock_owner: None,
+        flags: 0,
+    };
+    fs.read_data(asked, w)
 }
 
 /// A state is made ready to be saved as the file system allows it.
