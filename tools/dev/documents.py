@@ -282,13 +282,15 @@ check_order(lambda text: faults.append(f"docs/PROMISE.md: {text}"), "\n".join(re
                                             check=True).stdout.splitlines()
 COUNTS = re.compile(r"(\d+) definitions,? (?:of )?([\d,]+) lines")
 # What is told by how much more it is than the session, or than these other definitions too, and begins with these.
-DOOR = ["nizwarf_door/Turns.IsAskedOrNot", "nizwarf_door/Turns.IsAnsweredOrNot", "nizwarf_door/Kept.HoldsAnswer",
-        "nizwarf_door/Kept.HoldsFor"]
+DOOR = ["nizwarf_door/Turns.IsAskedOrNot", "nizwarf_door/Turns.IsAnsweredOrNot", "nizwarf_door/Kept.KeepsAnswers",
+        "nizwarf_door/Kept.StaysFor", "nizwarf_door/Kept.HoldsIfTold", "nizwarf_door/Kept.HoldsForOthers"]
 BESIDE = [("the clause `memory`", [], ["vfs_server/Sparing.IsSparing"]),
           ("one message", [], ["vfs_server/Step.IsStep", "vfs_server/Step.ReadsDirectories"]),
           ("the door", [], DOOR),
           ("its clauses", DOOR, ["nizwarf_door/Session.limits_of", "nizwarf_door/Session.options_of",
-                                 "nizwarf_door/Shown.shown_in", "vfs_grammar/Limits.AreLimits"]),
+                                 "nizwarf_door/Shown.shown_in", "vfs_grammar/Limits.AreLimits",
+                                 "nizwarf_door/Clauses.AnswersNoServer", "nizwarf_door/Clauses.AsksNoServer",
+                                 "nizwarf_door/Clauses.ChecksNoServer", "nizwarf_door/Clauses.AnswersTurn"]),
           ("flights", DOOR, ["laws_flight/Flight.turns_answered", "laws_flight/Flight.AreInFlight",
                              "laws_flight/Flight.AreAskedInTime", "vfs_grammar/Turn.AreTurns",
                              "laws_flight/Made.NoCountIsBelow", "laws_flight/Running.FlightsRun",

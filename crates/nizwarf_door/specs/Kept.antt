@@ -1,6 +1,6 @@
 -- Which memory a slot has: for the answer to a call that is told, `HoldsAnswer`, and for what comes of a request,
 -- `HoldsFor`.
-use Rattle.std.specs.Prelude.{◌≡◌, ◌==◌, ◌⊎◌, if◌then◌else◌, ⊤, ℕ, ℤ, min, Option, Some}
+use Rattle.std.specs.Prelude.{◌≡◌, ◌≤◌, ◌==◌, ◌⊎◌, if◌then◌else◌, ⊤, ℕ, ℤ, min, Option, Some, IsSome}
 use Rattle.vfs_files.specs.Calls.{Kind, Data, kind_of}
 use Rattle.vfs_grammar.specs.Forms.{Ask, Ends, Asks, Lists, WithMemory}
 use Rattle.door_calls.specs.Shapes.{nothing}
@@ -45,7 +45,36 @@ pub record HoldsFor (room : ℕ) (asks : Ask) (slot : Option Memory) : Type 0 wh
   pub is : slot ≡ Some memory
   pub answer : HasFor room asks memory.answers
 
+-- A slot that has memory for an answer has it afterwards,
+abbrev pub KeepsAnswers : (slot slot_after : Option Memory) → Type 0
+KeepsAnswers slot slot_after = (count : ℕ) → Holds count slot → Holds count slot_after
+
+-- and so memory for what comes of a request.
+abbrev pub StaysFor : (slot slot_after : Option Memory) → Type 0
+StaysFor slot slot_after = (less : ℕ) (asks : Ask) → HoldsFor less asks slot → HoldsFor less asks slot_after
+
+-- Where a call is told, the slot has memory for any answer to it,
+abbrev pub HoldsIfTold : (code : ℤ) → CallData → (slot_after : Option Memory) → Type 0
+HoldsIfTold code call slot_after = code ≡ is_asked → HoldsAnswer call slot_after
+
+-- and so for what comes of any request with no more room.
+abbrev pub HoldsForOthers : (code : ℤ) → CallData → (slot_after : Option Memory) → Type 0
+HoldsForOthers code call slot_after =
+    code ≡ is_asked → (less : ℕ) → less ≤ put_of call call.room → (asks : Ask) → HoldsFor less asks slot_after
+
 -- ---- no more is of the promise: the rest is for contracts of parts
+
+-- a slot that has memory has some afterwards
+abbrev pub StaysThere : (slot slot_after : Option Memory) → Type 0
+StaysThere slot slot_after = IsSome slot → IsSome slot_after
+
+-- memory that has room for an answer has it afterwards
+abbrev pub KeepsRooms : (part part_after : Part) → Type 0
+KeepsRooms part part_after = (count : ℕ) → HasRoomFor count part → HasRoomFor count part_after
+
+-- where a call is told, this memory has room for any answer to it
+abbrev pub HasIfTold : (code : ℤ) → CallData → (part_after : Part) → Type 0
+HasIfTold code call part_after = code ≡ is_asked → HasRoomFor (put_of call call.room) part_after
 
 -- A call is told, and then this holds; or for want of memory none is.
 abbrev pub TellsOrNot : (code : ℤ) → (call call_after : CallData) → (kept : Type 0) → Type 0

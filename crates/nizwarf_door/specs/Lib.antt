@@ -10,3 +10,4 @@ pub mod Checking
 pub mod Further
 pub mod UsesRest
 pub mod Turns
+pub mod Clauses

@@ -1,10 +1,10 @@
 //! Answering a call.
 
-ghost use Rattle.std.specs.Prelude.{◌≡◌, ◌≢◌, ℕ};
+ghost use Rattle.std.specs.Prelude.{◌≡◌, ◌≢◌};
 ghost use Rattle.vfs_grammar.specs.Limits.{AreLimits};
 ghost use Rattle.c_rooms.specs.Codes.{no_memory};
 ghost use Rattle.nizwarf_door.specs.Answering.{AnswersOrNot, entry_of};
-ghost use Rattle.nizwarf_door.specs.Kept.{put_of};
+ghost use Rattle.nizwarf_door.specs.Kept.{KeepsRooms, put_of};
 ghost use Rattle.nizwarf_door.specs.Rooms.{HasRoomFor};
 ghost use Rattle.nizwarf_door.specs.Shown.{bytes_shown};
 
@@ -57,7 +57,7 @@ pub fn answer_call(
     ensures answered { AnswersOrNot limits call.now answer.now text.now items.now
         result told.old told.new (bytes_shown memory.new) }
     ensures memory { HasRoomFor (put_of call.now call.now.room) memory.old.answers → result ≢ no_memory }
-    ensures keeps { (n : ℕ) → HasRoomFor n memory.old.answers → HasRoomFor n memory.new.answers }
+    ensures keeps { KeepsRooms memory.old.answers memory.new.answers }
 {
     let room = put_of(call, call.room as usize);
     if !memory.begin_answer(alloc, room) {

@@ -1,6 +1,6 @@
 //! Asking a request for its call.
 
-ghost use Rattle.std.specs.Prelude.{◌≡◌, ◌≢◌, ◌≤◌, ◌++◌, ◌∷◌, [], ℕ, false, length, min, true, MatchOption};
+ghost use Rattle.std.specs.Prelude.{◌≡◌, ◌≢◌, ◌≤◌, ◌++◌, ◌∷◌, [], false, length, min, true, MatchOption};
 ghost use Rattle.vfs_flags.specs.Flags.{fs_options_bits};
 ghost use Rattle.vfs_segments.specs.Lengths.{lengths_from};
 ghost use Rattle.vfs_segments.specs.Segments.{segments_of, flat_bytes, lengths_of};
@@ -14,7 +14,7 @@ ghost use Rattle.door_ask.specs.Memory.{MayWant};
 ghost use Rattle.door_ask.specs.declared.asked.Asked.TheVariants.{Call as IsCall};
 ghost use Rattle.c_rooms.specs.Codes.{is_asked, length_of, no_memory, outcome_code};
 ghost use Rattle.nizwarf_door.specs.Asking.{AsksOrNot, LiesInTwo, unread_in};
-ghost use Rattle.nizwarf_door.specs.Kept.{HasFor, TellsOrNot, put_of};
+ghost use Rattle.nizwarf_door.specs.Kept.{HasFor, HasIfTold, KeepsRooms, TellsOrNot, put_of};
 ghost use Rattle.nizwarf_door.specs.Rooms.{HasRoomFor};
 ghost use Rattle.nizwarf_door.specs.Session.{limits_of, options_of};
 ghost use Rattle.nizwarf_door.specs.Shown.{bytes_shown};
@@ -72,7 +72,7 @@ fn take_and_tell(alloc: Global, memory: &mut Memory, call: &mut CallData) -> i32
     ensures told { TellsOrNot result call.old call.new
         (HasRoomFor (put_of call.old call.old.room) memory.new.answers) }
     ensures has { HasRoomFor (put_of call.old call.old.room) memory.old.answers → result ≡ is_asked }
-    ensures keeps { (n : ℕ) → HasRoomFor n memory.old.answers → HasRoomFor n memory.new.answers }
+    ensures keeps { KeepsRooms memory.old.answers memory.new.answers }
     ensures same_shown { memory.new.shown ≡ memory.old.shown }
 {
     let room = put_of(call, call.room as usize);
@@ -88,7 +88,7 @@ pub fn tell_call(alloc: Global, memory: &mut Memory, call: &mut CallData) -> i32
     ensures told { TellsOrNot result call.old call.new
         (HasRoomFor (put_of call.old call.old.room) memory.new.answers) }
     ensures has { HasRoomFor (put_of call.old call.old.room) memory.old.answers → result ≡ is_asked }
-    ensures keeps { (n : ℕ) → HasRoomFor n memory.old.answers → HasRoomFor n memory.new.answers }
+    ensures keeps { KeepsRooms memory.old.answers memory.new.answers }
     ensures same_shown { memory.new.shown ≡ memory.old.shown }
 {
     if has_for(&memory.answers, call) {
@@ -119,8 +119,8 @@ pub fn ask_segments(
         memory.old.answers → length request.now ≤ 4 →
         ¬ (MayWant limits (fs_options_bits options) room (unread_in (segments_of request.now))) →
         result ≢ no_memory }
-    ensures kept { result ≡ is_asked → HasRoomFor (put_of call.new call.new.room) memory.new.answers }
-    ensures keeps { (n : ℕ) → HasRoomFor n memory.old.answers → HasRoomFor n memory.new.answers }
+    ensures kept { HasIfTold result call.new memory.new.answers }
+    ensures keeps { KeepsRooms memory.old.answers memory.new.answers }
 {
     match header_and_rest(request) {
         Some((head, rest)) => {
@@ -152,8 +152,8 @@ fn ask_cut(
         memory.old.answers → length request.now ≤ 4 →
         ¬ (MayWant limits (fs_options_bits options) room (unread_in (segments_of request.now))) →
         result ≢ no_memory }
-    ensures kept { result ≡ is_asked → HasRoomFor (put_of call.new call.new.room) memory.new.answers }
-    ensures keeps { (n : ℕ) → HasRoomFor n memory.old.answers → HasRoomFor n memory.new.answers }
+    ensures kept { HasIfTold result call.new memory.new.answers }
+    ensures keeps { KeepsRooms memory.old.answers memory.new.answers }
 {
     memory.shown = 0;
     match Reader::new(alloc, request) {
@@ -238,8 +238,8 @@ fn ask_reader(
     ensures memory { HasRoomFor (min room 80) memory.old.asked →
         HasFor room (ask_of limits (fs_options_bits options) room reader.entry.left) memory.old.answers →
         ¬ (MayWant limits (fs_options_bits options) room reader.entry) → result ≢ no_memory }
-    ensures kept { result ≡ is_asked → HasRoomFor (put_of call.new call.new.room) memory.new.answers }
-    ensures keeps { (n : ℕ) → HasRoomFor n memory.old.answers → HasRoomFor n memory.new.answers }
+    ensures kept { HasIfTold result call.new memory.new.answers }
+    ensures keeps { KeepsRooms memory.old.answers memory.new.answers }
 {
     if !memory.begin_ask(alloc, room.min(LONGEST_REPLY)) {
         return not_asked(OUT_OF_MEMORY, call);

@@ -4,8 +4,8 @@ ghost use Rattle.std.specs.Prelude.{◌≡◌, ◌^◌, ◌<◌, length};
 ghost use Rattle.vfs_segments.specs.Segments.{flat_bytes, segments_of};
 ghost use Rattle.vfs_flags.specs.Flags.{fs_options_bits};
 ghost use Rattle.vfs_grammar.specs.Limits.{AreLimits};
-ghost use Rattle.c_rooms.specs.Codes.{wrong_size};
 ghost use Rattle.nizwarf_door.specs.Checking.{Checks, IsWhole, checked_code, interrupts_of};
+ghost use Rattle.nizwarf_door.specs.Clauses.{ChecksNoServer};
 ghost use Rattle.nizwarf_door.specs.Session.{limits_of, options_of};
 
 use crate::data::SessionData;
@@ -33,8 +33,7 @@ pub extern "C" fn nizwarf_check_at(
     call: &mut CallData,
     interrupts: &mut u64,
 ) -> i32
-    ensures wrong { (AreLimits (limits_of session.now) → ⊥) →
-        (result ≡ wrong_size) × (call.new ≡ call.old) × (interrupts.new ≡ interrupts.old) }
+    ensures wrong { ChecksNoServer session.now result call.old call.new interrupts.old interrupts.new }
     ensures checked { AreLimits (limits_of session.now) →
         Checks (limits_of session.now) (options_of session.now) request.now room
         result call.new interrupts.new }

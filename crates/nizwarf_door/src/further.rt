@@ -1,12 +1,11 @@
 //! The door of a file system that offers rows of the further table: calls that virtiofsd has not.
 
-ghost use Rattle.std.specs.Prelude.{◌≡◌, ◌≢◌, ◌≤◌, ℕ, [], length, min, Err, IsSome};
+ghost use Rattle.std.specs.Prelude.{◌≡◌, ◌≢◌, ◌≤◌, [], length, min, Err};
 ghost use Rattle.vfs_flags.specs.Flags.{fs_options_bits};
 ghost use Rattle.vfs_segments.specs.Segments.{segments_of, flat_bytes};
 ghost use Rattle.door_calls.specs.declared.call.number.TheConstants.{CREATE};
 ghost use Rattle.door_calls.specs.Shapes.{nothing};
 ghost use Rattle.vfs_grammar.specs.Ask.{ask as ask_of};
-ghost use Rattle.vfs_grammar.specs.Forms.{Ask};
 ghost use Rattle.vfs_grammar.specs.Limits.{AreLimits};
 ghost use Rattle.vfs_grammar.specs.declared.error.Error.TheVariants.{DecodeMessage};
 ghost use Rattle.door_ask.specs.Memory.{MayWant};
@@ -14,15 +13,15 @@ ghost use Rattle.door_ask.specs.WithOpcode.{unread_with_opcode};
 ghost use Rattle.door_answer.specs.Fitting.{answer_offered};
 ghost use Rattle.door_ask.specs.Further.{Ordinary, Unnamed, what_of};
 ghost use Rattle.laws_flight.specs.OfferedTurns.{as_create};
-ghost use Rattle.c_rooms.specs.Codes.{is_asked, no_memory, outcome_code, wrong_size};
-ghost use Rattle.nizwarf_door.specs.Answering.{AnswersOrNot};
+ghost use Rattle.c_rooms.specs.Codes.{no_memory, outcome_code};
 ghost use Rattle.nizwarf_door.specs.Asking.{AsksOrNot, finished, unread_in};
+ghost use Rattle.nizwarf_door.specs.Clauses.{AnswersInSession, AnswersNoServer, AnswersTurn, AnswersWithoutMemory, AsksNoServer, ChecksNoServer};
 ghost use Rattle.nizwarf_door.specs.Further.{AsksOffered, ChecksOffered, HoldsOffered, MayWantOffered, named};
-ghost use Rattle.nizwarf_door.specs.Kept.{HasFor, Holds, HoldsAnswer, HoldsFor, put_of};
+ghost use Rattle.nizwarf_door.specs.Kept.{HasFor, HasIfTold, HoldsForOthers, HoldsIfTold, KeepsAnswers, KeepsRooms, StaysFor, StaysThere};
 ghost use Rattle.nizwarf_door.specs.Rooms.{HasRoomFor};
 ghost use Rattle.nizwarf_door.specs.Session.{limits_of, options_of};
 ghost use Rattle.nizwarf_door.specs.Shown.{bytes_shown, shown_in};
-ghost use Rattle.nizwarf_door.specs.Turns.{IsAnsweredOrNot, IsAskedOrNot};
+ghost use Rattle.nizwarf_door.specs.Turns.{IsAskedOrNot};
 
 use crate::ask::{not_asked, number_and_length, tell_call};
 use crate::check::{code_and_number, nizwarf_check_at, reader_of};
@@ -64,9 +63,8 @@ pub extern "C" fn nizwarf_ask_offered_at(
     call: &mut CallData,
     told: &mut ToldData,
 ) -> i32
-    ensures wrong { (AreLimits (limits_of session.now) → ⊥) →
-        (result ≡ wrong_size) × (handle.new.value ≡ handle.old.value)
-        × (call.new ≡ call.old) × (told.new ≡ told.old) }
+    ensures wrong { AsksNoServer session.now result handle.old.value handle.new.value call.old call.new
+        told.old told.new }
     ensures asked { AreLimits (limits_of session.now) →
         AsksOffered (limits_of session.now) (options_of session.now)
         (flat_bytes (segments_of request.now)) room
@@ -89,12 +87,10 @@ pub extern "C" fn nizwarf_ask_offered_at(
         (unread_in (segments_of request.now))
         (what_of offers (limits_of session.now) (flat_bytes (segments_of request.now)))) →
         result ≢ no_memory }
-    ensures kept { result ≡ is_asked → HoldsAnswer call.new handle.new.value }
-    ensures keeps { (n : ℕ) → Holds n handle.old.value → Holds n handle.new.value }
-    ensures ready { result ≡ is_asked → (less : ℕ) → less ≤ put_of call.new call.new.room →
-        (asks : Ask) → HoldsFor less asks handle.new.value }
-    ensures stays { (less : ℕ) (asks : Ask) →
-        HoldsFor less asks handle.old.value → HoldsFor less asks handle.new.value }
+    ensures kept { HoldsIfTold result call.new handle.new.value }
+    ensures keeps { KeepsAnswers handle.old.value handle.new.value }
+    ensures ready { HoldsForOthers result call.new handle.new.value }
+    ensures stays { StaysFor handle.old.value handle.new.value }
 {
     let Some(limits) = session.limits() else {
         return WRONG_SIZE;
@@ -114,8 +110,8 @@ fn refuse(alloc: Global, handle: &mut Handle, call: &mut CallData, told: &mut To
     ensures call { call.new ≡ nothing }
     ensures told { told.new ≡ finished (Err DecodeMessage) 0 told.old }
     ensures shown { shown_in handle.new.value ≡ [] }
-    ensures keeps { (n : ℕ) → Holds n handle.old.value → Holds n handle.new.value }
-    ensures some { IsSome handle.old.value → IsSome handle.new.value }
+    ensures keeps { KeepsAnswers handle.old.value handle.new.value }
+    ensures some { StaysThere handle.old.value handle.new.value }
 {
     show_nothing(alloc, handle);
     *call = CallData::NONE;
@@ -144,9 +140,9 @@ fn ask_unnamed(
         Unnamed handle.old.value → length request.now ≤ 4 →
         ¬ (MayWantOffered limits (fs_options_bits options) room (unread_in (segments_of request.now))
         Unnamed) → result ≢ no_memory }
-    ensures kept { result ≡ is_asked → HoldsAnswer call.new handle.new.value }
-    ensures keeps { (n : ℕ) → Holds n handle.old.value → Holds n handle.new.value }
-    ensures some { IsSome handle.old.value → IsSome handle.new.value }
+    ensures kept { HoldsIfTold result call.new handle.new.value }
+    ensures keeps { KeepsAnswers handle.old.value handle.new.value }
+    ensures some { StaysThere handle.old.value handle.new.value }
 {
     let Some(mut memory) = memory_of(alloc, handle) else {
         return not_asked(OUT_OF_MEMORY, call);
@@ -188,8 +184,8 @@ fn ask_segments_as(
         ¬ (MayWant limits (fs_options_bits options) room
         (unread_with_opcode CREATE (unread_in (segments_of request.now)))) →
         result ≢ no_memory }
-    ensures kept { result ≡ is_asked → HasRoomFor (put_of call.new call.new.room) memory.new.answers }
-    ensures keeps { (n : ℕ) → HasRoomFor n memory.old.answers → HasRoomFor n memory.new.answers }
+    ensures kept { HasIfTold result call.new memory.new.answers }
+    ensures keeps { KeepsRooms memory.old.answers memory.new.answers }
 {
     memory.shown = 0;
     match Reader::new(alloc, request) {
@@ -218,8 +214,8 @@ fn ask_reader_as(
         memory.old.answers →
         ¬ (MayWant limits (fs_options_bits options) room (unread_with_opcode CREATE reader.entry)) →
         result ≢ no_memory }
-    ensures kept { result ≡ is_asked → HasRoomFor (put_of call.new call.new.room) memory.new.answers }
-    ensures keeps { (n : ℕ) → HasRoomFor n memory.old.answers → HasRoomFor n memory.new.answers }
+    ensures kept { HasIfTold result call.new memory.new.answers }
+    ensures keeps { KeepsRooms memory.old.answers memory.new.answers }
 {
     if !memory.begin_ask(alloc, room.min(LONGEST_REPLY)) {
         return not_asked(OUT_OF_MEMORY, call);
@@ -264,22 +260,18 @@ pub extern "C" fn nizwarf_answer_offered_at(
     items: &[ItemData<'_>],
     told: &mut ToldData,
 ) -> i32
-    ensures wrong { (AreLimits (limits_of session.now) → ⊥) →
-        (result ≡ wrong_size) × (handle.new.value ≡ handle.old.value) × (told.new ≡ told.old) }
-    ensures answered { AreLimits (limits_of session.now) →
-        AnswersOrNot (limits_of session.now) call.now (answer_offered call.now answer.now text.now)
+    ensures wrong { AnswersNoServer session.now result handle.old.value handle.new.value told.old told.new }
+    ensures answered { AnswersInSession session.now call.now (answer_offered call.now answer.now text.now)
         text.now items.now result told.old told.new (shown_in handle.new.value) }
 
     // Of a call that `nizwarf_ask_at` tells this is its promise.
-    ensures promise { AreLimits (limits_of session.now) →
-        IsAnsweredOrNot (limits_of session.now) call.now (answer_offered call.now answer.now text.now)
+    ensures promise { AnswersTurn session.now call.now (answer_offered call.now answer.now text.now)
         text.now items.now result told.old told.new (shown_in handle.new.value) }
 
     // A slot with which the call was asked has memory for its answer, and has it for others still, and for requests.
-    ensures memory { HoldsAnswer call.now handle.old.value → result ≢ no_memory }
-    ensures keeps { (n : ℕ) → Holds n handle.old.value → Holds n handle.new.value }
-    ensures stays { (less : ℕ) (asks : Ask) →
-        HoldsFor less asks handle.old.value → HoldsFor less asks handle.new.value }
+    ensures memory { AnswersWithoutMemory call.now result handle.old.value }
+    ensures keeps { KeepsAnswers handle.old.value handle.new.value }
+    ensures stays { StaysFor handle.old.value handle.new.value }
 {
     if is_unfit(call, answer, text) {
         let unfit = AnswerData {
@@ -303,8 +295,7 @@ pub extern "C" fn nizwarf_check_offered_at(
     call: &mut CallData,
     interrupts: &mut u64,
 ) -> i32
-    ensures wrong { (AreLimits (limits_of session.now) → ⊥) →
-        (result ≡ wrong_size) × (call.new ≡ call.old) × (interrupts.new ≡ interrupts.old) }
+    ensures wrong { ChecksNoServer session.now result call.old call.new interrupts.old interrupts.new }
     ensures checked { AreLimits (limits_of session.now) →
         ChecksOffered (limits_of session.now) (options_of session.now) request.now room
         (what_of offers (limits_of session.now) request.now) result call.new interrupts.new }

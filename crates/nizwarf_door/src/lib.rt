@@ -28,20 +28,16 @@ mod uses_notices;
 mod uses_rest;
 mod uses_text;
 
-ghost use Rattle.std.specs.Prelude.{◌≡◌, ◌≢◌, ◌≤◌, ◌++◌, ℕ, [], length, take, drop, min, IsSome, MatchOption};
+ghost use Rattle.std.specs.Prelude.{◌≡◌, ◌++◌, [], length, take, drop, min, MatchOption};
 ghost use Rattle.std.specs.declared.option.Option.TheVariants.{None, Some};
 ghost use Rattle.vfs_segments.specs.Segments.{segments_of, flat_bytes};
-ghost use Rattle.vfs_grammar.specs.Ask.{ask as ask_of};
-ghost use Rattle.vfs_grammar.specs.Forms.{Ask};
 ghost use Rattle.vfs_grammar.specs.Limits.{AreLimits};
-ghost use Rattle.door_ask.specs.Memory.{MayWant};
-ghost use Rattle.c_rooms.specs.Codes.{is_asked, no_memory, no_server, ok, wrong_size};
-ghost use Rattle.nizwarf_door.specs.Answering.{AnswersOrNot};
-ghost use Rattle.nizwarf_door.specs.Asking.{AsksOrNot, unread_in};
-ghost use Rattle.nizwarf_door.specs.Kept.{Holds, HoldsAnswer, HoldsFor, TellsOrNot, put_of};
+ghost use Rattle.c_rooms.specs.Codes.{is_asked, no_server, ok};
+ghost use Rattle.nizwarf_door.specs.Clauses.{AnswersInSession, AnswersNoServer, AnswersTurn, AnswersWithoutMemory, AsksInSession, AsksNoServer, AsksWithoutMemory};
+ghost use Rattle.nizwarf_door.specs.Kept.{HoldsAnswer, HoldsForOthers, HoldsIfTold, KeepsAnswers, StaysFor, StaysThere, TellsOrNot};
 ghost use Rattle.nizwarf_door.specs.Session.{limits_of, options_of};
 ghost use Rattle.nizwarf_door.specs.Shown.{shown_in};
-ghost use Rattle.nizwarf_door.specs.Turns.{IsAnsweredOrNot, IsAskedOrNot};
+ghost use Rattle.nizwarf_door.specs.Turns.{IsAskedOrNot};
 ghost use Rattle.nizwarf_door.specs.declared.memory.Memory.{Memory};
 
 use crate::answer::{answer_call, entry_of};
@@ -77,8 +73,8 @@ pub(crate) fn memory_of(alloc: Global, handle: &mut Handle) -> Option<Box<Memory
 #[tactic(auto, using(crate::proofs::Leaving::none_shown))]
 pub(crate) fn show_nothing(alloc: Global, handle: &mut Handle)
     ensures nothing { shown_in handle.new.value ≡ [] }
-    ensures keeps { (n : ℕ) → Holds n handle.old.value → Holds n handle.new.value }
-    ensures some { IsSome handle.old.value → IsSome handle.new.value }
+    ensures keeps { KeepsAnswers handle.old.value handle.new.value }
+    ensures some { StaysThere handle.old.value handle.new.value }
 {
     if let Some(mut memory) = handle.take(alloc) {
         memory.shown = 0;
@@ -93,9 +89,9 @@ pub(crate) fn show_nothing(alloc: Global, handle: &mut Handle)
 pub(crate) fn tell_in_slot(alloc: Global, handle: &mut Handle, call: &mut CallData) -> i32
     ensures told { TellsOrNot result call.old call.new (HoldsAnswer call.old handle.new.value) }
     ensures has { HoldsAnswer call.old handle.old.value → result ≡ is_asked }
-    ensures keeps { (n : ℕ) → Holds n handle.old.value → Holds n handle.new.value }
+    ensures keeps { KeepsAnswers handle.old.value handle.new.value }
     ensures nothing { shown_in handle.new.value ≡ [] }
-    ensures some { IsSome handle.old.value → IsSome handle.new.value }
+    ensures some { StaysThere handle.old.value handle.new.value }
 {
     let Some(mut memory) = memory_of(alloc, handle) else {
         return not_asked(OUT_OF_MEMORY, call);
@@ -127,36 +123,27 @@ pub extern "C" fn nizwarf_ask_at(
     call: &mut CallData,
     told: &mut ToldData,
 ) -> i32
-    ensures wrong { (AreLimits (limits_of session.now) → ⊥) →
-        (result ≡ wrong_size) × (handle.new.value ≡ handle.old.value)
-        × (call.new ≡ call.old) × (told.new ≡ told.old) }
+    ensures wrong { AsksNoServer session.now result handle.old.value handle.new.value call.old call.new
+        told.old told.new }
     ensures promise { AreLimits (limits_of session.now) →
         IsAskedOrNot (limits_of session.now) (options_of session.now)
         (flat_bytes (segments_of request.now)) room
         result call.new told.old told.new (shown_in handle.new.value) }
 
     // The same over writers.
-    ensures asked { AreLimits (limits_of session.now) →
-        AsksOrNot (limits_of session.now) (options_of session.now)
-        (flat_bytes (segments_of request.now)) room
-        result call.new told.old told.new (shown_in handle.new.value) }
+    ensures asked { AsksInSession session.now request.now room result call.new told.old told.new
+        (shown_in handle.new.value) }
 
     // A slot that has memory wants no more for a request in up to four segments, unless its tail is
     // cut, it may have a context, or it has pairs.
-    ensures memory { HoldsFor room (ask_of (limits_of session.now) (options_of session.now) room
-        (flat_bytes (segments_of request.now))) handle.old.value →
-        length request.now ≤ 4 →
-        ¬ (MayWant (limits_of session.now) (options_of session.now) room
-        (unread_in (segments_of request.now))) → result ≢ no_memory }
+    ensures memory { AsksWithoutMemory session.now request.now room result handle.old.value }
 
     // Where a call is told the slot has memory for any answer to it, and so for what comes of any request with no more
     // room; and so it stays up to the end of the slot.
-    ensures kept { result ≡ is_asked → HoldsAnswer call.new handle.new.value }
-    ensures keeps { (n : ℕ) → Holds n handle.old.value → Holds n handle.new.value }
-    ensures ready { result ≡ is_asked → (less : ℕ) → less ≤ put_of call.new call.new.room →
-        (asks : Ask) → HoldsFor less asks handle.new.value }
-    ensures stays { (less : ℕ) (asks : Ask) →
-        HoldsFor less asks handle.old.value → HoldsFor less asks handle.new.value }
+    ensures kept { HoldsIfTold result call.new handle.new.value }
+    ensures keeps { KeepsAnswers handle.old.value handle.new.value }
+    ensures ready { HoldsForOthers result call.new handle.new.value }
+    ensures stays { StaysFor handle.old.value handle.new.value }
 {
     if is_asked_most(request) {
         ask_at_once(alloc, handle, session, request, room, call, told)
@@ -176,21 +163,14 @@ fn ask_at_once(
     call: &mut CallData,
     told: &mut ToldData,
 ) -> i32
-    ensures wrong { (AreLimits (limits_of session.now) → ⊥) →
-        (result ≡ wrong_size) × (handle.new.value ≡ handle.old.value)
-        × (call.new ≡ call.old) × (told.new ≡ told.old) }
-    ensures asked { AreLimits (limits_of session.now) →
-        AsksOrNot (limits_of session.now) (options_of session.now)
-        (flat_bytes (segments_of request.now)) room
-        result call.new told.old told.new (shown_in handle.new.value) }
-    ensures memory { HoldsFor room (ask_of (limits_of session.now) (options_of session.now) room
-        (flat_bytes (segments_of request.now))) handle.old.value →
-        length request.now ≤ 4 →
-        ¬ (MayWant (limits_of session.now) (options_of session.now) room
-        (unread_in (segments_of request.now))) → result ≢ no_memory }
-    ensures kept { result ≡ is_asked → HoldsAnswer call.new handle.new.value }
-    ensures keeps { (n : ℕ) → Holds n handle.old.value → Holds n handle.new.value }
-    ensures some { IsSome handle.old.value → IsSome handle.new.value }
+    ensures wrong { AsksNoServer session.now result handle.old.value handle.new.value call.old call.new
+        told.old told.new }
+    ensures asked { AsksInSession session.now request.now room result call.new told.old told.new
+        (shown_in handle.new.value) }
+    ensures memory { AsksWithoutMemory session.now request.now room result handle.old.value }
+    ensures kept { HoldsIfTold result call.new handle.new.value }
+    ensures keeps { KeepsAnswers handle.old.value handle.new.value }
+    ensures some { StaysThere handle.old.value handle.new.value }
 {
     if ask_in_two(session, request, room, call) {
         return tell_in_slot(alloc, handle, call);
@@ -209,21 +189,14 @@ fn ask_by_reader(
     call: &mut CallData,
     told: &mut ToldData,
 ) -> i32
-    ensures wrong { (AreLimits (limits_of session.now) → ⊥) →
-        (result ≡ wrong_size) × (handle.new.value ≡ handle.old.value)
-        × (call.new ≡ call.old) × (told.new ≡ told.old) }
-    ensures asked { AreLimits (limits_of session.now) →
-        AsksOrNot (limits_of session.now) (options_of session.now)
-        (flat_bytes (segments_of request.now)) room
-        result call.new told.old told.new (shown_in handle.new.value) }
-    ensures memory { HoldsFor room (ask_of (limits_of session.now) (options_of session.now) room
-        (flat_bytes (segments_of request.now))) handle.old.value →
-        length request.now ≤ 4 →
-        ¬ (MayWant (limits_of session.now) (options_of session.now) room
-        (unread_in (segments_of request.now))) → result ≢ no_memory }
-    ensures kept { result ≡ is_asked → HoldsAnswer call.new handle.new.value }
-    ensures keeps { (n : ℕ) → Holds n handle.old.value → Holds n handle.new.value }
-    ensures some { IsSome handle.old.value → IsSome handle.new.value }
+    ensures wrong { AsksNoServer session.now result handle.old.value handle.new.value call.old call.new
+        told.old told.new }
+    ensures asked { AsksInSession session.now request.now room result call.new told.old told.new
+        (shown_in handle.new.value) }
+    ensures memory { AsksWithoutMemory session.now request.now room result handle.old.value }
+    ensures kept { HoldsIfTold result call.new handle.new.value }
+    ensures keeps { KeepsAnswers handle.old.value handle.new.value }
+    ensures some { StaysThere handle.old.value handle.new.value }
 {
     let Some(limits) = session.limits() else {
         return WRONG_SIZE;
@@ -267,22 +240,18 @@ pub extern "C" fn nizwarf_answer_at(
     items: &[ItemData<'_>],
     told: &mut ToldData,
 ) -> i32
-    ensures wrong { (AreLimits (limits_of session.now) → ⊥) →
-        (result ≡ wrong_size) × (handle.new.value ≡ handle.old.value) × (told.new ≡ told.old) }
-    ensures promise { AreLimits (limits_of session.now) →
-        IsAnsweredOrNot (limits_of session.now) call.now answer.now text.now items.now
+    ensures wrong { AnswersNoServer session.now result handle.old.value handle.new.value told.old told.new }
+    ensures promise { AnswersTurn session.now call.now answer.now text.now items.now
         result told.old told.new (shown_in handle.new.value) }
 
     // The same over writers, and by the data alone, of whatever request they are.
-    ensures answered { AreLimits (limits_of session.now) →
-        AnswersOrNot (limits_of session.now) call.now answer.now text.now items.now
+    ensures answered { AnswersInSession session.now call.now answer.now text.now items.now
         result told.old told.new (shown_in handle.new.value) }
 
     // A slot with which the call was asked has memory for its answer, and has it for others still, and for requests.
-    ensures memory { HoldsAnswer call.now handle.old.value → result ≢ no_memory }
-    ensures keeps { (n : ℕ) → Holds n handle.old.value → Holds n handle.new.value }
-    ensures stays { (less : ℕ) (asks : Ask) →
-        HoldsFor less asks handle.old.value → HoldsFor less asks handle.new.value }
+    ensures memory { AnswersWithoutMemory call.now result handle.old.value }
+    ensures keeps { KeepsAnswers handle.old.value handle.new.value }
+    ensures stays { StaysFor handle.old.value handle.new.value }
 {
     answer_in_slot(alloc, handle, session, call, answer, text, items, told)
 }
@@ -299,14 +268,12 @@ fn answer_in_slot(
     items: &[ItemData<'_>],
     told: &mut ToldData,
 ) -> i32
-    ensures wrong { (AreLimits (limits_of session.now) → ⊥) →
-        (result ≡ wrong_size) × (handle.new.value ≡ handle.old.value) × (told.new ≡ told.old) }
-    ensures answered { AreLimits (limits_of session.now) →
-        AnswersOrNot (limits_of session.now) call.now answer.now text.now items.now
+    ensures wrong { AnswersNoServer session.now result handle.old.value handle.new.value told.old told.new }
+    ensures answered { AnswersInSession session.now call.now answer.now text.now items.now
         result told.old told.new (shown_in handle.new.value) }
-    ensures memory { HoldsAnswer call.now handle.old.value → result ≢ no_memory }
-    ensures keeps { (n : ℕ) → Holds n handle.old.value → Holds n handle.new.value }
-    ensures some { IsSome handle.old.value → IsSome handle.new.value }
+    ensures memory { AnswersWithoutMemory call.now result handle.old.value }
+    ensures keeps { KeepsAnswers handle.old.value handle.new.value }
+    ensures some { StaysThere handle.old.value handle.new.value }
 {
     let Some(limits) = session.limits() else {
         return WRONG_SIZE;

@@ -1,14 +1,14 @@
 //! Asking a request for its call whose header lies in one piece, and in one all that follows it.
 
-ghost use Rattle.std.specs.Prelude.{◌≡◌, ◌≢◌, ◌++◌, ◌∷◌, ℕ, [], length, min};
+ghost use Rattle.std.specs.Prelude.{◌≡◌, ◌≢◌, ◌++◌, ◌∷◌, [], length, min};
 ghost use Rattle.vfs_flags.specs.Flags.{fs_options_bits};
 ghost use Rattle.vfs_segments.specs.Lengths.{lengths_from};
 ghost use Rattle.vfs_grammar.specs.Ask.{ask as ask_of};
 ghost use Rattle.vfs_grammar.specs.Limits.{AreLimits};
 ghost use Rattle.door_ask.specs.Memory.{MayWantAfterHeader};
-ghost use Rattle.c_rooms.specs.Codes.{is_asked, no_memory};
+ghost use Rattle.c_rooms.specs.Codes.{no_memory};
 ghost use Rattle.nizwarf_door.specs.Asking.{AsksOrNot};
-ghost use Rattle.nizwarf_door.specs.Kept.{HasFor, put_of};
+ghost use Rattle.nizwarf_door.specs.Kept.{HasFor, HasIfTold, KeepsRooms};
 ghost use Rattle.nizwarf_door.specs.Rooms.{HasRoomFor};
 ghost use Rattle.nizwarf_door.specs.Shown.{bytes_shown};
 
@@ -45,8 +45,8 @@ pub fn ask_pieces(
         memory.old.answers →
         ¬ (MayWantAfterHeader limits (fs_options_bits options) room (head.now ++ rest.now)
         (lengths_from 0 (length rest.now ∷ []))) → result ≢ no_memory }
-    ensures kept { result ≡ is_asked → HasRoomFor (put_of call.new call.new.room) memory.new.answers }
-    ensures keeps { (n : ℕ) → HasRoomFor n memory.old.answers → HasRoomFor n memory.new.answers }
+    ensures kept { HasIfTold result call.new memory.new.answers }
+    ensures keeps { KeepsRooms memory.old.answers memory.new.answers }
 {
     if !memory.begin_ask(alloc, room.min(LONGEST_REPLY)) {
         return not_asked(OUT_OF_MEMORY, call);
