@@ -6,4 +6,4 @@ pub overflow_cast-result : goal.overflow_cast-result
 overflow_cast-result g c =
     let t = c.in-Ok.ensures in
     let tells = transfer_tells _ _ _ _ _ _ _ _ t.2 in
-    omega (arith, tells.1, c.ranges.asked.size)
+    omega (arith, tells.1, c.struct_known-1)
