@@ -20,7 +20,7 @@ ghost use Rattle.nizwarf_door.specs.Session.{limits_of, options_of};
 ghost use Rattle.nizwarf_door.specs.Shown.{bytes_shown};
 
 use crate::answer::{HEADER_SIZE, put_of};
-use crate::data::{SessionData, ToldData};
+use crate::data::{Incoming, ToldData};
 use crate::memory::{Memory, Part};
 use crate::rest::ask_pieces;
 use c_rooms::codes::{ASKED, OK, OUT_OF_MEMORY, TOO_LONG, told as code_of};
@@ -197,28 +197,31 @@ fn header_and_rest<'a>(request: &[&'a [u8]]) -> Option<(&'a [u8], &'a [u8])>
 /// Asks at once a request in one segment, or in two of which the first is the header: each LOOKUP, GETATTR, READ and
 /// WRITE that asks for a call is told. False of any other, which is to be asked by a reader: then nothing is told.
 #[inline(always)]
-pub fn ask_in_two(
-    session: &SessionData,
-    request: &[&[u8]],
-    room: usize,
-    call: &mut CallData,
-) -> bool
-    ensures limits { result ≡ true → AreLimits (limits_of session.now) }
-    ensures told { result ≡ true → (w after : Written) → length w.left ≡ room →
-        IsAsked (limits_of session.now) (options_of session.now)
-        (flat_bytes (segments_of request.now)) w IsCall after call.new }
-    ensures all { AreLimits (limits_of session.now) → LiesInTwo (segments_of request.now) →
-        AsksAtOnce (limits_of session.now) (options_of session.now) room
-        (flat_bytes (segments_of request.now)) → result ≡ true }
+pub fn ask_in_two(incoming: &Incoming<'_>, call: &mut CallData) -> bool
+    ensures limits { result ≡ true → AreLimits (limits_of incoming.now.session.now) }
+    ensures told { result ≡ true → (w after : Written) → length w.left ≡ incoming.now.room →
+        IsAsked (limits_of incoming.now.session.now) (options_of incoming.now.session.now)
+        (flat_bytes (segments_of incoming.now.request.now)) w IsCall after call.new }
+    ensures all { AreLimits (limits_of incoming.now.session.now) →
+        LiesInTwo (segments_of incoming.now.request.now) →
+        AsksAtOnce (limits_of incoming.now.session.now) (options_of incoming.now.session.now)
+        incoming.now.room (flat_bytes (segments_of incoming.now.request.now)) → result ≡ true }
     ensures same { result ≡ false → call.new ≡ call.old }
 {
-    let Some((head, rest)) = header_and_rest(request) else {
+    let Some((head, rest)) = header_and_rest(incoming.request) else {
         return false;
     };
-    let Some(limits) = session.limits() else {
+    let Some(limits) = incoming.session.limits() else {
         return false;
     };
-    ask_at_once(limits, session.options(), head, rest, room, call)
+    ask_at_once(
+        limits,
+        incoming.session.options(),
+        head,
+        rest,
+        incoming.room,
+        call,
+    )
 }
 
 // Asks the request that this reader has left.

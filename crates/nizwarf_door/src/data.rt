@@ -47,6 +47,17 @@ impl SessionData {
     }
 }
 
+/// A request that is to be asked for its call, as C hands it in.
+#[derive(Clone, Copy)]
+pub struct Incoming<'a> {
+    /// The session in which it came.
+    pub session: &'a SessionData,
+    /// Its segments, of which any may be empty.
+    pub request: &'a [&'a [u8]],
+    /// How many bytes of room there are for the reply.
+    pub room: usize,
+}
+
 /// What came of a request (`nizwarf_told`). An ask tells `len`, `put` and `interrupts`, an answer all
 /// but `interrupts`: what isn't told stays.
 #[repr(C)]

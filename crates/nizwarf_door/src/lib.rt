@@ -42,7 +42,7 @@ ghost use Rattle.nizwarf_door.specs.declared.memory.Memory.{Memory};
 
 use crate::answer::{answer_call, entry_of};
 use crate::ask::{ask_in_two, ask_segments, is_asked_most, not_asked, tell_call};
-use crate::data::{SessionData, ToldData};
+use crate::data::{Incoming, SessionData, ToldData};
 use crate::handle::Handle;
 use crate::memory::Memory;
 use c_rooms::codes::{NO_SERVER, OK, OUT_OF_MEMORY, WRONG_SIZE};
@@ -145,10 +145,15 @@ pub extern "C" fn nizwarf_ask_at(
     ensures ready { HoldsForOthers result call.new handle.new.value }
     ensures stays { StaysFor handle.old.value handle.new.value }
 {
+    let incoming = Incoming {
+        session,
+        request,
+        room,
+    };
     if is_asked_most(request) {
-        ask_at_once(alloc, handle, session, request, room, call, told)
+        ask_at_once(alloc, handle, &incoming, call, told)
     } else {
-        ask_by_reader(alloc, handle, session, request, room, call, told)
+        ask_by_reader(alloc, handle, &incoming, call, told)
     }
 }
 
@@ -157,25 +162,24 @@ pub extern "C" fn nizwarf_ask_at(
 fn ask_at_once(
     alloc: Global,
     handle: &mut Handle,
-    session: &SessionData,
-    request: &[&[u8]],
-    room: usize,
+    incoming: &Incoming<'_>,
     call: &mut CallData,
     told: &mut ToldData,
 ) -> i32
-    ensures wrong { AsksNoServer session.now result handle.old.value handle.new.value call.old call.new
-        told.old told.new }
-    ensures asked { AsksInSession session.now request.now room result call.new told.old told.new
-        (shown_in handle.new.value) }
-    ensures memory { AsksWithoutMemory session.now request.now room result handle.old.value }
+    ensures wrong { AsksNoServer incoming.now.session.now result handle.old.value handle.new.value
+        call.old call.new told.old told.new }
+    ensures asked { AsksInSession incoming.now.session.now incoming.now.request.now incoming.now.room
+        result call.new told.old told.new (shown_in handle.new.value) }
+    ensures memory { AsksWithoutMemory incoming.now.session.now incoming.now.request.now
+        incoming.now.room result handle.old.value }
     ensures kept { HoldsIfTold result call.new handle.new.value }
     ensures keeps { KeepsAnswers handle.old.value handle.new.value }
     ensures some { StaysThere handle.old.value handle.new.value }
 {
-    if ask_in_two(session, request, room, call) {
+    if ask_in_two(incoming, call) {
         return tell_in_slot(alloc, handle, call);
     }
-    ask_by_reader(alloc, handle, session, request, room, call, told)
+    ask_by_reader(alloc, handle, incoming, call, told)
 }
 
 // The same, of any request.
@@ -183,35 +187,34 @@ fn ask_at_once(
 fn ask_by_reader(
     alloc: Global,
     handle: &mut Handle,
-    session: &SessionData,
-    request: &[&[u8]],
-    room: usize,
+    incoming: &Incoming<'_>,
     call: &mut CallData,
     told: &mut ToldData,
 ) -> i32
-    ensures wrong { AsksNoServer session.now result handle.old.value handle.new.value call.old call.new
-        told.old told.new }
-    ensures asked { AsksInSession session.now request.now room result call.new told.old told.new
-        (shown_in handle.new.value) }
-    ensures memory { AsksWithoutMemory session.now request.now room result handle.old.value }
+    ensures wrong { AsksNoServer incoming.now.session.now result handle.old.value handle.new.value
+        call.old call.new told.old told.new }
+    ensures asked { AsksInSession incoming.now.session.now incoming.now.request.now incoming.now.room
+        result call.new told.old told.new (shown_in handle.new.value) }
+    ensures memory { AsksWithoutMemory incoming.now.session.now incoming.now.request.now
+        incoming.now.room result handle.old.value }
     ensures kept { HoldsIfTold result call.new handle.new.value }
     ensures keeps { KeepsAnswers handle.old.value handle.new.value }
     ensures some { StaysThere handle.old.value handle.new.value }
 {
-    let Some(limits) = session.limits() else {
+    let Some(limits) = incoming.session.limits() else {
         return WRONG_SIZE;
     };
     let Some(mut memory) = memory_of(alloc, handle) else {
         return not_asked(OUT_OF_MEMORY, call);
     };
-    let options = session.options();
+    let options = incoming.session.options();
     let code = ask_segments(
         alloc,
         &mut memory,
         limits,
         options,
-        request,
-        room,
+        incoming.request,
+        incoming.room,
         call,
         told,
     );

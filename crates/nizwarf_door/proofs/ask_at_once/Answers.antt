@@ -19,8 +19,9 @@ returns-then-ask_in_two-clause-kept c code =
 pub returns-then-ask_in_two-clause-memory : goal.returns-then-ask_in_two-clause-memory
 returns-then-ask_in_two-clause-memory c holds few none code =
     let told : c.tell_in_slot.result ≡ is_asked =
-    c.tell_in_slot.ensures.has (holds_at_once (limits_of c.args.session.now) (options_of c.args.session.now)
-    (flat_bytes (segments_of c.args.request.now)) c.args.room c.ask_in_two.new.call c.args.handle.now.value
+    c.tell_in_slot.ensures.has (holds_at_once (limits_of c.args.incoming.now.session.now)
+    (options_of c.args.incoming.now.session.now) (flat_bytes (segments_of c.args.incoming.now.request.now))
+    c.args.incoming.now.room c.ask_in_two.new.call c.args.handle.now.value
     (c.ask_in_two.ensures.told c.if-ask_in_two.true) holds) in
     let want : c.tell_in_slot.result ≡ no_memory = search (rules, code) in
     cc (told, want)
