@@ -15,14 +15,12 @@
 #   blocks              one of Rust or C is, to the letter, in the file that the comment above it names,
 #                       <!-- FILE -->; of another block with such a comment each line does
 #   commands            a path that begins an indented line is a file that can be run
-#   crates below one    `five crates below` it, or below a crate that is named, are as many as crates.txt has
 #   the reading order   of PROMISE.md: no file, but of the last item, names a word of a later one; its
 #                       counts are those of tools/measure/statement.sh, of which each file is there, with what is of
 #                       the promise above a line that says so, or named in its first comment; the key has each sign
 #                       that one of its files has, and it or Session.antt each word of the toolchain's library
-#   the gate's time     is in TESTING.md alone
 #   counts              of opcodes, calls of a file system, records, stored requests and hostile forms are those
-#                       of the sources; others that several pages say are the same on each
+#                       of the sources
 #   what is trusted     README.md names each crate of the kit that crates.txt does
 #   the promise         in the table of PROMISE.md, the words are those of the promise above it
 #   the toolchain       README.md's has the logic of `rt version`, whose kits have several letters for one
