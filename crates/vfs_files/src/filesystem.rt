@@ -59,7 +59,7 @@ pub trait FileSystem {
     /// is there where the kernel asks through an open file.
     ///
     /// An implementation repeats this clause, with its own relation in place of `allows`, since its
-    /// parameter is an `Option` of an associated type (docs/generated/refused.md).
+    /// parameter is an `Option` of an associated type (docs/DECISIONS.md).
     fn getattr(
         &mut self,
         ctx: Context,
