@@ -6,12 +6,10 @@
 mod batch;
 mod null;
 mod pieces;
-mod probe;
 mod round;
 
 use crate::batch::{Batch, Files, parse};
 use crate::null::NullFs;
-use crate::probe::probe;
 use crate::round::{Side, drive};
 use fs_small::MemFs;
 use std::alloc::Global;
@@ -54,17 +52,4 @@ fn serve_batch(
         }
         Files::Null => drive(side, NullFs {}, &batch, replies),
     }
-}
-
-/// Moves `count` records of 16 bytes over pieces of `piece` bytes, `rounds` times, by a reader or a
-/// writer alone: `kind` 0 writes them, 1 reads them. 0 where there is no memory.
-#[unsafe(no_mangle)]
-pub extern "C" fn nizwarf_probe(
-    alloc: Global,
-    kind: u32,
-    count: u32,
-    piece: u32,
-    rounds: u32,
-) -> u64 {
-    probe(alloc, kind, count, piece, rounds).unwrap_or(0)
 }
