@@ -17,7 +17,7 @@
 # With --io-uring libfuse as it is also serves requests over io_uring, which libfuse can since 3.17 and Debian's own package
 # is built without: a mount then takes `-o io_uring`. It is built into a folder of its own, with liburing and libnuma.
 #
-# With --check tests/libfuse/check.sh holds the two libraries side by side.
+# With --check tests/compare/libfuse/check.sh holds the two libraries side by side.
 #
 # It wants apt-get, a C compiler, meson, ninja, pkg-config, patch and xz, of which it names the packages that are missing,
 # and the Rattle toolchain. It links the proved library if that is built and no source is newer; otherwise
@@ -35,7 +35,7 @@ usage() {
 }
 
 if [ "${1:-}" = --check ]; then
-    exec "$here/tests/libfuse/check.sh" "${@:2}"
+    exec "$here/tests/compare/libfuse/check.sh" "${@:2}"
 fi
 suite=$(sed -n 's/^VERSION_CODENAME=//p' /etc/os-release)
 folder='' kind=nizwarf sanitize=none all='' ring=false

@@ -17,7 +17,7 @@
 # virtiofsd's own for a release, which optimises when it links, with one codegen unit.
 #
 # With --test it runs the tests that virtiofsd's sources have, but those of the replaced files; with --check
-# tests/beside/replaced.sh holds it against Debian's own program, with these words, and does that too. With --package
+# tests/compare/servers/replaced.sh holds it against Debian's own program, with these words, and does that too. With --package
 # packaging/virtiofsd.sh makes a package of Debian of it, and has a --help of its own.
 #
 # It wants apt-get, a C compiler, cargo 1.85 or later, libcap-ng, libseccomp, and the Rattle toolchain. It
@@ -38,7 +38,7 @@ refuse() {
 }
 
 if [ "${1:-}" = --check ]; then
-    exec "$here/tests/beside/replaced.sh" "${@:2}"
+    exec "$here/tests/compare/servers/replaced.sh" "${@:2}"
 elif [ "${1:-}" = --package ]; then
     exec "$here/packaging/virtiofsd.sh" "${@:2}"
 fi

@@ -3,7 +3,7 @@
 # shellcheck shell=bash disable=SC2034
 
 # Takes the words that all of them have, and sets `taken` to how many of those that it is given they are; `source` to
-# words for tests/oracle/build.sh, `jobs` to how many processors are used, `numbers` to the seed and the count:
+# words for tests/compare/virtiofsd_code/build.sh, `jobs` to how many processors are used, `numbers` to the seed and the count:
 # take_word WORD..
 take_word() {
     taken=2

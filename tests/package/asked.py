@@ -2,7 +2,7 @@
 """Asks what serves a socket as a machine does, for inside.sh: a user makes a file, and root
 no device.
 
-    asked.py ASK SOCKET FOLDER: the built tests/beside/ask.c, the socket, and the folder that is served
+    asked.py ASK SOCKET FOLDER: the built tests/lib/ask.c, the socket, and the folder that is served
 
 Status 0: each came to what it must."""
 import os
@@ -11,7 +11,7 @@ import struct
 import subprocess
 import sys
 
-sys.path[:0] = [f"{os.path.dirname(os.path.abspath(__file__))}/../beside"]
+sys.path[:0] = [f"{os.path.dirname(os.path.abspath(__file__))}/../lib"]
 import requests
 
 ASK, SOCKET, FOLDER = sys.argv[1:]

@@ -95,7 +95,7 @@ mount -t overlay none -o "lowerdir=$lower,upperdir=$work/files/upper,workdir=$wo
 mkdir -p "$root/root/check" "$root$here"
 mount --bind "$here" "$root$here"
 cp "$work/packages"/{libnizwarf0,nizwarf}_*.deb "$root/root/check/"
-cc -O2 -I "$here/include" -o "$root/root/check/ask" "$here/tests/beside/ask.c"
+cc -O2 -I "$here/include" -o "$root/root/check/ask" "$here/tests/lib/ask.c"
 checks="$here/tests/package/inside.sh /root/check && $here/tests/package/pages.sh"
 if [ -n "$clean" ]; then
     put_page_files

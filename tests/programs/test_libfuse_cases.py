@@ -1,7 +1,7 @@
 """libfuse's own tests judge file systems over this layer: its examples of notices, POLL and IOCTL, as libfuse_examples.c
 has them, and its passthroughs, for which nizwarf-share is here (passthrough.sh).
 
-The tests are those of Debian's sid, by libfuse's own runner, clients and test_syscalls: tests/suites/get.sh unpacks and
+The tests are those of Debian's sid, by libfuse's own runner, clients and test_syscalls: tests/compare/suites/get.sh unpacks and
 builds them below out/suites. Left out are the cases of CUSE, of libfuse's options of a mount, of its debugging lines, and
 of what its source does not build. A passthrough_ll shares a copy of the root without mounts, so cases run in /tmp."""
 import platform
@@ -32,7 +32,7 @@ exec umount "$@"
 def libfuse():
     """The folder of libfuse's tests, built."""
     SUITES.mkdir(parents=True, exist_ok=True)
-    got = subprocess.run([REPOSITORY / "tests/suites/get.sh", "libfuse", SUITES], stdout=subprocess.PIPE,
+    got = subprocess.run([REPOSITORY / "tests/compare/suites/get.sh", "libfuse", SUITES], stdout=subprocess.PIPE,
                          stderr=subprocess.STDOUT, timeout=1800)
     if got.returncode:
         pytest.skip("requires libfuse's sources of Debian's sid, which cannot be downloaded or built")

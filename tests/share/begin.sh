@@ -15,7 +15,7 @@ begin_share() {
     # shellcheck disable=SC2034
     share=$transport
     ask=$here/out/c/ask
-    cc -std=c11 -O2 -Wall -Wextra -Werror -DPATIENCE=600 -o "$ask" "$here/tests/beside/ask.c"
+    cc -std=c11 -O2 -Wall -Wextra -Werror -DPATIENCE=600 -o "$ask" "$here/tests/lib/ask.c"
     cc -std=c11 -O2 -Wall -Wextra -Werror -pthread -o "${ask%/*}/rings" "$here/tests/share/rings.c"
     # (in memory where that is a file system: one on a disk may say of a directory that it has one name)
     # shellcheck disable=SC2119

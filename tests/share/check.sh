@@ -9,7 +9,7 @@
 # are looked at. Words of virtiofsd come to what they do there (words.py). Files that the mount's kernel has by itself are as in the folder (apart.py), and what others change is
 # seen where all is remembered (watched.py). What takes long holds up no other request of its processor (behind.py). Files of several file systems below the folder are told apart, and how many
 # are known is bounded; what a node takes is printed (nodes.py). A machine goes from one server to another (migrates.py). Over vhost-user it is asked the hostile requests of
-# tests/beside, and more that are made up, and told messages that can't be (messages.py), under sanitizers and in its
+# tests/compare/servers, and more that are made up, and told messages that can't be (messages.py), under sanitizers and in its
 # sandbox (hostile.py); a machine that goes away is followed by another. Locks are those of the folder, and what waits
 # for one holds nothing up (waits.py).
 # Last, tools/dev/lint.sh holds its sources against clang-tidy and cppcheck, if they are installed.

@@ -1,9 +1,9 @@
-"""Prints requests for tests/beside/ask.c that make directories, each by who asks: directories.py NAME:UID:GID .."""
+"""Prints requests for tests/lib/ask.c that make directories, each by who asks: directories.py NAME:UID:GID .."""
 import os
 import struct
 import sys
 
-sys.path.insert(0, os.path.dirname(os.path.abspath(__file__)) + "/../beside")
+sys.path.insert(0, os.path.dirname(os.path.abspath(__file__)) + "/../lib")
 from requests import FIRST, line
 
 print(FIRST[1])

@@ -1,8 +1,8 @@
-"""Asks a share over vhost-user what breaks a rule, for check.sh: the sessions of tests/beside, sessions made of a number,
+"""Asks a share over vhost-user what breaks a rule, for check.sh: the sessions of tests/compare/servers, sessions made of a number,
 numbers and names that are made up, offsets that Linux has no number for, requests by chance, memory that is changed
 while it is read. After each it is served still, and all is given back at the end.
 
-    hostile.py ASK WORK WHAT SHARE [WORDS]: the built tests/beside/ask.c, with rings.c beside it, a folder to work in,
+    hostile.py ASK WORK WHAT SHARE [WORDS]: the built tests/lib/ask.c, with rings.c beside it, a folder to work in,
     what the server is, and the program with its words
 
 Status 0: each came to what it must."""
@@ -16,7 +16,7 @@ import subprocess
 import sys
 import time
 
-sys.path[:0] = [f"{os.path.dirname(os.path.abspath(__file__))}/../{it}" for it in ("beside", "lib")]
+sys.path.insert(0, os.path.dirname(os.path.abspath(__file__)) + "/../lib")
 import generate
 import messages
 import requests
@@ -140,7 +140,7 @@ class Front:
 
 
 def sessions_of_beside(server):
-    """The sessions of tests/beside: after each the queue is still served. Answers how many requests they were."""
+    """The sessions of tests/compare/servers: after each the queue is still served. Answers how many requests they were."""
     count = 0
     for items, _ in requests.sessions():
         front, answers = Front(server), []

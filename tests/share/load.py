@@ -1,7 +1,7 @@
 """Load and faults for nizwarf-share, for load.sh.
 
 Usage: load.py SHARE REFUSING ASK WORK MINUTES [DAEMON]
-SHARE is the program, REFUSING the same one linked with refuse_some.c, ASK tests/beside/ask.c, WORK an empty
+SHARE is the program, REFUSING the same one linked with refuse_some.c, ASK tests/lib/ask.c, WORK an empty
 folder, DAEMON virtiofsd over the layer here, whose machines migrate. It wants root and stress-ng.
 
 One server is mounted and one serves machines from beginning to end; others are started for a part of it. Parts
@@ -20,7 +20,7 @@ import tempfile
 import threading
 import time
 
-sys.path.insert(0, os.path.dirname(os.path.abspath(__file__)) + "/../beside")
+sys.path.insert(0, os.path.dirname(os.path.abspath(__file__)) + "/../lib")
 import requests
 import rounds
 from loaded import MOST_MEMORY, PATIENCE, Server, count, counts, drop_caches, empty, faults, hold_descriptors, hold_end

@@ -1,12 +1,12 @@
 """Starts a share as libvirt 9.0 and 11 start a daemon, with all that these have words for, for
-check.sh: each is served. managers.py ASK SHARE WORK, where ASK is the built tests/beside/ask.c"""
+check.sh: each is served. managers.py ASK SHARE WORK, where ASK is the built tests/lib/ask.c"""
 import os
 import socket
 import struct
 import subprocess
 import sys
 
-sys.path.insert(0, os.path.dirname(os.path.abspath(__file__)) + "/../beside")
+sys.path.insert(0, os.path.dirname(os.path.abspath(__file__)) + "/../lib")
 from requests import FIRST, line, request
 
 ask, share, work = sys.argv[1:]

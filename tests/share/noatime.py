@@ -1,11 +1,11 @@
 """Opens a file of a share with O_NOATIME, for check.sh, and prints the error: noatime.py ASK SOCKET NAME, where ASK is the
-built tests/beside/ask.c"""
+built tests/lib/ask.c"""
 import os
 import struct
 import subprocess
 import sys
 
-sys.path.insert(0, os.path.dirname(os.path.abspath(__file__)) + "/../beside")
+sys.path.insert(0, os.path.dirname(os.path.abspath(__file__)) + "/../lib")
 from requests import FIRST, line, request
 
 ask, path, name = sys.argv[1:]

@@ -1,7 +1,7 @@
 """What a client of nizwarf-share knows of files, for check.sh.
 
 Usage: nodes.py SHARE ASK WORK
-SHARE is the program, ASK tests/beside/ask.c, WORK an empty folder. It wants root.
+SHARE is the program, ASK tests/lib/ask.c, WORK an empty folder. It wants root.
 
 Files of two file systems below the folder are told apart, over a mount and by a machine, whether that is told of
 mounts or not. A bound on the files that are known holds, and what it refuses is not made. A node takes little

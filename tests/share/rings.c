@@ -5,7 +5,7 @@
  * Usage: rings SOCKET SEED MILLISECONDS
  * It writes how many chains came back. Status 0: the server went on up to the end; 3: it did not. */
 #define _GNU_SOURCE
-#include "../beside/front.h"
+#include "../lib/front.h"
 
 #include <pthread.h>
 #include <stdatomic.h>

@@ -10,7 +10,7 @@ import tempfile
 import threading
 import time
 
-sys.path.insert(0, os.path.dirname(os.path.abspath(__file__)) + "/../beside")
+sys.path[:0] = [f"{os.path.dirname(os.path.abspath(__file__))}/../{it}" for it in ("compare/servers", "lib")]
 import migrated
 import requests
 from loaded import PATIENCE, Server, count, empty, hold_descriptors, hold_end, wait_for, wrong

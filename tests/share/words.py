@@ -1,7 +1,7 @@
 """What comes of virtiofsd's words, as a machine sees it, asked over vhost-user as root: for check.sh, and for
-tests/beside/words.sh, which asks virtiofsd itself.
+tests/compare/servers/words.sh, which asks virtiofsd itself.
 
-    words.py ASK WORK (--write | --compare | --known) DAEMON..: the built tests/beside/ask.c, an empty folder on a file
+    words.py ASK WORK (--write | --compare | --known) DAEMON..: the built tests/lib/ask.c, an empty folder on a file
     system with attributes of users, and the program with words of its own. Lines of what came are written to words.txt,
     which has those of virtiofsd 1.13.2, or compared with it; with --known those of KNOWN differ, as these say.
 """
@@ -16,7 +16,7 @@ import subprocess
 import sys
 import time
 
-sys.path.insert(0, os.path.dirname(os.path.abspath(__file__)) + "/../beside")
+sys.path.insert(0, os.path.dirname(os.path.abspath(__file__)) + "/../lib")
 from requests import line
 
 STORED = pathlib.Path(__file__).with_suffix(".txt")

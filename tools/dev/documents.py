@@ -8,7 +8,7 @@ from statement import WORD, Specs, is_held, start_of
 KIT = os.environ["kit"]
 COUNTED = ["README.md", *sorted(glob.glob("docs/*.md")), "CONTRIBUTING.md", "CHANGELOG.md", "NOTICE.md",
            *sorted(glob.glob("crates/*/README.md"))]
-DOCUMENTS = [*COUNTED, "tools/README.md", "tests/README.md", "tests/oracle/README.md", "programs/README.md"]
+DOCUMENTS = [*COUNTED, "tools/README.md", "tests/README.md", "tests/compare/virtiofsd_code/README.md", "programs/README.md"]
 # Of every other page the links alone are checked. (the command is that by which tools/check.sh counts pages)
 LINKED = sorted({it for it in subprocess.run(["git", "ls-files", "--cached", "--others", "--exclude-standard", "-z", "--",
                                               "*.md"], capture_output=True, check=True, text=True).stdout.split("\0")

@@ -24,8 +24,8 @@ need_front() {
     [ "$(id -u)" = 0 ] || refuse "virtiofsd is started as root: run $1 as root."
 }
 
-# Builds a front end of tests/beside into the folder: build_front NAME.
+# Builds a front end of tests/lib into the folder: build_front NAME.
 build_front() {
     need cc "Install a C compiler: apt-get install gcc libc6-dev."
-    cc -std=c11 -O2 -Wall -Wextra -Werror -o "$folder/$1" "$here/tests/beside/$1.c"
+    cc -std=c11 -O2 -Wall -Wextra -Werror -o "$folder/$1" "$here/tests/lib/$1.c"
 }

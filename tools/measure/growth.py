@@ -1,7 +1,7 @@
 """Measures how daemons grow with what they serve, for growth.sh, which says what.
 
 Usage: growth.py PACE WORK MOST SHARE PASSTHROUGH_LL VIRTIOFSD..
-PACE is the built tests/beside/pace.c, WORK an empty folder in memory, MOST the greatest number of files."""
+PACE is the built tools/measure/pace.c, WORK an empty folder in memory, MOST the greatest number of files."""
 import os
 import socket
 import subprocess

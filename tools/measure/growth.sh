@@ -6,7 +6,7 @@
 #
 # Usage: tools/measure/growth.sh [--unproved] [MOST]
 # MOST is the greatest number of files, 3000000 if none is given, which take 5 GB of memory in a tmpfs of its own, and some
-# five minutes. Nothing is mounted by FUSE, because tests/beside/pace.c takes the place of a guest.
+# five minutes. Nothing is mounted by FUSE, because tools/measure/pace.c takes the place of a guest.
 #
 # It requires root, python3, a C compiler and the Rattle toolchain. It gets passthrough_ll, from libfuse's sources, and
 # virtiofsd from Debian's packages, by apt-get, into ignored folders; nothing is installed. It requires the proved libraries;
@@ -16,7 +16,6 @@ set -euo pipefail
 . "$(dirname "$0")/../lib/usage.sh"
 . "$(dirname "$0")/../lib/transport.sh"
 . "$(dirname "$0")/../lib/debian.sh"
-. "$(dirname "$0")/../lib/front.sh"
 . "$(dirname "$0")/../lib/mounts.sh"
 
 given=("$@") unproved=''
@@ -39,7 +38,7 @@ get_passthrough
 find_virtiofsd trixie "$here/out/beside/trixie"
 build_transport share nizwarf_door
 folder=$here/out/c
-build_front pace
+cc -std=c11 -O2 -Wall -Wextra -Werror -o "$folder/pace" "$here/tools/measure/pace.c"
 # shellcheck disable=SC2119
 own_work
 # (no limit of inodes: each file is one)

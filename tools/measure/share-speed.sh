@@ -23,7 +23,7 @@
 #   --jobs N    how many processes use a mount at once (1)
 #   --classes LIST  only these classes, separated by commas; an unknown one prints the list
 #
-# Over vhost-user tests/beside/pace.c takes the place of a guest: it has a processor of its own, and all daemons share the
+# Over vhost-user tools/measure/pace.c takes the place of a guest: it has a processor of its own, and all daemons share the
 # others. Over /dev/fuse tools/measure/share_speed.c uses files. All folders are in memory, so that no disk is measured.
 # Processor time is that of a server and of its descendants, the kernel's part included.
 #
@@ -90,7 +90,7 @@ tidy() {
     rm -rf --one-file-system "$work"
 }
 trap 'tidy 2> /dev/null || true' EXIT
-cc -std=c11 -O2 -Wall -Wextra -Werror -o "$work/pace" "$here/tests/beside/pace.c"
+cc -std=c11 -O2 -Wall -Wextra -Werror -o "$work/pace" "$here/tools/measure/pace.c"
 cc -std=c11 -O2 -Wall -Wextra -Werror -o "$work/share_speed" "$here/tools/measure/share_speed.c"
 
 # Writes a server as a line for the measuring programs: line NAME KIND-OR-WORD WORD..
@@ -170,7 +170,7 @@ build_ring() {
 over_vhost() {
     "$1" > "$work/servers"
     mkdir -p "$work/vhost"
-    python3 -B "$here/tests/beside/pace.py" "${words[@]}" "$work/pace" "$work/vhost" "$work/servers"
+    python3 -B "$here/tools/measure/pace.py" "${words[@]}" "$work/pace" "$work/vhost" "$work/servers"
 }
 over_mount() {
     "$1" > "$work/servers"

@@ -2,7 +2,7 @@
 # Measures what requests cost, by the library of crates/test_speed beside virtiofsd's own Rust, in one process.
 #
 # Usage: tools/measure/speed.sh [--source FOLDER] [--only TEXT] [--runs N] [--ms N]
-# tests/oracle/build.sh builds virtiofsd's Rust from Debian's package of its source, or from FOLDER. For each class of
+# tests/compare/virtiofsd_code/build.sh builds virtiofsd's Rust from Debian's package of its source, or from FOLDER. For each class of
 # request whose name contains TEXT, and each cutting of it, it prints the processor time of a request on both sides, the
 # least of N runs of N milliseconds, and its allocations. The last column is the median of the ratios of runs that followed
 # each other; trust that one. The replies of both are compared first, and nothing is timed where they differ.
@@ -34,7 +34,7 @@ done
 need rt "The Rattle toolchain builds the library: put its folder bin on the PATH."
 kit=$(cd "$(dirname "$(rt doc)")" && pwd)
 need rustc "Install a Rust compiler: apt-get install rustc."
-"$here/tests/oracle/build.sh" "${source[@]}"
+"$here/tests/compare/virtiofsd_code/build.sh" "${source[@]}"
 folder=$(mktemp -d)
 trap 'rm -rf "$folder"' EXIT
 if [ ! -e "$library" ] ||
@@ -47,7 +47,7 @@ fi
 rust=(--edition 2021 -C opt-level=3 -C target-cpu=x86-64-v2 --cap-lints allow
     -L "$beside/fast" --extern "oracle=$beside/fast/liboracle.rlib"
     -C "link-arg=$library" -C "link-arg=$kit/c/liblibc_c.a")
-rustc "${rust[@]}" -o "$folder/beside" "$here/tests/oracle/src/bin/beside.rs"
+rustc "${rust[@]}" -o "$folder/beside" "$here/tests/compare/virtiofsd_code/src/bin/beside.rs"
 # The replies of both, by checksums: what differs is not the same work.
 if ! "$folder/beside" "${flags[@]}" --digests > "$folder/digests"; then
     grep DIFFER "$folder/digests" >&2 || echo "The replies can't be compared." >&2
