@@ -1,19 +1,39 @@
-"""What all tests in pytest share: the libraries for C, and programs that are compiled with them.
+"""What all tests in pytest share: the libraries for C, programs that are compiled with them, and a new directory.
+nizwarf-share is built once, or is that of the environment variable NIZWARF_SHARE, such as one with a sanitizer.
 
 A proved library is taken if it is built and no source is newer. Otherwise tools/lib/unproved.sh builds one without a
 proof, in a minute. With --prove the libraries are proved first, which takes up to half an hour. A run in which no test
 passed is no success, because it judged nothing."""
+import os
+import pathlib
 import subprocess
 import sys
+import tempfile
 
 import pytest
-from building import ADDRESS, PLAIN, REPOSITORY, THREAD, Built, run
+from building import ADDRESS, PLAIN, REPOSITORY, THREAD, Built, built_program, find_library, run
+from requirements import REQUIREMENTS, require, setting
 
 sys.dont_write_bytecode = True
 
 
 def pytest_addoption(parser):
     parser.addoption("--prove", action="store_true", help="prove the libraries for C before their tests")
+    parser.addoption("--requests", type=int, metavar="N", help="how many requests a test of tests/compare generates")
+    parser.addoption("--seed", type=int, default=1, metavar="N", help="by which they are generated")
+    parser.addoption("--jobs", type=int, metavar="N", help="how many processors a test of tests/compare uses")
+
+
+def pytest_configure(config):
+    """Declares the marks of what tests require."""
+    for name, (reason, _) in REQUIREMENTS.items():
+        config.addinivalue_line("markers", f"{name}: {reason}")
+
+
+def pytest_runtest_setup(item):
+    for name in REQUIREMENTS:
+        if item.get_closest_marker(name):
+            require(name)
 
 
 def pytest_sessionfinish(session, exitstatus):
@@ -29,14 +49,31 @@ def libraries(request):
     if request.config.getoption("--prove", False):
         for name in ("nizwarf_tree", "nizwarf_door", "nizwarf_border"):
             run("rt", "lib", cwd=REPOSITORY / "crates" / name, seconds=3600)
-    script = """. tools/lib/usage.sh; . tools/lib/transport.sh
-        find_library nizwarf_door; door=${library[0]}; find_library; printf '%s\\n' "$door" "${library[@]}" """
-    found = subprocess.run(["bash", "-euc", script], cwd=REPOSITORY, capture_output=True, text=True, timeout=3600)
-    # (2: a program that builds them is missing)
-    if found.returncode == 2:
-        pytest.skip(found.stderr.strip().splitlines()[-1])
-    assert found.returncode == 0, found.stderr
-    return found.stdout.split()
+    return [find_library("nizwarf_door")[0], *find_library("nizwarf_tree")]
+
+
+@pytest.fixture(scope="session")
+def share():
+    """The path of nizwarf-share."""
+    return os.environ.get("NIZWARF_SHARE") or built_program("share", "nizwarf_door")
+
+
+@pytest.fixture(scope="session")
+def tree_mount():
+    """The path of nizwarf-mount, which mounts a tree in memory."""
+    return built_program("mount")
+
+
+@pytest.fixture(scope="session")
+def tree_vhost():
+    """The path of nizwarf-vhost, which serves such a tree on a vhost-user socket."""
+    return built_program("vhost")
+
+
+@pytest.fixture(scope="session")
+def build_program():
+    """Builds a program with flags of the compiler: build_program(NAME, LIBRARY, FLAG..) returns its path."""
+    return built_program
 
 
 def built_with(request):
@@ -59,3 +96,28 @@ def built(request):
 def built_with_threads(request):
     """The same, and with the sanitizer of threads too."""
     return built_with(request)
+
+
+@pytest.fixture
+def scratch():
+    """A new directory for sockets and mount points, in memory if there is a file system in memory."""
+    yield from new_directory("/dev/shm" if os.path.isdir("/dev/shm") else None)
+
+
+@pytest.fixture
+def scratch_in_tmp():
+    """The same in /tmp, which is often on the file system of the root."""
+    yield from new_directory("/tmp")
+
+
+def new_directory(parent):
+    """Makes a directory, yields its path, and removes it with all that is mounted below."""
+    path = pathlib.Path(tempfile.mkdtemp(dir=parent))
+    # (servers that change their user look below it)
+    path.chmod(0o755)
+    yield path
+    # (nothing that is mounted there may lose its files: what cannot be unmounted stays)
+    below = [line.split()[1] for line in setting("/proc/self/mounts").splitlines() if f" {path}/" in line]
+    for it in reversed(below):
+        subprocess.run(["umount", "-l", it], stderr=subprocess.DEVNULL, timeout=30)
+    subprocess.run(["rm", "-rf", "--one-file-system", path], timeout=30)

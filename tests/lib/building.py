@@ -2,6 +2,7 @@
 import pathlib
 import shutil
 import subprocess
+import sys
 
 import pytest
 
@@ -26,6 +27,35 @@ def run(*command, seconds=120, status=0, **more):
 def need(command, package):
     if not shutil.which(command):
         pytest.skip(f"requires {command}: apt-get install {package}")
+
+
+def judge(*command, seconds=3600, **more):
+    """Runs a program that must end with status 0 in time. pytest shows its output if it does not; with -s, as it comes."""
+    status = subprocess.run(command, timeout=seconds, stdin=subprocess.DEVNULL, **more).returncode
+    assert status == 0, f"status {status} of {' '.join(map(str, command))}"
+
+
+def shell(script, *arguments, seconds=3600):
+    """Runs lines of bash with the functions of tools/lib, and returns what they printed. If they end with status 2,
+    something that they require is not here: the test is skipped for what their last line says."""
+    libraries = "".join(f". tools/lib/{it}.sh; " for it in ("usage", "transport", "messages", "debian", "libfuse"))
+    ended = subprocess.run(["bash", "-euc", libraries + script, "bash", *map(str, arguments)], cwd=REPOSITORY,
+                           stdin=subprocess.DEVNULL, stdout=subprocess.PIPE, stderr=subprocess.PIPE, text=True, timeout=seconds)
+    print(ended.stderr, end="", file=sys.stderr)
+    if ended.returncode == 2:
+        pytest.skip(ended.stderr.strip().splitlines()[-1])
+    assert ended.returncode == 0, f"status {ended.returncode}:\n{ended.stderr}"
+    return ended.stdout.strip()
+
+
+def find_library(name):
+    """The paths of a library for C, which is proved or built without a proof, and of the C code that it needs."""
+    return shell('find_library "$1"; printf "%s\n" "${library[@]}"', name).splitlines()
+
+
+def built_program(name, library="nizwarf_tree", *flags):
+    """Builds the program nizwarf-NAME with a library for C and flags of the compiler, and returns its path."""
+    return shell('build_transport "$@" >&2; echo "$transport"', name, library, *flags)
 
 
 class Built:

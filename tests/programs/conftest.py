@@ -5,102 +5,28 @@ socket or on a mount point.
         (directory / "file").write_text("content")
         client = serve("--cache=never").connect()
 
-Mounts are made in a mount namespace of these tests. The program is built once, or is that of the environment
-variable NIZWARF_SHARE, such as one with a sanitizer. Each server must end with status 0, and must not have printed a
-report of a sanitizer. A server that does not end in time is killed, and its test fails."""
+Each server must end with status 0, and must not have printed a report of a sanitizer. A server that does not end in time is
+killed, and its test fails."""
 import contextlib
-import ctypes
 import os
 import pathlib
 import re
-import shutil
 import signal
 import subprocess
-import tempfile
 import time
 
 import pytest
+from building import REPOSITORY
+from requirements import enter_mount_namespace, require, setting
 from vhost_user import FrontEnd
 
-REPOSITORY = pathlib.Path(__file__).resolve().parents[2]
 # How long a server may take to begin, and to end, in seconds.
 BEGIN, END = 30, 30
 REPORT = re.compile(r"ERROR: \w+Sanitizer|WARNING: ThreadSanitizer|runtime error:")
-CLONE_NEWNS, MS_REC, MS_PRIVATE = 0x20000, 0x4000, 0x40000
 
 
-def setting(path):
-    """The text of a file in /proc or /sys, or none if it is not there."""
-    with contextlib.suppress(OSError):
-        return pathlib.Path(path).read_text().strip()
-    return ""
-
-
-# What a marked test requires: what a person reads, and whether it is here.
-REQUIREMENTS = {
-    "root": ("requires root", lambda: os.geteuid() == 0),
-    "fuse": ("requires root and /dev/fuse", lambda: os.geteuid() == 0 and os.path.exists("/dev/fuse")),
-    "io_uring": ("requires FUSE over io_uring: echo Y > /sys/module/fuse/parameters/enable_uring",
-                 lambda: setting("/sys/module/fuse/parameters/enable_uring") == "Y"),
-    "qemu": ("requires qemu-system-x86_64", lambda: shutil.which("qemu-system-x86_64")),
-}
-
-
-def require(name):
-    """Skips the test if something that it requires is not here."""
-    reason, is_here = REQUIREMENTS[name]
-    if not is_here():
-        pytest.skip(reason)
-
-
-def pytest_configure(config):
-    """Declares the markers, and enters a mount namespace, so that nobody else sees what tests mount."""
-    for name, (reason, _) in REQUIREMENTS.items():
-        config.addinivalue_line("markers", f"{name}: {reason}")
-    if os.geteuid() == 0:
-        libc = ctypes.CDLL(None, use_errno=True)
-        if libc.unshare(CLONE_NEWNS) or libc.mount(b"none", b"/", None, MS_REC | MS_PRIVATE, None):
-            raise OSError(ctypes.get_errno(), "cannot enter a mount namespace")
-
-
-def pytest_runtest_setup(item):
-    for name in REQUIREMENTS:
-        if item.get_closest_marker(name):
-            require(name)
-
-
-@pytest.fixture(scope="session")
-def share():
-    """The path of nizwarf-share."""
-    return os.environ.get("NIZWARF_SHARE") or built_program("share", "nizwarf_door")
-
-
-@pytest.fixture(scope="session")
-def tree_mount():
-    """The path of nizwarf-mount, which mounts a tree in memory."""
-    return built_program("mount")
-
-
-@pytest.fixture(scope="session")
-def tree_vhost():
-    """The path of nizwarf-vhost, which serves such a tree on a vhost-user socket."""
-    return built_program("vhost")
-
-
-@pytest.fixture(scope="session")
-def build_program():
-    """Builds a program with flags of the compiler: build_program(NAME, LIBRARY, FLAG..) returns its path."""
-    return built_program
-
-
-def built_program(name, library="nizwarf_tree", *flags):
-    """Builds the program nizwarf-NAME with a library for C, and returns its path."""
-    script = '. tools/lib/usage.sh; . tools/lib/transport.sh; build_transport "$@" >&2; echo "$transport"'
-    built = subprocess.run(["bash", "-euc", script, "bash", name, library, *flags], cwd=REPOSITORY, stdout=subprocess.PIPE,
-                           text=True, timeout=1800)
-    if built.returncode:
-        pytest.fail(f"nizwarf-{name} does not build")
-    return built.stdout.strip()
+def pytest_configure():
+    enter_mount_namespace()
 
 
 @pytest.fixture(scope="session")
@@ -119,31 +45,6 @@ def build(tmp_path_factory):
         return built[source, *flags]
 
     return compile_one
-
-
-@pytest.fixture
-def scratch():
-    """A new directory for sockets and mount points, in memory if there is a file system in memory."""
-    yield from new_directory("/dev/shm" if os.path.isdir("/dev/shm") else None)
-
-
-@pytest.fixture
-def scratch_in_tmp():
-    """The same in /tmp, which is often on the file system of the root."""
-    yield from new_directory("/tmp")
-
-
-def new_directory(parent):
-    """Makes a directory, yields its path, and removes it with all that is mounted below."""
-    path = pathlib.Path(tempfile.mkdtemp(dir=parent))
-    # (servers that change their user look below it)
-    path.chmod(0o755)
-    yield path
-    # (nothing that is mounted there may lose its files: what cannot be unmounted stays)
-    below = [line.split()[1] for line in setting("/proc/self/mounts").splitlines() if f" {path}/" in line]
-    for it in reversed(below):
-        subprocess.run(["umount", "-l", it], stderr=subprocess.DEVNULL, timeout=END)
-    subprocess.run(["rm", "-rf", "--one-file-system", path], timeout=END)
 
 
 @pytest.fixture

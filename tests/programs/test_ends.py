@@ -2,7 +2,7 @@
 import subprocess
 import time
 
-from conftest import REPOSITORY
+from building import REPOSITORY
 
 
 def test_a_signal_ends_a_transport_while_a_late_reply_waits_for_its_reader(build):

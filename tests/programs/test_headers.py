@@ -3,7 +3,7 @@ import shutil
 import subprocess
 
 import pytest
-from conftest import REPOSITORY
+from building import REPOSITORY
 
 SOURCES = ("fuse_device.c", "fuse_mount.c", "later.c")
 

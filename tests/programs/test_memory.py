@@ -5,7 +5,7 @@ import pathlib
 import socket
 
 import pytest
-from conftest import setting
+from requirements import setting
 from shapes import Op, record
 from vhost_user import GET_FEATURES, GUEST, USER
 

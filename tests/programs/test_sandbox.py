@@ -7,7 +7,7 @@ import socket
 import subprocess
 
 import pytest
-from conftest import REPOSITORY
+from building import REPOSITORY
 
 pytestmark = pytest.mark.root
 KILLED = "nizwarf-share: signal 31 ended the server\n"

@@ -81,7 +81,7 @@ tell_of_filter() {
 make_program() {
     need make "Install it: apt-get install make."
     make -s -B -C "$1" -f "$here/programs/Makefile" "$2" CFLAGS="-Wall -Wextra -Werror ${*:3}" \
-        LIBRARY="${library[*]}" BORDER="${border:-}" INCLUDE="$here/include"
+        LIBRARY="${library[*]}" BORDER="${border:-}" INCLUDE="$here/include" || return 1
 }
 
 # Builds the program nizwarf-NAME with a library, and sets `transport` to it: build_transport NAME [LIBRARY

@@ -1,4 +1,4 @@
-"""Asks two sides the same at random, shrinks what differs, and says so: what tests/compare/tmpfs/run.sh calls.
+"""Does the same at random on two sides, shrinks what differs, and reports it: for tests/compare/test_tmpfs.py.
 
     mirror.py calls KIND SEED COUNT KNOWN FOLDER BESIDE
     mirror.py requests KIND SEED COUNT KNOWN LIBRARY BESIDE"""

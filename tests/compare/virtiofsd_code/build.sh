@@ -1,5 +1,5 @@
 #!/usr/bin/env bash
-# Builds virtiofsd's own code over lists of byte segments: the oracle that tests/compare/virtiofsd_code/run.sh asks.
+# Builds virtiofsd's own code over lists of byte segments, with which tests/compare/test_virtiofsd_code.py compares.
 #
 # Usage: tests/compare/virtiofsd_code/build.sh [--source FOLDER]
 # The code is that of virtiofsd 1.13.2: fuse.rs, descriptor_utils.rs, filesystem.rs and server.rs. It is
@@ -11,7 +11,7 @@
 # In out/oracle it leaves the programs `raw` (the code as it is), `mended` (without the faults that
 # docs/DIFFERENCES.md lists) and `later` (entries given back, and a limit that is chosen), and in
 # out/oracle/fast what tools/measure/speed.sh links. It runs virtiofsd's own tests of its segments over the
-# crates that stand in, where the source has them, and holds the three programs against differences.txt.
+# crates that stand in, where the source has them.
 #
 # It wants rustc and Python 3, builds only what is older than its sources or by another compiler, and takes
 # half a minute.
@@ -57,9 +57,7 @@ fetch() {
         rm -rf "$folder"
     fi
     if [ ! -e "$out/source/src/fuse.rs" ]; then
-        echo "Debian's package $package, which has the source of virtiofsd 1.13.2, can't be had by" >&2
-        echo "apt-get here. Give a folder with fuse.rs, descriptor_utils.rs, filesystem.rs and server.rs:" >&2
-        echo "--source FOLDER." >&2
+        echo "requires Debian's package $package of 1.13.2 from apt-get, or a folder with its sources" >&2
         exit 2
     fi
 }
@@ -130,7 +128,7 @@ source=${given:-$out/source}
 of=$(printf '%s\n' "$source" "$(rustc -V)")
 built=$out/built
 if [ -e "$built" ] && [ "$(cat "$built")" = "$of" ] &&
-    [ -z "$(find "$here"/{build.sh,edits.py,differences.*,src,stand_ins} "$source" -type f -newer "$built" -print -quit)" ]; then
+    [ -z "$(find "$here"/{build.sh,edits.py,src,stand_ins} "$source" -type f -newer "$built" -print -quit)" ]; then
     exit
 fi
 echo "Building virtiofsd's code from ${given:-the package} .." >&2
@@ -157,7 +155,6 @@ for job in "${jobs[@]}"; do
 done
 part "their tests"
 run_own_tests
-python3 -B "$here/differences.py" "$out"
 
 # What is measured: the mended one, with flags of its own.
 part "what is measured"

@@ -1,5 +1,5 @@
 #!/usr/bin/env python3
-"""Compares the programs of this repository with the oracle, for tests/compare/virtiofsd_code/run.sh.
+"""Compares the programs of this repository with virtiofsd's own code, for tests/compare/test_virtiofsd_code.py.
 
 Usage: compare.py SEED COUNT JOBS ORACLE PROGRAM ..
 Each session goes to a program as it is cut, and with each request in one segment and one room:

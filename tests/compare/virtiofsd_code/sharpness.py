@@ -1,5 +1,7 @@
 #!/usr/bin/env python3
-"""Builds the wrong bodies and looks which of them the sessions catch, for sharpness.sh.
+"""Builds the wrong bodies one after another, and reports which the sessions catch, for tests/compare/test_virtiofsd_code.py.
+
+A body that does not end counts as caught.
 
 Usage: sharpness.py SEED COUNT JOBS ORACLE FOLDER TEXT
 ORACLE is the folder that build.sh made. TEXT is in the lines of the wrong bodies that are tried.
