@@ -1,18 +1,13 @@
-#!/usr/bin/env python3
 """Makes cases of chains for walk.c and upstream/upstream.rs, and compares what both say of them.
-
-Usage: tests/compare/chains/cases.py make SEED COUNT > CASES
-       tests/compare/chains/cases.py compare CASES OURS UPSTREAM
 
 A case is the size of a queue, a head, the queue's table and an indirect one, of 16 descriptors each. The first ones are
 those of virtio-queue's own tests; COUNT others are by chance, the same for the same SEED. Where both find a chain its
 pieces must be the same; where one is refused, upstream must stop at the same descriptor, but for what it lets through
-and says so: these are counted by themselves. Status 0: so it is; 1: it is not.
+and says so: these are counted by themselves.
 """
 import collections
 import random
 import struct
-import sys
 
 # VRING_DESC_F_ of a descriptor.
 NEXT, WRITE, INDIRECT = 1, 2, 4
@@ -179,40 +174,16 @@ def judge(one, ours, theirs):
 
 
 def compare(cases, ours, theirs):
-    """Compares two files of lines, one for each case, and counts what came by kind. Shows the first five that are wrong."""
-    with open(cases, "rb") as file:
-        bytes_of = file.read()
-    with open(ours, encoding="ascii") as file:
-        ours = file.read().splitlines()
-    with open(theirs, encoding="ascii") as file:
-        theirs = file.read().splitlines()
+    """Compares lines for each case, and counts what came by kind. Shows the first five that are wrong, and returns how
+    many there are."""
     counted, wrong = collections.Counter(), 0
-    if not len(ours) == len(theirs) == len(bytes_of) // SIZE:
-        print(f"{len(bytes_of) // SIZE} cases, {len(ours)} and {len(theirs)} lines.")
-        return 1
-    for place, lines in enumerate(zip(ours, theirs)):
-        what, right = judge(bytes_of[place * SIZE:(place + 1) * SIZE], *lines)
+    assert len(ours) == len(theirs) == len(cases)
+    for place, case in enumerate(zip(cases, ours, theirs)):
+        what, right = judge(*case)
         counted[what] += 1
         wrong += not right
         if not right and wrong <= 5:
-            print(f"case {place}: {what}\n  ours      {lines[0]}\n  upstream  {lines[1]}")
+            print(f"case {place}: {what}\n  ours      {case[1]}\n  upstream  {case[2]}")
     for what, count in sorted(counted.items(), key=lambda it: -it[1]):
         print(f"{count:8}  {what}")
-    print(f"{len(ours)} cases, {wrong} of them otherwise than virtio-queue has them.")
-    return 1 if wrong else 0
-
-
-def main():
-    """Does what the first word says."""
-    if len(sys.argv) == 4 and sys.argv[1] == "make":
-        for one in make(int(sys.argv[2]), int(sys.argv[3])):
-            sys.stdout.buffer.write(one)
-        return 0
-    if len(sys.argv) == 5 and sys.argv[1] == "compare":
-        return compare(*sys.argv[2:])
-    print(__doc__, file=sys.stderr)
-    return 2
-
-
-if __name__ == "__main__":
-    sys.exit(main())
+    return wrong
