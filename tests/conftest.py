@@ -21,6 +21,7 @@ def pytest_addoption(parser):
     parser.addoption("--prove", action="store_true", help="prove the libraries for C before their tests")
     parser.addoption("--requests", type=int, metavar="N", help="how many requests a test of tests/compare generates")
     parser.addoption("--seed", type=int, default=1, metavar="N", help="by which they are generated")
+    parser.addoption("--quick", action="store_true", help="fewer cases of the suites of tests/compare")
     parser.addoption("--jobs", type=int, metavar="N", help="how many processors a test of tests/compare uses")
 
 

@@ -2,10 +2,10 @@
 # Gets what a suite wants from Debian's packages, and builds it if it is a source.
 #
 # Usage: tests/compare/suites/get.sh WHAT FOLDER
-# WHAT is a suite of tests/compare/suites/run.sh, or passthrough_ll, bindfs or libfuse. Packages that the machine doesn't
+# WHAT is a suite of tests/compare/suites/suites.py, or libfuse. Packages that the machine doesn't
 # have are downloaded by apt-get and unpacked below FOLDER, and never installed: programs and libraries in
 # FOLDER/root, CPython with its tests in FOLDER/cpython, coreutils as built in FOLDER/coreutils.
-# FOLDER/have-WHAT has the version. Nothing is done if it is there already. tests/compare/suites/run.sh calls it.
+# FOLDER/have-WHAT has the version. Nothing is done if it is there already. tests/compare/test_suites.py calls it.
 set -euo pipefail
 . "$(dirname "$0")/../../../tools/lib/usage.sh"
 . "$(dirname "$0")/../../../tools/lib/debian.sh"
@@ -107,15 +107,6 @@ get_libfuse() {
     done
 }
 
-# libfuse's own passthrough, an example of its package, with all calls that it can have.
-get_passthrough_ll() {
-    have libfuse3-dev fuse3
-    local examples=$root/usr/share/doc/libfuse3-dev/examples
-    [ -e "$examples/passthrough_ll.c" ] || examples=/usr/share/doc/libfuse3-dev/examples
-    cc -w -O2 -D_FILE_OFFSET_BITS=64 -DHAVE_FALLOCATE -DHAVE_COPY_FILE_RANGE -I "$root/usr/include/fuse3" \
-        -I /usr/include/fuse3 -o "$there/passthrough_ll" "$examples/passthrough_ll.c" -L "$libraries" -lfuse3 -pthread
-}
-
 # The cases are in go-fuse's source, which the compiler of the same suite of Debian builds.
 get_posixtest() {
     local packages cases root modules=$work/go/usr/share/gocode/src
@@ -155,7 +146,7 @@ version_of() {
 package=$what
 case $what in
     cpython) package=python3 ;;
-    test_syscalls | passthrough_ll) package=libfuse3-3 ;;
+    test_syscalls) package=libfuse3-3 ;;
     sqlite) package=sqlite3 ;;
     pgbench) package=postgresql ;;
     cp | names) package=coreutils ;;
@@ -166,8 +157,8 @@ esac
 version=
 [[ $what == posixtest || $what == libfuse ]] || version=$(version_of "$package")
 case $what in
-    cpython | coreutils | test_syscalls | passthrough_ll | posixtest | libfuse | locks) "get_$what" ;;
-    stress-ng | fio | git | rsync | bindfs | sqlite | pgbench) have "$package" ;;
+    cpython | coreutils | test_syscalls | posixtest | libfuse | locks) "get_$what" ;;
+    stress-ng | fio | git | rsync | sqlite | pgbench) have "$package" ;;
     two-mounts)
         have sqlite3 postgresql
         [ -e "$there/have-locks" ] || "$0" locks "$there"

@@ -1,4 +1,4 @@
-"""Runs the suites of others in a folder each, and says where folders differ: what tests/compare/suites/run.sh calls.
+"""Runs the suites of others on several file systems, and reports where they differ, for tests/compare/test_suites.py.
 
 Each suite is a process of its own, in namespaces of its own, which prints a line for each case: its name, a tab,
 and what came: ok, failed, skipped or something longer."""
@@ -11,12 +11,12 @@ import sys
 import tempfile
 import time
 import xml.etree.ElementTree
-from collections import Counter
+from collections import Counter, namedtuple
 from concurrent.futures import ThreadPoolExecutor
 from pathlib import Path
 
 HERE = Path(__file__).resolve().parent
-# In seconds, the time in which each suite ends; a quarter of it with --quick.
+# In seconds, the time in which each suite ends; a quarter of it if it is quick.
 SECONDS = {"cpython": 900, "coreutils": 1200, "test_syscalls": 60, "posixtest": 120, "stress-ng": 600, "fio": 240,
            "sqlite": 240, "pgbench": 300, "git": 300, "rsync": 180, "tar": 180, "cp": 180, "names": 600, "locks": 600,
            "two-mounts": 600}
@@ -43,11 +43,11 @@ OF_SHARE = {"names": ["--inode-file-handles=prefer"], "locks": ["--flock", "--po
             "two-mounts": ["--flock", "--posix-lock", "--cache=never"]}
 # Those that want a second mount. A folder is beside itself.
 TWO = {"two-mounts"}
-# Those that are left out where they are only shown: passthrough_ll does not come to their end.
-LOCKS = {"locks", "two-mounts"}
 NOBODY = ["setpriv", "--reuid=65534", "--regid=65534", "--clear-groups"]
 # What is started so does not outlive this program.
 ENDS_WITH_THIS = ["setpriv", "--pdeathsig=KILL"]
+# Of a run the folder of what was downloaded, that of its logs, if it has fewer cases, and how many file systems at once.
+Options = namedtuple("Options", "there logs quick jobs")
 
 
 # What a suite has while it runs.
@@ -694,12 +694,10 @@ def names(run):
 # What the suites run on.
 
 class Column:
-    """A folder, or what mounts one: its name and kind, whether it is judged, and how it comes, with words."""
-    def __init__(self, line, number, work):
-        self.name, self.kind, judged, self.how, *self.words = line.split("\t")
-        self.is_judged = judged == "judged"
-        # (as long as the others, since a test may count on how long paths are)
-        self.home = Path(work) / f"column{number}"
+    """A folder, or what mounts one: its name and kind, and how it comes, with words. Paths of homes must be as long as each
+    other, because a test may count on how long paths are."""
+    def __init__(self, home, name, kind, how, *words):
+        self.home, self.name, self.kind, self.how, self.words = home, name, kind, how, words
         self.word = "".join(letter if letter.isalnum() else "_" for letter in self.name)
         self.servers, self.mounts = [], []
 
@@ -769,7 +767,7 @@ class Column:
             text = (self.at / "said").read_text(errors="replace")
             if "Sanitizer" in text or "runtime error" in text:
                 wrong = "a sanitizer found something"
-            if text and self.is_judged:
+            if text:
                 print(f"{self.name}, {suite}, said:\n{text[-2000:]}", file=sys.stderr)
         self.servers = []
         subprocess.run(["rm", "-rf", "--one-file-system", self.at])
@@ -801,20 +799,16 @@ class Column:
 
 def run_one(column, suite, options):
     """What each case came to, and a case for the server if that is wrong."""
-    if not column.is_judged and suite in LOCKS:
-        return {"the suite": "left out"}, 0
     limit = SECONDS[suite] // (4 if options.quick else 1)
     began = time.monotonic()
     try:
         folder, second = column.start(suite)
     except (OSError, RuntimeError) as error:
         return {"the mount": f"failed: {error}"}, 0
-    logs = Path(options.logs)
-    came, log = logs / f"{suite}.{column.word}.cases", logs / f"{suite}.{column.word}.log"
+    came, log = options.logs / f"{suite}.{column.word}.cases", options.logs / f"{suite}.{column.word}.log"
     # (a namespace of processes, so that a suite that is ended leaves none)
     words = [*ENDS_WITH_THIS, "unshare", "--mount", "--propagation=slave", "--pid", "--fork", "--kill-child=KILL",
-             "--mount-proc", sys.executable, "-B", __file__, "--one", suite, str(folder), str(second), "--there",
-             options.there]
+             "--mount-proc", sys.executable, "-B", __file__, suite, str(folder), str(second), str(options.there)]
     if options.quick:
         words.append("--quick")
     ended = True
@@ -877,29 +871,36 @@ def compare(suite, column, cases, reference, known):
     return why, faults
 
 
-def table(rows, columns, known):
-    """Prints a row for each suite. The faults come back, and the reasons that came."""
-    faults, came_of = [], set()
-    ours = [column for column in columns[1:] if column.is_judged]
-    print("| Suite | " + " | ".join(column.name for column in columns[1:] + columns[:1]) + " | Why they differ |")
-    print("|---|" + "---|" * len(columns) + "---|")
-    for suite, came in rows.items():
-        why, new = Counter(), []
-        for column in ours:
-            found, without = compare(suite, column, came[column.name], came[columns[0].name], known)
-            of = Counter()
-            for row, count in found.items():
-                of[row[3]] += count
-            why |= of
-            new += without
-            came_of |= found.keys()
-        said = [f"{count}: {reason}" for reason, count in why.items()]
-        if new:
-            said.append(f"**{len(new)} without a reason**")
-        cells = [short(came[column.name]) for column in columns[1:] + columns[:1]]
-        print(f"| {suite} | " + " | ".join(cells) + " | " + ("; ".join(said) or "equal") + " |", flush=True)
-        faults += new
-    return faults, came_of
+def run_all(suite, columns, options):
+    """Runs a suite on all columns, prints what its cases came to, and returns each difference from the first column that has
+    no reason."""
+    make_samples(options.there)
+    with ThreadPoolExecutor(options.jobs) as pool:
+        came = list(pool.map(lambda column: run_one(column, suite, options), columns))
+    known = [row for row in reasons(HERE / "reasons.txt") if row[1] == suite]
+    why, faults = Counter(), []
+    for column, (cases, seconds) in zip(columns, came):
+        print(f"{column.name}: {short(cases)} ({seconds:.0f} s)")
+        if column is not columns[0]:
+            found, new = compare(suite, column, cases, came[0][0], known)
+            why |= found
+            faults += new
+    for row in known:
+        if row in why:
+            print(f"{why[row]} of {row[2]}: {row[3]}")
+        elif not options.quick and any(fnmatch.fnmatchcase(column.kind, row[0]) for column in columns[1:]):
+            print(f"This reason did not come: {' | '.join(row)}")
+    return faults
+
+
+def make_samples(there):
+    """Makes the files that suites copy, if they are not there."""
+    if not (there / "trusted").exists() or not (there / "sample/made").exists():
+        subprocess.run(["rm", "-rf", there / "sample", there / "special", there / "trusted"], check=True)
+        make_sample(there / "sample")
+        make_special(there / "special")
+        make_trusted(there / "trusted")
+        (there / "sample/made").touch()
 
 
 def reap(child):
@@ -911,55 +912,18 @@ def reap(child):
 
 
 def main():
-    """Runs all suites over all columns and prints the table; or lists them, or runs one in a child that it waits for."""
-    options = argparse.ArgumentParser()
-    for word in ("--there", "--columns", "--work", "--logs", "--suites", "--reasons"):
-        options.add_argument(word)
-    options.add_argument("--one", nargs=3)
-    options.add_argument("--quick", action="store_true")
-    options.add_argument("--list", action="store_true")
-    options.add_argument("--sample", action="store_true")
-    options.add_argument("--jobs", type=int, default=1)
+    """Runs one suite in a child, and waits for it."""
+    options = argparse.ArgumentParser(description=main.__doc__)
+    options.add_argument("suite", choices=ABOUT)
+    for it in ("folder", "second", "there"):
+        options.add_argument(it)
+    options.add_argument("--quick", action="store_true", help="fewer cases")
     options = options.parse_args()
-    if options.list:
-        for name, what in ABOUT.items():
-            print(f"{name:14} {what}")
-        return 0
-    if options.one:
-        if child := os.fork():
-            return reap(child)
-        os.umask(0o022)
-        suite, folder, second = options.one
-        globals()[suite.replace("-", "_")](Run(folder, second, options.there, options.quick))
-        return 0
-    there = Path(options.there)
-    if not (there / "trusted").exists() or not (there / "sample/made").exists():
-        subprocess.run(["rm", "-rf", there / "sample", there / "special", there / "trusted"], check=True)
-        make_sample(there / "sample")
-        make_special(there / "special")
-        make_trusted(there / "trusted")
-        (there / "sample/made").touch()
-    with open(options.columns, encoding="utf-8") as lines:
-        columns = [Column(line.rstrip("\n"), number, options.work) for number, line in enumerate(lines)]
-    known = reasons(options.reasons)
-    rows = {}
-    suites = options.suites.split()
-    for number, suite in enumerate(suites, 1):
-        print(f"{number} of {len(suites)}: {suite}", file=sys.stderr, flush=True)
-        with ThreadPoolExecutor(options.jobs) as pool:
-            came = list(pool.map(lambda column: run_one(column, suite, options), columns))
-        rows[suite] = {column.name: cases for column, (cases, _) in zip(columns, came)}
-        told = [f"{column.name}: {short(cases)} ({seconds:.0f} s)" for column, (cases, seconds) in zip(columns, came)]
-        print(f"{suite}: {'; '.join(told)}", file=sys.stderr, flush=True)
-    faults, came_of = table(rows, columns, known)
-    for fault in faults:
-        print(f"FAULT  {fault}")
-    kinds = [column.kind for column in columns[1:] if column.is_judged]
-    for row in known:
-        is_asked = row[1] in rows and any(fnmatch.fnmatchcase(kind, row[0]) for kind in kinds)
-        if is_asked and row not in came_of and not options.quick:
-            print(f"This reason did not come: {' | '.join(row)}")
-    return 1 if faults else 0
+    if child := os.fork():
+        return reap(child)
+    os.umask(0o022)
+    globals()[options.suite.replace("-", "_")](Run(options.folder, options.second, options.there, options.quick))
+    return 0
 
 
 if __name__ == "__main__":
