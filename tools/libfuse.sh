@@ -3,7 +3,7 @@
 # a change.
 #
 # Usage: tools/libfuse.sh [--unmodified [--io-uring]] [--all] [--sanitize WHAT] [--suite SUITE] [FOLDER]
-#        tools/libfuse.sh --check [--suite SUITE] [FOLDER]
+#        tools/libfuse.sh --check [OPTION OF PYTEST]..
 # It leaves libfuse3.so.3 in the folder `lib` of FOLDER, which is out/libfuse if none is given, and prints where; by
 # LD_LIBRARY_PATH a program finds it there. It is built again if a source is newer, and never installed.
 #
@@ -17,7 +17,7 @@
 # With --io-uring libfuse as it is also serves requests over io_uring, which libfuse can since 3.17 and Debian's own package
 # is built without: a mount then takes `-o io_uring`. It is built into a folder of its own, with liburing and libnuma.
 #
-# With --check tests/compare/libfuse/check.sh holds the two libraries side by side.
+# With --check tests/compare/test_libfuse.py compares the two libraries.
 #
 # It wants apt-get, a C compiler, meson, ninja, pkg-config, patch and xz, of which it names the packages that are missing,
 # and the Rattle toolchain. It links the proved library if that is built and no source is newer; otherwise
@@ -35,7 +35,8 @@ usage() {
 }
 
 if [ "${1:-}" = --check ]; then
-    exec "$here/tests/compare/libfuse/check.sh" "${@:2}"
+    need pytest-3 "Install it: apt-get install python3-pytest."
+    exec pytest-3 "$here/tests/compare/test_libfuse.py" "${@:2}"
 fi
 suite=$(sed -n 's/^VERSION_CODENAME=//p' /etc/os-release)
 folder='' kind=nizwarf sanitize=none all='' ring=false

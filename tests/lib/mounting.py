@@ -8,8 +8,9 @@ from building import run
 
 
 @contextlib.contextmanager
-def mounted(point, *command, seconds=60, **more):
-    """Starts a server that mounts on a directory, and unmounts it after the block; then the server must end with status 0."""
+def mounted(point, *command, seconds=60, status=0, **more):
+    """Starts a server that mounts on a directory, and unmounts it after the block; then the server must end with this status,
+    or with any one if it is None."""
     server = subprocess.Popen(command, stdin=subprocess.DEVNULL, **more)
     try:
         until = time.monotonic() + seconds
@@ -18,7 +19,7 @@ def mounted(point, *command, seconds=60, **more):
             time.sleep(0.02)
         yield server
         run("umount", point)
-        assert server.wait(seconds) == 0
+        assert server.wait(seconds) == status or status is None
         assert not os.path.ismount(point)
     finally:
         server.kill()

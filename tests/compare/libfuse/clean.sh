@@ -1,11 +1,10 @@
 #!/usr/bin/env bash
 # Runs `tools/libfuse.sh --check` from nothing, on a Debian 12 that debootstrap makes: as whoever has the Rattle
-# toolchain, a clone, and no more.
+# toolchain, pytest, a clone, and no more. tests/compare/test_libfuse.py starts it.
 #
-# Usage: tests/compare/libfuse/clean.sh [--keep] [WORD..]
+# Usage: tests/compare/libfuse/clean.sh [--keep]
 # The Debian is in out/libfuse-debian. It gets a clone of the commit here, the toolchain, which nothing there may write
-# to, and of packages those alone that the check asks for. Words are those of the check, as `--suite sid`. With --keep
-# the Debian stays, and the next run starts from it, with a new clone.
+# to, and of packages those alone that skipped tests ask for. With --keep the Debian stays, and the next run starts from it, with a new clone.
 #
 # It wants root, /dev/fuse, git, the toolchain, and apt-get with a mirror, by which it installs debootstrap if that is
 # missing: 500 MB are downloaded. It takes twenty minutes.
@@ -25,18 +24,19 @@ inside() {
 
 # Mounts what a machine has, and the toolchain; and checks, until no package is missing.
 check_inside() {
-    local status packages
+    local status packages asked=''
     mount --bind "$root" "$root"
     mount --rbind /dev "$root/dev"
     mount -t proc proc "$root/proc"
     mount --bind -o ro "$kit" "$root$kit"
     quietly "$root.said" inside apt-get update
-    # It names packages that are missing, for one part after another.
+    # Tests that are skipped name packages that are missing, for one part after another.
     for _ in 1 2 3 4 5; do
         status=0
-        inside /root/nizwarf/tools/libfuse.sh --check "$@" 2>&1 | tee "$root.said" || status=${PIPESTATUS[0]}
-        read -ra packages <<< "$(sed -nE 's/.*apt-get install ([^.]*)\.$/\1/p' "$root.said")"
-        if [ "$status" != 2 ] || [ ${#packages[@]} = 0 ]; then return "$status"; fi
+        inside /root/nizwarf/tools/libfuse.sh --check 2>&1 | tee "$root.said" || status=${PIPESTATUS[0]}
+        read -ra packages <<< "$(sed -nE 's/^SKIPPED .*apt-get install ([^.]*)\.?$/\1/p' "$root.said" | paste -sd ' ')"
+        if [[ ${packages[*]} == "$asked" ]]; then return "$status"; fi
+        asked=${packages[*]}
         echo "Installing what it asks for .."
         quietly "$root.said" inside apt-get install -y --no-install-recommends "${packages[@]}"
     done
@@ -68,6 +68,7 @@ make_debian() {
     mkdir -p "$root"
     command -v debootstrap > /dev/null || apt-get install -qq -y --no-install-recommends debootstrap || return
     bootstrap_debian "$root" || return
+    chroot "$root" sh -c 'apt-get update -qq && apt-get install -qq --no-install-recommends python3-pytest' || return
     mkdir -p "$root$kit"
     : > "$root.made"
 }

@@ -1,8 +1,8 @@
 #!/usr/bin/env bash
-# Runs tests that programs of Debian which link libfuse3 bring with them, by the programs as they are packaged: with
+# Runs tests that a program of Debian which links libfuse3 brings with it, by the program as it is packaged: with
 # libfuse's own library, and with another one.
 #
-# Usage: tests/compare/libfuse/others.sh LIB FOLDER [SUITE..]
+# Usage: tests/compare/libfuse/others.sh LIB FOLDER SUITE
 # LIB is the folder with the other library, FOLDER that of tools/libfuse.sh. A suite is
 #
 #   portal   the document portal of xdg-desktop-portal: test-doc-portal and test-document-fuse.sh
@@ -10,10 +10,10 @@
 #   nbdfuse  libnbd's tests of nbdfuse
 #   raw, qcow2   QEMU's iotests of such images over an export of qemu-storage-daemon, `check -fuse -g auto`
 #   bindfs, overlay   bindfs's tests, and fuse-overlayfs's unlink.sh, by programs of Debian's sid, which link libfuse3.so.4:
-#            only if they alone are named, with that library
+#            with that library
 #
 # apt-get downloads the packages and what tests of sources there are, 400 MB, by lists of its own into FOLDER/others, where
-# all runs, in a root of its own; nothing is installed. A line says of each suite how many cases passed with both, and
+# all runs, in a root of its own; nothing is installed. A line says how many cases passed with both, and
 # which came to another end. Five minutes, and for qcow2 twenty.
 #
 # Root only, in namespaces of its own.
@@ -108,11 +108,11 @@ fi
 
 # Tells how it is used, and stops.
 usage() {
-    echo "Usage: tests/compare/libfuse/others.sh LIB FOLDER [portal|rofiles|nbdfuse|raw|qcow2|bindfs|overlay].." >&2
+    echo "Usage: tests/compare/libfuse/others.sh LIB FOLDER portal|rofiles|nbdfuse|raw|qcow2|bindfs|overlay" >&2
     exit 2
 }
 
-if [ $# -lt 2 ] || [[ $1 == -* ]]; then usage; fi
+if [ $# != 3 ] || ! [[ $3 =~ ^(portal|rofiles|nbdfuse|raw|qcow2|bindfs|overlay)$ ]]; then usage; fi
 need_root "It mounts"
 if [ -z "${OWN_MOUNTS:-}" ]; then
     OWN_MOUNTS=yes exec unshare -m -p -f --propagation private "$0" "$@"
@@ -121,18 +121,9 @@ here=$(cd "$(dirname "$0")/../../.." && pwd)
 . "$here/tools/lib/debian.sh"
 . "$here/tools/lib/libfuse.sh"
 suite=$(sed -n 's/^VERSION_CODENAME=//p' /etc/os-release)
-lib=$(realpath "$1") folder=$(realpath -m "$2")/others
-shift 2
-suites=("$@")
-[ $# != 0 ] || suites=(portal rofiles nbdfuse raw qcow2)
-for it in "${suites[@]}"; do
-    [[ " portal rofiles nbdfuse raw qcow2 bindfs overlay " == *" $it "* ]] || usage
-done
-of_sid=$(printf '%s\n' "${suites[@]}" | grep -cxE 'bindfs|overlay' || true)
-if [ "$of_sid" = ${#suites[@]} ]; then
+lib=$(realpath "$1") folder=$(realpath -m "$2")/others it=$3
+if [[ $it =~ ^(bindfs|overlay)$ ]]; then
     suite=sid folder=$folder-sid
-elif [ "$of_sid" != 0 ]; then
-    usage
 fi
 mkdir -p "$folder"
 root=$folder/root
@@ -188,16 +179,11 @@ enter() {
         'mount --rbind "$0" "$0" && cd "$0" && pivot_root . . && umount -l . && cd / && exec "$@"' "$root" "$@"
 }
 
-status=0
-for it in "${suites[@]}"; do
-    for of in theirs ours; do
-        words=(PATH=/usr/sbin:/usr/bin HOME=/root)
-        [ "$of" = theirs ] || words+=("LD_LIBRARY_PATH=$search")
-        enter /usr/bin/env -i "${words[@]}" /here/tests/compare/libfuse/others.sh --inside "$it" |
-            sort > "$folder/$it-$of"
-    done
-    echo "$it: with libfuse's own library $(grep -c ' passed$' "$folder/$it-theirs" || true) of" \
-        "$(wc -l < "$folder/$it-theirs") passed, with the other $(grep -c ' passed$' "$folder/$it-ours" || true)"
-    [ -s "$folder/$it-ours" ] && diff "$folder/$it-theirs" "$folder/$it-ours" || status=1
+for of in theirs ours; do
+    words=(PATH=/usr/sbin:/usr/bin HOME=/root)
+    [ "$of" = theirs ] || words+=("LD_LIBRARY_PATH=$search")
+    enter /usr/bin/env -i "${words[@]}" /here/tests/compare/libfuse/others.sh --inside "$it" | sort > "$folder/$it-$of"
 done
-exit $status
+echo "$it: with libfuse's own library $(grep -c ' passed$' "$folder/$it-theirs" || true) of" \
+    "$(wc -l < "$folder/$it-theirs") passed, with the other $(grep -c ' passed$' "$folder/$it-ours" || true)"
+[ -s "$folder/$it-ours" ] && diff "$folder/$it-theirs" "$folder/$it-ours"

@@ -1,24 +1,24 @@
 #!/usr/bin/env bash
-# Mounts one tree by each program that links libfuse3, unchanged, with a library of it; and compares what is read
+# Mounts a tree by a program that links libfuse3, unchanged, with a library of it; and compares what is read
 # through the mount with the tree. tests/compare/libfuse/programs.txt has the programs.
 #
-# Usage: tests/compare/libfuse/programs.sh [--suite SUITE] LIB FOLDER [PROGRAM..]
-# LIB is the folder with the library, or `-` for the machine's own. FOLDER gets what it makes, and is made anew. Programs
-# that are not installed are told. A line says of each whether the trees are equal by `diff -r`, and whether the program
-# that served has that library in its memory; of those that write, a tree is written through the mount, and compared.
+# Usage: tests/compare/libfuse/programs.sh [--suite SUITE] LIB FOLDER PROGRAM
+# LIB is the folder with the library, or `-` for the machine's own. FOLDER gets what it makes, and is made anew. A line
+# says whether the trees are equal by `diff -r`, and whether the program that served has that library in its memory; if it
+# writes, a tree is written through the mount, and compared.
 #
-# With --suite the programs are those of another suite of Debian, as sid, in a folder beside FOLDER: apt-get downloads
-# them by lists of its own, 70 MB, and they are unpacked and run there, and never installed.
+# With --suite the program is that of another suite of Debian, as sid, in a folder beside FOLDER: apt-get downloads
+# all of them by lists of its own, 70 MB, and they are unpacked and run there, and never installed.
 #
 # Root only, in a mount namespace of its own.
-# Status 0: all that are there are equal; 1: not so; 2: it could not start.
+# Status 0: the trees are equal; 1: not so; 2: it could not start.
 set -euo pipefail
 . "$(dirname "$0")/../../../tools/lib/usage.sh"
 . "$(dirname "$0")/../../../tools/lib/mounts.sh"
 
 # Tells how it is used, and stops.
 usage() {
-    echo "Usage: tests/compare/libfuse/programs.sh [--suite SUITE] LIB FOLDER [PROGRAM..]" >&2
+    echo "Usage: tests/compare/libfuse/programs.sh [--suite SUITE] LIB FOLDER [PROGRAM" >&2
     exit 2
 }
 
@@ -28,15 +28,12 @@ if [ "${1:-}" = --suite ]; then
     suite=$2
     shift 2
 fi
-[ $# -ge 2 ] || usage
+[ $# = 3 ] || usage
 need_root "It mounts"
 own_mounts "${given[@]}"
 here=$(cd "$(dirname "$0")/../../.." && pwd)
 list=$here/tests/compare/libfuse/programs.txt
-lib=$1 folder=$(realpath -m "$2")
-shift 2
-programs=("$@")
-[ ${#programs[@]} != 0 ] || mapfile -t programs < <(sed -nE 's/^([a-z][^ ]*) \|.*/\1/p' "$list")
+lib=$1 folder=$(realpath -m "$2") program=$3
 
 # A field of a program: field PROGRAM NUMBER
 field() {
@@ -48,19 +45,16 @@ field() {
 
 # Runs this script in a root of the suite, with what it reads there.
 enter() {
-    local root search program packages wanted=()
+    local root search wanted
     . "$here/tools/lib/debian.sh"
     . "$here/tools/lib/libfuse.sh"
-    for program in "${programs[@]}"; do
-        read -ra packages <<< "$(field "$program" 2)"
-        wanted+=("${packages[@]}")
-    done
+    read -ra wanted <<< "$(sed -nE 's/^[a-z][^|]*\|([^|]*)\|.*/\1/p' "$list" | paste -sd ' ')"
     root=$(dirname "$folder")/programs-$suite
     [ -e "$root" ] || { echo "Downloading programs of $suite .." >&2 &&
-        quietly "$root.said" unpack_root "$root" "$suite" "${wanted[@]}"; }
+        quietly "$root.said" unpack_root "$root" "$suite" "${wanted[@]}"; } || exit 2
     bind_root "$root" "$folder" "$lib"
     exec chroot "$root" /usr/bin/env -i PATH=/usr/sbin:/usr/bin "NIZWARF_OWN_MOUNTS=$NIZWARF_OWN_MOUNTS" HOME=/root \
-        /here/tests/compare/libfuse/programs.sh "${search:--}" /work/it "${programs[@]}"
+        /here/tests/compare/libfuse/programs.sh "${search:--}" /work/it "$program"
 }
 
 # Ends the server of serve_ssh, which removes its file as it ends.
@@ -119,7 +113,7 @@ serve_ssh() {
 
 # Mounts the tree by a program, and compares it.
 read_by() {
-    local program=$1 came=equal where bad=''
+    local came=equal where bad=''
     rm -rf served
     cp -a tree served
     if ! (unset LD_LIBRARY_PATH && eval "$(field "$program" 3)") > said 2>&1 ||
@@ -145,20 +139,14 @@ read_by() {
     [ -z "$bad" ] && [ "$where" != "not here" ]
 }
 
+if ! command -v "$program" > /dev/null; then
+    echo "requires $program: apt-get install $(field "$program" 2)" >&2
+    exit 2
+fi
+# (as some do on an older Debian)
+if grep -qF libfuse.so.2 "$(command -v "$program")"; then
+    echo "requires a $program that links libfuse 3, as LIBFUSE_SUITE=sid has it" >&2
+    exit 2
+fi
 fill tree
-good=0 there=0
-for program in "${programs[@]}"; do
-    if ! command -v "$program" > /dev/null; then
-        echo "$program: not installed (apt-get install $(field "$program" 2))"
-        continue
-    fi
-    # (as some do on an older Debian)
-    if grep -qF libfuse.so.2 "$(command -v "$program")"; then
-        echo "$program: it links libfuse 2 here"
-        continue
-    fi
-    there=$((there + 1))
-    ! read_by "$program" || good=$((good + 1))
-done
-echo "$good of $there programs"
-[ "$good" = "$there" ] && [ "$there" != 0 ]
+read_by
