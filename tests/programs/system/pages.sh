@@ -1,14 +1,14 @@
 #!/usr/bin/env bash
-# Does what the manual pages of the programs show as examples, where the packages are installed, for system.sh.
+# Does what the manual pages of the programs show as examples, where the packages are installed, for test_system_package.py.
 #
-# Usage: tests/package/pages.sh FOLDER
+# Usage: tests/programs/system/pages.sh FOLDER
 # Where the folder has a `kernel`, and files of guests, whose commands are those of the pages, QEMU's are done too.
 # Status 0: each came to what it must; 1: not so.
 set -Eeuo pipefail
-. "$(dirname "$0")/../../tools/lib/usage.sh"
-. "$(dirname "$0")/../../tools/lib/mounts.sh"
-[ $# = 1 ] || { echo "Usage: tests/package/pages.sh FOLDER" >&2 && exit 2; }
-here=$(cd "$(dirname "$0")/../.." && pwd)
+. "$(dirname "$0")/../../../tools/lib/usage.sh"
+. "$(dirname "$0")/../../../tools/lib/mounts.sh"
+[ $# = 1 ] || { echo "Usage: tests/programs/system/pages.sh FOLDER" >&2 && exit 2; }
+here=$(cd "$(dirname "$0")/../../.." && pwd)
 cd "$1"
 folder=$PWD
 trap 'echo "FAILED: line $LINENO: $BASH_COMMAND" >&2; tail -n 20 came $folder/console 2> /dev/null >&2' ERR

@@ -1,13 +1,13 @@
 #!/usr/bin/env bash
-# Mounts and serves folders where systemd runs and nizwarf-share is installed, for system.sh.
+# Mounts and serves folders where systemd runs and nizwarf-share is installed, for test_system_package.py.
 #
-# Usage: tests/package/inside.sh FOLDER
-# The folder is for its files, and has the program `ask`.
+# Usage: tests/programs/system/inside.sh FOLDER
+# The folder is for its files.
 # Status 0: each came to what it must; 1: not so.
 set -euo pipefail
-. "$(dirname "$0")/../../tools/lib/usage.sh"
-[ $# = 1 ] || { echo "Usage: tests/package/inside.sh FOLDER" >&2 && exit 2; }
-here=$(cd "$(dirname "$0")/../.." && pwd)
+. "$(dirname "$0")/../../../tools/lib/usage.sh"
+[ $# = 1 ] || { echo "Usage: tests/programs/system/inside.sh FOLDER" >&2 && exit 2; }
+here=$(cd "$(dirname "$0")/../../.." && pwd)
 cd "$1"
 work=$PWD
 kind=fuse.nizwarf-share
@@ -115,10 +115,10 @@ systemctl start "$unit.socket"
 socket="/run/nizwarf-share/${unit#*@}.sock"
 [ "$(stat -c '%a %U' "$socket")" = "600 root" ]
 [ "$(systemctl is-active "$unit.service" || true)" = inactive ]
-python3 -B "$here/tests/package/asked.py" "$work/ask" "$socket" "$folder"
+python3 -B "$here/tests/programs/system/connected.py" "$socket" "$folder"
 [ "$(systemctl is-active "$unit.service")" = active ]
 rm "$folder/file"
-python3 -B "$here/tests/package/asked.py" "$work/ask" "$socket" "$folder"
+python3 -B "$here/tests/programs/system/connected.py" "$socket" "$folder"
 systemctl stop "$unit.socket" "$unit.service"
 is_gone "$socket"
 await_end nizwarf-share
@@ -134,7 +134,7 @@ systemctl daemon-reload
 systemctl start "$unit.socket"
 [ "$(stat -c '%a %G' "$socket")" = "660 nogroup" ]
 rm "$folder/file"
-python3 -B "$here/tests/package/asked.py" "$work/ask" "$socket" "$folder"
+python3 -B "$here/tests/programs/system/connected.py" "$socket" "$folder"
 pgrep -f "^/usr/bin/nizwarf-share --fd=3 --cache=always --xattr \." > seen
 systemctl stop "$unit.socket" "$unit.service"
 await_end nizwarf-share

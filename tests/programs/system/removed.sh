@@ -1,12 +1,12 @@
 #!/usr/bin/env bash
-# Upgrades the package nizwarf, removes it and purges it where systemd listens for a folder, for system.sh.
+# Upgrades the package nizwarf, removes it and purges it where systemd listens for a folder, for test_system_package.py.
 #
-# Usage: tests/package/removed.sh FOLDER
+# Usage: tests/programs/system/removed.sh FOLDER
 # The folder has the package, or its out/packages does.
 # Status 0: each came to what it must; 1: not so.
 set -euo pipefail
-. "$(dirname "$0")/../../tools/lib/usage.sh"
-[ $# = 1 ] || { echo "Usage: tests/package/removed.sh FOLDER" >&2 && exit 2; }
+. "$(dirname "$0")/../../../tools/lib/usage.sh"
+[ $# = 1 ] || { echo "Usage: tests/programs/system/removed.sh FOLDER" >&2 && exit 2; }
 cd "$1"
 trap 'echo "FAILED: line $LINENO: $BASH_COMMAND" >&2; tail -n 20 came 2> /dev/null >&2' ERR
 

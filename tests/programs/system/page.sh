@@ -1,15 +1,15 @@
 #!/usr/bin/env bash
-# Does what docs/SHARE.md says, word for word, where systemd runs on a Debian with libvirt and QEMU, for system.sh.
+# Does what docs/SHARE.md says, word for word, where systemd runs on a Debian with libvirt and QEMU, for test_system_package.py.
 #
-# Usage: tests/package/page.sh FOLDER
+# Usage: tests/programs/system/page.sh FOLDER
 # The folder has out/packages, and `kernel` and `files` of a guest, whose commands are those of the page. The time of
 # each step is told. From nothing to a guest of QEMU that has read the folder are two minutes at most, as the page says,
 # unless the machine has other work.
 # Status 0: each came to what it must; 1: not so.
 set -Eeuo pipefail
-. "$(dirname "$0")/../../tools/lib/usage.sh"
-[ $# = 1 ] || { echo "Usage: tests/package/page.sh FOLDER" >&2 && exit 2; }
-here=$(cd "$(dirname "$0")/../.." && pwd)
+. "$(dirname "$0")/../../../tools/lib/usage.sh"
+[ $# = 1 ] || { echo "Usage: tests/programs/system/page.sh FOLDER" >&2 && exit 2; }
+here=$(cd "$(dirname "$0")/../../.." && pwd)
 cd "$1"
 folder=$PWD
 console=/var/log/guest
@@ -17,7 +17,7 @@ trap 'echo "FAILED: line $LINENO: $BASH_COMMAND" >&2; tail -n 20 said $console /
 
 # A block of code of the page, in a section: block SECTION NUMBER.
 block() {
-    awk -v section="$1" -v wanted="$2" -f "$here/tests/package/page.awk" "$here/docs/SHARE.md" | grep .
+    awk -v section="$1" -v wanted="$2" -f "$here/tests/programs/system/page.awk" "$here/docs/SHARE.md" | grep .
 }
 
 # Tells what was done, and how long that took: done_with WHAT [FROM].
