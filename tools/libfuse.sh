@@ -36,7 +36,7 @@ usage() {
 
 if [ "${1:-}" = --check ]; then
     need pytest-3 "Install it: apt-get install python3-pytest."
-    exec pytest-3 "$here/tests/compare/test_libfuse.py" "${@:2}"
+    exec pytest-3 "$here/tests/compare/test_libfuse.py" -k "not tests_of_programs" "${@:2}"
 fi
 suite=$(sed -n 's/^VERSION_CODENAME=//p' /etc/os-release)
 folder='' kind=nizwarf sanitize=none all='' ring=false

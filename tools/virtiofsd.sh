@@ -2,7 +2,7 @@
 # Builds the daemon virtiofsd 1.13.2 with the protocol layer here in place of its own.
 #
 # Usage: tools/virtiofsd.sh [--unmodified | --test] [FOLDER]
-#        tools/virtiofsd.sh --check [--seed N] [--requests N] [FOLDER]
+#        tools/virtiofsd.sh --check [--seed N] [--requests N] [OPTION OF PYTEST]..
 #        tools/virtiofsd.sh --package [--unproved] [--check] [FOLDER]
 # It leaves the daemon as nizwarf-virtiofsd in the folder, which is out/virtiofsd if none is given. The daemon
 # takes virtiofsd's options, which its own --help lists. It is built again if a source is newer.
@@ -17,7 +17,7 @@
 # virtiofsd's own for a release, which optimises when it links, with one codegen unit.
 #
 # With --test it runs the tests that virtiofsd's sources have, but those of the replaced files; with --check
-# tests/compare/servers/replaced.sh holds it against Debian's own program, with these words, and does that too. With --package
+# tests/compare/test_servers.py does so too, and compares it with Debian's own program, as root. With --package
 # packaging/virtiofsd.sh makes a package of Debian of it, and has a --help of its own.
 #
 # It wants apt-get, a C compiler, cargo 1.85 or later, libcap-ng, libseccomp, and the Rattle toolchain. It
@@ -38,7 +38,8 @@ refuse() {
 }
 
 if [ "${1:-}" = --check ]; then
-    exec "$here/tests/compare/servers/replaced.sh" "${@:2}"
+    need pytest-3 "Install it: apt-get install python3-pytest."
+    exec pytest-3 "$here/tests/compare/test_servers.py" -k virtiofsd_over "${@:2}"
 elif [ "${1:-}" = --package ]; then
     exec "$here/packaging/virtiofsd.sh" "${@:2}"
 fi

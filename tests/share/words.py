@@ -1,5 +1,5 @@
 """What comes of virtiofsd's words, as a machine sees it, asked over vhost-user as root: for check.sh, and for
-tests/compare/servers/words.sh, which asks virtiofsd itself.
+tests/compare/test_servers.py, which asks virtiofsd itself.
 
     words.py ASK WORK (--write | --compare | --known) DAEMON..: the built tests/lib/ask.c, an empty folder on a file
     system with attributes of users, and the program with words of its own. Lines of what came are written to words.txt,

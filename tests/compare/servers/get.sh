@@ -4,7 +4,7 @@
 # Usage: tests/compare/servers/get.sh libfuse|fuser|go-fuse|virtiofsd SUITE TO FOLDER
 # It leaves the program as TO, and its package's version as TO.version; of virtiofsd TO is the folder with the
 # daemon and its libraries. FOLDER is for what it makes meanwhile; in it are lists of packages from one call to
-# the next. tests/compare/servers/run.sh calls it.
+# the next. tests/compare/test_servers.py calls it.
 set -euo pipefail
 . "$(dirname "$0")/../../../tools/lib/usage.sh"
 . "$(dirname "$0")/../../../tools/lib/debian.sh"

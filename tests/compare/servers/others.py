@@ -1,9 +1,8 @@
 #!/usr/bin/env python3
-"""Asks several servers of FUSE the same sessions, and sorts what comes. tests/compare/servers/run.sh builds them.
+"""Asks several servers of FUSE the same sessions, and sorts what comes. tests/compare/test_servers.py builds them.
 
 Usage: others.py [--seed N --count M] PEERS FOLDER
-A line of the file PEERS has, with tabs between: `pair` or `vhost`, a name, a version, what its documents say of
-whom it trusts, and the words that start it. Of a pair, DESCRIPTOR in them stands for a socket that keeps
+A line of the file PEERS has, with tabs between: `pair` or `vhost`, a name, a version, and the words that start it. Of a pair, DESCRIPTOR in them stands for a socket that keeps
 messages apart, which it serves in place of /dev/fuse; of a vhost, SOCKET and SHARE stand for its socket and
 the folder that it shares, and the first word is the built ask.c. FOLDER gets what it makes.
 
@@ -18,7 +17,7 @@ one more request after it, by which it is judged:
   read past: a sanitizer or a page that can't be read caught a look past the message
 With --count it makes M sessions more, the same for each N of --seed, and shrinks what breaks a server, one for
 each place in its source.
-Status 1: the server here did not go on, or read past a message, alone or in front of another; 2: it could not
+Status 1: the server here did not go on, or read past a message, alone, in front of another or below libfuse; 2: it could not
 start.
 """
 import argparse
@@ -45,11 +44,12 @@ NO_REPLY = FORGET, INTERRUPT, DESTROY, NOTIFY_REPLY, BATCH_FORGET
 # As much room as a request of the largest payload needs.
 ROOM = 1 << 20 | 4096
 LONGEST = 1 << 21
-OURS = "Nizwarf", "check"
+LAYER = "libfuse over this layer"
+OURS = "Nizwarf", "check", LAYER
 # What a request is cut to while it is shrunk.
 SIZES = 8, 39, 40, 41, 42, 44, 48, 52, 56, 60, 64, 72, 80, 96, 104, 128, 160
 
-Peer = collections.namedtuple("Peer", "how name version trusts words")
+Peer = collections.namedtuple("Peer", "how name version words")
 # What came, the place in the source, and of a check how many requests it got and how many it handed on.
 Found = collections.namedtuple("Found", "kind place handed", defaults=((0, 0),))
 
@@ -335,34 +335,35 @@ def main(peers, seed, count):
     known = list(known_sessions())
     names = [name for name, _, _ in known]
     print(f"{len(known)} sessions, each to a new process.")
-    show(plain(["Server", "Whom it trusts, by its documents"], [[of_one(peer), peer.trusts] for peer in peers]))
     found = {peer: judge_all(peer, known) for peer in peers}
     show(counts(peers, found, f"What came of {len(known)} sessions"))
     show(failures(peers, found, names))
-    every = [one for peer in peers if is_ours(peer) for one in found[peer]]
+    bad = [it for peer in peers for it in faults_of(peer, found[peer], known)]
     if count:
         made = [(f"{seed}/{number}", [FIRST, *generate.session(seed, number)], 1) for number in range(count)]
         found = {peer: judge_all(peer, made) for peer in peers}
-        every += [one for peer in peers if is_ours(peer) for one in found[peer]]
+        bad += [it for peer in peers for it in faults_of(peer, found[peer], made)]
         show(counts(peers, found, f"What came of {count} generated sessions (--seed {seed})"))
         show(smallest(peers, found, made))
-    bad = [one for one in every if one.kind in (SILENT, ERROR, PANIC, PAST)]
-    if bad:
-        print(f"The server here did not go on, or not in front of another: {len(bad)} times.", file=sys.stderr)
+    for it in bad:
+        print(f"A server over this layer did not go on: {it}", file=sys.stderr)
     sys.exit(bool(bad))
 
 
-def is_ours(peer):
-    """Whether it is over this layer: such a peer may break nothing."""
-    return any(word in peer.name for word in OURS)
+def faults_of(peer, found, sessions):
+    """The names of the sessions that broke a peer over this layer, which must break nothing. To libfuse's loop a message of no
+    byte is the end."""
+    return [f"{peer.name}, {name}: {one.kind} {one.place}" for (name, asked, _), one in zip(sessions, found)
+            if any(word in peer.name for word in OURS) and one.kind in (SILENT, ERROR, PANIC, PAST)
+            and not (peer.name == LAYER and b"" in asked)]
 
 
 def read_peers(path):
     """The servers in the file, a line each."""
     with open(path, encoding="utf-8") as lines:
         for line in lines:
-            how, name, version, trusts, *words = line.rstrip("\n").split("\t")
-            yield Peer(how, name, version, trusts, tuple(words))
+            how, name, version, *words = line.rstrip("\n").split("\t")
+            yield Peer(how, name, version, tuple(words))
 
 
 if __name__ == "__main__":
