@@ -8,10 +8,10 @@ import os
 import pathlib
 import shutil
 import subprocess
-import time
 
 import pytest
 from building import REPOSITORY, run
+from mounting import mounted
 
 pytestmark = [pytest.mark.fuse, pytest.mark.slow]
 OUT, RUST = REPOSITORY / "out/debian", REPOSITORY / "bindings/rust"
@@ -82,20 +82,8 @@ class Debian:
 
     def serve(self, look, *command):
         """Mounts on /mnt by a command, calls a function, and unmounts; the command must end well."""
-        point = self.root / "mnt"
-        server = subprocess.Popen(["chroot", self.root, *command, "/mnt"], env=ENVIRONMENT)
-        try:
-            until = time.monotonic() + 60
-            while not os.path.ismount(point):
-                assert server.poll() is None and time.monotonic() < until
-                time.sleep(0.05)
+        with mounted(self.root / "mnt", "chroot", self.root, *command, "/mnt", env=ENVIRONMENT):
             look()
-            run("umount", point)
-            assert server.wait(60) == 0
-            assert not os.path.ismount(point)
-        finally:
-            server.kill()
-            server.wait()
 
 
 def mounts_below(folder):

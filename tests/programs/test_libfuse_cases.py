@@ -11,7 +11,7 @@ import subprocess
 import sys
 
 import pytest
-from building import REPOSITORY
+from building import REPOSITORY, shell
 
 pytestmark = [pytest.mark.fuse, pytest.mark.slow]
 SUITES = REPOSITORY / "out/suites"
@@ -32,10 +32,7 @@ exec umount "$@"
 def libfuse():
     """The folder of libfuse's tests, built."""
     SUITES.mkdir(parents=True, exist_ok=True)
-    got = subprocess.run([REPOSITORY / "tests/compare/suites/get.sh", "libfuse", SUITES], stdout=subprocess.PIPE,
-                         stderr=subprocess.STDOUT, timeout=1800)
-    if got.returncode:
-        pytest.skip("requires libfuse's sources of Debian's sid, which cannot be downloaded or built")
+    shell('tests/compare/suites/get.sh libfuse "$1" >&2 || { echo "requires libfuse\'s sources of Debian\'s sid" >&2; exit 2; }', SUITES)
     return SUITES / "libfuse"
 
 

@@ -1,6 +1,6 @@
 #!/usr/bin/env bash
 # Times libfuse's library over the layer here beside libfuse's own, by requests that no kernel and no file system costs:
-# tests/compare/libfuse/speed.c hands them to the library, which tools/libfuse.sh builds. A row has the least processor time of
+# tools/measure/libfuse_speed.c hands them to the library, which tools/libfuse.sh builds. A row has the least processor time of
 # both, in turns, its ratio, and that of the least by the clock; below 1 it is quicker here; then, if valgrind is
 # installed, the ratio of instructions. (The least, since a busy processor is half as quick, by turns)
 #
@@ -68,7 +68,7 @@ echo
 work=$(mktemp -d -p "$folder")
 trap 'rm -rf "$work"' EXIT
 cc -std=c11 -O2 -w -D_FILE_OFFSET_BITS=64 -I "$folder/source-$suite/include" -I "$folder/$suite-unmodified/build" \
-    -o "$work/speed" "$here/tests/compare/libfuse/speed.c" "$theirs/libfuse3.so.3" -pthread
+    -o "$work/speed" "$here/tools/measure/libfuse_speed.c" "$theirs/libfuse3.so.3" -pthread
 
 least() {
     sort -n | sed -n 1p
