@@ -13,6 +13,7 @@ import pytest
 from building import REPOSITORY, need, run
 
 DESCRIPTIONS = pathlib.Path("/usr/share/qemu/vhost-user")
+FOLDERS = [f"/{it}/libvirt" for it in ("etc", "run", "var/lib", "var/log", "var/cache")]
 SETTINGS = """security_driver = "none"
 user = "root"
 group = "root"
@@ -32,66 +33,71 @@ pytestmark = [pytest.mark.root, pytest.mark.qemu, pytest.mark.slow]
 
 
 class Libvirt:
-    """A running libvirtd, below whose process all that it starts is, and the descriptions of servers that it reads."""
+    """A libvirtd, and the descriptions of servers that it reads. All of it is below `work`."""
 
-    def __init__(self, scratch):
-        self.scratch, self.descriptions = scratch, scratch / "descriptions"
-        for folder in ("etc/libvirt", "run/libvirt", "var/lib/libvirt", "var/log/libvirt", "var/cache/libvirt"):
-            pathlib.Path("/", folder).mkdir(parents=True, exist_ok=True)
-            run("mount", "-t", "tmpfs", "none", f"/{folder}")
+    def __init__(self, share, work):
+        self.work, self.descriptions, self.process = work, work / "descriptions", None
         shutil.copytree(DESCRIPTIONS, self.descriptions)
+        described = json.loads((REPOSITORY / "packaging/60-nizwarf-share.json").read_text())
+        (self.descriptions / "60-nizwarf-share.json").write_text(json.dumps({**described, "binary": share}))
+
+    def start(self):
+        for folder in FOLDERS:
+            pathlib.Path(folder).mkdir(parents=True, exist_ok=True)
+            run("mount", "-t", "tmpfs", "none", folder)
         run("mount", "--bind", self.descriptions, DESCRIPTIONS)
         # (it must know a user that it has for machines, even if root has them)
         for file, line in (("passwd", "64055::/:/bin/false"), ("group", "")):
-            copy = scratch / file
+            copy = self.work / file
             copy.write_text(pathlib.Path("/etc", file).read_text() + f"libvirt-qemu:x:64055:{line}\n")
             run("mount", "--bind", copy, f"/etc/{file}")
         pathlib.Path("/etc/libvirt/qemu.conf").write_text(SETTINGS)
-        with open(scratch / "said", "wb") as log:
-            # (what runs in a namespace of processes ends with its first one)
-            self.process = subprocess.Popen(["unshare", "--pid", "--fork", "--kill-child", "--mount-proc", "libvirtd"],
+        with open(self.work / "said", "wb") as log:
+            # (what runs in a namespace of processes ends with its first one, which waits for all whose own parent ended)
+            self.process = subprocess.Popen(["setpriv", "--pdeathsig=KILL", "unshare", "--pid", "--fork", "--kill-child", "--mount-proc",
+                                             "bash", "-c", "libvirtd & wait"],
                                             stdin=subprocess.DEVNULL, stdout=log, stderr=log)
-        until = time.monotonic() + 120
+        until = time.monotonic() + 30
         while subprocess.run(["virsh", "list"], stdout=subprocess.DEVNULL, stderr=subprocess.DEVNULL).returncode:
-            assert self.process.poll() is None and time.monotonic() < until, (scratch / "said").read_text()
+            assert self.process.poll() is None and time.monotonic() < until, (self.work / "said").read_text()
             time.sleep(0.1)
 
+    def end(self):
+        if self.process:
+            self.process.kill()
+            self.process.wait()
+        for path in (*FOLDERS, DESCRIPTIONS, "/etc/passwd", "/etc/group"):
+            subprocess.run(["umount", "-l", path], stderr=subprocess.DEVNULL)
+
     def server_of(self, folder, binary=""):
-        """Starts a machine that shares a folder, and returns the command of what serves it, without the options of libvirt's
-        own socket."""
-        (self.scratch / "machine").write_text(MACHINE.format(qemu=shutil.which("qemu-system-x86_64"), folder=folder, binary=binary))
-        run("virsh", "create", self.scratch / "machine", seconds=300)
+        """Starts a machine that shares a folder, prints the command that serves it, and returns its program."""
+        (self.work / "machine").write_text(MACHINE.format(qemu=shutil.which("qemu-system-x86_64"), folder=folder, binary=binary))
+        run("virsh", "create", self.work / "machine", seconds=60)
         try:
-            commands = []
-            for it in pathlib.Path("/proc").glob("[0-9]*/cmdline"):
-                words = it.read_bytes().split(b"\0") if it.exists() else []
-                # (libvirt gives its server a socket by its number first)
-                if len(words) > 1 and words[1].startswith(b"--fd=") and str(folder).encode() in b" ".join(words):
-                    commands.append([word.decode() for word in (words[0], *words[2:-1])])
+            # (libvirt gives its server a socket by its number first; a comma in a value is two)
+            source = str(folder).replace(",", ",,")
+            commands = [it.read_bytes().decode().split("\0") for it in pathlib.Path("/proc").glob("[0-9]*/cmdline") if it.exists()]
+            servers = [it for it in commands if it[1:] and it[1].startswith("--fd=") and f"source={source}" in " ".join(it)]
         finally:
-            run("virsh", "destroy", "shares", seconds=300)
-        assert commands, "no server was started"
-        return commands[0]
+            run("virsh", "destroy", "shares", seconds=60)
+        assert len({it[0] for it in servers}) == 1, servers
+        print(*servers[0])
+        return servers[0][0]
 
 
-@pytest.fixture
-def libvirt(scratch):
+@pytest.fixture(scope="module")
+def libvirt(share, tmp_path_factory):
+    """One libvirtd for all tests, because it asks each QEMU of the machine for its capabilities first."""
     for command, package in (("libvirtd", "libvirt-daemon libvirt-daemon-driver-qemu"), ("virsh", "libvirt-clients")):
         need(command, package)
     if not list(DESCRIPTIONS.glob("50-*virtiofsd.json")):
         pytest.skip("requires the description of virtiofsd in qemu-system-common")
-    mounts = ["/etc/libvirt", "/run/libvirt", "/var/lib/libvirt", "/var/log/libvirt", "/var/cache/libvirt", DESCRIPTIONS,
-              "/etc/passwd", "/etc/group"]
-    it = None
+    it = Libvirt(share, tmp_path_factory.mktemp("libvirt"))
     try:
-        it = Libvirt(scratch)
+        it.start()
         yield it
     finally:
-        if it:
-            it.process.kill()
-            it.process.wait()
-        for path in mounts:
-            subprocess.run(["umount", "-l", path], stderr=subprocess.DEVNULL)
+        it.end()
 
 
 OPTIONS = {
@@ -101,19 +107,17 @@ OPTIONS = {
     "namespace": "<binary path='{}' xattr='off'><cache mode='always'/><sandbox mode='namespace'/></binary>"}
 
 
-@pytest.mark.parametrize("options", OPTIONS)
-@pytest.mark.parametrize("name", ["folder", "a,b"])
+@pytest.mark.parametrize("name, options", [("folder", "none"), ("a,b", "chroot"), ("folder", "namespace")])
 def test_a_machine_that_names_nizwarf_share_is_served_by_it(libvirt, share, scratch, options, name):
     (scratch / name).mkdir()
-    assert libvirt.server_of(scratch / name, OPTIONS[options].format(share))[0] == share
+    assert libvirt.server_of(scratch / name, OPTIONS[options].format(share)) == share
 
 
-def test_any_other_machine_is_served_by_virtiofsd_while_that_is_there(libvirt, share, scratch, directory):
-    described = json.loads((REPOSITORY / "packaging/60-nizwarf-share.json").read_text())
-    described["binary"] = share
-    (libvirt.descriptions / "60-nizwarf-share.json").write_text(json.dumps(described))
-    theirs = [json.loads(it.read_text())["binary"] for it in libvirt.descriptions.glob("50-*virtiofsd.json")]
-    assert libvirt.server_of(directory)[0] in theirs
-    for it in libvirt.descriptions.glob("50-*virtiofsd.json"):
+def test_any_other_machine_is_served_by_virtiofsd_while_that_is_there(libvirt, share, directory):
+    theirs = {it: it.read_text() for it in libvirt.descriptions.glob("50-*virtiofsd.json")}
+    assert libvirt.server_of(directory) in [json.loads(it)["binary"] for it in theirs.values()]
+    for it in theirs:
         it.unlink()
-    assert libvirt.server_of(directory)[0] == share
+    assert libvirt.server_of(directory) == share
+    for it, text in theirs.items():
+        it.write_text(text)
