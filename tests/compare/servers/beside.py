@@ -26,7 +26,7 @@ import subprocess
 import sys
 import tempfile
 
-sys.path.append(str(pathlib.Path(__file__).resolve().parents[2] / "lib"))
+sys.path.insert(0, str(pathlib.Path(__file__).resolve().parents[2] / "lib"))
 import requests  # noqa: E402
 
 # How ask.c prints a reply of 16 bytes with ENOSYS (-38, 0xda) to the request whose unique is 7: that of LAST in requests.py.
@@ -48,6 +48,7 @@ REFUSED, PANIC, OTHER_PANIC, LACKED, SAME, DIFFER = KINDS = (
     "a call that virtiofsd has not, and the tree has: ENOSYS there; completed with no byte here",
     "the same bytes from both",
     "served by both, whose file systems differ")
+ENDED = REFUSED, PANIC, OTHER_PANIC
 # How many requests come to what, by kind and part; and how many sessions virtiofsd answers to the end.
 EXPECTED = {
     REFUSED: {"DecodeMessage": 34, "EncodeMessage": 14, "InvalidCString": 12, "MissingParameter": 8, "InvalidXattrSize": 2},

@@ -5,7 +5,7 @@ import pathlib
 import struct
 import sys
 
-sys.path.append(str(pathlib.Path(__file__).resolve().parents[2] / "lib"))
+sys.path.insert(0, str(pathlib.Path(__file__).resolve().parents[2] / "lib"))
 import requests  # noqa: E402
 from shapes import SHAPES, Op  # noqa: E402
 
