@@ -138,20 +138,6 @@ static size_t fill(uint8_t *piece, size_t len)
 	return ANY_LENGTH(len);
 }
 
-/* Says any number of bytes that it copied, up to all. */
-size_t nizwarf_copy_slot_at(nizwarf_slot *slot, size_t at, uint8_t *piece, size_t piece_len)
-{
-	slot->at = &seen;
-	return fill(piece, piece_len);
-}
-
-/* A slot that was ended is empty, and may be asked by again. */
-int32_t nizwarf_end_slot_at(nizwarf_slot *slot)
-{
-	slot->at = NULL;
-	return any_code();
-}
-
 int32_t nizwarf_check_at(const nizwarf_session *session, const uint8_t *request, size_t len, size_t room,
 			 nizwarf_call *call, uint64_t *interrupts)
 {
@@ -176,118 +162,66 @@ uint64_t nizwarf_init_offered_at(const uint8_t *request, size_t len)
 	return ANY_LENGTH(UINT64_MAX);
 }
 
+/* clang-format off */
+
+#define OUT uint8_t *out, size_t size
+#define TEXT uint8_t *text, size_t text_len
+#define NAME const uint8_t *name, size_t name_len
+#define SERVER nizwarf_server *server
+
+/* A function of the library as a list of expressions: those that read and write, and at last its result. */
+#define FUNCTION(type, name, parameters, ...) type nizwarf_##name##_at parameters { return __VA_ARGS__; }
+
+/* Any number of bytes is copied, up to all. */
+FUNCTION(size_t, copy_slot, (nizwarf_slot *slot, size_t at, uint8_t *piece, size_t piece_len),
+	 slot->at = &seen, fill(piece, piece_len))
+/* A slot that was ended is empty, and may be used again. */
+FUNCTION(int32_t, end_slot, (nizwarf_slot *slot), slot->at = NULL, any_code())
+
 /* These change a reply where it is, in its own length. */
-uint64_t nizwarf_add_to_init_at(uint8_t *reply, size_t len, uint64_t offered, const nizwarf_init_more *more)
-{
-	fill(reply, len);
-	return more->want;
-}
+FUNCTION(uint64_t, add_to_init, (uint8_t *reply, size_t len, uint64_t offered, const nizwarf_init_more *more),
+	 fill(reply, len), more->want)
+FUNCTION(int32_t, add_backing, (uint8_t *reply, size_t len, int32_t id), fill(reply, len), any)
 
-int32_t nizwarf_add_backing_at(uint8_t *reply, size_t len, int32_t id)
-{
-	fill(reply, len);
-	return any;
-}
+FUNCTION(size_t, print_request, (const uint8_t *request, size_t len, uint64_t options, TEXT),
+	 look_at(request, len), fill(text, text_len))
+FUNCTION(size_t, print_reply,
+	 (const uint8_t *request, size_t len, const uint8_t *reply, size_t reply_len, TEXT),
+	 look_at(request, len), look_at(reply, reply_len), fill(text, text_len))
 
-size_t nizwarf_print_request_at(const uint8_t *request, size_t len, uint64_t options, uint8_t *text,
-				size_t text_len)
-{
-	look_at(request, len);
-	return fill(text, text_len);
-}
+/* Notices: each writes its buffer, and returns any length up to that. */
+FUNCTION(size_t, notice_poll, (uint64_t kh, OUT), fill(out, size))
+FUNCTION(size_t, notice_inval_inode, (uint64_t node, int64_t offset, int64_t len, OUT), fill(out, size))
+FUNCTION(size_t, notice_inval_entry, (uint64_t parent, uint32_t flags, NAME, OUT),
+	 look_at(name, name_len), fill(out, size))
+FUNCTION(size_t, notice_store, (uint64_t node, uint64_t offset, uint32_t count, OUT), fill(out, size))
+FUNCTION(size_t, notice_retrieve, (uint64_t unique, uint64_t node, uint64_t offset, uint32_t count, OUT),
+	 fill(out, size))
+FUNCTION(size_t, notice_delete, (uint64_t parent, uint64_t child, NAME, OUT),
+	 look_at(name, name_len), fill(out, size))
+FUNCTION(size_t, notice_resend, (OUT), fill(out, size))
+FUNCTION(size_t, notice_inc_epoch, (OUT), fill(out, size))
+FUNCTION(size_t, notice_prune, (uint32_t count, OUT), fill(out, size))
 
-size_t nizwarf_print_reply_at(const uint8_t *request, size_t len, const uint8_t *reply, size_t reply_len,
-			      uint8_t *text, size_t text_len)
-{
-	look_at(request, len);
-	look_at(reply, reply_len);
-	return fill(text, text_len);
-}
+/* Of the server over a tree. A call of a server that was ended gets a code: `at` may be NULL before each. */
+FUNCTION(int32_t, new, (SERVER, uint32_t page_size, uint32_t max_buffer, const nizwarf_settings *settings),
+	 seen = (uint8_t)settings->nodes, server->at = &seen, any_code())
+FUNCTION(int32_t, tell_time, (SERVER, uint64_t seconds, uint32_t nanoseconds), server->at = &seen, any_code())
+FUNCTION(int32_t, message,
+	 (SERVER, const nizwarf_segment *request, size_t segments, size_t room, size_t *len),
+	 look_at_request(request, segments), server->at = &seen, *len = ANY_LENGTH(room), any_code())
+FUNCTION(size_t, copy, (SERVER, size_t at, uint8_t *piece, size_t piece_len),
+	 server->at = &seen, fill(piece, piece_len))
+/* A reply that was taken and ended is no longer the caller's to read. */
+FUNCTION(int32_t, end_taken, (nizwarf_taken *taken), taken->at = NULL, any_code())
+FUNCTION(uint64_t, options, (SERVER), server->at != NULL)
+FUNCTION(uint32_t, max_buffer, (SERVER), server->at != NULL)
+FUNCTION(int32_t, end, (SERVER), server->at = NULL, any_code())
 
-/* Notices: each writes its room, and says any length up to that. */
-size_t nizwarf_notice_poll_at(uint64_t kh, uint8_t *out, size_t size)
-{
-	return fill(out, size);
-}
-
-size_t nizwarf_notice_inval_inode_at(uint64_t node, int64_t offset, int64_t len, uint8_t *out, size_t size)
-{
-	return fill(out, size);
-}
-
-size_t nizwarf_notice_inval_entry_at(uint64_t parent, uint32_t flags, const uint8_t *name, size_t name_len,
-				     uint8_t *out, size_t size)
-{
-	look_at(name, name_len);
-	return fill(out, size);
-}
-
-size_t nizwarf_notice_store_at(uint64_t node, uint64_t offset, uint32_t count, uint8_t *out, size_t size)
-{
-	return fill(out, size);
-}
-
-size_t nizwarf_notice_retrieve_at(uint64_t unique, uint64_t node, uint64_t offset, uint32_t count,
-				  uint8_t *out, size_t size)
-{
-	return fill(out, size);
-}
-
-size_t nizwarf_notice_delete_at(uint64_t parent, uint64_t child, const uint8_t *name, size_t name_len,
-				uint8_t *out, size_t size)
-{
-	look_at(name, name_len);
-	return fill(out, size);
-}
-
-size_t nizwarf_notice_resend_at(uint8_t *out, size_t size)
-{
-	return fill(out, size);
-}
-
-size_t nizwarf_notice_inc_epoch_at(uint8_t *out, size_t size)
-{
-	return fill(out, size);
-}
-
-size_t nizwarf_notice_prune_at(uint32_t count, uint8_t *out, size_t size)
-{
-	return fill(out, size);
-}
-
-/* Of the server over a tree. */
+#undef NAME
+/* clang-format on */
 
 static uint8_t taken_reply[LONGEST]; /* memory of the library */
-
-int32_t nizwarf_new_at(nizwarf_server *server, uint32_t page_size, uint32_t max_buffer,
-		       const nizwarf_settings *settings)
-{
-	seen = (uint8_t)settings->nodes;
-	server->at = &seen;
-	return any_code();
-}
-
-/* A call of a server that was ended gets a code: so `at` may be NULL before each of these. */
-int32_t nizwarf_tell_time_at(nizwarf_server *server, uint64_t seconds, uint32_t nanoseconds)
-{
-	server->at = &seen;
-	return any_code();
-}
-
-int32_t nizwarf_message_at(nizwarf_server *server, const nizwarf_segment *request, size_t segments,
-			   size_t room, size_t *len)
-{
-	look_at_request(request, segments);
-	server->at = &seen;
-	*len = ANY_LENGTH(room);
-	return any_code();
-}
-
-size_t nizwarf_copy_at(nizwarf_server *server, size_t at, uint8_t *piece, size_t piece_len)
-{
-	server->at = &seen;
-	return fill(piece, piece_len);
-}
 
 int32_t nizwarf_take_at(nizwarf_server *server, nizwarf_taken *taken, nizwarf_place *place)
 {
@@ -298,29 +232,6 @@ int32_t nizwarf_take_at(nizwarf_server *server, nizwarf_taken *taken, nizwarf_pl
 	place->start = ANY_LENGTH(LONGEST / 2); /* so that the two together are within it */
 	place->len = ANY_LENGTH(LONGEST / 2);
 	return NIZWARF_OK;
-}
-
-/* The reply that was taken is no longer the caller's to read. */
-int32_t nizwarf_end_taken_at(nizwarf_taken *taken)
-{
-	taken->at = NULL;
-	return any_code();
-}
-
-uint64_t nizwarf_options_at(nizwarf_server *server)
-{
-	return server->at != NULL;
-}
-
-uint32_t nizwarf_max_buffer_at(nizwarf_server *server)
-{
-	return server->at != NULL;
-}
-
-int32_t nizwarf_end_at(nizwarf_server *server)
-{
-	server->at = NULL;
-	return any_code();
 }
 
 /* ---- what is handed in */
@@ -501,54 +412,10 @@ static void servers(void)
 
 /* ---- a table */
 
-/* The functions of the table answer anything, in all that they are handed to fill, and any number of an error or of
- * none. */
-static int make_entry(nizwarf_entry_param *e)
-{
-	ANY(*e);
-	return any;
-}
+/* The functions of the table return any number, of an error or not, and fill in anything where they fill in
+ * something. Those with a loop, or without a result, come first. */
 
-/* Also what the client does not offer: the header takes that out. */
-static int op_init(const nizwarf_req *req, uint64_t capable, uint64_t *want)
-{
-	*want = ANY_LENGTH(UINT64_MAX);
-	return any;
-}
-
-static void op_destroy(const nizwarf_req *req)
-{
-	seen = (uint8_t)req->call->unique;
-}
-
-static int op_lookup(const nizwarf_req *req, uint64_t parent, const char *name, nizwarf_entry_param *e)
-{
-	return make_entry(e);
-}
-
-static void op_forget(const nizwarf_req *req, uint64_t ino, uint64_t nlookup)
-{
-	seen = (uint8_t)req->call->unique;
-}
-
-static int op_getattr(const nizwarf_req *req, uint64_t ino, const nizwarf_file_info *fi, nizwarf_attr *attr,
-		      struct timespec *attr_timeout)
-{
-	if (fi)
-		seen = (uint8_t)fi->fh;
-	ANY(*attr);
-	ANY(*attr_timeout);
-	return any;
-}
-
-static int op_setattr(const nizwarf_req *req, uint64_t ino, const nizwarf_setattr *set, uint32_t to_set,
-		      const nizwarf_file_info *fi, nizwarf_attr *attr, struct timespec *attr_timeout)
-{
-	seen = (uint8_t)set->size;
-	return op_getattr(req, ino, fi, attr, attr_timeout);
-}
-
-/* As many bytes as it may; and it says any length, of more than that too. */
+/* As many bytes as it may; and it returns any length, of more than that too. */
 static int fill_all(void *buf, size_t size, size_t *len)
 {
 	if (size)
@@ -557,78 +424,20 @@ static int fill_all(void *buf, size_t size, size_t *len)
 	return any;
 }
 
-static int op_readlink(const nizwarf_req *req, uint64_t ino, char *link, size_t size, size_t *len)
+static void op_destroy(const nizwarf_req *req)
 {
-	return fill_all(link, size, len);
+	seen = (uint8_t)req->call->unique;
 }
 
-static int op_mknod(const nizwarf_req *req, uint64_t parent, const char *name, uint32_t mode, uint32_t rdev,
-		    nizwarf_entry_param *e)
+static void op_forget(const nizwarf_req *req, uint64_t ino, uint64_t nlookup)
 {
-	return make_entry(e);
+	seen = (uint8_t)req->call->unique;
 }
 
-static int op_mkdir(const nizwarf_req *req, uint64_t parent, const char *name, uint32_t mode,
-		    nizwarf_entry_param *e)
+static void op_forget_multi(const nizwarf_req *req, size_t count, const nizwarf_forget *forgets)
 {
-	return make_entry(e);
-}
-
-static int op_name(const nizwarf_req *req, uint64_t parent, const char *name)
-{
-	return any;
-}
-
-static int op_symlink(const nizwarf_req *req, const char *link, uint64_t parent, const char *name,
-		      nizwarf_entry_param *e)
-{
-	return make_entry(e);
-}
-
-static int op_rename(const nizwarf_req *req, uint64_t parent, const char *name, uint64_t newparent,
-		     const char *newname, uint32_t flags)
-{
-	return any;
-}
-
-static int op_link(const nizwarf_req *req, uint64_t ino, uint64_t newparent, const char *newname,
-		   nizwarf_entry_param *e)
-{
-	return make_entry(e);
-}
-
-/* All of it, the fields too that are not an answer's. */
-static int op_open(const nizwarf_req *req, uint64_t ino, nizwarf_file_info *fi)
-{
-	ANY(*fi);
-	return any;
-}
-
-static int op_read(const nizwarf_req *req, uint64_t ino, size_t size, uint64_t off,
-		   const nizwarf_file_info *fi, void *buf, size_t *len)
-{
-	seen = (uint8_t)fi->fh;
-	return fill_all(buf, size, len);
-}
-
-/* More written than there were bytes: the header must not reply that. */
-static int op_write(const nizwarf_req *req, uint64_t ino, const void *buf, size_t size, uint64_t off,
-		    const nizwarf_file_info *fi, size_t *len)
-{
-	seen = (uint8_t)fi->fh;
-	*len = ANY_LENGTH(SIZE_MAX);
-	return any;
-}
-
-static int op_file(const nizwarf_req *req, uint64_t ino, const nizwarf_file_info *fi)
-{
-	seen = (uint8_t)fi->fh;
-	return any;
-}
-
-static int op_fsync(const nizwarf_req *req, uint64_t ino, int datasync, const nizwarf_file_info *fi)
-{
-	return op_file(req, ino, fi);
+	//@ assert some: 1 <= count <= NIZWARF_MOST_FORGETS;
+	seen = (uint8_t)(forgets[0].ino + forgets[count - 1].nlookup);
 }
 
 /* A name of any length. */
@@ -656,67 +465,6 @@ static int op_readdirplus(const nizwarf_req *req, uint64_t ino, uint64_t off, co
 	return any;
 }
 
-static int op_statfs(const nizwarf_req *req, uint64_t ino, nizwarf_statfs *stat)
-{
-	ANY(*stat);
-	return any;
-}
-
-static int op_setxattr(const nizwarf_req *req, uint64_t ino, const char *name, const void *value, size_t size,
-		       uint32_t flags)
-{
-	return any;
-}
-
-static int op_getxattr(const nizwarf_req *req, uint64_t ino, const char *name, size_t size, void *value,
-		       size_t *len)
-{
-	return fill_all(value, size, len);
-}
-
-static int op_listxattr(const nizwarf_req *req, uint64_t ino, size_t size, char *list, size_t *len)
-{
-	return fill_all(list, size, len);
-}
-
-static int op_access(const nizwarf_req *req, uint64_t ino, uint32_t mask)
-{
-	return any;
-}
-
-static int op_create(const nizwarf_req *req, uint64_t parent, const char *name, uint32_t mode,
-		     nizwarf_file_info *fi, nizwarf_entry_param *e)
-{
-	ANY(*fi);
-	return make_entry(e);
-}
-
-static int op_fallocate(const nizwarf_req *req, uint64_t ino, uint32_t mode, uint64_t offset, uint64_t length,
-			const nizwarf_file_info *fi)
-{
-	return op_file(req, ino, fi);
-}
-
-static int op_lseek(const nizwarf_req *req, uint64_t ino, uint64_t off, uint32_t whence,
-		    const nizwarf_file_info *fi, uint64_t *found)
-{
-	*found = ANY_LENGTH(UINT64_MAX);
-	return op_file(req, ino, fi);
-}
-
-static int op_copy(const nizwarf_req *req, uint64_t ino_in, uint64_t off_in, const nizwarf_file_info *fi_in,
-		   uint64_t ino_out, uint64_t off_out, const nizwarf_file_info *fi_out, uint64_t size,
-		   uint64_t flags, size_t *len)
-{
-	*len = ANY_LENGTH(SIZE_MAX);
-	return op_file(req, ino_in, fi_in) || op_file(req, ino_out, fi_out);
-}
-
-static int op_syncfs(const nizwarf_req *req, uint64_t ino)
-{
-	return any;
-}
-
 static void op_interrupt(void *user, uint64_t unique)
 {
 }
@@ -726,134 +474,98 @@ static void op_bad_error(void *user, const nizwarf_call *call, int error)
 	seen = (uint8_t)call->call;
 }
 
-static int op_conn(const nizwarf_req *req, nizwarf_conn_info *conn)
-{
-	ANY(*conn);
-	return any;
-}
-
-static void op_forget_multi(const nizwarf_req *req, size_t count, const nizwarf_forget *forgets)
-{
-	//@ assert some: 1 <= count <= NIZWARF_MOST_FORGETS;
-	seen = (uint8_t)(forgets[0].ino + forgets[count - 1].nlookup);
-}
-
-static int op_getlk(const nizwarf_req *req, uint64_t ino, const nizwarf_file_info *fi, nizwarf_lock *lock)
-{
-	ANY(*lock);
-	return op_file(req, ino, fi);
-}
-
-static int op_setlk(const nizwarf_req *req, uint64_t ino, const nizwarf_file_info *fi,
-		    const nizwarf_lock *lock, int sleep)
-{
-	seen = (uint8_t)lock->start;
-	return op_file(req, ino, fi);
-}
-
-static int op_flock(const nizwarf_req *req, uint64_t ino, const nizwarf_file_info *fi, int op)
-{
-	return op_file(req, ino, fi);
-}
-
-static int op_bmap(const nizwarf_req *req, uint64_t ino, size_t blocksize, uint64_t idx, uint64_t *block)
-{
-	*block = ANY_LENGTH(UINT64_MAX);
-	return any;
-}
-
-static int op_ioctl(const nizwarf_req *req, uint64_t ino, uint32_t cmd, uint64_t arg,
-		    const nizwarf_file_info *fi, uint32_t flags, const void *in_buf, size_t in_size,
-		    nizwarf_ioctl *out, void *out_buf, size_t out_size, size_t *len)
-{
-	ANY(*out);
-	return fill_all(out_buf, out_size, len);
-}
-
-static int op_poll(const nizwarf_req *req, uint64_t ino, const nizwarf_file_info *fi, uint32_t events,
-		   uint64_t kh, int notify, uint32_t *revents)
-{
-	*revents = (uint32_t)any;
-	return op_file(req, ino, fi);
-}
-
-static int op_tmpfile(const nizwarf_req *req, uint64_t parent, uint32_t mode, nizwarf_file_info *fi,
-		      nizwarf_entry_param *e)
-{
-	ANY(*fi);
-	return make_entry(e);
-}
-
-static int op_statx(const nizwarf_req *req, uint64_t ino, uint32_t flags, uint32_t mask,
-		    const nizwarf_file_info *fi, nizwarf_statx *statx, struct timespec *timeout)
-{
-	if (fi)
-		seen = (uint8_t)fi->fh;
-	ANY(*statx);
-	ANY(*timeout);
-	return any;
-}
-
 static void op_retrieve_reply(const nizwarf_req *req, uint64_t cookie, uint64_t ino, uint64_t offset,
 			      const void *data, size_t size)
 {
 }
+
+/* clang-format off */
+
+#define REQ const nizwarf_req *req, uint64_t ino
+#define NAME const char *name
+#define FI const nizwarf_file_info *fi
+#define OPENED nizwarf_file_info *fi
+#define ENTRY nizwarf_entry_param *e
+#define ATTR nizwarf_attr *attr, struct timespec *attr_timeout
+#define SEE(number) (seen = (uint8_t)(number))
+
+/* The other functions: the name, the parameters, and expressions, of which the last is the result. `init`
+ * wants also options that the client does not offer, and `open` and `create` set fields that are no part of
+ * an answer: the header must ignore these. `write` and `copy_file_range` return more bytes than there were,
+ * which it must not reply. */
+#define OPS(F) \
+	F(init, (const nizwarf_req *req, uint64_t capable, uint64_t *want), *want = ANY_LENGTH(UINT64_MAX), any) \
+	F(conn, (const nizwarf_req *req, nizwarf_conn_info *conn), ANY(*conn), any) \
+	F(lookup, (REQ, NAME, ENTRY), ANY(*e), any) \
+	F(getattr, (REQ, FI, ATTR), fi ? SEE(fi->fh) : 0, ANY(*attr), ANY(*attr_timeout), any) \
+	F(setattr, (REQ, const nizwarf_setattr *set, uint32_t to_set, FI, ATTR), \
+	  SEE(set->size), op_getattr(req, ino, fi, attr, attr_timeout)) \
+	F(readlink, (REQ, char *link, size_t size, size_t *len), fill_all(link, size, len)) \
+	F(mknod, (REQ, NAME, uint32_t mode, uint32_t rdev, ENTRY), ANY(*e), any) \
+	F(mkdir, (REQ, NAME, uint32_t mode, ENTRY), ANY(*e), any) \
+	F(unlink, (REQ, NAME), any) \
+	F(rmdir, (REQ, NAME), any) \
+	F(symlink, (const nizwarf_req *req, const char *link, uint64_t parent, NAME, ENTRY), ANY(*e), any) \
+	F(rename, (REQ, NAME, uint64_t newparent, const char *newname, uint32_t flags), any) \
+	F(link, (REQ, uint64_t newparent, NAME, ENTRY), ANY(*e), any) \
+	F(open, (REQ, OPENED), ANY(*fi), any) \
+	F(read, (REQ, size_t size, uint64_t off, FI, void *buf, size_t *len), \
+	  SEE(fi->fh), fill_all(buf, size, len)) \
+	F(write, (REQ, const void *buf, size_t size, uint64_t off, FI, size_t *len), \
+	  SEE(fi->fh), *len = ANY_LENGTH(SIZE_MAX), any) \
+	F(flush, (REQ, FI), SEE(fi->fh), any) \
+	F(release, (REQ, FI), SEE(fi->fh), any) \
+	F(fsync, (REQ, int datasync, FI), SEE(fi->fh), any) \
+	F(opendir, (REQ, OPENED), ANY(*fi), any) \
+	F(releasedir, (REQ, FI), SEE(fi->fh), any) \
+	F(fsyncdir, (REQ, int datasync, FI), SEE(fi->fh), any) \
+	F(statfs, (REQ, nizwarf_statfs *stat), ANY(*stat), any) \
+	F(setxattr, (REQ, NAME, const void *value, size_t size, uint32_t flags), any) \
+	F(getxattr, (REQ, NAME, size_t size, void *value, size_t *len), fill_all(value, size, len)) \
+	F(listxattr, (REQ, size_t size, char *list, size_t *len), fill_all(list, size, len)) \
+	F(removexattr, (REQ, NAME), any) \
+	F(access, (REQ, uint32_t mask), any) \
+	F(create, (REQ, NAME, uint32_t mode, OPENED, ENTRY), ANY(*fi), ANY(*e), any) \
+	F(fallocate, (REQ, uint32_t mode, uint64_t offset, uint64_t length, FI), SEE(fi->fh), any) \
+	F(lseek, (REQ, uint64_t off, uint32_t whence, FI, uint64_t *found), \
+	  *found = ANY_LENGTH(UINT64_MAX), SEE(fi->fh), any) \
+	F(copy_file_range, (REQ, uint64_t off_in, FI, uint64_t ino_out, uint64_t off_out, \
+			    const nizwarf_file_info *fi_out, uint64_t size, uint64_t flags, size_t *len), \
+	  *len = ANY_LENGTH(SIZE_MAX), SEE(fi->fh), SEE(fi_out->fh), any) \
+	F(syncfs, (REQ), any) \
+	F(getlk, (REQ, FI, nizwarf_lock *lock), ANY(*lock), SEE(fi->fh), any) \
+	F(setlk, (REQ, FI, const nizwarf_lock *lock, int sleep), SEE(lock->start), SEE(fi->fh), any) \
+	F(flock, (REQ, FI, int op), SEE(fi->fh), any) \
+	F(bmap, (REQ, size_t blocksize, uint64_t idx, uint64_t *block), *block = ANY_LENGTH(UINT64_MAX), any) \
+	F(ioctl, (REQ, uint32_t cmd, uint64_t arg, FI, uint32_t flags, const void *in_buf, size_t in_size, \
+		  nizwarf_ioctl *out, void *out_buf, size_t out_size, size_t *len), \
+	  ANY(*out), fill_all(out_buf, out_size, len)) \
+	F(poll, (REQ, FI, uint32_t events, uint64_t kh, int notify, uint32_t *revents), \
+	  *revents = (uint32_t)any, SEE(fi->fh), any) \
+	F(tmpfile, (REQ, uint32_t mode, OPENED, ENTRY), ANY(*fi), ANY(*e), any) \
+	F(statx, (REQ, uint32_t flags, uint32_t mask, FI, nizwarf_statx *statx, struct timespec *timeout), \
+	  fi ? SEE(fi->fh) : 0, ANY(*statx), ANY(*timeout), any)
+
+#define DEFINE(name, parameters, ...) static int op_##name parameters { return __VA_ARGS__; }
+OPS(DEFINE)
+
+/* clang-format on */
 
 /* A table that lacks any of them. */
 static nizwarf_ops any_table(void)
 {
 	nizwarf_ops ops;
 
-#define OR_NONE(name, function) ops.name = any ? function : NULL /* each is there, or isn't */
-	OR_NONE(init, op_init);
-	OR_NONE(destroy, op_destroy);
-	OR_NONE(lookup, op_lookup);
-	OR_NONE(forget, op_forget);
-	OR_NONE(getattr, op_getattr);
-	OR_NONE(setattr, op_setattr);
-	OR_NONE(readlink, op_readlink);
-	OR_NONE(mknod, op_mknod);
-	OR_NONE(mkdir, op_mkdir);
-	OR_NONE(unlink, op_name);
-	OR_NONE(rmdir, op_name);
-	OR_NONE(symlink, op_symlink);
-	OR_NONE(rename, op_rename);
-	OR_NONE(link, op_link);
-	OR_NONE(open, op_open);
-	OR_NONE(read, op_read);
-	OR_NONE(write, op_write);
-	OR_NONE(flush, op_file);
-	OR_NONE(release, op_file);
-	OR_NONE(fsync, op_fsync);
-	OR_NONE(opendir, op_open);
-	OR_NONE(readdir, op_readdir);
-	OR_NONE(readdirplus, op_readdirplus);
-	OR_NONE(releasedir, op_file);
-	OR_NONE(fsyncdir, op_fsync);
-	OR_NONE(statfs, op_statfs);
-	OR_NONE(setxattr, op_setxattr);
-	OR_NONE(getxattr, op_getxattr);
-	OR_NONE(listxattr, op_listxattr);
-	OR_NONE(removexattr, op_name);
-	OR_NONE(access, op_access);
-	OR_NONE(create, op_create);
-	OR_NONE(fallocate, op_fallocate);
-	OR_NONE(lseek, op_lseek);
-	OR_NONE(copy_file_range, op_copy);
-	OR_NONE(syncfs, op_syncfs);
-	OR_NONE(interrupt, op_interrupt);
-	OR_NONE(conn, op_conn);
-	OR_NONE(forget_multi, op_forget_multi);
-	OR_NONE(getlk, op_getlk);
-	OR_NONE(setlk, op_setlk);
-	OR_NONE(flock, op_flock);
-	OR_NONE(bmap, op_bmap);
-	OR_NONE(ioctl, op_ioctl);
-	OR_NONE(poll, op_poll);
-	OR_NONE(tmpfile, op_tmpfile);
-	OR_NONE(statx, op_statx);
-	OR_NONE(retrieve_reply, op_retrieve_reply);
-	OR_NONE(bad_error, op_bad_error);
+#define OR_NONE(name, ...) ops.name = any ? op_##name : NULL; /* each is there, or isn't */
+	OPS(OR_NONE)
+	OR_NONE(destroy)
+	OR_NONE(forget)
+	OR_NONE(forget_multi)
+	OR_NONE(readdir)
+	OR_NONE(readdirplus)
+	OR_NONE(interrupt)
+	OR_NONE(retrieve_reply)
+	OR_NONE(bad_error)
 	return ops;
 }
 
