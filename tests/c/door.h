@@ -3,22 +3,12 @@
 #define C_DOOR_H
 
 #include <linux/fuse.h>
-#include <stdio.h>
-#include <stdlib.h>
 #include "door-call.h"
+#define CASE "opcode %u, length %zu\n", (unsigned)u32(request + 4), request_len
+#include "check.h"
 
 /* The largest room, in bytes; and what is in a room before, so that it shows what was written. */
 enum { ROOM = 1 << 20, FILL = 0xaa };
-
-/* Ends the program with status 1 at what isn't so, and tells of the request. */
-#define CHECK(fact)                                                                                          \
-	do {                                                                                                 \
-		if (!(fact)) {                                                                               \
-			fprintf(stderr, "%s, line %d: not %s (opcode %u, length %zu)\n", __FILE__, __LINE__, \
-				#fact, (unsigned)u32(request + 4), request_len);                             \
-			exit(1);                                                                             \
-		}                                                                                            \
-	} while (0)
 
 /* The server over the tree; and what the door is asked with, which holds what the server agreed on. */
 static nizwarf_server server = NIZWARF_NONE;

@@ -8,19 +8,11 @@
 #include <linux/fuse.h>
 #include <stddef.h>
 #include <stdint.h>
-#include <stdio.h>
 #include <string.h>
 #include <sys/socket.h>
 #include <sys/wait.h>
 #include <unistd.h>
-
-#define CHECK(fact)                                                                     \
-	do {                                                                            \
-		if (!(fact)) {                                                          \
-			fprintf(stderr, "hello.c, line %d: not %s\n", __LINE__, #fact); \
-			_exit(1);                                                       \
-		}                                                                       \
-	} while (0)
+#include "check.h"
 
 static const char text[] = "Hello, world!\n";
 static int server; /* the socket to it */

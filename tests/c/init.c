@@ -2,18 +2,9 @@
  * are agreed on, how far each number goes, and which replies stay as they are. Status 0: all is as it should be. */
 #include <errno.h>
 #include <linux/fuse.h>
-#include <stdio.h>
-#include <stdlib.h>
 #include <string.h>
 #include "nizwarf.h"
-
-#define CHECK(fact)                                                                    \
-	do {                                                                           \
-		if (!(fact)) {                                                         \
-			fprintf(stderr, "init.c, line %d: not %s\n", __LINE__, #fact); \
-			exit(1);                                                       \
-		}                                                                      \
-	} while (0)
+#include "check.h"
 
 /* Those that a header of 7.38 has not. */
 #define EXPIRE_ONLY (UINT64_C(1) << 35)

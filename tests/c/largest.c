@@ -6,11 +6,11 @@
  * no memory is left. It takes half a GiB. */
 #include <errno.h>
 #include <linux/fuse.h>
-#include <stdio.h>
-#include <stdlib.h>
 #include <string.h>
 #include "allocations.h"
 #include "nizwarf.h"
+#define CASE "opcode %u, %zu bytes\n", (unsigned)header->opcode, (size_t)header->len
+#include "check.h"
 
 /* WIDE is what the largest requests and replies here carry: 16,384 pages. MOST is the largest payload that a session
  * has. NAME is the longest name without its 0, NAMES how many a directory gets, PAGE a page: in bytes. CUTS is the
@@ -18,15 +18,6 @@
 enum { WIDE = 1 << 26, MOST = 1 << 27, NAME = 255, NAMES = 70000, PAGE = 4096, CUTS = 8192 };
 
 #define SECURITY_CTX (UINT64_C(1) << 32)
-
-#define CHECK(fact)                                                                                      \
-	do {                                                                                             \
-		if (!(fact)) {                                                                           \
-			fprintf(stderr, "largest.c, line %d: not %s (opcode %u, %zu bytes)\n", __LINE__, \
-				#fact, (unsigned)header->opcode, (size_t)header->len);                   \
-			exit(1);                                                                         \
-		}                                                                                        \
-	} while (0)
 
 static union {
 	struct fuse_in_header header;

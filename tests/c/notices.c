@@ -1,18 +1,10 @@
 /* Holds the notices of nizwarf.h against the structs of the kernel's header: the bytes of each, in as much memory as
  * it takes and in more, and nothing in less. Status 0: all is as it should be. */
 #include <linux/fuse.h>
-#include <stdio.h>
-#include <stdlib.h>
 #include <string.h>
 #include "nizwarf.h"
-
-#define CHECK(fact)                                                                                         \
-	do {                                                                                                \
-		if (!(fact)) {                                                                              \
-			fprintf(stderr, "notices.c, line %d: not %s (notice %d)\n", __LINE__, #fact, code); \
-			exit(1);                                                                            \
-		}                                                                                           \
-	} while (0)
+#define CASE "notice %d\n", code
+#include "check.h"
 
 /* Those of version 7.45, which an older header has not. */
 enum { RESEND = 7, INC_EPOCH = 8, PRUNE = 9 };

@@ -7,20 +7,11 @@
  * test_libraries.py links it with --wrap=malloc, --wrap=realloc and --wrap=free. Status 0: all is as it
  * should be. */
 #include <linux/fuse.h>
-#include <stdio.h>
-#include <stdlib.h>
 #include <string.h>
 #include "allocations.h"
 #include "nizwarf.h"
-
-#define CHECK(fact)                                                                                     \
-	do {                                                                                            \
-		if (!(fact)) {                                                                          \
-			fprintf(stderr, "text.c, line %d: not %s (request %lu, %zu bytes)\n", __LINE__, \
-				#fact, requests, length);                                               \
-			exit(1);                                                                        \
-		}                                                                                       \
-	} while (0)
+#define CASE "request %lu, %zu bytes\n", requests, length
+#include "check.h"
 
 enum { MOST = 1 << 16 }; /* bytes of a request */
 

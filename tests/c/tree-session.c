@@ -8,26 +8,17 @@
 #include <errno.h>
 #include <linux/fuse.h>
 #include <stdarg.h>
-#include <stdio.h>
-#include <stdlib.h>
 #include <string.h>
 #include "allocations.h"
 #include "nizwarf.h"
+#define CASE "line %u: %s\n", number, asked_for
+#include "check.h"
 
 /* In bytes: what a request has place for, the room of its reply, and a line. How many files gone() makes. */
 enum { MOST = 4096, ROOM = 4112, LINE = 2048, FILES = 40 };
 
 static char asked_for[LINE];   /* the line that is held now */
 static unsigned number, steps; /* the line's, in the file, and how many were asked */
-
-#define CHECK(fact)                                                                                         \
-	do {                                                                                                \
-		if (!(fact)) {                                                                              \
-			fprintf(stderr, "tree-session.c, line %d: not %s (line %u: %s)\n", __LINE__, #fact, \
-				number, asked_for);                                                         \
-			exit(1);                                                                            \
-		}                                                                                           \
-	} while (0)
 
 /* Each opcode that is asked, and the size of its record. */
 static const struct opcode {

@@ -6,20 +6,11 @@
  * it should be, and no memory is left. */
 #include <errno.h>
 #include <linux/fuse.h>
-#include <stdio.h>
-#include <stdlib.h>
 #include <string.h>
 #include "allocations.h"
 #include "nizwarf.h"
-
-#define CHECK(fact)                                                                                    \
-	do {                                                                                           \
-		if (!(fact)) {                                                                         \
-			fprintf(stderr, "tree.c, line %d: not %s (allocation %ld)\n", __LINE__, #fact, \
-				refused);                                                              \
-			exit(1);                                                                       \
-		}                                                                                      \
-	} while (0)
+#define CASE "allocation %ld\n", refused
+#include "check.h"
 
 static struct {
 	struct fuse_in_header header;

@@ -4,17 +4,8 @@
  * tests/c/test_libraries.py runs it. Status 0: all is as it was then. */
 #include <errno.h>
 #include <linux/fuse.h>
-#include <stdio.h>
-#include <stdlib.h>
 #include "nizwarf.h"
-
-#define CHECK(fact)                                                                                   \
-	do {                                                                                          \
-		if (!(fact)) {                                                                        \
-			fprintf(stderr, "version-0.2/program.c, line %d: not %s\n", __LINE__, #fact); \
-			exit(1);                                                                      \
-		}                                                                                     \
-	} while (0)
+#include "../check.h"
 
 enum { ROOM = 4096, OFFERED = FUSE_ASYNC_READ | FUSE_DO_READDIRPLUS };
 
