@@ -5,12 +5,8 @@
  * test_libraries.py links it with the library, and --wrap=malloc, --wrap=realloc and --wrap=free. Status 0: all is as it
  * should be. */
 #define _GNU_SOURCE
-#include <fcntl.h>
 #include <poll.h>
-#include <stdarg.h>
-#include "allocations.h"
-#include "nizwarf_ops.h"
-#include "door.h"
+#include "ops.h"
 
 enum { ALL = 0xff, LONGEST = 200 }; /* each row is offered */
 
@@ -43,103 +39,55 @@ static const struct statx_in statx_in = {
 };
 static const struct fuse_copy_file_range_in copy = { 4, 6, 3, 5, 7, 9, 15 };
 
-/* A call that is offered: its record, what follows that, and what is told. */
+/* A call that is offered: its request, the line by which it is printed, how it is decoded, and how a table has it. */
 static const struct {
 	uint32_t opcode, offer, answer;
 	const void *record;
 	size_t len;
-	const char *rest;
-	nizwarf_call told; /* but for what its header says */
+	const char *rest;	   /* what follows the record */
+	const char *name, *fields; /* printed, but for the fields of the header */
+	const char *words;	   /* the function that is called, and its arguments */
+	size_t reply_len;
+	nizwarf_call told; /* but for the fields of the header */
 } rows[] = {
-	{ NIZWARF_GETLK,
-	  NIZWARF_OFFER_LOCKS,
-	  NIZWARF_TEXT,
-	  &lock,
-	  sizeof(lock),
-	  "",
-	  { .handle = 4,
-	    .lock_owner = 5,
-	    .offset = 6,
-	    .other_offset = 7,
-	    .flags = F_WRLCK,
-	    .more = 8,
-	    .has = NIZWARF_HAS_OWNER } },
-	{ NIZWARF_SETLK,
-	  NIZWARF_OFFER_LOCKS,
-	  NIZWARF_DONE,
-	  &lock,
-	  sizeof(lock),
-	  "",
-	  { .handle = 4,
-	    .lock_owner = 5,
-	    .offset = 6,
-	    .other_offset = 7,
-	    .flags = F_WRLCK,
-	    .more = 8,
-	    .has = NIZWARF_HAS_OWNER } },
-	{ NIZWARF_SETLKW,
-	  NIZWARF_OFFER_LOCKS,
-	  NIZWARF_DONE,
-	  &whole,
-	  sizeof(whole),
-	  "",
-	  { .handle = 4,
-	    .lock_owner = 5,
-	    .other_offset = INT64_MAX,
-	    .flags = F_RDLCK,
-	    .more = 8,
+/* clang-format off */
+#define ROW(name, offer, answer, record) \
+	NIZWARF_##name, NIZWARF_OFFER_##offer, NIZWARF_##answer, &(record), sizeof(record)
+#define LOCK_FIELDS .handle = 4, .lock_owner = 5, .offset = 6, .other_offset = 7, .flags = F_WRLCK, .more = 8
+	{ ROW(GETLK, LOCKS, TEXT, lock), "",
+	  "GETLK", " fh=4 owner=5 start=6 end=7 type=1 pid=8 lk_flags=0", "getlk 2 4 5 6 7 1 8", 40,
+	  { LOCK_FIELDS, .has = NIZWARF_HAS_OWNER } },
+	{ ROW(SETLK, LOCKS, DONE, lock), "",
+	  "SETLK", " fh=4 owner=5 start=6 end=7 type=1 pid=8 lk_flags=0", "setlk 2 4 5 6 7 1 0", 16,
+	  { LOCK_FIELDS, .has = NIZWARF_HAS_OWNER } },
+	{ ROW(SETLKW, LOCKS, DONE, whole), "",
+	  "SETLKW", " fh=4 owner=5 start=0 end=9223372036854775807 type=0 pid=8 lk_flags=FLOCK",
+	  "flock 2 4 5 1", 16,
+	  { .handle = 4, .lock_owner = 5, .other_offset = INT64_MAX, .flags = F_RDLCK, .more = 8,
 	    .has = NIZWARF_HAS_OWNER | NIZWARF_HAS_FLOCK } },
-	{ NIZWARF_BMAP,
-	  NIZWARF_OFFER_BMAP,
-	  NIZWARF_OFFSET,
-	  &bmap,
-	  sizeof(bmap),
-	  "",
-	  { .offset = 6, .size = 512 } },
-	{ NIZWARF_IOCTL,
-	  NIZWARF_OFFER_IOCTL,
-	  NIZWARF_TEXT,
-	  &ioctl,
-	  sizeof(ioctl),
-	  "four",
-	  /* (`data` comes after the header and the record) */
+	{ ROW(BMAP, BMAP, OFFSET, bmap), "",
+	  "BMAP", " block=6 blocksize=512", "bmap 2 512 6", 24, { .offset = 6, .size = 512 } },
+	/* (`data` comes after the header and the record) */
+	{ ROW(IOCTL, IOCTL, TEXT, ioctl), "four", "IOCTL",
+	  " fh=4 flags=IOCTL_UNRESTRICTED cmd=0x9 arg=0xa in_size=4 out_size=100 data[4]=\"four\"",
+	  "ioctl 2 9 10 4 2 four 100", 35,
 	  { .handle = 4, .flags = 2, .more = 9, .offset = 10, .length = 4, .data = { 72, 4 }, .size = 100 } },
-	{ NIZWARF_POLL,
-	  NIZWARF_OFFER_POLL,
-	  NIZWARF_WRITTEN,
-	  &poll_in,
-	  sizeof(poll_in),
-	  "",
+	{ ROW(POLL, POLL, WRITTEN, poll_in), "",
+	  "POLL", " fh=4 kh=11 flags=SCHEDULE_NOTIFY events=0x1", "poll 2 4 1 11 1", 24,
 	  { .handle = 4, .offset = 11, .flags = 1, .more = POLLIN } },
-	{ NIZWARF_NOTIFY_REPLY,
-	  NIZWARF_OFFER_NOTIFY_REPLY,
-	  NIZWARF_QUIET,
-	  &retrieved,
-	  sizeof(retrieved),
-	  "four",
+	{ ROW(NOTIFY_REPLY, NOTIFY_REPLY, QUIET, retrieved), "four",
+	  "NOTIFY_REPLY", " offset=6 size=4 data[4]=\"four\"", "retrieved 1 2 6 four", 0,
 	  { .offset = 6, .size = 4, .data = { 80, 4 } } },
-	{ NIZWARF_STATX,
-	  NIZWARF_OFFER_STATX,
-	  NIZWARF_TEXT,
-	  &statx_in,
-	  sizeof(statx_in),
-	  "",
+	{ ROW(STATX, STATX, TEXT, statx_in), "",
+	  "STATX", " getattr_flags=FH fh=4 sx_flags=0x3 sx_mask=0x800", "statx 2 3 2048 4", 304,
 	  { .handle = 4, .has = NIZWARF_HAS_HANDLE, .flags = 3, .more = STATX_BTIME } },
-	{ NIZWARF_COPY_64,
-	  NIZWARF_OFFER_COPY_64,
-	  NIZWARF_OFFSET,
-	  &copy,
-	  sizeof(copy),
-	  "",
-	  { .handle = 4,
-	    .offset = 6,
-	    .other_node = 3,
-	    .other_handle = 5,
-	    .other_offset = 7,
-	    .length = 9,
+	{ ROW(COPY_64, COPY_64, OFFSET, copy), "",
+	  "COPY_FILE_RANGE_64", " fh_in=4 off_in=6 node_out=3 fh_out=5 off_out=7 len=9 flags=0xf",
+	  "copy_file_range 2 6 3 7 5 9 15", 24,
+	  { .handle = 4, .offset = 6, .other_node = 3, .other_handle = 5, .other_offset = 7, .length = 9,
 	    .lock_owner = 15 } },
+	/* clang-format on */
 };
-/* (what each has of its header, told_as_asked() fills in) */
 enum { ROWS = sizeof(rows) / sizeof(*rows) };
 
 /* A check of the first bytes of what is in `request`. Of no row it wants memory, nor of a TMPFILE without a context. */
@@ -226,30 +174,16 @@ static void hold_line(const char *name, const char *fields)
 /* Each row is printed by the names of linux/fuse.h; of a record that is cut, how many bytes there are. */
 static void printed_by_name(void)
 {
-	static const struct {
-		const char *name, *fields;
-	} lines[ROWS] = {
-		{ "GETLK", " fh=4 owner=5 start=6 end=7 type=1 pid=8 lk_flags=0" },
-		{ "SETLK", " fh=4 owner=5 start=6 end=7 type=1 pid=8 lk_flags=0" },
-		{ "SETLKW", " fh=4 owner=5 start=0 end=9223372036854775807 type=0 pid=8 lk_flags=FLOCK" },
-		{ "BMAP", " block=6 blocksize=512" },
-		{ "IOCTL", " fh=4 flags=IOCTL_UNRESTRICTED cmd=0x9 arg=0xa in_size=4 out_size=100"
-			   " data[4]=\"four\"" },
-		{ "POLL", " fh=4 kh=11 flags=SCHEDULE_NOTIFY events=0x1" },
-		{ "NOTIFY_REPLY", " offset=6 size=4 data[4]=\"four\"" },
-		{ "STATX", " getattr_flags=FH fh=4 sx_flags=0x3 sx_mask=0x800" },
-		{ "COPY_FILE_RANGE_64", " fh_in=4 off_in=6 node_out=3 fh_out=5 off_out=7 len=9 flags=0xf" },
-	};
 	char cut[32];
 	size_t i;
 
 	for (i = 0; i < ROWS; i++) {
 		begin_row(i);
-		hold_line(lines[i].name, lines[i].fields);
+		hold_line(rows[i].name, rows[i].fields);
 		/* (a byte less than a record: it can't be printed by fields) */
 		begin_with(rows[i].opcode, 2, rows[i].record, rows[i].len - 1);
 		snprintf(cut, sizeof(cut), " ignored=%zu", rows[i].len - 1);
-		hold_line(lines[i].name, cut);
+		hold_line(rows[i].name, cut);
 	}
 	begin_with(NIZWARF_TMPFILE, 2, &unnamed, sizeof(unnamed));
 	add("/", 2);
@@ -365,87 +299,47 @@ static void records(void)
 
 /* ---- a table */
 
-/* What was called, in words and numbers, each of which is one of the record's. */
-static char said[512];
+/* clang-format off */
 
-/* Adds to what is said. Answers 0, as most functions do here. */
-static int say(const char *format, ...)
-{
-	const size_t len = strlen(said);
-	va_list arguments;
+/* The functions note their arguments, each of which is another number of the record, and return something that the
+ * reply must show. */
+/* `sleep`: the caller waits for the lock. SETLK and SETLKW differ by this alone. */
+NOTES(setlk, (REQ, FI, const nizwarf_lock *asked, int sleep), "%u %u %u %u %u %u %d", INO, FH,
+      (unsigned)fi->lock_owner, (unsigned)asked->start, (unsigned)asked->end, asked->type, sleep)
+/* By flock(2)'s numbers, without LOCK_NB where the caller waits. */
+NOTES(flock, (REQ, FI, int op), "%u %u %u %d", INO, FH, (unsigned)fi->lock_owner, op)
+/* The block of the device that has a block of a file, in blocks of this size. */
+NOTES_AND(*block = 77, bmap, (REQ, size_t blocksize, uint64_t idx, uint64_t *block),
+	  "%u %zu %u", INO, blocksize, (unsigned)idx)
+#define IOCTL REQ, uint32_t cmd, uint64_t arg, FI, uint32_t flags, const void *in_buf, size_t in_size, \
+	      nizwarf_ioctl *out, void *out_buf, size_t out_size, size_t *len
+NOTES_AND((memcpy(out_buf, "out", 3), out->result = 5, *len = 3), ioctl, (IOCTL), "%u %u %u %u %u %.*s %zu",
+	  INO, cmd, (unsigned)arg, FH, flags, (int)in_size, (const char *)in_buf, out_size)
+/* A notice names `kh` to wake the caller; there must be one only if `notify` is set. */
+NOTES_AND(*revents = POLLIN | POLLOUT, poll,
+	  (REQ, FI, uint32_t events, uint64_t kh, int notify, uint32_t *revents),
+	  "%u %u %u %u %d", INO, FH, events, (unsigned)kh, notify)
+NOTES_AND((fi->fh = 9, e->ino = 6), tmpfile,
+	  (REQ, uint32_t mode, nizwarf_file_info *fi, nizwarf_entry_param *e),
+	  "%u %o %u %o", INO, mode, fi->flags, req->call->umask)
+#define STATX REQ, uint32_t flags, uint32_t mask, FI, nizwarf_statx *statx, struct timespec *timeout
+NOTES_AND((timeout->tv_sec = 3, statx->mask = STATX_BTIME, statx->btime.tv_sec = -2, statx->spare2[13] = 1), statx,
+	  (STATX), "%u %u %u %d", INO, flags, mask, fi ? (int)FH : -1)
+NOTES_AND(CHECK(!fi->lock_owner); *len = size, copy_file_range,
+	  (REQ, uint64_t off_in, FI, uint64_t ino_out, uint64_t off_out, const nizwarf_file_info *fi_out,
+	   uint64_t size, uint64_t flags, size_t *len),
+	  "%u %u %u %u %u %u %u", INO, (unsigned)off_in, (unsigned)ino_out, (unsigned)off_out,
+	  (unsigned)fi_out->fh, (unsigned)size, (unsigned)flags)
 
-	va_start(arguments, format);
-	vsnprintf(said + len, sizeof(said) - len, format, arguments);
-	va_end(arguments);
-	return 0;
-}
+/* clang-format on */
 
-#define REQ const nizwarf_req *req, uint64_t ino
-#define FI const nizwarf_file_info *fi
-#define INO ((void)req, (unsigned)ino)
-
-/* The functions say what they are called with, and answer something that the reply must show. */
-/* No lock is in the way: what was asked comes back, as unlocked. */
+/* No lock is in the way: the requested one is returned as unlocked. */
 static int note_getlk(REQ, FI, nizwarf_lock *asked)
 {
-	say("getlk %u %u %u %u %u %u %u", INO, (unsigned)fi->fh, (unsigned)fi->lock_owner,
-	    (unsigned)asked->start, (unsigned)asked->end, asked->type, asked->pid);
+	say("getlk %u %u %u %u %u %u %u", INO, FH, (unsigned)fi->lock_owner, (unsigned)asked->start,
+	    (unsigned)asked->end, asked->type, asked->pid);
 	asked->type = F_UNLCK;
 	return 0;
-}
-
-/* `sleep`: the caller waits for the lock. SETLK and SETLKW differ by this alone. */
-static int note_setlk(REQ, FI, const nizwarf_lock *asked, int sleep)
-{
-	return say("setlk %u %u %u %u %u %u %d", INO, (unsigned)fi->fh, (unsigned)fi->lock_owner,
-		   (unsigned)asked->start, (unsigned)asked->end, asked->type, sleep);
-}
-
-/* By flock(2)'s numbers, without LOCK_NB where the caller waits. */
-static int note_flock(REQ, FI, int op)
-{
-	return say("flock %u %u %u %d", INO, (unsigned)fi->fh, (unsigned)fi->lock_owner, op);
-}
-
-/* Where a block of a file is on the device, in blocks of the size that is asked with. */
-static int note_bmap(REQ, size_t blocksize, uint64_t idx, uint64_t *block)
-{
-	*block = 77;
-	return say("bmap %u %zu %u", INO, blocksize, (unsigned)idx);
-}
-
-static int note_ioctl(REQ, uint32_t cmd, uint64_t arg, FI, uint32_t flags, const void *in_buf, size_t in_size,
-		      nizwarf_ioctl *out, void *out_buf, size_t out_size, size_t *len)
-{
-	memcpy(out_buf, "out", 3);
-	out->result = 5;
-	*len = 3;
-	return say("ioctl %u %u %u %u %u %.*s %zu", INO, cmd, (unsigned)arg, (unsigned)fi->fh, flags,
-		   (int)in_size, (const char *)in_buf, out_size);
-}
-
-/* `kh` is what a notice wakes the caller by; there is to be one only if `notify` says so. */
-static int note_poll(REQ, FI, uint32_t events, uint64_t kh, int notify, uint32_t *revents)
-{
-	*revents = POLLIN | POLLOUT;
-	return say("poll %u %u %u %u %d", INO, (unsigned)fi->fh, events, (unsigned)kh, notify);
-}
-
-static int note_tmpfile(REQ, uint32_t mode, nizwarf_file_info *fi, nizwarf_entry_param *e)
-{
-	say("tmpfile %u %o %u %o", INO, mode, fi->flags, req->call->umask);
-	fi->fh = 9;
-	e->ino = 6;
-	return 0;
-}
-
-static int note_statx(REQ, uint32_t flags, uint32_t mask, FI, nizwarf_statx *statx, struct timespec *timeout)
-{
-	timeout->tv_sec = 3;
-	statx->mask = STATX_BTIME;
-	statx->btime.tv_sec = -2;
-	statx->spare2[13] = 1;
-	return say("statx %u %u %u %d", INO, flags, mask, fi ? (int)fi->fh : -1);
 }
 
 static void note_retrieve_reply(const nizwarf_req *req, uint64_t cookie, uint64_t ino, uint64_t offset,
@@ -453,15 +347,6 @@ static void note_retrieve_reply(const nizwarf_req *req, uint64_t cookie, uint64_
 {
 	say("retrieved %d %u %u %.*s", cookie == unique, INO, (unsigned)offset, (int)size,
 	    (const char *)data);
-}
-
-static int note_copy(REQ, uint64_t off_in, FI, uint64_t ino_out, uint64_t off_out,
-		     const nizwarf_file_info *fi_out, uint64_t size, uint64_t flags, size_t *len)
-{
-	CHECK(!fi->lock_owner);
-	*len = size;
-	return say("copy %u %u %u %u %u %u %u", INO, (unsigned)off_in, (unsigned)ino_out, (unsigned)off_out,
-		   (unsigned)fi_out->fh, (unsigned)size, (unsigned)flags);
 }
 
 static void note_forget_multi(const nizwarf_req *req, size_t count, const nizwarf_forget *forgets)
@@ -505,42 +390,28 @@ static const nizwarf_ops ops = { .conn = note_conn,
 				 .poll = note_poll,
 				 .tmpfile = note_tmpfile,
 				 .statx = note_statx,
-				 .copy_file_range = note_copy,
+				 .copy_file_range = note_copy_file_range,
 				 .retrieve_reply = note_retrieve_reply };
 
-/* Serves what is in `request`: what is called is these words, and the reply has this length. Without a reply it's one
- * that has none, or that doesn't fit. */
+/* Serves what is in `request`, as expect_of has it. Without a reply the request is one that has none, or whose reply
+ * doesn't fit. */
 static void expect(const char *words, size_t space, size_t len)
 {
-	size_t reply_len;
+	const uint32_t opcode = u32(request + 4);
+	const int has_none = opcode == NIZWARF_NOTIFY_REPLY || opcode == NIZWARF_BATCH_FORGET;
 
-	said[0] = 0;
-	CHECK(nizwarf_serve_ops(&ops, said, &slot, &session, request, request_len, ours, space, NULL, 0,
-				&reply_len) ==
-	      (len || rows[6].opcode == u32(request + 4) || u32(request + 4) == NIZWARF_BATCH_FORGET ?
-		       NIZWARF_OK :
-		       NIZWARF_ENCODE_MESSAGE));
-	if (strcmp(said, words) || reply_len != len)
-		fprintf(stderr, "%s, and %zu bytes\n", said, reply_len);
-	CHECK(!strcmp(said, words) && reply_len == len);
+	expect_of(&ops, len || has_none ? NIZWARF_OK : NIZWARF_ENCODE_MESSAGE, space, NULL, 0, words, len);
 }
 
 /* Each row by the table: what its function is called with, and what its reply has. (16 is where a record begins.) */
 static void called_as_told(void)
 {
-	static const char *const words[ROWS] = {
-		"getlk 2 4 5 6 7 1 8",	"setlk 2 4 5 6 7 1 0",	     "flock 2 4 5 1",
-		"bmap 2 512 6",		"ioctl 2 9 10 4 2 four 100", "poll 2 4 1 11 1",
-		"retrieved 1 2 6 four", "statx 2 3 2048 4",	     "copy 2 6 3 7 5 9 15"
-	};
-	/* of the replies, with the header */
-	static const size_t lengths[ROWS] = { 40, 16, 16, 24, 35, 24, 0, 304, 24 };
 	uint64_t pairs[2 * 70 + 1] = { 70 }; /* how many, and then each node and its count */
 	size_t i;
 
 	for (i = 0; i < ROWS; i++) {
 		begin_row(i);
-		expect(words[i], 4096, lengths[i]);
+		expect(rows[i].words, 4096, rows[i].reply_len);
 		switch (rows[i].opcode) {
 		case NIZWARF_GETLK:
 			CHECK(u64(ours + 16) == 6 && u64(ours + 24) == 7 && u32(ours + 32) == F_UNLCK);
@@ -576,8 +447,7 @@ static void called_as_told(void)
 }
 
 /* One that says it handed out more than there was room for. */
-static int hand_out_too_much(REQ, uint32_t cmd, uint64_t arg, FI, uint32_t flags, const void *in_buf,
-			     size_t in_size, nizwarf_ioctl *out, void *out_buf, size_t out_size, size_t *len)
+static int hand_out_too_much(IOCTL)
 {
 	(void)req, (void)ino, (void)cmd, (void)arg, (void)fi, (void)flags, (void)in_buf, (void)in_size;
 	out->result = 1;
@@ -619,7 +489,7 @@ static int late_getlk(REQ, FI, nizwarf_lock *asked)
 	return answer_late();
 }
 
-static int late_statx(REQ, uint32_t flags, uint32_t mask, FI, nizwarf_statx *statx, struct timespec *timeout)
+static int late_statx(STATX)
 {
 	(void)req, (void)ino, (void)flags, (void)fi;
 	statx->mask = mask;
@@ -627,8 +497,7 @@ static int late_statx(REQ, uint32_t flags, uint32_t mask, FI, nizwarf_statx *sta
 	return answer_late();
 }
 
-static int late_ioctl(REQ, uint32_t cmd, uint64_t arg, FI, uint32_t flags, const void *in_buf, size_t in_size,
-		      nizwarf_ioctl *out, void *out_buf, size_t out_size, size_t *len)
+static int late_ioctl(IOCTL)
 {
 	(void)req, (void)ino, (void)cmd, (void)arg, (void)fi, (void)flags, (void)in_buf, (void)in_size;
 	(void)out_buf, (void)out_size;
