@@ -10,26 +10,43 @@
 
 static uint8_t text[ROOM];
 
-/* Asks by hand, with a request in two pieces, and holds what is told against what is right. `space` is the
- * room's length, and the first piece has `cut` bytes at most. */
-static nizwarf_call ask_call(size_t space, size_t cut)
+/* The last call, and the results of the last function of the door. */
+static nizwarf_call call;
+static nizwarf_told told;
+
+/* Decodes a request in two pieces, and compares the call with the one that the rules have. `space` is the length of the
+ * reply buffer, and the first piece has `cut` bytes at most. */
+static void ask_call(size_t space, size_t cut)
 {
 	const size_t first = cut < request_len ? cut : request_len;
 	const nizwarf_segment pieces[] = { { request, first }, { request + first, request_len - first } };
-	nizwarf_told told;
-	nizwarf_call call;
 
 	CHECK(ask(pieces, 2, request_len, space, &call, &told) == NIZWARF_ASKED);
-	return call;
+}
+
+/* The same of a request of a record and a name, if there is one, in one piece. */
+static void ask_for(uint32_t opcode, uint64_t node, const void *record, size_t len, const char *name,
+		    size_t space)
+{
+	begin_with(opcode, node, record, len);
+	if (name)
+		add_name(name);
+	ask_call(space, 0);
 }
 
 /* Whether the reply is the error of this number, and nothing else. (a header alone: 16 bytes, of which 4 to 7 are the
  * error below 0) */
-static int is_error(const nizwarf_told *told, int error)
+static int has_error(int error)
 {
-	return told->len == 16 && told->put == 16 && u32(ours) == 16 && (int32_t)u32(ours + 4) == -error &&
+	return told.len == 16 && told.put == 16 && u32(ours) == 16 && (int32_t)u32(ours + 4) == -error &&
 	       u64(ours + 8) == unique;
 }
+
+/* Replies to the call with a success, of which the reply has this length; or with this error. */
+#define EXPECT_REPLY(answer, cut, reply_len) \
+	CHECK(reply(&call, answer, cut, &told) == NIZWARF_OK && told.len == (reply_len))
+#define EXPECT_ERROR(answer, cut, error) \
+	CHECK(reply(&call, answer, cut, &told) == NIZWARF_OK && has_error(error))
 
 /* A request that makes a name, with a security context, and a group in front of it or after it. */
 static void begin_maker(uint32_t opcode, int group_first)
@@ -57,9 +74,8 @@ static void ask_maker(uint32_t opcode, size_t cut)
 {
 	const nizwarf_answer answer = { .entry = { .node = 5 }, .has_handle = 1, .handle = 6 };
 	const size_t len = opcode == NIZWARF_CREATE ? 160 : 144; /* of the reply: an entry, and a handle */
-	const nizwarf_call call = ask_call(4096, cut);
-	nizwarf_told told;
 
+	ask_call(4096, cut);
 	CHECK(call.group == 4242 && call.context.len == 5);
 	CHECK(!memcmp(request + call.context.at, "value", 5));
 	CHECK(!memcmp(request + call.context_name.at, "security", 9));
@@ -170,12 +186,11 @@ static void ask_hostile(size_t len, size_t cut)
 	const nizwarf_segment pieces[] = { { request, cut }, { request + cut, len - cut } };
 	const nizwarf_room room = { ours, 4096 };
 	const int32_t expected_code = code_of_maker(len);
-	nizwarf_call call, expected;
-	nizwarf_told told;
+	nizwarf_call expected;
 
 	CHECK(nizwarf_ask(&slot, &session, pieces, 2, &room, 1, &call, &told) == expected_code);
 	if (expected_code == NIZWARF_OK)
-		CHECK(is_error(&told, ENOMEM));
+		CHECK(has_error(ENOMEM));
 	if (expected_code != NIZWARF_ASKED)
 		return;
 	expected = call_of(request, len, session.options, 4096);
@@ -216,7 +231,6 @@ static void hostile_extensions(void)
 static void longer_record(void)
 {
 	const uint32_t record[] = { 5, 1, 3, 0 }; /* the value's length, flags, more flags, padding */
-	nizwarf_call call;
 	size_t cut;
 
 	session.options = SETXATTR_EXT;
@@ -224,7 +238,7 @@ static void longer_record(void)
 		begin_with(NIZWARF_SETXATTR, 2, record, sizeof(record));
 		add_name("user.a");
 		add("value", 5);
-		call = ask_call(64, cut);
+		ask_call(64, cut);
 		CHECK(nizwarf_setxattr_more_flags(&call) == 1 && call.flags == 1 && call.data.len == 5);
 		CHECK(!memcmp(request + call.data.at, "value", 5));
 	}
@@ -235,12 +249,10 @@ static void longer_record(void)
 static void ask_bounded(int fits)
 {
 	const nizwarf_segment piece = { request, request_len };
-	nizwarf_call call;
-	nizwarf_told told;
 	int32_t code = ask(&piece, 1, request_len, 8192, &call, &told);
 
 	CHECK(code == (fits ? NIZWARF_ASKED : NIZWARF_OK));
-	CHECK(fits || is_error(&told, ENOMEM));
+	CHECK(fits || has_error(ENOMEM));
 }
 
 /* What the largest payload of a session bounds, 4096 bytes: that many are asked for, and one more
@@ -281,20 +293,21 @@ static void limits(void)
 	CHECK(nizwarf_new(&server, 4096, ROOM, NULL) == NIZWARF_OK);
 }
 
-/* A READ of 4096 bytes with this room is answered with that many bytes. `code` is what the answer comes to. */
-static nizwarf_told read_count(size_t space, uint64_t count, int32_t code)
+/* A READ of 4096 bytes with a reply buffer of this length gets that many bytes of data. Of a READ the door puts the
+ * header alone. `reply_len` is the length of the reply, or 0, where the count is too large and the reply is EIO. */
+static void read_count(size_t space, uint64_t count, size_t reply_len)
 {
 	const struct fuse_read_in read = { .size = 4096 };
 	const nizwarf_answer answer = { .count = count };
-	nizwarf_call call;
-	nizwarf_told told;
 
-	begin_with(NIZWARF_READ, 2, &read, sizeof(read));
-	call = ask_call(space, 0);
+	ask_for(NIZWARF_READ, 2, &read, sizeof(read), NULL, space);
 	CHECK(nizwarf_read_room(&call) == space - 16);
 	memset(ours, FILL, space);
-	CHECK(reply(&call, &answer, 20, &told) == code && !told.give_back);
-	return told;
+	CHECK(reply(&call, &answer, 20, &told) == NIZWARF_OK && !told.give_back);
+	CHECK(reply_len ?
+		      told.len == reply_len && told.put == 16 && u32(ours) == reply_len && !u32(ours + 4) :
+		      has_error(EIO));
+	CHECK(space == 16 || ours[16] == FILL);
 }
 
 /* Counts that can be, and such that can't. */
@@ -304,66 +317,48 @@ static void counts(void)
 	const uint32_t record[] = { 0, 0 };
 	/* (one more than the 32 bits of a WRITE's reply say) */
 	nizwarf_answer answer = { .count = UINT64_C(1) << 32, .has_count = 1 };
-	nizwarf_told told = read_count(8192, 4096, NIZWARF_OK);
-	nizwarf_call call;
 
-	/* (of a READ the door puts the header alone) */
-	CHECK(told.len == 4112 && told.put == 16 && u32(ours) == 4112 && ours[16] == FILL);
-	told = read_count(1000, 984, NIZWARF_OK);
-	CHECK(told.len == 1000 && told.put == 16 && !u32(ours + 4));
-	told = read_count(16, 0, NIZWARF_OK);
-	CHECK(told.len == 16 && u32(ours) == 16 && !u32(ours + 4));
-	told = read_count(8192, 4097, NIZWARF_OK);
-	CHECK(is_error(&told, EIO));
-	told = read_count(1000, 985, NIZWARF_OK); /* one more than there is room for */
-	CHECK(is_error(&told, EIO));
-	told = read_count(8192, UINT64_MAX, NIZWARF_OK);
-	CHECK(is_error(&told, EIO));
+	read_count(8192, 4096, 4112);
+	read_count(1000, 984, 1000);
+	read_count(16, 0, 16);
+	read_count(8192, 4097, 0);
+	read_count(1000, 985, 0); /* one more than there is room for */
+	read_count(8192, UINT64_MAX, 0);
 	begin_with(NIZWARF_WRITE, 2, &write, sizeof(write));
 	add("data", 4);
-	call = ask_call(64, 0);
-	CHECK(reply(&call, &answer, 0, &told) == NIZWARF_OK && is_error(&told, EIO));
+	ask_call(64, 0);
+	EXPECT_ERROR(&answer, 0, EIO);
 	answer.count--;
-	CHECK(reply(&call, &answer, 0, &told) == NIZWARF_OK && told.len == 24);
+	EXPECT_REPLY(&answer, 0, 24);
 	CHECK(u32(ours + 16) == UINT32_MAX && !u32(ours + 20));
-	begin_with(NIZWARF_LISTXATTR, 2, record, sizeof(record));
-	call = ask_call(64, 0);
-	CHECK(reply(&call, &answer, 0, &told) == NIZWARF_OK && told.len == 24);
+	ask_for(NIZWARF_LISTXATTR, 2, record, sizeof(record), NULL, 64);
+	EXPECT_REPLY(&answer, 0, 24);
 	answer.count++;
-	CHECK(reply(&call, &answer, 0, &told) == NIZWARF_OK && is_error(&told, EIO));
+	EXPECT_ERROR(&answer, 0, EIO);
 }
 
 /* Errors: a number that Linux takes, others, and 0 where there must be one. */
 static void errors(void)
 {
+	/* (INT32_MIN has no number above 0) */
+	static const int32_t wrong[] = { NIZWARF_LAST_ERROR + 1, INT32_MAX, -1, INT32_MIN };
+	const nizwarf_answer none = NIZWARF_NO_ANSWER;
 	nizwarf_answer answer = { .error = NIZWARF_LAST_ERROR };
-	nizwarf_call call;
-	nizwarf_told told;
 
-	begin(NIZWARF_STATFS, 1);
-	add("", 0);
-	call = ask_call(96, 0);
-	CHECK(reply(&call, &answer, 3, &told) == NIZWARF_OK && is_error(&told, NIZWARF_LAST_ERROR));
-	answer.error++;
-	CHECK(reply(&call, &answer, 3, &told) == NIZWARF_OK && is_error(&told, EIO));
-	answer.error = INT32_MAX;
-	CHECK(reply(&call, &answer, 3, &told) == NIZWARF_OK && is_error(&told, EIO));
-	answer.error = -1;
-	CHECK(reply(&call, &answer, 3, &told) == NIZWARF_OK && is_error(&told, EIO));
-	answer.error = INT32_MIN; /* which has no number above 0 */
-	CHECK(reply(&call, &answer, 3, &told) == NIZWARF_OK && is_error(&told, EIO));
-	answer = (nizwarf_answer)NIZWARF_NO_ANSWER;
-	CHECK(reply(&call, &answer, 3, &told) == NIZWARF_OK && is_error(&told, EIO));
-	begin(NIZWARF_TMPFILE, 1);
-	add("", 0);
-	call = ask_call(16, 0);
+	ask_for(NIZWARF_STATFS, 1, "", 0, NULL, 96);
+	EXPECT_ERROR(&answer, 3, NIZWARF_LAST_ERROR);
+	for (size_t i = 0; i < sizeof(wrong) / sizeof(*wrong); i++) {
+		answer.error = wrong[i];
+		EXPECT_ERROR(&answer, 3, EIO);
+	}
+	EXPECT_ERROR(&none, 3, EIO);
+	ask_for(NIZWARF_TMPFILE, 1, "", 0, NULL, 16);
+	answer = none;
 	answer.error = 0;
-	CHECK(reply(&call, &answer, 3, &told) == NIZWARF_OK && is_error(&told, EIO));
+	EXPECT_ERROR(&answer, 3, EIO);
 	/* (it has no reply, and ends what was agreed on) */
-	begin(NIZWARF_DESTROY, 1);
-	add("", 0);
 	session.options = KNOWN_OPTIONS;
-	call = ask_call(0, 0);
+	ask_for(NIZWARF_DESTROY, 1, "", 0, NULL, 0);
 	answer.error = EIO;
 	CHECK(reply(&call, &answer, 0, &told) == NIZWARF_OK && !told.len && !told.options);
 	session.options = 0;
@@ -376,19 +371,17 @@ static void options(void)
 	nizwarf_answer answer = { .count = FUSE_DO_READDIRPLUS | FUSE_POSIX_ACL };
 	/* (those, and what the server has by itself of what is offered) */
 	const uint64_t agreed = 0x10448449829 & UINT32_MAX; /* the client offers no more than 32 */
-	nizwarf_call call;
-	nizwarf_told told;
 	size_t space;
 
 	begin_with(NIZWARF_INIT, 0, &init, sizeof(init));
 	for (space = 0; space < 81; space++) { /* the reply has 80 bytes */
 		session.options = FUSE_WRITEBACK_CACHE;
-		call = ask_call(space, 50);
+		ask_call(space, 50);
 		CHECK(reply(&call, &answer, 9, &told) == (space < 80 ? NIZWARF_ENCODE_MESSAGE : 0));
 		CHECK(told.options == (agreed | answer.count) && told.len == (space < 80 ? 0 : 80));
 	}
 	answer.error = EDOM;
-	CHECK(reply(&call, &answer, 9, &told) == NIZWARF_OK && is_error(&told, EDOM));
+	EXPECT_ERROR(&answer, 9, EDOM);
 	CHECK(told.options == FUSE_WRITEBACK_CACHE);
 	session.options = 0;
 }
@@ -404,31 +397,23 @@ static void long_answers(void)
 	static const struct fuse_getattr_in getattr;
 	static const uint32_t size[] = { 4096, 0 }; /* and padding */
 	nizwarf_answer answer = { .text = text, .text_len = sizeof(text) - 16 };
-	nizwarf_call call;
-	nizwarf_told told;
 
-	begin(NIZWARF_READLINK, 2);
-	add("", 0);
-	call = ask_call(ROOM, 0);
+	ask_for(NIZWARF_READLINK, 2, "", 0, NULL, ROOM);
 	memset(text, 'x', sizeof(text));
-	CHECK(reply(&call, &answer, 9, &told) == NIZWARF_OK && told.len == ROOM);
+	EXPECT_REPLY(&answer, 9, ROOM);
 	CHECK(told.put == ROOM && u32(ours) == ROOM && !memcmp(ours + 16, text, ROOM - 16));
 	answer.text_len++;
 	CHECK(reply(&call, &answer, 9, &told) == NIZWARF_ENCODE_MESSAGE && !told.len && !told.put);
 	/* (so long a text is not looked at) */
-	CHECK(reply(&call, &long_text, 9, &told) == NIZWARF_OK && is_error(&told, ERANGE));
-	begin_with(NIZWARF_LISTXATTR, 2, size, sizeof(size));
-	call = ask_call(ROOM, 0);
-	CHECK(reply(&call, &long_text, 9, &told) == NIZWARF_OK && is_error(&told, ERANGE));
-	begin(NIZWARF_LOOKUP, 1);
-	add_name("a");
-	call = ask_call(144, 0);
-	CHECK(reply(&call, &long_time, 9, &told) == NIZWARF_OK && told.len == 144);
+	EXPECT_ERROR(&long_text, 9, ERANGE);
+	ask_for(NIZWARF_LISTXATTR, 2, size, sizeof(size), NULL, ROOM);
+	EXPECT_ERROR(&long_text, 9, ERANGE);
+	ask_for(NIZWARF_LOOKUP, 1, "", 0, "a", 144);
+	EXPECT_REPLY(&long_time, 9, 144);
 	/* (a second has 10^9 nanoseconds, and Linux takes none above) */
 	CHECK(u32(ours + 48) == 999999999 && u32(ours + 52) == 999999999);
-	begin_with(NIZWARF_GETATTR, 2, &getattr, sizeof(getattr));
-	call = ask_call(120, 0);
-	CHECK(reply(&call, &long_time, 9, &told) == NIZWARF_OK && told.len == 120);
+	ask_for(NIZWARF_GETATTR, 2, &getattr, sizeof(getattr), NULL, 120);
+	EXPECT_REPLY(&long_time, 9, 120);
 	CHECK(!u64(ours + 16) && u32(ours + 24) == 999999999);
 }
 
@@ -438,17 +423,12 @@ static void open_flags(void)
 	const struct fuse_open_in open = { .flags = 2 };
 	const struct fuse_create_in create = { .mode = 0100600 };
 	const nizwarf_answer answer = { .has_handle = 1, .handle = 6, .open_flags = UINT32_MAX };
-	nizwarf_call call;
-	nizwarf_told told;
 
-	begin_with(NIZWARF_OPEN, 2, &open, sizeof(open));
-	call = ask_call(32, 0);
-	CHECK(reply(&call, &answer, 9, &told) == NIZWARF_OK && told.len == 32);
+	ask_for(NIZWARF_OPEN, 2, &open, sizeof(open), NULL, 32);
+	EXPECT_REPLY(&answer, 9, 32);
 	CHECK(u64(ours + 16) == 6 && u32(ours + 24) == 0x7f);
-	begin_with(NIZWARF_CREATE, 1, &create, sizeof(create));
-	add_name("a");
-	call = ask_call(160, 0);
-	CHECK(reply(&call, &answer, 9, &told) == NIZWARF_OK && told.len == 160);
+	ask_for(NIZWARF_CREATE, 1, &create, sizeof(create), "a", 160);
+	EXPECT_REPLY(&answer, 9, 160);
 	CHECK(u64(ours + 144) == 6 && u32(ours + 152) == 0x7f);
 }
 
@@ -469,31 +449,27 @@ static void wrong_items(void)
 	};
 	const struct fuse_read_in read = { .size = 4096 };
 	nizwarf_answer answer = { .items = listed, .items_len = 3 };
-	nizwarf_call call;
-	nizwarf_told told;
 	size_t i;
 
-	begin_with(READDIRPLUS, 1, &read, sizeof(read));
-	call = ask_call(8192, 0);
+	ask_for(READDIRPLUS, 1, &read, sizeof(read), NULL, 8192);
 	CHECK(reply(&call, &answer, 9, &told) == NIZWARF_OK && told.len == 16 + 3 * 160 && told.taken == 3);
 	for (i = 0; i < 3 * sizeof(wrong) / sizeof(*wrong); i++) {
 		const nizwarf_item right = listed[i % 3]; /* put back after it */
 
 		listed[i % 3] = wrong[i / 3];
-		CHECK(reply(&call, &answer, 9, &told) == NIZWARF_OK && is_error(&told, EIO));
+		EXPECT_ERROR(&answer, 9, EIO);
 		/* (no item came to the client) */
 		CHECK(!told.taken && !told.options);
 		listed[i % 3] = right;
 	}
 	listed[0] = wrong[0];
 	answer.error = ENOTDIR;
-	CHECK(reply(&call, &answer, 9, &told) == NIZWARF_OK && is_error(&told, ENOTDIR) && !told.taken);
+	CHECK(reply(&call, &answer, 9, &told) == NIZWARF_OK && has_error(ENOTDIR) && !told.taken);
 	answer.error = 0;
 	listed[0] = listed[1];
 	/* (without PLUS no error is looked at) */
 	listed[1].error = NIZWARF_LAST_ERROR + 1;
-	begin_with(NIZWARF_READDIR, 1, &read, sizeof(read));
-	call = ask_call(8192, 0);
+	ask_for(NIZWARF_READDIR, 1, &read, sizeof(read), NULL, 8192);
 	CHECK(reply(&call, &answer, 9, &told) == NIZWARF_OK && told.len == 112 && told.taken == 3);
 	CHECK(u64(ours + 16) == 3 && ours[40] == 'b');
 }
@@ -510,8 +486,6 @@ static void errors_of_dots(void)
 		{ .ino = 1, .offset = 2, .name = (const uint8_t *)"..", .name_size = 3 },
 	};
 	const nizwarf_answer answer = { .items = listed, .items_len = 2 };
-	nizwarf_call call;
-	nizwarf_told told;
 	size_t i, fit;
 
 	for (i = 0; i < sizeof(errors) / sizeof(*errors); i++) {
@@ -519,20 +493,18 @@ static void errors_of_dots(void)
 		for (fit = 0; fit <= 2; fit++) {
 			/* (a record of such a name has 160 bytes, with its entry) */
 			read.size = (uint32_t)(160 * fit);
-			begin_with(READDIRPLUS, 1, &read, sizeof(read));
-			call = ask_call(8192, 0);
+			ask_for(READDIRPLUS, 1, &read, sizeof(read), NULL, 8192);
 			CHECK(reply(&call, &answer, 9, &told) == NIZWARF_OK && !u32(ours + 4));
 			CHECK(told.len == 16 + 160 * fit && told.taken == fit);
 		}
 	}
 	read.size = 4096;
-	begin_with(READDIRPLUS, 1, &read, sizeof(read));
-	call = ask_call(8192, 0);
+	ask_for(READDIRPLUS, 1, &read, sizeof(read), NULL, 8192);
 	listed[1].error = NIZWARF_LAST_ERROR + 1;
 	for (i = 0; i < sizeof(others) / sizeof(*others); i++) {
 		listed[1].name = (const uint8_t *)others[i];
 		listed[1].name_size = strlen(others[i]) + 1;
-		CHECK(reply(&call, &answer, 9, &told) == NIZWARF_OK && is_error(&told, EIO));
+		EXPECT_ERROR(&answer, 9, EIO);
 	}
 }
 
@@ -550,8 +522,6 @@ static void texts_of_init(void)
 	nizwarf_segment piece;
 	struct fuse_init_out out;
 	uint8_t whole[80];
-	nizwarf_call call;
-	nizwarf_told told;
 	uint32_t offers;
 
 	answer.text = (const uint8_t *)&more;
@@ -559,7 +529,7 @@ static void texts_of_init(void)
 	begin_with(NIZWARF_INIT, 0, &init, sizeof(init));
 	piece.at = request;
 	piece.len = request_len;
-	call = ask_call(ROOM, 0);
+	ask_call(ROOM, 0);
 	CHECK(reply(&call, &plain, 9, &told) == NIZWARF_OK && told.len == 80 && !u32(ours + 4));
 	memcpy(whole, ours, 80);
 	CHECK(!nizwarf_init_takes_more(&call));
@@ -569,7 +539,7 @@ static void texts_of_init(void)
 		CHECK(nizwarf_ask_offered(&slot, &session, offers, &piece, 1, &room, 1, &call, &told) ==
 		      NIZWARF_ASKED);
 		CHECK(!nizwarf_init_takes_more(&call) == (offers != NIZWARF_OFFER_INIT));
-		CHECK(reply(&call, &answer, 9, &told) == NIZWARF_OK && told.len == 80);
+		EXPECT_REPLY(&answer, 9, 80);
 		CHECK(!memcmp(ours, whole, 80) == (offers != NIZWARF_OFFER_INIT));
 		if (offers == NIZWARF_OFFER_INIT) {
 			memcpy(&out, ours + 16, sizeof(out));
@@ -589,19 +559,13 @@ static void silences(void)
 	static const uint32_t untold[] = { NIZWARF_GETLK, NIZWARF_SETLK, NIZWARF_SETLKW,
 					   NIZWARF_BMAP,  NIZWARF_IOCTL, NIZWARF_POLL };
 	const nizwarf_answer answer = { .error = 0 };
-	nizwarf_call call;
-	nizwarf_told told;
 	size_t i;
 
 	for (i = 0; i < sizeof(untold) / sizeof(*untold); i++) {
-		begin(untold[i], 1);
-		add("", 0);
-		call = ask_call(ROOM, 0);
-		CHECK(reply(&call, &answer, 9, &told) == NIZWARF_OK && is_error(&told, EIO));
+		ask_for(untold[i], 1, "", 0, NULL, ROOM);
+		EXPECT_ERROR(&answer, 9, EIO);
 	}
-	begin(NIZWARF_NOTIFY_REPLY, 1);
-	add("", 0);
-	call = ask_call(ROOM, 0);
+	ask_for(NIZWARF_NOTIFY_REPLY, 1, "", 0, NULL, ROOM);
 	CHECK(reply(&call, &answer, 9, &told) == NIZWARF_OK && !told.len && !told.put);
 }
 
@@ -616,12 +580,9 @@ static void entries(void)
 	};
 	const struct fuse_read_in read = { .size = 4096 };
 	nizwarf_answer answer = { .items = listed, .items_len = 4 };
-	nizwarf_call call;
-	nizwarf_told told;
 
-	begin_with(READDIRPLUS, 1, &read, sizeof(read));
-	call = ask_call(8192, 0);
-	CHECK(reply(&call, &answer, 9, &told) == NIZWARF_OK && told.len == 16 + 2 * 160);
+	ask_for(READDIRPLUS, 1, &read, sizeof(read), NULL, 8192);
+	EXPECT_REPLY(&answer, 9, 16 + 2 * 160);
 	/* (up to the item with an error: what follows is asked for again) */
 	CHECK(told.taken == 2 && !told.give_back);
 	/* (of `.` the entry is one of zeros, but for its number and its type) */
@@ -629,7 +590,7 @@ static void entries(void)
 	CHECK(u64(ours + 16 + 160) == 8);
 	answer.items = listed + 2;
 	answer.items_len = 2;
-	CHECK(reply(&call, &answer, 9, &told) == NIZWARF_OK && is_error(&told, ENOENT));
+	EXPECT_ERROR(&answer, 9, ENOENT);
 	CHECK(!told.taken && !told.give_back);
 }
 
@@ -639,22 +600,19 @@ static void give_back(void)
 {
 	static const struct fuse_create_in create = { .mode = 0100600 };
 	const nizwarf_answer answer = { .entry = { .node = 77 } };
-	nizwarf_call call, other;
-	nizwarf_told told;
+	nizwarf_call other;
 	size_t space;
 
-	begin_with(NIZWARF_CREATE, 1, &create, sizeof(create));
-	add_name("xyz");
-	call = ask_call(159, 0);
+	ask_for(NIZWARF_CREATE, 1, &create, sizeof(create), "xyz", 159);
 	CHECK(reply(&call, &answer, 9, &told) == NIZWARF_ENCODE_MESSAGE && told.give_back == 77);
 	begin(NIZWARF_LOOKUP, 1);
 	add_name("xyz");
 	for (space = 0; space < 144; space++) {
-		call = ask_call(space, 0);
+		ask_call(space, 0);
 		CHECK(reply(&call, &answer, 9, &told) == NIZWARF_ENCODE_MESSAGE);
 		CHECK(told.give_back == 77 && !told.len && !told.put);
 	}
-	call = ask_call(144, 0);
+	ask_call(144, 0);
 	CHECK(reply(&call, &answer, 9, &told) == NIZWARF_OK && told.len == 144 && !told.give_back);
 	/* (kinds of answers that there are not) */
 	for (other = call, other.answer = NIZWARF_FAULT + 1; other.answer; other.answer <<= 1) {
@@ -679,10 +637,10 @@ static void codes(void)
 	/* A page that is none, and payloads below and above what there may be. */
 	nizwarf_session wrong[] = { { 0, 4095, ROOM }, { 0, 4096, 4095 }, { 0, 4096, 134217729 } };
 	nizwarf_answer answer = { .text_len = 1 };
-	nizwarf_call call = ask_call(144, 0), none;
-	nizwarf_told told;
+	nizwarf_call none;
 	int i;
 
+	ask_call(144, 0);
 	CHECK(nizwarf_ask(NULL, &session, &piece, 1, &room, 1, &none, &told) == NIZWARF_NULL);
 	CHECK(nizwarf_ask(&slot, NULL, &piece, 1, &room, 1, &none, &told) == NIZWARF_NULL);
 	CHECK(nizwarf_ask(&slot, &session, &piece, 1, &room, 1, NULL, &told) == NIZWARF_NULL);
@@ -727,8 +685,6 @@ static void survive(size_t cut, size_t space, const nizwarf_answer *answer, size
 	const nizwarf_room room = { ours, space };
 	const nizwarf_slot none = NIZWARF_NONE;
 	nizwarf_slot asked_with;
-	nizwarf_call call;
-	nizwarf_told told;
 	int32_t code;
 	long before;
 
@@ -770,7 +726,6 @@ static void answers_in_flight(void)
 	enum { COUNT = sizeof(spaces) / sizeof(*spaces) };
 	const nizwarf_answer missing = { .error = ENOENT };
 	nizwarf_call calls[COUNT];
-	nizwarf_told told;
 	long before;
 	int i;
 
