@@ -2,7 +2,6 @@
  * does to open one of 4243, to open one of 4244 for its first lock, and to look at what is named `slow`. With --trace a
  * request of the user 4245 is held up for as long before it is served, and one of 4246 before it takes its first mutex. */
 #define _GNU_SOURCE
-#include <dlfcn.h>
 #include <errno.h>
 #include <fcntl.h>
 #include <pthread.h>
@@ -11,6 +10,7 @@
 #include <string.h>
 #include <sys/stat.h>
 #include <time.h>
+#include "own.h"
 
 /* (a signal must not make it shorter) */
 static void take_long(void)
@@ -39,12 +39,10 @@ int fprintf(FILE *to, const char *format, ...)
 
 int pthread_mutex_lock(pthread_mutex_t *lock)
 {
-	int (*own)(pthread_mutex_t *) = (int (*)(pthread_mutex_t *))dlsym(RTLD_NEXT, "pthread_mutex_lock");
-
 	if (is_held_up)
 		take_long();
 	is_held_up = 0;
-	return own(lock);
+	return OWN(pthread_mutex_lock)(lock);
 }
 
 /* Whether it is an open file of that size: one of O_PATH, as of a node, is let be. */
@@ -57,17 +55,13 @@ static int has_size(int fd, off_t size)
 
 int close(int fd)
 {
-	int (*own)(int) = (int (*)(int))dlsym(RTLD_NEXT, "close");
-
 	if (has_size(fd, 4242))
 		take_long();
-	return own(fd);
+	return OWN(close)(fd);
 }
 
 int openat(int directory, const char *name, int flags, ...)
 {
-	int (*own)(int, const char *, int, ...) =
-		(int (*)(int, const char *, int, ...))dlsym(RTLD_NEXT, "openat");
 	static int had_lock;
 	unsigned mode = 0;
 	va_list more;
@@ -77,7 +71,7 @@ int openat(int directory, const char *name, int flags, ...)
 	if (flags & O_CREAT || (flags & O_TMPFILE) == O_TMPFILE)
 		mode = va_arg(more, unsigned);
 	va_end(more);
-	fd = own(directory, name, flags, mode);
+	fd = OWN(openat)(directory, name, flags, mode);
 	if (fd >= 0 && (has_size(fd, 4243) || (flags & O_NOCTTY && has_size(fd, 4244) && !had_lock++)))
 		take_long();
 	return fd;
@@ -85,10 +79,7 @@ int openat(int directory, const char *name, int flags, ...)
 
 int statx(int directory, const char *name, int flags, unsigned mask, struct statx *seen)
 {
-	int (*own)(int, const char *, int, unsigned, struct statx *) =
-		(int (*)(int, const char *, int, unsigned, struct statx *))dlsym(RTLD_NEXT, "statx");
-
 	if (!strcmp(name, "slow"))
 		take_long();
-	return own(directory, name, flags, mask, seen);
+	return OWN(statx)(directory, name, flags, mask, seen);
 }

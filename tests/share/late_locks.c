@@ -1,14 +1,13 @@
 /* Loaded before a share, for waits.py: who has a lock is reported late, as over a network. */
 #define _GNU_SOURCE
-#include <dlfcn.h>
 #include <errno.h>
 #include <fcntl.h>
 #include <stdarg.h>
 #include <time.h>
+#include "own.h"
 
 int fcntl(int fd, int what, ...)
 {
-	int (*own)(int, int, ...) = (int (*)(int, int, ...))dlsym(RTLD_NEXT, "fcntl");
 	struct timespec left = { 5, 0 };
 	va_list more;
 	void *given;
@@ -20,7 +19,7 @@ int fcntl(int fd, int what, ...)
 	if (what == F_OFD_GETLK)
 		while (nanosleep(&left, &left) && errno == EINTR)
 			;
-	return own(fd, what, given);
+	return OWN(fcntl)(fd, what, given);
 }
 
 /* (where an offset has 64 bits anyway the two are one) */

@@ -2,13 +2,13 @@
  * the environment, once it is mounted. With BOUND that of its socket does not, when that is made, and with REMOVED when it
  * is removed. */
 #define _GNU_SOURCE
-#include <dlfcn.h>
 #include <stdarg.h>
 #include <stdlib.h>
 #include <sys/prctl.h>
 #include <sys/socket.h>
 #include <sys/vfs.h>
 #include <unistd.h>
+#include "own.h"
 
 /* As on a network file system whose server is gone: it doesn't come back by a signal either. */
 static void wait_for_ever(void)
@@ -20,36 +20,28 @@ static void wait_for_ever(void)
 
 int fstatfs(int fd, struct statfs *told)
 {
-	int (*own)(int, struct statfs *) = (int (*)(int, struct statfs *))dlsym(RTLD_NEXT, "fstatfs");
-
 	if (!getenv("MOUNTED") && !getenv("REMOVED"))
 		wait_for_ever();
-	return own(fd, told);
+	return OWN(fstatfs)(fd, told);
 }
 
 int bind(int fd, const struct sockaddr *address, socklen_t len)
 {
-	int (*own)(int, const struct sockaddr *, socklen_t) =
-		(int (*)(int, const struct sockaddr *, socklen_t))dlsym(RTLD_NEXT, "bind");
-
 	if (getenv("BOUND"))
 		wait_for_ever();
-	return own(fd, address, len);
+	return OWN(bind)(fd, address, len);
 }
 
 int unlink(const char *path)
 {
-	int (*own)(const char *) = (int (*)(const char *))dlsym(RTLD_NEXT, "unlink");
-
 	if (getenv("REMOVED"))
 		wait_for_ever();
-	return own(path);
+	return OWN(unlink)(path);
 }
 
 /* (the server calls it right after it has mounted, before it serves) */
 int prctl(int what, ...)
 {
-	int (*own)(int, ...) = (int (*)(int, ...))dlsym(RTLD_NEXT, "prctl");
 	unsigned long given[4];
 	va_list more;
 
@@ -59,5 +51,5 @@ int prctl(int what, ...)
 	va_end(more);
 	if (what == PR_SET_NO_NEW_PRIVS && getenv("MOUNTED"))
 		wait_for_ever();
-	return own(what, given[0], given[1], given[2], given[3]);
+	return OWN(prctl)(what, given[0], given[1], given[2], given[3]);
 }

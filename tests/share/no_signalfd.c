@@ -1,12 +1,12 @@
 /* Loaded before a share, for notify.py: what stands by has no descriptor left for a signalfd(2) besides its own. */
 #define _GNU_SOURCE
-#include <dlfcn.h>
 #include <errno.h>
 #include <fcntl.h>
 #include <stdio.h>
 #include <string.h>
 #include <sys/signalfd.h>
 #include <unistd.h>
+#include "own.h"
 
 /* Whether the process has one. */
 static int has_one(void)
@@ -25,12 +25,9 @@ static int has_one(void)
 /* The first one is made, and each after it fails as if no descriptor were left. */
 int signalfd(int fd, const sigset_t *signals, int flags)
 {
-	int (*own)(int, const sigset_t *, int) =
-		(int (*)(int, const sigset_t *, int))dlsym(RTLD_NEXT, "signalfd");
-
 	if (has_one()) {
 		errno = EMFILE;
 		return -1;
 	}
-	return own(fd, signals, flags);
+	return OWN(signalfd)(fd, signals, flags);
 }
