@@ -17,32 +17,32 @@ enum { INTERRUPT = 36, READDIRPLUS = 44, RENAME2 = 45, SETUPMAPPING = 48, REMOVE
 /* The fields of fuse_setattr_in that `valid` can name, but for `fh`. */
 enum { KNOWN_VALID = 0xdbf }; /* all of them but bits 6, FH, and 9, LOCKOWNER */
 
-/* Of each opcode: the length of its record, and the kind of its answer. */
+/* Of each opcode: the length of its record, the kind of its answer, and how many names follow the record. */
 static const struct {
-	uint8_t record, kind;
+	uint8_t record, kind, names;
 } forms[52] = {
-	[NIZWARF_LOOKUP] = { 0, NIZWARF_ENTRY },
+	[NIZWARF_LOOKUP] = { 0, NIZWARF_ENTRY, 1 },
 	[NIZWARF_FORGET] = { 8, NIZWARF_QUIET },
 	[NIZWARF_GETATTR] = { 16, NIZWARF_ATTR },
 	[NIZWARF_SETATTR] = { 88, NIZWARF_ATTR },
 	[NIZWARF_READLINK] = { 0, NIZWARF_TEXT },
-	[NIZWARF_SYMLINK] = { 0, NIZWARF_ENTRY },
-	[NIZWARF_MKNOD] = { 16, NIZWARF_ENTRY },
-	[NIZWARF_MKDIR] = { 8, NIZWARF_ENTRY },
-	[NIZWARF_UNLINK] = { 0, NIZWARF_DONE },
-	[NIZWARF_RMDIR] = { 0, NIZWARF_DONE },
-	[NIZWARF_RENAME] = { 8, NIZWARF_DONE },
-	[NIZWARF_LINK] = { 8, NIZWARF_ENTRY },
+	[NIZWARF_SYMLINK] = { 0, NIZWARF_ENTRY, 2 },
+	[NIZWARF_MKNOD] = { 16, NIZWARF_ENTRY, 1 },
+	[NIZWARF_MKDIR] = { 8, NIZWARF_ENTRY, 1 },
+	[NIZWARF_UNLINK] = { 0, NIZWARF_DONE, 1 },
+	[NIZWARF_RMDIR] = { 0, NIZWARF_DONE, 1 },
+	[NIZWARF_RENAME] = { 8, NIZWARF_DONE, 2 },
+	[NIZWARF_LINK] = { 8, NIZWARF_ENTRY, 1 },
 	[NIZWARF_OPEN] = { 8, NIZWARF_OPENED },
 	[NIZWARF_READ] = { 40, NIZWARF_DATA },
 	[NIZWARF_WRITE] = { 40, NIZWARF_WRITTEN },
 	[NIZWARF_STATFS] = { 0, NIZWARF_STATISTICS },
 	[NIZWARF_RELEASE] = { 24, NIZWARF_DONE },
 	[NIZWARF_FSYNC] = { 16, NIZWARF_DONE },
-	[NIZWARF_SETXATTR] = { 8, NIZWARF_DONE }, /* or 16 with SETXATTR_EXT */
-	[NIZWARF_GETXATTR] = { 8, NIZWARF_TEXT_OR_COUNT },
+	[NIZWARF_SETXATTR] = { 8, NIZWARF_DONE, 1 }, /* or 16 with SETXATTR_EXT */
+	[NIZWARF_GETXATTR] = { 8, NIZWARF_TEXT_OR_COUNT, 1 },
 	[NIZWARF_LISTXATTR] = { 8, NIZWARF_TEXT_OR_COUNT },
-	[NIZWARF_REMOVEXATTR] = { 0, NIZWARF_DONE },
+	[NIZWARF_REMOVEXATTR] = { 0, NIZWARF_DONE, 1 },
 	[NIZWARF_FLUSH] = { 24, NIZWARF_DONE },
 	[NIZWARF_INIT] = { 16, NIZWARF_WANT }, /* what each client has: a longer one is taken too */
 	[NIZWARF_OPENDIR] = { 8, NIZWARF_OPENED },
@@ -53,7 +53,7 @@ static const struct {
 	[NIZWARF_SETLK] = { 0, NIZWARF_FAULT_OR_SILENCE },
 	[NIZWARF_SETLKW] = { 0, NIZWARF_FAULT_OR_SILENCE },
 	[NIZWARF_ACCESS] = { 8, NIZWARF_DONE },
-	[NIZWARF_CREATE] = { 16, NIZWARF_CREATED },
+	[NIZWARF_CREATE] = { 16, NIZWARF_CREATED, 1 },
 	[NIZWARF_BMAP] = { 0, NIZWARF_FAULT_OR_SILENCE },
 	[NIZWARF_DESTROY] = { 0, NIZWARF_QUIET },
 	[NIZWARF_IOCTL] = { 0, NIZWARF_FAULT_OR_SILENCE },
@@ -62,7 +62,7 @@ static const struct {
 	[NIZWARF_BATCH_FORGET] = { 8, NIZWARF_QUIET },
 	[NIZWARF_FALLOCATE] = { 32, NIZWARF_DONE },
 	[READDIRPLUS] = { 40, NIZWARF_DIRECTORY },
-	[RENAME2] = { 16, NIZWARF_DONE },
+	[RENAME2] = { 16, NIZWARF_DONE, 2 },
 	[NIZWARF_LSEEK] = { 24, NIZWARF_OFFSET },
 	[NIZWARF_COPY] = { 56, NIZWARF_WRITTEN },
 	[NIZWARF_SYNCFS] = { 0, NIZWARF_DONE },
@@ -101,143 +101,100 @@ static inline uint64_t u64(const uint8_t *at)
 	return n;
 }
 
-/* A number of the record that is one only where a bit is set. */
-static inline void set_if(nizwarf_call *c, int set, uint32_t has, uint64_t *to, uint64_t number)
-{
-	if (set) {
-		c->has |= has;
-		*to = number;
-	}
-}
+/* Where a number of a record goes in a call. */
+static const struct call_field {
+	uint8_t opcode, at, len; /* of the record: its opcode, the place, how many bytes */
+	uint16_t to;		 /* the place in the call, where it may have more bytes */
+} fields[] = {
+/* clang-format off */
+#define FIELD(opcode, at, bits, field) { opcode, at, (bits) / 8, offsetof(nizwarf_call, field) }
+	FIELD(NIZWARF_FORGET, 0, 64, length), /* nlookup */
+	FIELD(NIZWARF_SETATTR, 0, 88 * 8, attr), FIELD(NIZWARF_SETATTR, 0, 32, flags), /* valid */
+	FIELD(NIZWARF_MKNOD, 0, 32, mode), FIELD(NIZWARF_MKNOD, 4, 32, rdev), FIELD(NIZWARF_MKNOD, 8, 32, umask),
+	FIELD(NIZWARF_MKDIR, 0, 32, mode), FIELD(NIZWARF_MKDIR, 4, 32, umask),
+	FIELD(NIZWARF_RENAME, 0, 64, other_node), /* newdir */
+	FIELD(RENAME2, 0, 64, other_node), FIELD(RENAME2, 8, 32, flags),
+	FIELD(NIZWARF_LINK, 0, 64, node), /* oldnodeid: the header names the directory */
+	FIELD(NIZWARF_OPEN, 0, 32, flags), FIELD(NIZWARF_OPENDIR, 0, 32, flags),
+#define READ_FIELDS(opcode) FIELD(opcode, 0, 64, handle), FIELD(opcode, 8, 64, offset), FIELD(opcode, 16, 32, size)
+	READ_FIELDS(NIZWARF_READ), FIELD(NIZWARF_READ, 32, 32, flags),
+	READ_FIELDS(NIZWARF_WRITE), FIELD(NIZWARF_WRITE, 32, 32, flags),
+	READ_FIELDS(NIZWARF_READDIR), READ_FIELDS(READDIRPLUS),
+	FIELD(NIZWARF_RELEASE, 0, 64, handle), FIELD(NIZWARF_RELEASE, 8, 32, flags),
+	FIELD(NIZWARF_RELEASEDIR, 0, 64, handle), FIELD(NIZWARF_RELEASEDIR, 8, 32, flags),
+	FIELD(NIZWARF_FSYNC, 0, 64, handle), FIELD(NIZWARF_FSYNCDIR, 0, 64, handle),
+	FIELD(NIZWARF_SETXATTR, 4, 32, flags),
+	FIELD(NIZWARF_GETXATTR, 0, 32, size), FIELD(NIZWARF_LISTXATTR, 0, 32, size),
+	FIELD(NIZWARF_FLUSH, 0, 64, handle), FIELD(NIZWARF_FLUSH, 16, 64, lock_owner),
+	FIELD(NIZWARF_INIT, 8, 32, readahead), FIELD(NIZWARF_INIT, 12, 32, length), /* flags */
+	FIELD(NIZWARF_ACCESS, 0, 32, more), /* mask */
+	FIELD(NIZWARF_CREATE, 0, 32, flags), FIELD(NIZWARF_CREATE, 4, 32, mode), FIELD(NIZWARF_CREATE, 8, 32, umask),
+	FIELD(NIZWARF_BATCH_FORGET, 0, 32, length), /* count */
+	FIELD(NIZWARF_FALLOCATE, 0, 64, handle), FIELD(NIZWARF_FALLOCATE, 8, 64, offset),
+	FIELD(NIZWARF_FALLOCATE, 16, 64, length), FIELD(NIZWARF_FALLOCATE, 24, 32, mode),
+	FIELD(NIZWARF_LSEEK, 0, 64, handle), FIELD(NIZWARF_LSEEK, 8, 64, offset),
+	FIELD(NIZWARF_LSEEK, 16, 32, more), /* whence */
+	FIELD(NIZWARF_COPY, 0, 64, handle), FIELD(NIZWARF_COPY, 8, 64, offset),
+	FIELD(NIZWARF_COPY, 16, 64, other_node), FIELD(NIZWARF_COPY, 24, 64, other_handle),
+	FIELD(NIZWARF_COPY, 32, 64, other_offset), FIELD(NIZWARF_COPY, 40, 64, length),
+	FIELD(NIZWARF_COPY, 48, 64, lock_owner), /* flags */
+	/* clang-format on */
+};
 
-/* What the record says, which is after the header: `r` is where it begins, and the numbers added to it are the places of
+/* Bits of a record's flags that set a bit of `has`, and the number of 64 bits that is one only with it, if any. */
+static const struct record_option {
+	uint8_t opcode, at, bits, number; /* of the record: the place of the flags, and of the number */
+	uint32_t has;
+	uint16_t to;
+} record_options[] = {
+/* clang-format off */
+#define WITH(field) offsetof(nizwarf_call, field)
+	{ NIZWARF_GETATTR, 0, 1, 8, NIZWARF_HAS_HANDLE, WITH(handle) }, /* FUSE_GETATTR_FH */
+	{ NIZWARF_SETATTR, 0, 1 << 6, 8, NIZWARF_HAS_HANDLE, WITH(handle) }, /* FATTR_FH */
+	{ NIZWARF_OPEN, 4, 1, 0, NIZWARF_KILL_PRIV, 0 }, /* FUSE_OPEN_KILL_SUIDGID */
+	{ NIZWARF_CREATE, 12, 1, 0, NIZWARF_KILL_PRIV, 0 },
+	{ NIZWARF_READ, 20, 2, 24, NIZWARF_HAS_OWNER, WITH(lock_owner) }, /* FUSE_READ_LOCKOWNER */
+	{ NIZWARF_WRITE, 20, 2, 24, NIZWARF_HAS_OWNER, WITH(lock_owner) }, /* FUSE_WRITE_LOCKOWNER */
+	{ NIZWARF_WRITE, 20, 1, 0, NIZWARF_DELAYED, 0 }, /* FUSE_WRITE_CACHE */
+	{ NIZWARF_WRITE, 20, 4, 0, NIZWARF_KILL_PRIV, 0 }, /* FUSE_WRITE_KILL_SUIDGID */
+	{ NIZWARF_RELEASE, 12, 1, 0, NIZWARF_FLUSHES, 0 }, /* FUSE_RELEASE_FLUSH */
+	{ NIZWARF_RELEASE, 12, 2, 0, NIZWARF_FLOCK_RELEASE, 0 }, /* FUSE_RELEASE_FLOCK_UNLOCK */
+	{ NIZWARF_RELEASE, 12, 3, 16, NIZWARF_HAS_OWNER, WITH(lock_owner) }, /* either has an owner */
+	{ NIZWARF_FSYNC, 8, 1, 0, NIZWARF_DATASYNC, 0 }, /* FUSE_FSYNC_FDATASYNC */
+	{ NIZWARF_FSYNCDIR, 8, 1, 0, NIZWARF_DATASYNC, 0 },
+	/* clang-format on */
+};
+
+/* The contents of the record, which is after the header: `r` is where it begins, and the places in it are those of
  * fields in the structs of linux/fuse.h. */
 static inline void set_record(nizwarf_call *c, const uint8_t *r, uint32_t opcode)
 {
-	switch (opcode) {
-	case NIZWARF_FORGET:
-		c->length = u64(r); /* nlookup */
-		break;
-	case NIZWARF_GETATTR:
-		set_if(c, u32(r) & 1, NIZWARF_HAS_HANDLE, &c->handle, u64(r + 8)); /* FUSE_GETATTR_FH */
-		break;
-	case NIZWARF_SETATTR:
-		memcpy(&c->attr, r, sizeof(c->attr));
-		c->flags = u32(r) & KNOWN_VALID;					/* valid */
-		set_if(c, u32(r) >> 6 & 1, NIZWARF_HAS_HANDLE, &c->handle, u64(r + 8)); /* FATTR_FH */
-		break;
-	case NIZWARF_MKNOD:
-		c->mode = u32(r);
-		c->rdev = u32(r + 4);
-		c->umask = u32(r + 8);
-		break;
-	case NIZWARF_MKDIR:
-		c->mode = u32(r);
-		c->umask = u32(r + 4);
-		break;
-	case RENAME2:
-		/* RENAME_NOREPLACE .. RENAME_WHITEOUT */
-		c->flags = u32(r + 8) & 7;
-		/* fall through */
-	case NIZWARF_RENAME:
-		c->other_node = u64(r); /* newdir */
-		break;
-	case NIZWARF_LINK:
-		c->other_node = c->node; /* the directory, which the header names */
-		c->node = u64(r);	 /* oldnodeid */
-		break;
-	case NIZWARF_OPEN:
-		/* FUSE_OPEN_KILL_SUIDGID */
-		c->has |= u32(r + 4) & 1 ? NIZWARF_KILL_PRIV : 0;
-		/* fall through */
-	case NIZWARF_OPENDIR:
-		c->flags = u32(r);
-		break;
-	case NIZWARF_WRITE:
-		c->has |= u32(r + 20) & 1 ? NIZWARF_DELAYED : 0; /* FUSE_WRITE_CACHE */
-		/* FUSE_WRITE_KILL_SUIDGID */
-		c->has |= u32(r + 20) & 4 ? NIZWARF_KILL_PRIV : 0;
-		/* fall through */
-	case NIZWARF_READ:
-		c->flags = u32(r + 32);
-		/* FUSE_READ_LOCKOWNER, and a WRITE's */
-		set_if(c, u32(r + 20) & 2, NIZWARF_HAS_OWNER, &c->lock_owner, u64(r + 24));
-		/* fall through */
-	case NIZWARF_READDIR:
-	case READDIRPLUS:
-		c->handle = u64(r);
-		c->offset = u64(r + 8);
-		c->size = u32(r + 16);
-		break;
-	case NIZWARF_RELEASE:
-		c->has |= u32(r + 12) & 1 ? NIZWARF_FLUSHES : 0;       /* FUSE_RELEASE_FLUSH */
-		c->has |= u32(r + 12) & 2 ? NIZWARF_FLOCK_RELEASE : 0; /* FUSE_RELEASE_FLOCK_UNLOCK */
-		/* either has an owner */
-		set_if(c, u32(r + 12) & 3, NIZWARF_HAS_OWNER, &c->lock_owner, u64(r + 16));
-		/* fall through */
-	case NIZWARF_RELEASEDIR:
-		c->handle = u64(r);
-		c->flags = u32(r + 8);
-		break;
-	case NIZWARF_FSYNC:
-	case NIZWARF_FSYNCDIR:
-		c->handle = u64(r);
-		c->has |= u32(r + 8) & 1 ? NIZWARF_DATASYNC : 0; /* FUSE_FSYNC_FDATASYNC */
-		break;
-	case NIZWARF_SETXATTR:
-		c->flags = u32(r + 4);
-		/* setxattr_flags, of the longer record */
-		c->more = c->options & SETXATTR_EXT ? u32(r + 8) & 1 : 0;
-		break;
-	case NIZWARF_GETXATTR:
-	case NIZWARF_LISTXATTR:
-		c->size = u32(r);
-		break;
-	case NIZWARF_FLUSH:
-		c->handle = u64(r);
-		c->lock_owner = u64(r + 16);
-		break;
-	case NIZWARF_INIT:
-		c->readahead = u32(r + 8);			  /* max_readahead */
-		c->length = u32(r + 12);			  /* flags */
-		if (c->length & 1 << 30)			  /* FUSE_INIT_EXT */
-			c->length |= (uint64_t)u32(r + 16) << 32; /* flags2 */
-		c->length &= KNOWN_OPTIONS;
-		break;
-	case NIZWARF_ACCESS:
-		c->more = u32(r); /* mask */
-		break;
-	case NIZWARF_CREATE:
-		c->flags = u32(r);
-		c->mode = u32(r + 4);
-		c->umask = u32(r + 8);
-		c->has |= u32(r + 12) & 1 ? NIZWARF_KILL_PRIV : 0; /* open_flags: FUSE_OPEN_KILL_SUIDGID */
-		break;
-	case NIZWARF_BATCH_FORGET:
-		c->node = 0;	    /* of the request none: each pair has one */
-		c->length = u32(r); /* count */
-		break;
-	case NIZWARF_FALLOCATE:
-		c->handle = u64(r);
-		c->offset = u64(r + 8);
-		c->length = u64(r + 16);
-		c->mode = u32(r + 24);
-		break;
-	case NIZWARF_LSEEK:
-		c->handle = u64(r);
-		c->offset = u64(r + 8);
-		c->more = u32(r + 16); /* whence */
-		break;
-	case NIZWARF_COPY:
-		c->handle = u64(r);
-		c->offset = u64(r + 8);
-		c->other_node = u64(r + 16);
-		c->other_handle = u64(r + 24);
-		c->other_offset = u64(r + 32);
-		c->length = u64(r + 40);
-		c->lock_owner = u64(r + 48); /* flags */
-		break;
+	if (opcode == NIZWARF_LINK)
+		c->other_node = c->node; /* the directory */
+	if (opcode == NIZWARF_BATCH_FORGET)
+		c->node = 0; /* each pair has one */
+	for (size_t i = 0; i < sizeof(fields) / sizeof(*fields); i++)
+		if (fields[i].opcode == opcode)
+			memcpy((char *)c + fields[i].to, r + fields[i].at, fields[i].len);
+	for (size_t i = 0; i < sizeof(record_options) / sizeof(*record_options); i++) {
+		const struct record_option *it = &record_options[i];
+
+		if (it->opcode != opcode || !(u32(r + it->at) & it->bits))
+			continue;
+		c->has |= it->has;
+		if (it->to)
+			memcpy((char *)c + it->to, r + it->number, 8);
 	}
+	if (opcode == NIZWARF_SETATTR)
+		c->flags &= KNOWN_VALID;
+	if (opcode == RENAME2)
+		c->flags &= 7; /* RENAME_NOREPLACE .. RENAME_WHITEOUT */
+	if (opcode == NIZWARF_SETXATTR && c->options & SETXATTR_EXT)
+		c->more = u32(r + 8) & 1;		   /* setxattr_flags, of the longer record */
+	if (opcode == NIZWARF_INIT && c->length & 1 << 30) /* FUSE_INIT_EXT */
+		c->length |= (uint64_t)u32(r + 16) << 32;  /* flags2 */
+	if (opcode == NIZWARF_INIT)
+		c->length &= KNOWN_OPTIONS;
 }
 
 /* The name at a place. Gives the place after its 0. */
@@ -269,41 +226,26 @@ static inline void set_extensions(nizwarf_call *c, const uint8_t *request, size_
 /* What is after the record, at `at`: names, each up to its 0, and then what is no name. */
 static inline void set_tail(nizwarf_call *c, const uint8_t *request, size_t len, size_t at, uint32_t opcode)
 {
-	switch (opcode) {
-	case NIZWARF_LOOKUP:
-	case NIZWARF_UNLINK:
-	case NIZWARF_RMDIR:
-	case NIZWARF_LINK:
-	case NIZWARF_GETXATTR:
-	case NIZWARF_REMOVEXATTR:
-		set_name(&c->name, request, at);
-		break;
-	case NIZWARF_RENAME:
-	case RENAME2:
+	if (forms[opcode].names > 0)
 		at = set_name(&c->name, request, at);
-		set_name(&c->other_name, request, at);
-		break;
+	if (forms[opcode].names > 1)
+		at = set_name(&c->other_name, request, at); /* of a SYMLINK the link's text */
+	switch (opcode) {
 	case NIZWARF_SETXATTR:
-		c->data.at = set_name(&c->name, request, at);
-		c->data.len = u32(request + 40); /* the record's size */
+		c->data = (nizwarf_range){ at, u32(request + 40) }; /* the record's size */
 		break;
 	case NIZWARF_SYMLINK:
 	case NIZWARF_MKNOD:
 	case NIZWARF_MKDIR:
 	case NIZWARF_CREATE:
-		at = set_name(&c->name, request, at);
-		if (opcode == NIZWARF_SYMLINK)
-			at = set_name(&c->other_name, request, at); /* the link's text */
 		if (c->options & (SECURITY_CTX | CREATE_SUPP_GROUP))
 			set_extensions(c, request, at, u32(request));
 		break;
 	case NIZWARF_WRITE:
-		c->data.at = at;
-		c->data.len = len - at;
+		c->data = (nizwarf_range){ at, len - at };
 		break;
 	case NIZWARF_BATCH_FORGET:
-		c->data.at = at;
-		c->data.len = 16 * c->length; /* pairs of a node and a count */
+		c->data = (nizwarf_range){ at, 16 * c->length }; /* pairs of a node and a count */
 		break;
 	}
 }

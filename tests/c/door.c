@@ -267,17 +267,29 @@ static void try_forms(void)
 	compare(request_len, 0);
 }
 
+/* A request of a record and up to two names, in all forms. */
+static void try_request(uint32_t opcode, uint64_t node, const void *record, size_t len, const char *name,
+			const char *other)
+{
+	begin_with(opcode, node, record, len);
+	if (name)
+		add_name(name);
+	if (other)
+		add_name(other);
+	try_forms();
+}
+
+/* The same of a record without a name, and of names without a record. */
+#define TRY_RECORD(opcode, node, record) try_request(opcode, node, &(record), sizeof(record), NULL, NULL)
+#define TRY_NAME(opcode, node, name) try_request(opcode, node, "", 0, name, NULL)
+
 /* INIT with these options offered. */
 static void agree(uint64_t options)
 {
-	const struct fuse_init_in record = { .major = 7,
-					     .minor = 38,
-					     .max_readahead = 131072,
-					     .flags = (uint32_t)options | FUSE_INIT_EXT,
-					     .flags2 = (uint32_t)(options >> 32) };
+	const uint32_t flags = (uint32_t)options | FUSE_INIT_EXT;
+	const struct fuse_init_in record = { 7, 38, 131072, flags, (uint32_t)(options >> 32), { 0 } };
 
-	begin_with(NIZWARF_INIT, 0, &record, sizeof(record));
-	try_forms();
+	TRY_RECORD(NIZWARF_INIT, 0, record);
 }
 
 /* What a request after names ends in, where groups were agreed on. */
@@ -351,16 +363,12 @@ static void try_file(uint64_t node, uint64_t handle)
 	begin_with(NIZWARF_WRITE, node, &write, sizeof(write));
 	add(data, sizeof(data));
 	try_forms();
-	begin_with(NIZWARF_READ, node, &read, sizeof(read));
-	try_forms();
-	begin_with(NIZWARF_GETATTR, node, &getattr, sizeof(getattr));
-	try_forms();
+	TRY_RECORD(NIZWARF_READ, node, read);
+	TRY_RECORD(NIZWARF_GETATTR, node, getattr);
 	getattr.getattr_flags = FUSE_GETATTR_FH;
 	getattr.fh = handle;
-	begin_with(NIZWARF_GETATTR, node, &getattr, sizeof(getattr));
-	try_forms();
-	begin_with(NIZWARF_SETATTR, node, &setattr, sizeof(setattr));
-	try_forms();
+	TRY_RECORD(NIZWARF_GETATTR, node, getattr);
+	TRY_RECORD(NIZWARF_SETATTR, node, setattr);
 	for (n = 0; n < sizeof(about_file) / sizeof(*about_file); n++) {
 		for (at = 0; at < 7; at++) {
 			record[at] = about_file[n].record[at];
@@ -383,16 +391,11 @@ static void try_syncs(uint64_t node, uint64_t handle)
 	/* both flags: FLUSH, and of flock(2) */
 	const struct fuse_release_in release = { .fh = handle, .release_flags = 3, .lock_owner = 5 };
 
-	begin_with(NIZWARF_FLUSH, node, &flush, sizeof(flush));
-	try_forms();
-	begin_with(NIZWARF_FSYNC, node, &sync, sizeof(sync));
-	try_forms();
-	begin_with(NIZWARF_FSYNCDIR, 1, &sync, sizeof(sync));
-	try_forms();
-	begin_with(NIZWARF_ACCESS, node, &access, sizeof(access));
-	try_forms();
-	begin_with(NIZWARF_RELEASE, node, &release, sizeof(release));
-	try_forms();
+	TRY_RECORD(NIZWARF_FLUSH, node, flush);
+	TRY_RECORD(NIZWARF_FSYNC, node, sync);
+	TRY_RECORD(NIZWARF_FSYNCDIR, 1, sync);
+	TRY_RECORD(NIZWARF_ACCESS, node, access);
+	TRY_RECORD(NIZWARF_RELEASE, node, release);
 }
 
 /* Requests about extended attributes. */
@@ -408,15 +411,10 @@ static void try_attributes(uint64_t node)
 	for (size = 0; size <= 100; size += 100) { /* for the length, and for the value */
 		const uint32_t record[] = { size, 0 };
 
-		begin_with(NIZWARF_GETXATTR, node, record, sizeof(record));
-		add_name("user.a");
-		try_forms();
-		begin_with(NIZWARF_LISTXATTR, node, record, sizeof(record));
-		try_forms();
+		try_request(NIZWARF_GETXATTR, node, record, sizeof(record), "user.a", NULL);
+		TRY_RECORD(NIZWARF_LISTXATTR, node, record);
 	}
-	begin(NIZWARF_REMOVEXATTR, node);
-	add_name("user.a");
-	try_forms();
+	TRY_NAME(NIZWARF_REMOVEXATTR, node, "user.a");
 }
 
 /* A directory is offered whole to readings of small sizes: what is taken is what the server takes. The door's table
@@ -462,20 +460,16 @@ static void try_directory(void)
 	struct fuse_release_in release = { 0 };
 	struct fuse_read_in read = { .size = 4096 };
 
-	begin_with(NIZWARF_OPENDIR, 1, &open, sizeof(open));
-	try_forms();
+	TRY_RECORD(NIZWARF_OPENDIR, 1, open);
 	compare(request_len, 0);
 	/* (a client that offered to do without is answered by ENOSYS) */
 	if (!u32(theirs + 4))
 		release.fh = read.fh = u64(theirs + 16);
-	begin_with(NIZWARF_READDIR, 1, &read, sizeof(read));
-	try_forms();
-	begin_with(READDIRPLUS, 1, &read, sizeof(read));
-	try_forms();
+	TRY_RECORD(NIZWARF_READDIR, 1, read);
+	TRY_RECORD(READDIRPLUS, 1, read);
 	offer_directory(read.fh, 0);
 	offer_directory(read.fh, 1);
-	begin_with(NIZWARF_RELEASEDIR, 1, &release, sizeof(release));
-	try_forms();
+	TRY_RECORD(NIZWARF_RELEASEDIR, 1, release);
 }
 
 /* Requests about names, of which the last takes them out. */
@@ -488,48 +482,24 @@ static void try_names(uint64_t node)
 	static const char *const looked_up[] = { "file", "none", "", ".", "a/b" };
 	size_t i;
 
-	for (i = 0; i < 5; i++) {
-		begin(NIZWARF_LOOKUP, 1);
-		add_name(looked_up[i]);
-		try_forms();
-	}
-	begin_with(NIZWARF_LINK, 1, &link, sizeof(link));
-	add_name("hard");
-	try_forms();
-	begin_with(NIZWARF_RENAME, 1, &rename, sizeof(rename));
-	add_name("hard");
-	add_name("moved");
-	try_forms();
-	begin_with(RENAME2, 1, &rename2, sizeof(rename2));
-	add_name("moved");
-	add_name("again");
-	try_forms();
-	for (i = 0; i < 2; i++) {
-		begin(i ? NIZWARF_RMDIR : NIZWARF_UNLINK, 1);
-		add_name(i ? "directory" : "again");
-		try_forms();
-	}
+	for (i = 0; i < 5; i++)
+		TRY_NAME(NIZWARF_LOOKUP, 1, looked_up[i]);
+	try_request(NIZWARF_LINK, 1, &link, sizeof(link), "hard", NULL);
+	try_request(NIZWARF_RENAME, 1, &rename, sizeof(rename), "hard", "moved");
+	try_request(RENAME2, 1, &rename2, sizeof(rename2), "moved", "again");
+	TRY_NAME(NIZWARF_UNLINK, 1, "again");
+	TRY_NAME(NIZWARF_RMDIR, 1, "directory");
 }
 
 /* Requests that tell nothing, are no opcode, or have no reply. */
 static void try_others(uint64_t node)
 {
-	static const uint32_t untold[] = { NIZWARF_GETLK,
-					   NIZWARF_SETLK,
-					   NIZWARF_SETLKW,
-					   NIZWARF_BMAP,
-					   NIZWARF_IOCTL,
-					   NIZWARF_POLL,
-					   NIZWARF_NOTIFY_REPLY,
-					   NIZWARF_TMPFILE,
-					   NIZWARF_STATFS,
-					   SETUPMAPPING,
-					   REMOVEMAPPING,
-					   0,
-					   7,
-					   19,
-					   52,
-					   4096 };
+	/* clang-format off */
+	static const uint32_t untold[] = {
+		NIZWARF_GETLK, NIZWARF_SETLK, NIZWARF_SETLKW, NIZWARF_BMAP, NIZWARF_IOCTL, NIZWARF_POLL,
+		NIZWARF_NOTIFY_REPLY, NIZWARF_TMPFILE, NIZWARF_STATFS, SETUPMAPPING, REMOVEMAPPING, 0, 7, 19, 52, 4096
+	};
+	/* clang-format on */
 	const struct fuse_open_in open = { 0 };
 	const struct fuse_interrupt_in interrupt = { 1234 };
 	/* (of nodes that there are, and that there are not) */
@@ -537,24 +507,18 @@ static void try_others(uint64_t node)
 	const uint32_t count[] = { 3, 0 };
 	size_t i;
 
-	for (i = 0; i < sizeof(untold) / sizeof(*untold); i++) {
-		begin(untold[i], 1);
-		add("", 0);
-		try_forms();
-	}
-	begin_with(NIZWARF_OPEN, node, &open, sizeof(open));
-	try_forms();
-	begin_with(INTERRUPT, 0, &interrupt, sizeof(interrupt));
-	try_forms();
-	begin_with(NIZWARF_FORGET, 9999, &one, sizeof(one));
-	try_forms();
+	for (i = 0; i < sizeof(untold) / sizeof(*untold); i++)
+		TRY_NAME(untold[i], 1, NULL);
+	TRY_RECORD(NIZWARF_OPEN, node, open);
+	TRY_RECORD(INTERRUPT, 0, interrupt);
+	TRY_RECORD(NIZWARF_FORGET, 9999, one);
 	begin_with(NIZWARF_BATCH_FORGET, 0, count, sizeof(count));
 	add(pairs, sizeof(pairs));
 	try_forms();
 }
 
-/* All requests, with a largest payload, and with these options offered. The session begins and ends with it. */
-static void try_all(uint32_t max_buffer, uint64_t options)
+/* A new server, and a session with this largest payload. */
+static void begin_session(uint32_t max_buffer)
 {
 	static const nizwarf_settings settings = { .seconds = 100,
 						   .nanoseconds = 5,
@@ -562,10 +526,17 @@ static void try_all(uint32_t max_buffer, uint64_t options)
 						   .bytes = 1 << 24,
 						   .file = 1 << 22,
 						   .mode = 0755 };
-	uint64_t node, handle;
 
 	CHECK(nizwarf_new(&server, 4096, max_buffer, &settings) == NIZWARF_OK);
 	session = (nizwarf_session){ 0, 4096, max_buffer };
+}
+
+/* All requests, with a largest payload, and with these options offered. The session begins and ends with it. */
+static void try_all(uint32_t max_buffer, uint64_t options)
+{
+	uint64_t node, handle;
+
+	begin_session(max_buffer);
 	agree(options);
 	node = try_makers(&handle);
 	try_file(node, handle);
@@ -574,9 +545,7 @@ static void try_all(uint32_t max_buffer, uint64_t options)
 	try_others(node);
 	try_names(node);
 	try_syncs(node, handle);
-	begin(NIZWARF_DESTROY, 0);
-	add("", 0);
-	try_forms();
+	TRY_NAME(NIZWARF_DESTROY, 0, NULL);
 	CHECK(!session.options);
 }
 
@@ -603,9 +572,6 @@ static void read_request(const char *text, size_t *cut)
  * bytes. */
 static long try_recorded(const char *path)
 {
-	static const nizwarf_settings settings = {
-		.seconds = 100, .nodes = 4096, .bytes = 1 << 24, .file = 1 << 22, .mode = 0755
-	};
 	static char line[1 << 19];
 	FILE *lines = fopen(path, "r");
 	long count = 0;
@@ -615,8 +581,7 @@ static long try_recorded(const char *path)
 		perror(path);
 		exit(2);
 	}
-	CHECK(nizwarf_new(&server, 4096, ROOM, &settings) == NIZWARF_OK);
-	session = (nizwarf_session){ 0, 4096, ROOM };
+	begin_session(ROOM);
 	while (fgets(line, sizeof(line), lines)) {
 		const char *bytes = strchr(line, ' ');
 
