@@ -10,6 +10,7 @@
  *
  * test_libraries.py links it with both libraries. Status 0: all is as it should be. */
 #include "door.h"
+#include "recorded.h"
 
 enum { MOST_ITEMS = 512 };
 
@@ -549,25 +550,6 @@ static void try_all(uint32_t max_buffer, uint64_t options)
 	CHECK(!session.options);
 }
 
-/* The bytes that are spelled by two digits each. Where pieces are apart is the first `+`. */
-static void read_request(const char *text, size_t *cut)
-{
-	unsigned byte;
-
-	request_len = 0;
-	*cut = 0;
-	while (*text == '+' || sscanf(text, "%2x", &byte) == 1) {
-		if (*text == '+') {
-			*cut = *cut ? *cut : request_len;
-			text++;
-			continue;
-		}
-		CHECK(request_len < sizeof(request));
-		request[request_len++] = (uint8_t)byte;
-		text += 2;
-	}
-}
-
 /* Requests that kernels were recorded to ask, a line each: its room, which is a large one here, and its
  * bytes. */
 static long try_recorded(const char *path)
@@ -583,11 +565,10 @@ static long try_recorded(const char *path)
 	}
 	begin_session(ROOM);
 	while (fgets(line, sizeof(line), lines)) {
-		const char *bytes = strchr(line, ' ');
-
-		if (*line < '0' || *line > '9' || !bytes)
+		request_len = read_request(line, request, sizeof(request), &cut);
+		CHECK(request_len < sizeof(request));
+		if (!request_len)
 			continue;
-		read_request(bytes + 1, &cut);
 		compare(request_len, cut);
 		count++;
 	}

@@ -266,14 +266,20 @@ static int serve(size_t space)
 	return -reply.header.error;
 }
 
+/* Serves a request of a record and `name`, likewise. */
+static int serve_name(uint32_t opcode, uint64_t node, const void *record, size_t len, size_t space)
+{
+	begin(opcode, node, record, len);
+	add(name, sizeof(name));
+	return serve(space);
+}
+
 /* Makes a file of this name. Gives its node. In the root. */
 static uint64_t make_file(void)
 {
 	const struct fuse_mknod_in make = { .mode = 0100644 };
 
-	begin(FUSE_MKNOD, 1, &make, sizeof(make));
-	add(name, sizeof(name));
-	CHECK(serve(144) == 0);
+	CHECK(serve_name(FUSE_MKNOD, 1, &make, sizeof(make), 144) == 0);
 	return ((struct fuse_entry_out *)(reply.bytes + 16))->nodeid;
 }
 
@@ -349,21 +355,13 @@ static void long_names(void)
 	CHECK(serve(2 * PAGE) == 0 && reply.header.len == 16 + PAGE - 1); /* without a 0 */
 	CHECK(!memcmp(reply.bytes + 16, text, PAGE - 1));
 	set_name(3);
-	begin(FUSE_MKDIR, 1, &make, sizeof(make));
-	add(name, sizeof(name));
-	CHECK(serve(144) == 0);
+	CHECK(serve_name(FUSE_MKDIR, 1, &make, sizeof(make), 144) == 0);
 	set_name(4);
-	begin(FUSE_CREATE, 1, &create, sizeof(create));
-	add(name, sizeof(name));
-	CHECK(serve(160) == 0);
+	CHECK(serve_name(FUSE_CREATE, 1, &create, sizeof(create), 160) == 0);
 	link.oldnodeid = ((struct fuse_entry_out *)(reply.bytes + 16))->nodeid;
 	set_name(5);
-	begin(FUSE_LINK, 1, &link, sizeof(link));
-	add(name, sizeof(name));
-	CHECK(serve(144) == 0);
-	begin(FUSE_LOOKUP, 1, NULL, 0);
-	add(name, sizeof(name));
-	CHECK(serve(144) == 0);
+	CHECK(serve_name(FUSE_LINK, 1, &link, sizeof(link), 144) == 0);
+	CHECK(serve_name(FUSE_LOOKUP, 1, NULL, 0, 144) == 0);
 	begin(FUSE_RENAME, 1, &(struct fuse_rename_in){ 1 }, sizeof(struct fuse_rename_in));
 	add(name, sizeof(name));
 	set_name(6);
@@ -394,10 +392,9 @@ static void long_attributes(void)
 		set_name(i);
 		memmove(name + 5, name, NAME - 5); /* `user.` goes before it */
 		memcpy(name, "user.", 5);
-		begin(FUSE_SETXATTR, 1, &set, FUSE_COMPAT_SETXATTR_IN_SIZE);
-		add(name, sizeof(name));
 		/* (one more than there may be is refused, and not for want of memory) */
-		CHECK(serve(16) == (i < most ? 0 : ENOSPC));
+		CHECK(serve_name(FUSE_SETXATTR, 1, &set, FUSE_COMPAT_SETXATTR_IN_SIZE, 16) ==
+		      (i < most ? 0 : ENOSPC));
 	}
 	begin(FUSE_LISTXATTR, 1, &get, sizeof(get));
 	CHECK(serve((1 << 16) + 16) == 0 && reply.header.len == 16 + most * sizeof(name));

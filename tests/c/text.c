@@ -10,6 +10,7 @@
 #include <string.h>
 #include "allocations.h"
 #include "nizwarf.h"
+#include "recorded.h"
 #define CASE "request %lu, %zu bytes\n", requests, length
 #include "check.h"
 
@@ -112,25 +113,6 @@ static void hold(const unsigned char *request, size_t len, uint64_t options)
 	free(own);
 }
 
-/* The bytes of a line's request; 0: it is none. */
-static size_t read_request(const char *line, unsigned char *request)
-{
-	const char *at = strchr(line, ' ');
-	unsigned byte;
-	size_t len = 0;
-
-	if (*line < '0' || *line > '9' || !at)
-		return 0;
-	for (at++; *at && *at != '\n' && len < MOST; at += 2) {
-		while (*at == '+')
-			at++;
-		if (sscanf(at, "%2x", &byte) != 1)
-			break;
-		request[len++] = (unsigned char)byte;
-	}
-	return len;
-}
-
 /* What the words of an example say. */
 static void hold_examples(void)
 {
@@ -206,14 +188,14 @@ int main(int count, char **words)
 	static char line[8 * MOST];
 	static const uint64_t options[] = { 0, ~UINT64_C(0) };
 	FILE *file = count == 2 ? fopen(words[1], "r") : NULL;
-	size_t len, i, at;
+	size_t len, i, at, cut;
 
 	if (!file)
 		return fputs("Usage: text LINES\n", stderr), 2;
 	hold_examples();
 	hold_options();
 	while (fgets(line, sizeof(line), file)) {
-		len = read_request(line, request);
+		len = read_request(line, request, MOST, &cut);
 		if (!len || requests++ % 16) /* one of sixteen, of which there are enough */
 			continue;
 		for (i = 0; i < 2; i++)
