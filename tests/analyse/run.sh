@@ -126,7 +126,7 @@ run copies prove copies chains.c z3,cvc4 "$queue -I $out/annotated $queue_here" 
 only=-same,-names run items prove items headers.c cvc4 "$headers" nizwarf_do_directory nizwarf_add_item \
     nizwarf_add_direntry
 only=same,names run added prove added headers.c cvc4 "$headers" nizwarf_add_item nizwarf_add_direntry
-read_fields=$(sed -n '/-- fields of a call/,/-- what is inline/s/^static inline .*\b\(nizwarf_\w*\)(.*/\1/p' table.acsl)
+read_fields=$(sed -n '/-- fields of a call/,/-- what is inline/s/^.*static inline .*\b\(nizwarf_\w*\)(.*/\1/p' table.acsl)
 # shellcheck disable=SC2086
 run fields prove fields headers.c cvc4 "$headers" $read_fields nizwarf_answer_options nizwarf_answer_backing \
     nizwarf_answer_offset nizwarf_keep_interrupt nizwarf_served nizwarf_seconds_of nizwarf_nanoseconds_of \
