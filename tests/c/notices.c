@@ -27,48 +27,22 @@ static const char name[] = "a name that is not cut";
 enum { NAME_LEN = sizeof(name) - 1 };
 static char longest[4095]; /* bytes, and none is 0 */
 
-/* Each of the following puts one notice, as nizwarf.h does: how many bytes, or 0, where `size` is too little. */
-static size_t put_poll(void *out, size_t size)
-{
-	return nizwarf_notice_poll(UNIQUE, out, size);
-}
-
+/* Each of these puts one notice, as nizwarf.h does: it returns how many bytes, or 0, where `size` is too little. */
+#define PUTS(name, notice, ...)                                         \
+	static size_t put_##name(void *out, size_t size)                \
+	{                                                               \
+		return nizwarf_notice_##notice(__VA_ARGS__, out, size); \
+	}
+PUTS(poll, poll, UNIQUE)
 /* (an offset below 0 is for attributes alone, a length below 0 for all) */
-static size_t put_inode(void *out, size_t size)
-{
-	return nizwarf_notice_inval_inode(NODE, INT64_MIN, -1, out, size);
-}
-
-static size_t put_entry(void *out, size_t size)
-{
-	return nizwarf_notice_inval_entry(PARENT, NIZWARF_EXPIRE_ONLY, name, NAME_LEN, out, size);
-}
-
+PUTS(inode, inval_inode, NODE, INT64_MIN, -1)
+PUTS(entry, inval_entry, PARENT, NIZWARF_EXPIRE_ONLY, name, NAME_LEN)
 /* A name longer than Linux takes: the header has room for it. */
-static size_t put_longest(void *out, size_t size)
-{
-	return nizwarf_notice_inval_entry(PARENT, 0, longest, sizeof(longest), out, size);
-}
-
-static size_t put_store(void *out, size_t size)
-{
-	return nizwarf_notice_store(NODE, OFFSET, COUNT, out, size);
-}
-
-static size_t put_retrieve(void *out, size_t size)
-{
-	return nizwarf_notice_retrieve(UNIQUE, NODE, OFFSET, COUNT, out, size);
-}
-
-static size_t put_delete(void *out, size_t size)
-{
-	return nizwarf_notice_delete(PARENT, NODE, name, NAME_LEN, out, size);
-}
-
-static size_t put_prune(void *out, size_t size)
-{
-	return nizwarf_notice_prune(FEW, out, size);
-}
+PUTS(longest, inval_entry, PARENT, 0, longest, sizeof(longest))
+PUTS(store, store, NODE, OFFSET, COUNT)
+PUTS(retrieve, retrieve, UNIQUE, NODE, OFFSET, COUNT)
+PUTS(delete, delete, PARENT, NODE, name, NAME_LEN)
+PUTS(prune, prune, FEW)
 
 /* A notice by its number is this record and then a name, if it has one, and `follow` bytes after it. `follow` is what
  * the header counts, though the notice has no byte of it. */

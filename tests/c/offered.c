@@ -313,8 +313,10 @@ NOTES_AND(*block = 77, bmap, (REQ, size_t blocksize, uint64_t idx, uint64_t *blo
 	  "%u %zu %u", INO, blocksize, (unsigned)idx)
 #define IOCTL REQ, uint32_t cmd, uint64_t arg, FI, uint32_t flags, const void *in_buf, size_t in_size, \
 	      nizwarf_ioctl *out, void *out_buf, size_t out_size, size_t *len
-NOTES_AND((memcpy(out_buf, "out", 3), out->result = 5, *len = 3), ioctl, (IOCTL), "%u %u %u %u %u %.*s %zu",
-	  INO, cmd, (unsigned)arg, FH, flags, (int)in_size, (const char *)in_buf, out_size)
+/* As many bytes as there is room for, of which it returns three, or too many. */
+NOTES_AND((memset(out_buf, 1, out_size), memcpy(out_buf, "out", out_size < 3 ? out_size : 3), out->result = 5,
+	   *len = excess ? out_size + excess : 3), ioctl, (IOCTL),
+	  "%u %u %u %u %u %.*s %zu", INO, cmd, (unsigned)arg, FH, flags, (int)in_size, (const char *)in_buf, out_size)
 /* A notice names `kh` to wake the caller; there must be one only if `notify` is set. */
 NOTES_AND(*revents = POLLIN | POLLOUT, poll,
 	  (REQ, FI, uint32_t events, uint64_t kh, int notify, uint32_t *revents),
@@ -336,10 +338,11 @@ NOTES_AND(CHECK(!fi->lock_owner); *len = size, copy_file_range,
 /* No lock is in the way: the requested one is returned as unlocked. */
 static int note_getlk(REQ, FI, nizwarf_lock *asked)
 {
-	say("getlk %u %u %u %u %u %u %u", INO, FH, (unsigned)fi->lock_owner, (unsigned)asked->start,
-	    (unsigned)asked->end, asked->type, asked->pid);
+	const uint32_t type = asked->type;
+
 	asked->type = F_UNLCK;
-	return 0;
+	return say("getlk %u %u %u %u %u %u %u", INO, FH, (unsigned)fi->lock_owner, (unsigned)asked->start,
+		   (unsigned)asked->end, type, asked->pid);
 }
 
 static void note_retrieve_reply(const nizwarf_req *req, uint64_t cookie, uint64_t ino, uint64_t offset,
@@ -446,87 +449,42 @@ static void called_as_told(void)
 	expect("forget_multi 64 1 163 forget_multi 6 65 169 ", 4096, 0);
 }
 
-/* One that says it handed out more than there was room for. */
-static int hand_out_too_much(IOCTL)
-{
-	(void)req, (void)ino, (void)cmd, (void)arg, (void)fi, (void)flags, (void)in_buf, (void)in_size;
-	out->result = 1;
-	memset(out_buf, 1, out_size);
-	*len = out_size + 1;
-	return 0;
-}
-
 /* What is answered has no more bytes than the room: where it says so, and where the room is smaller than the record. */
 static void text_in_room(void)
 {
-	static const nizwarf_ops table = { .ioctl = hand_out_too_much,
-					   .getlk = note_getlk,
-					   .statx = note_statx };
 	static const uint32_t calls[] = { NIZWARF_IOCTL, NIZWARF_GETLK, NIZWARF_STATX };
 	const size_t space = sizeof(nizwarf_ioctl) + 4;
 
+	excess = 1;
 	for (size_t i = 0; i < sizeof(calls) / sizeof(*calls); i++) {
 		const nizwarf_call call = { .call = calls[i], .answer = NIZWARF_TEXT, .size = 100 };
 		const nizwarf_req req = { NULL, &call, request };
 		nizwarf_answer answer = NIZWARF_NO_ANSWER;
 
-		CHECK(nizwarf_do_record(&table, &req, ours, space, &answer) == EIO);
+		CHECK(nizwarf_do_record(&ops, &req, ours, space, &answer) == EIO);
 		CHECK(answer.text_len == (calls[i] == NIZWARF_IOCTL ? space : 0));
 	}
-}
-
-/* What the room has when a call has been answered by another thread, before its own function returned. */
-static int answer_late(void)
-{
-	memset(ours, 7, 4096);
-	return NIZWARF_LATER;
-}
-
-static int late_getlk(REQ, FI, nizwarf_lock *asked)
-{
-	(void)req, (void)ino, (void)fi;
-	asked->type = F_UNLCK;
-	return answer_late();
-}
-
-static int late_statx(STATX)
-{
-	(void)req, (void)ino, (void)flags, (void)fi;
-	statx->mask = mask;
-	timeout->tv_sec = 1;
-	return answer_late();
-}
-
-static int late_ioctl(IOCTL)
-{
-	(void)req, (void)ino, (void)cmd, (void)arg, (void)fi, (void)flags, (void)in_buf, (void)in_size;
-	(void)out_buf, (void)out_size;
-	out->result = 1;
-	*len = 0;
-	return answer_late();
+	excess = 0;
 }
 
 /* Once a function has answered NIZWARF_LATER, its room is another's: what is there stays. */
 static void left_alone(void)
 {
-	static const nizwarf_ops late = {
-		.getlk = late_getlk, .setlk = note_setlk, .statx = late_statx, .ioctl = late_ioctl
-	};
-	size_t i, at, len, tried = 0;
+	size_t i, at, len;
 
+	failure = NIZWARF_LATER;
 	for (i = 0; i < ROWS; i++) {
-		const uint32_t opcode = rows[i].opcode;
-
-		if (opcode != NIZWARF_GETLK && opcode != NIZWARF_STATX && opcode != NIZWARF_IOCTL)
+		if (!rows[i].reply_len)
 			continue;
-		tried++;
 		begin_row(i);
-		CHECK(nizwarf_serve_ops(&late, said, &slot, &session, request, request_len, ours, 4096, NULL,
+		said[0] = 0;
+		CHECK(nizwarf_serve_ops(&ops, said, &slot, &session, request, request_len, ours, 4096, NULL,
 					0, &len) == NIZWARF_ASKED);
+		CHECK(!strcmp(said, rows[i].words));
 		for (at = 0; at < 4096; at++)
-			CHECK(ours[at] == 7);
+			CHECK(ours[at] == LATE);
 	}
-	CHECK(tried == 3);
+	failure = 0;
 }
 
 /* INIT by `conn`: what virtiofsd does not know is agreed on besides, and sizes are lowered. */

@@ -34,9 +34,6 @@ static int entry(nizwarf_entry_param *e)
 	return failure;
 }
 
-/* By how many bytes an answer is longer than what was requested. */
-static size_t excess;
-
 /* It begins with a blank, since it may come after another call of the same request. */
 static void note_forget(REQ, uint64_t nlookup)
 {

@@ -8,9 +8,13 @@
 #include "allocations.h"
 #include "door.h"
 
-/* The calls since the last request, as names and arguments; and what each function returns: an error, or 0. */
+/* The calls since the last request, as names and arguments; what each function returns: an error, NIZWARF_LATER, or 0; and
+ * by how many bytes an answer is longer than what was requested. */
 static char said[512];
 static int failure;
+static size_t excess;
+
+enum { LATE = 7 }; /* in the room, of a reply that another thread has put there */
 
 /* Adds to what is said, and returns `failure`. */
 static int say(const char *format, ...)
@@ -21,6 +25,8 @@ static int say(const char *format, ...)
 	va_start(arguments, format);
 	vsnprintf(said + len, sizeof(said) - len, format, arguments);
 	va_end(arguments);
+	if (failure == NIZWARF_LATER)
+		memset(ours, LATE, 4096);
 	return failure;
 }
 
