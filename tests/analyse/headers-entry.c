@@ -96,14 +96,6 @@ int32_t nizwarf_ask_at(nizwarf_slot *slot, const nizwarf_session *session, const
 	return any ? NIZWARF_ASKED : any_code();
 }
 
-/* What is offered changes which calls are told, and here any may be. */
-int32_t nizwarf_ask_offered_at(nizwarf_slot *slot, const nizwarf_session *session, uint32_t offers,
-			       const nizwarf_segment *request, size_t segments, size_t room,
-			       nizwarf_call *call, nizwarf_told *told)
-{
-	return nizwarf_ask_at(slot, session, request, segments, room, call, told);
-}
-
 /* Any length up to the room that was asked with, which the header holds against the rooms that it has now. */
 int32_t nizwarf_answer_at(nizwarf_slot *slot, const nizwarf_session *session, const nizwarf_call *call,
 			  const nizwarf_answer *answer, const uint8_t *text, size_t text_len,
@@ -121,14 +113,6 @@ int32_t nizwarf_answer_at(nizwarf_slot *slot, const nizwarf_session *session, co
 	return any_code();
 }
 
-int32_t nizwarf_answer_offered_at(nizwarf_slot *slot, const nizwarf_session *session,
-				  const nizwarf_call *call, const nizwarf_answer *answer, const uint8_t *text,
-				  size_t text_len, const nizwarf_item *items, size_t items_len,
-				  nizwarf_told *told)
-{
-	return nizwarf_answer_at(slot, session, call, answer, text, text_len, items, items_len, told);
-}
-
 /* Writes all of the memory, and tells any part of it. */
 static size_t fill(uint8_t *piece, size_t len)
 {
@@ -136,22 +120,6 @@ static size_t fill(uint8_t *piece, size_t len)
 	if (len)
 		Frama_C_make_unknown((char *)piece, len);
 	return ANY_LENGTH(len);
-}
-
-int32_t nizwarf_check_at(const nizwarf_session *session, const uint8_t *request, size_t len, size_t room,
-			 nizwarf_call *call, uint64_t *interrupts)
-{
-	look_at(request, len);
-	seen = (uint8_t)session->options;
-	ANY(*call);
-	*interrupts = ANY_LENGTH(UINT64_MAX);
-	return any_code();
-}
-
-int32_t nizwarf_check_offered_at(const nizwarf_session *session, uint32_t offers, const uint8_t *request,
-				 size_t len, size_t room, nizwarf_call *call, uint64_t *interrupts)
-{
-	return nizwarf_check_at(session, request, len, room, call, interrupts);
 }
 
 uint64_t nizwarf_init_offered_at(const uint8_t *request, size_t len)
@@ -166,12 +134,30 @@ uint64_t nizwarf_init_offered_at(const uint8_t *request, size_t len)
 
 #define OUT uint8_t *out, size_t size
 #define TEXT uint8_t *text, size_t text_len
+#define REQUEST const uint8_t *request, size_t len
 #define NAME const uint8_t *name, size_t name_len
 #define SERVER nizwarf_server *server
 
 /* A function of the library as a list of expressions: those that read and write, and at last its result. */
 #define FUNCTION(type, name, parameters, ...) type nizwarf_##name##_at parameters { return __VA_ARGS__; }
 
+/* What is offered changes which calls are decoded, and here each may be. */
+FUNCTION(int32_t, ask_offered,
+	 (nizwarf_slot *slot, const nizwarf_session *session, uint32_t offers, const nizwarf_segment *request,
+	  size_t segments, size_t room, nizwarf_call *call, nizwarf_told *told),
+	 nizwarf_ask_at(slot, session, request, segments, room, call, told))
+FUNCTION(int32_t, answer_offered,
+	 (nizwarf_slot *slot, const nizwarf_session *session, const nizwarf_call *call, const nizwarf_answer *answer,
+	  const uint8_t *text, size_t text_len, const nizwarf_item *items, size_t items_len, nizwarf_told *told),
+	 nizwarf_answer_at(slot, session, call, answer, text, text_len, items, items_len, told))
+FUNCTION(int32_t, check,
+	 (const nizwarf_session *session, REQUEST, size_t room, nizwarf_call *call, uint64_t *interrupts),
+	 look_at(request, len), seen = (uint8_t)session->options, ANY(*call),
+	 *interrupts = ANY_LENGTH(UINT64_MAX), any_code())
+FUNCTION(int32_t, check_offered,
+	 (const nizwarf_session *session, uint32_t offers, REQUEST, size_t room, nizwarf_call *call,
+	  uint64_t *interrupts),
+	 nizwarf_check_at(session, request, len, room, call, interrupts))
 /* Any number of bytes is copied, up to all. */
 FUNCTION(size_t, copy_slot, (nizwarf_slot *slot, size_t at, uint8_t *piece, size_t piece_len),
 	 slot->at = &seen, fill(piece, piece_len))
@@ -183,10 +169,9 @@ FUNCTION(uint64_t, add_to_init, (uint8_t *reply, size_t len, uint64_t offered, c
 	 fill(reply, len), more->want)
 FUNCTION(int32_t, add_backing, (uint8_t *reply, size_t len, int32_t id), fill(reply, len), any)
 
-FUNCTION(size_t, print_request, (const uint8_t *request, size_t len, uint64_t options, TEXT),
+FUNCTION(size_t, print_request, (REQUEST, uint64_t options, TEXT),
 	 look_at(request, len), fill(text, text_len))
-FUNCTION(size_t, print_reply,
-	 (const uint8_t *request, size_t len, const uint8_t *reply, size_t reply_len, TEXT),
+FUNCTION(size_t, print_reply, (REQUEST, const uint8_t *reply, size_t reply_len, TEXT),
 	 look_at(request, len), look_at(reply, reply_len), fill(text, text_len))
 
 /* Notices: each writes its buffer, and returns any length up to that. */
