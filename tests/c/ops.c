@@ -675,27 +675,18 @@ static void conversions(void)
 {
 	const nizwarf_entry_param before = { .attr_timeout = { -1, 5 }, .entry_timeout = { 3, -1 } };
 	const nizwarf_entry entry = nizwarf_entry_of(&before);
-	const struct stat st = { .st_ino = 1,
-				 .st_size = 2,
-				 .st_blocks = 3,
-				 .st_mode = S_IFREG | 0640,
-				 .st_nlink = 4,
-				 .st_uid = 5,
-				 .st_gid = 6,
-				 .st_rdev = 7,
-				 .st_blksize = 8,
-				 .st_atim = { -9, 10 },
-				 .st_mtim = { 11, 12 },
-				 .st_ctim = { 13, 14 } };
+	/* clang-format off */
+	const struct stat st = {
+		.st_ino = 1, .st_size = 2, .st_blocks = 3, .st_mode = S_IFREG | 0640, .st_nlink = 4, .st_uid = 5,
+		.st_gid = 6, .st_rdev = 7, .st_blksize = 8, .st_atim = { -9, 10 }, .st_mtim = { 11, 12 },
+		.st_ctim = { 13, 14 }
+	};
+	const struct statvfs fs = {
+		.f_bsize = 1, .f_frsize = 2, .f_blocks = 3, .f_bfree = 4, .f_bavail = 5, .f_files = 6, .f_ffree = 7,
+		.f_namemax = 8
+	};
+	/* clang-format on */
 	const nizwarf_attr attr = { 1, 2, 3, (uint64_t)-9, 11, 13, 10, 12, 14, 0100640, 4, 5, 6, 7, 8, 0 };
-	const struct statvfs fs = { .f_bsize = 1,
-				    .f_frsize = 2,
-				    .f_blocks = 3,
-				    .f_bfree = 4,
-				    .f_bavail = 5,
-				    .f_files = 6,
-				    .f_ffree = 7,
-				    .f_namemax = 8 };
 	const nizwarf_statfs held = { 1, 2, 3, 4, 5, 6, 7, 8 };
 	const nizwarf_attr got = nizwarf_attr_of(&st);
 	const nizwarf_statfs holds = nizwarf_statfs_of(&fs);
