@@ -147,8 +147,9 @@ FUNCTION(int32_t, ask_offered,
 	  size_t segments, size_t room, nizwarf_call *call, nizwarf_told *told),
 	 nizwarf_ask_at(slot, session, request, segments, room, call, told))
 FUNCTION(int32_t, answer_offered,
-	 (nizwarf_slot *slot, const nizwarf_session *session, const nizwarf_call *call, const nizwarf_answer *answer,
-	  const uint8_t *text, size_t text_len, const nizwarf_item *items, size_t items_len, nizwarf_told *told),
+	 (nizwarf_slot *slot, const nizwarf_session *session, const nizwarf_call *call,
+	  const nizwarf_answer *answer, const uint8_t *text, size_t text_len, const nizwarf_item *items,
+	  size_t items_len, nizwarf_told *told),
 	 nizwarf_answer_at(slot, session, call, answer, text, text_len, items, items_len, told))
 FUNCTION(int32_t, check,
 	 (const nizwarf_session *session, REQUEST, size_t room, nizwarf_call *call, uint64_t *interrupts),
@@ -479,7 +480,8 @@ static void op_retrieve_reply(const nizwarf_req *req, uint64_t cookie, uint64_t 
  * an answer: the header must ignore these. `write` and `copy_file_range` return more bytes than there were,
  * which it must not reply. */
 #define OPS(F) \
-	F(init, (const nizwarf_req *req, uint64_t capable, uint64_t *want), *want = ANY_LENGTH(UINT64_MAX), any) \
+	F(init, (const nizwarf_req *req, uint64_t capable, uint64_t *want), \
+	  *want = ANY_LENGTH(UINT64_MAX), any) \
 	F(conn, (const nizwarf_req *req, nizwarf_conn_info *conn), ANY(*conn), any) \
 	F(lookup, (REQ, NAME, ENTRY), ANY(*e), any) \
 	F(getattr, (REQ, FI, ATTR), fi ? SEE(fi->fh) : 0, ANY(*attr), ANY(*attr_timeout), any) \
@@ -521,7 +523,8 @@ static void op_retrieve_reply(const nizwarf_req *req, uint64_t cookie, uint64_t 
 	F(getlk, (REQ, FI, nizwarf_lock *lock), ANY(*lock), SEE(fi->fh), any) \
 	F(setlk, (REQ, FI, const nizwarf_lock *lock, int sleep), SEE(lock->start), SEE(fi->fh), any) \
 	F(flock, (REQ, FI, int op), SEE(fi->fh), any) \
-	F(bmap, (REQ, size_t blocksize, uint64_t idx, uint64_t *block), *block = ANY_LENGTH(UINT64_MAX), any) \
+	F(bmap, (REQ, size_t blocksize, uint64_t idx, uint64_t *block), \
+	  *block = ANY_LENGTH(UINT64_MAX), any) \
 	F(ioctl, (REQ, uint32_t cmd, uint64_t arg, FI, uint32_t flags, const void *in_buf, size_t in_size, \
 		  nizwarf_ioctl *out, void *out_buf, size_t out_size, size_t *len), \
 	  ANY(*out), fill_all(out_buf, out_size, len)) \

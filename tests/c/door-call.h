@@ -110,13 +110,15 @@ static const struct call_field {
 #define FIELD(opcode, at, bits, field) { opcode, at, (bits) / 8, offsetof(nizwarf_call, field) }
 	FIELD(NIZWARF_FORGET, 0, 64, length), /* nlookup */
 	FIELD(NIZWARF_SETATTR, 0, 88 * 8, attr), FIELD(NIZWARF_SETATTR, 0, 32, flags), /* valid */
-	FIELD(NIZWARF_MKNOD, 0, 32, mode), FIELD(NIZWARF_MKNOD, 4, 32, rdev), FIELD(NIZWARF_MKNOD, 8, 32, umask),
+	FIELD(NIZWARF_MKNOD, 0, 32, mode), FIELD(NIZWARF_MKNOD, 4, 32, rdev),
+	FIELD(NIZWARF_MKNOD, 8, 32, umask),
 	FIELD(NIZWARF_MKDIR, 0, 32, mode), FIELD(NIZWARF_MKDIR, 4, 32, umask),
 	FIELD(NIZWARF_RENAME, 0, 64, other_node), /* newdir */
 	FIELD(RENAME2, 0, 64, other_node), FIELD(RENAME2, 8, 32, flags),
 	FIELD(NIZWARF_LINK, 0, 64, node), /* oldnodeid: the header names the directory */
 	FIELD(NIZWARF_OPEN, 0, 32, flags), FIELD(NIZWARF_OPENDIR, 0, 32, flags),
-#define READ_FIELDS(opcode) FIELD(opcode, 0, 64, handle), FIELD(opcode, 8, 64, offset), FIELD(opcode, 16, 32, size)
+#define READ_FIELDS(opcode) \
+	FIELD(opcode, 0, 64, handle), FIELD(opcode, 8, 64, offset), FIELD(opcode, 16, 32, size)
 	READ_FIELDS(NIZWARF_READ), FIELD(NIZWARF_READ, 32, 32, flags),
 	READ_FIELDS(NIZWARF_WRITE), FIELD(NIZWARF_WRITE, 32, 32, flags),
 	READ_FIELDS(NIZWARF_READDIR), READ_FIELDS(READDIRPLUS),
@@ -128,7 +130,8 @@ static const struct call_field {
 	FIELD(NIZWARF_FLUSH, 0, 64, handle), FIELD(NIZWARF_FLUSH, 16, 64, lock_owner),
 	FIELD(NIZWARF_INIT, 8, 32, readahead), FIELD(NIZWARF_INIT, 12, 32, length), /* flags */
 	FIELD(NIZWARF_ACCESS, 0, 32, more), /* mask */
-	FIELD(NIZWARF_CREATE, 0, 32, flags), FIELD(NIZWARF_CREATE, 4, 32, mode), FIELD(NIZWARF_CREATE, 8, 32, umask),
+	FIELD(NIZWARF_CREATE, 0, 32, flags), FIELD(NIZWARF_CREATE, 4, 32, mode),
+	FIELD(NIZWARF_CREATE, 8, 32, umask),
 	FIELD(NIZWARF_BATCH_FORGET, 0, 32, length), /* count */
 	FIELD(NIZWARF_FALLOCATE, 0, 64, handle), FIELD(NIZWARF_FALLOCATE, 8, 64, offset),
 	FIELD(NIZWARF_FALLOCATE, 16, 64, length), FIELD(NIZWARF_FALLOCATE, 24, 32, mode),
@@ -141,7 +144,8 @@ static const struct call_field {
 	/* clang-format on */
 };
 
-/* Bits of a record's flags that set a bit of `has`, and the number of 64 bits that is one only with it, if any. */
+/* Bits of a record's flags, each of which sets a bit of `has`. With some of them a number of 64 bits counts,
+ * which is copied to the call. */
 static const struct record_option {
 	uint8_t opcode, at, bits, number; /* of the record: the place of the flags, and of the number */
 	uint32_t has;
@@ -165,8 +169,8 @@ static const struct record_option {
 	/* clang-format on */
 };
 
-/* The contents of the record, which is after the header: `r` is where it begins, and the places in it are those of
- * fields in the structs of linux/fuse.h. */
+/* The contents of the record, which is after the header: `r` is where it begins, and the places in it are
+ * those of fields in the structs of linux/fuse.h. */
 static inline void set_record(nizwarf_call *c, const uint8_t *r, uint32_t opcode)
 {
 	if (opcode == NIZWARF_LINK)

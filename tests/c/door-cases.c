@@ -14,8 +14,8 @@ static uint8_t text[ROOM];
 static nizwarf_call call;
 static nizwarf_told told;
 
-/* Decodes a request in two pieces, and compares the call with the one that the rules have. `space` is the length of the
- * reply buffer, and the first piece has `cut` bytes at most. */
+/* Decodes a request in two pieces, and compares the call with the one that the rules have. `space` is the
+ * length of the reply buffer, and the first piece has `cut` bytes at most. */
 static void ask_call(size_t space, size_t cut)
 {
 	const size_t first = cut < request_len ? cut : request_len;
@@ -293,8 +293,9 @@ static void limits(void)
 	CHECK(nizwarf_new(&server, 4096, ROOM, NULL) == NIZWARF_OK);
 }
 
-/* A READ of 4096 bytes with a reply buffer of this length gets that many bytes of data. Of a READ the door puts the
- * header alone. `reply_len` is the length of the reply, or 0, where the count is too large and the reply is EIO. */
+/* A READ of 4096 bytes with a reply buffer of this length gets that many bytes of data. Of a READ the door
+ * puts the header alone. `reply_len` is the length of the reply, or 0, where the count is too large and the
+ * reply is EIO. */
 static void read_count(size_t space, uint64_t count, size_t reply_len)
 {
 	const struct fuse_read_in read = { .size = 4096 };

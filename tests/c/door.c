@@ -498,7 +498,8 @@ static void try_others(uint64_t node)
 	/* clang-format off */
 	static const uint32_t untold[] = {
 		NIZWARF_GETLK, NIZWARF_SETLK, NIZWARF_SETLKW, NIZWARF_BMAP, NIZWARF_IOCTL, NIZWARF_POLL,
-		NIZWARF_NOTIFY_REPLY, NIZWARF_TMPFILE, NIZWARF_STATFS, SETUPMAPPING, REMOVEMAPPING, 0, 7, 19, 52, 4096
+		NIZWARF_NOTIFY_REPLY, NIZWARF_TMPFILE, NIZWARF_STATFS, SETUPMAPPING, REMOVEMAPPING,
+		0, 7, 19, 52, 4096
 	};
 	/* clang-format on */
 	const struct fuse_open_in open = { 0 };
@@ -532,7 +533,7 @@ static void begin_session(uint32_t max_buffer)
 	session = (nizwarf_session){ 0, 4096, max_buffer };
 }
 
-/* All requests, with a largest payload, and with these options offered. The session begins and ends with it. */
+/* All requests, with this largest payload and these options offered. The session begins and ends with it. */
 static void try_all(uint32_t max_buffer, uint64_t options)
 {
 	uint64_t node, handle;

@@ -27,7 +27,8 @@ static const char name[] = "a name that is not cut";
 enum { NAME_LEN = sizeof(name) - 1 };
 static char longest[4095]; /* bytes, and none is 0 */
 
-/* Each of these puts one notice, as nizwarf.h does: it returns how many bytes, or 0, where `size` is too little. */
+/* Each of these puts one notice, as nizwarf.h does: it returns how many bytes, or 0, where `size` is too
+ * little. */
 #define PUTS(name, notice, ...)                                         \
 	static size_t put_##name(void *out, size_t size)                \
 	{                                                               \

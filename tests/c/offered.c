@@ -39,7 +39,8 @@ static const struct statx_in statx_in = {
 };
 static const struct fuse_copy_file_range_in copy = { 4, 6, 3, 5, 7, 9, 15 };
 
-/* A call that is offered: its request, the line by which it is printed, how it is decoded, and how a table has it. */
+/* A call that is offered: its request, the line by which it is printed, how it is decoded, and how a table
+ * has it. */
 static const struct {
 	uint32_t opcode, offer, answer;
 	const void *record;
@@ -301,8 +302,8 @@ static void records(void)
 
 /* clang-format off */
 
-/* The functions note their arguments, each of which is another number of the record, and return something that the
- * reply must show. */
+/* The functions note their arguments, each of which is another number of the record, and return something
+ * that the reply must show. */
 /* `sleep`: the caller waits for the lock. SETLK and SETLKW differ by this alone. */
 NOTES(setlk, (REQ, FI, const nizwarf_lock *asked, int sleep), "%u %u %u %u %u %u %d", INO, FH,
       (unsigned)fi->lock_owner, (unsigned)asked->start, (unsigned)asked->end, asked->type, sleep)
@@ -316,7 +317,8 @@ NOTES_AND(*block = 77, bmap, (REQ, size_t blocksize, uint64_t idx, uint64_t *blo
 /* As many bytes as there is room for, of which it returns three, or too many. */
 NOTES_AND((memset(out_buf, 1, out_size), memcpy(out_buf, "out", out_size < 3 ? out_size : 3), out->result = 5,
 	   *len = excess ? out_size + excess : 3), ioctl, (IOCTL),
-	  "%u %u %u %u %u %.*s %zu", INO, cmd, (unsigned)arg, FH, flags, (int)in_size, (const char *)in_buf, out_size)
+	  "%u %u %u %u %u %.*s %zu", INO, cmd, (unsigned)arg, FH, flags, (int)in_size, (const char *)in_buf,
+	  out_size)
 /* A notice names `kh` to wake the caller; there must be one only if `notify` is set. */
 NOTES_AND(*revents = POLLIN | POLLOUT, poll,
 	  (REQ, FI, uint32_t events, uint64_t kh, int notify, uint32_t *revents),
@@ -325,8 +327,8 @@ NOTES_AND((fi->fh = 9, e->ino = 6), tmpfile,
 	  (REQ, uint32_t mode, nizwarf_file_info *fi, nizwarf_entry_param *e),
 	  "%u %o %u %o", INO, mode, fi->flags, req->call->umask)
 #define STATX REQ, uint32_t flags, uint32_t mask, FI, nizwarf_statx *statx, struct timespec *timeout
-NOTES_AND((timeout->tv_sec = 3, statx->mask = STATX_BTIME, statx->btime.tv_sec = -2, statx->spare2[13] = 1), statx,
-	  (STATX), "%u %u %u %d", INO, flags, mask, fi ? (int)FH : -1)
+NOTES_AND((timeout->tv_sec = 3, statx->mask = STATX_BTIME, statx->btime.tv_sec = -2, statx->spare2[13] = 1),
+	  statx, (STATX), "%u %u %u %d", INO, flags, mask, fi ? (int)FH : -1)
 NOTES_AND(CHECK(!fi->lock_owner); *len = size, copy_file_range,
 	  (REQ, uint64_t off_in, FI, uint64_t ino_out, uint64_t off_out, const nizwarf_file_info *fi_out,
 	   uint64_t size, uint64_t flags, size_t *len),
@@ -396,8 +398,8 @@ static const nizwarf_ops ops = { .conn = note_conn,
 				 .copy_file_range = note_copy_file_range,
 				 .retrieve_reply = note_retrieve_reply };
 
-/* Serves what is in `request`, as expect_of has it. Without a reply the request is one that has none, or whose reply
- * doesn't fit. */
+/* Serves what is in `request`, as expect_of has it. Without a reply the request is one that has none, or
+ * whose reply doesn't fit. */
 static void expect(const char *words, size_t space, size_t len)
 {
 	const uint32_t opcode = u32(request + 4);

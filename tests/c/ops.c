@@ -94,7 +94,8 @@ static void note_interrupt(void *user, uint64_t unique)
 	say("interrupt %d %u", user == said, (unsigned)unique);
 }
 
-/* Fills in bytes, if there is memory for any: requested with the size 0, a function returns their length alone. */
+/* Fills in bytes, if there is memory for any: requested with the size 0, a function returns their length
+ * alone. */
 static void fill_in(void *at, size_t size, size_t *len, const char *text, size_t text_len)
 {
 	if (size)
@@ -130,7 +131,8 @@ NOTES_AND(entry(e), link, (REQ, uint64_t to, NAME, ENTRY), "%u %u %s", INO, (uns
 /* The handle and the flags are replied; the client hands the handle back in each call of the file. */
 NOTES_AND((fi->fh = 11, fi->open_flags = FOPEN_KEEP_CACHE), open, (REQ, OPENED), "%u %x", INO, fi->flags)
 /* Fewer bytes than were requested, as at the end of a file. */
-NOTES_AND(fill_in(buf, size, len, "data", 4), read, (REQ, size_t size, uint64_t off, FI, void *buf, size_t *len),
+NOTES_AND(fill_in(buf, size, len, "data", 4), read,
+	  (REQ, size_t size, uint64_t off, FI, void *buf, size_t *len),
 	  "%u %zu %u %u", INO, size, (unsigned)off, FH)
 /* The data have no 0 at their end. */
 NOTES_AND(*len = size + excess, write, (REQ, const void *buf, size_t size, uint64_t off, FI, size_t *len),
@@ -164,11 +166,12 @@ NOTES(syncfs, (REQ), "%u", INO)
 
 #define HAS(name) .name = note_##name
 static const nizwarf_ops ops = {
-	HAS(init), HAS(destroy), HAS(lookup), HAS(forget), HAS(getattr), HAS(setattr), HAS(readlink), HAS(mknod),
-	HAS(mkdir), HAS(unlink), HAS(rmdir), HAS(symlink), HAS(rename), HAS(link), HAS(open), HAS(read), HAS(write),
-	HAS(flush), HAS(release), HAS(fsync), HAS(opendir), HAS(readdir), HAS(readdirplus), HAS(releasedir),
-	HAS(fsyncdir), HAS(statfs), HAS(setxattr), HAS(getxattr), HAS(listxattr), HAS(removexattr), HAS(access),
-	HAS(create), HAS(fallocate), HAS(lseek), HAS(copy_file_range), HAS(syncfs), HAS(interrupt),
+	HAS(init), HAS(destroy), HAS(lookup), HAS(forget), HAS(getattr), HAS(setattr), HAS(readlink),
+	HAS(mknod), HAS(mkdir), HAS(unlink), HAS(rmdir), HAS(symlink), HAS(rename), HAS(link), HAS(open),
+	HAS(read), HAS(write), HAS(flush), HAS(release), HAS(fsync), HAS(opendir), HAS(readdir),
+	HAS(readdirplus), HAS(releasedir), HAS(fsyncdir), HAS(statfs), HAS(setxattr), HAS(getxattr),
+	HAS(listxattr), HAS(removexattr), HAS(access), HAS(create), HAS(fallocate), HAS(lseek),
+	HAS(copy_file_range), HAS(syncfs), HAS(interrupt),
 };
 
 /* clang-format on */
@@ -677,13 +680,13 @@ static void conversions(void)
 	const nizwarf_entry entry = nizwarf_entry_of(&before);
 	/* clang-format off */
 	const struct stat st = {
-		.st_ino = 1, .st_size = 2, .st_blocks = 3, .st_mode = S_IFREG | 0640, .st_nlink = 4, .st_uid = 5,
-		.st_gid = 6, .st_rdev = 7, .st_blksize = 8, .st_atim = { -9, 10 }, .st_mtim = { 11, 12 },
-		.st_ctim = { 13, 14 }
+		.st_ino = 1, .st_size = 2, .st_blocks = 3, .st_mode = S_IFREG | 0640, .st_nlink = 4,
+		.st_uid = 5, .st_gid = 6, .st_rdev = 7, .st_blksize = 8, .st_atim = { -9, 10 },
+		.st_mtim = { 11, 12 }, .st_ctim = { 13, 14 }
 	};
 	const struct statvfs fs = {
-		.f_bsize = 1, .f_frsize = 2, .f_blocks = 3, .f_bfree = 4, .f_bavail = 5, .f_files = 6, .f_ffree = 7,
-		.f_namemax = 8
+		.f_bsize = 1, .f_frsize = 2, .f_blocks = 3, .f_bfree = 4, .f_bavail = 5, .f_files = 6,
+		.f_ffree = 7, .f_namemax = 8
 	};
 	/* clang-format on */
 	const nizwarf_attr attr = { 1, 2, 3, (uint64_t)-9, 11, 13, 10, 12, 14, 0100640, 4, 5, 6, 7, 8, 0 };

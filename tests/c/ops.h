@@ -8,8 +8,8 @@
 #include "allocations.h"
 #include "door.h"
 
-/* The calls since the last request, as names and arguments; what each function returns: an error, NIZWARF_LATER, or 0; and
- * by how many bytes an answer is longer than what was requested. */
+/* The calls since the last request, as names and arguments; what each function returns: an error,
+ * NIZWARF_LATER, or 0; and by how many bytes an answer is longer than what was requested. */
 static char said[512];
 static int failure;
 static size_t excess;
@@ -36,7 +36,8 @@ static int say(const char *format, ...)
 #define INO ((void)req, (unsigned)ino)
 #define FH ((unsigned)fi->fh)
 
-/* A function that notes its name and arguments; NOTES_AND also evaluates an expression, which fills in the answer. */
+/* A function that notes its name and arguments; NOTES_AND also evaluates an expression, which fills in the
+ * answer. */
 #define NOTES(name, parameters, ...) NOTES_AND((void)0, name, parameters, __VA_ARGS__)
 #define NOTES_AND(fills_in, name, parameters, ...) \
 	static int note_##name parameters          \
@@ -45,8 +46,8 @@ static int say(const char *format, ...)
 		return say(#name " " __VA_ARGS__); \
 	}
 
-/* Serves what is in `request`: the functions that are called are these, with these arguments, and the reply has this
- * length. */
+/* Serves what is in `request`: the functions that are called are these, with these arguments, and the reply
+ * has this length. */
 static inline void expect_of(const nizwarf_ops *table, int32_t code, size_t space, nizwarf_item *items,
 			     size_t most, const char *words, size_t len)
 {

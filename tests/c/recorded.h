@@ -1,5 +1,5 @@
-/* Requests in a file, for tests/c/door.c and tests/c/text.c: a line has a number, a blank, and the bytes as two digits each,
- * with a `+` between pieces, as crates/test_sessions/stdin has them. */
+/* Requests in a file, for tests/c/door.c and tests/c/text.c: a line has a number, a blank, and the bytes as
+ * two digits each, with a `+` between pieces, as crates/test_sessions/stdin has them. */
 #ifndef C_RECORDED_H
 #define C_RECORDED_H
 
@@ -7,8 +7,8 @@
 #include <stdio.h>
 #include <string.h>
 
-/* Reads the bytes of a line's request, up to `most`, and returns how many these are; 0, where the line has none. `*cut`
- * is the length of the first piece, or 0, where the request is in one piece. */
+/* Reads the bytes of a line's request, up to `most`, and returns how many these are; 0, where the line has
+ * none. `*cut` is the length of the first piece, or 0, where the request is in one piece. */
 static inline size_t read_request(const char *line, uint8_t *request, size_t most, size_t *cut)
 {
 	const char *at = strchr(line, ' ');
