@@ -118,27 +118,21 @@ int pthread_rwlockattr_init(pthread_rwlockattr_t *of);
     assigns *lock \from *of;
     assigns \result \from \nothing; */
 int pthread_rwlock_init(pthread_rwlock_t *restrict lock, const pthread_rwlockattr_t *restrict of);
-/*@ requires \valid(lock);
-    assigns *lock, \result \from *lock; */
-int pthread_rwlock_destroy(pthread_rwlock_t *lock);
-/*@ requires \valid(lock);
-    assigns *lock, \result \from *lock; */
-int pthread_rwlock_rdlock(pthread_rwlock_t *lock);
-/*@ requires \valid(lock);
-    assigns *lock, \result \from *lock; */
-int pthread_rwlock_unlock(pthread_rwlock_t *lock);
+#define OF_LOCK                \
+	requires \valid(lock); \
+	assigns *lock, \result \from *lock;
+/*@ OF_LOCK */ int pthread_rwlock_destroy(pthread_rwlock_t *lock);
+/*@ OF_LOCK */ int pthread_rwlock_rdlock(pthread_rwlock_t *lock);
+/*@ OF_LOCK */ int pthread_rwlock_unlock(pthread_rwlock_t *lock);
 /*@ requires \valid(lock) && \valid_read(most);
     assigns *lock, \result \from *lock, *most; */
 int pthread_rwlock_timedwrlock(pthread_rwlock_t *restrict lock, const struct timespec *restrict most);
 /*@ assigns \result \from thread;
     assigns *result \from thread; */
 int pthread_tryjoin_np(pthread_t thread, void **result);
-/*@ assigns \result \from thread, signal; */
-int pthread_kill(pthread_t thread, int signal);
+/*@ assigns \result \from thread, signal; */ int pthread_kill(pthread_t thread, int signal);
 
-/*@ assigns \nothing; */
-int sched_yield(void);
-/*@ assigns \result \from number; */
-long syscall(long number, ...);
+/*@ assigns \nothing; */ int sched_yield(void);
+/*@ assigns \result \from number; */ long syscall(long number, ...);
 
 #endif
