@@ -56,6 +56,13 @@ pub fn words(words: &[u32]) -> Vec<u8> {
     words.iter().flat_map(|word| word.to_le_bytes()).collect()
 }
 
+/// These, and zeros up to a length.
+pub fn padded(numbers: &[u32], len: usize) -> Vec<u8> {
+    let mut bytes = words(numbers);
+    bytes.resize(len, 0);
+    bytes
+}
+
 /// A reply: `fuse_out_header`, of 16 bytes, and a body.
 pub fn reply(body: &[u8]) -> Vec<u8> {
     let len = u32::try_from(16 + body.len()).unwrap();
