@@ -3,7 +3,7 @@
 mod common;
 
 use common::diary::lock;
-use common::{fault, reply, session, words, Request};
+use common::{fault, getattr, init, padded, reading, record, reply, session, words, Request};
 use nizwarf::{
     Asked, Attr, Call, Entry, FsOptions, GetxattrReply, IoctlRange, IoctlReply, Item, Limits,
     ListxattrReply, OpenOptions, Refusal, Slot, Statvfs, Told, DT_DIR, DT_REG,
@@ -71,6 +71,16 @@ macro_rules! answers {
     };
 }
 
+/// Asserts of requests that their calls, answered by a function of their field `to`, get these replies.
+macro_rules! replies {
+    ($($request:expr => $call:ident $function:ident($($result:expr)?), $expected:expr;)*) => {
+        $(
+            let made = answers!($request, $call, slot, to => to.$function(slot $(, $result)?));
+            assert_eq!(made, replied($expected));
+        )*
+    };
+}
+
 const ATTR: Attr = Attr {
     ino: 21,
     size: 22,
@@ -120,31 +130,20 @@ fn os_error<T>(number: i32) -> io::Result<T> {
 
 #[test]
 fn entries_and_attributes() {
-    let made = answers!(lookup(), Lookup, slot, to => to.answer(slot, Ok(entry(9))));
-    assert_eq!(made, replied(reply(&entry_bytes(9))));
-    let getattr = Request::new(3, 1).u32(0).u32(0).u64(0);
-    let hold = Duration::new(7, 8);
-    let made = answers!(getattr, Getattr, slot, to => to.answer(slot, Ok((ATTR, hold))));
-    assert_eq!(made, replied(reply(&[words(&[7, 0, 8, 0]), attr_bytes()].concat())));
     let create = Request::new(35, 1).u32(1).u32(2).u32(0).u32(0).name("a");
     let open = OpenOptions::KEEP_CACHE | OpenOptions::NOFLUSH;
-    let made = answers!(create, Create, slot, to =>
-        to.answer(slot, Ok((entry(9), Some(10), open))));
-    assert_eq!(made, replied(reply(&[entry_bytes(9), words(&[10, 0, 0x22, 0])].concat())));
+    replies! {
+        lookup() => Lookup answer(Ok(entry(9))), reply(&entry_bytes(9));
+        getattr(1) => Getattr answer(Ok((ATTR, Duration::new(7, 8)))),
+            reply(&[words(&[7, 0, 8, 0]), attr_bytes()].concat());
+        create => Create answer(Ok((entry(9), Some(10), open))),
+            reply(&[entry_bytes(9), words(&[10, 0, 0x22, 0])].concat());
+    }
 }
 
 #[test]
 fn small_answers() {
     let open = || Request::new(14, 1).u32(0).u32(0);
-    let none = OpenOptions::empty();
-    let made = answers!(open(), Open, slot, to =>
-        to.answer(slot, Ok((Some(1 << 33), OpenOptions::DIRECT_IO))));
-    assert_eq!(made, replied(reply(&words(&[0, 2, 1, 0]))));
-    let made = answers!(open(), Open, slot, to => to.answer(slot, Ok((None, none))));
-    assert_eq!(made, replied(reply(&words(&[0, 0, 0, 0]))));
-    let access = Request::new(34, 1).u32(4).u32(0);
-    let made = answers!(access, Access, slot, to => to.answer(slot, Ok(())));
-    assert_eq!(made, replied(reply(&[])));
     let statfs = Statvfs {
         f_bsize: 1,
         f_frsize: 2,
@@ -155,26 +154,33 @@ fn small_answers() {
         f_ffree: 7,
         f_namemax: 8,
     };
-    let made = answers!(Request::new(17, 1), Statfs, slot, to => to.answer(slot, Ok(statfs)));
-    let body = words(&[3, 0, 4, 0, 5, 0, 6, 0, 7, 0, 1, 8, 2, 0, 0, 0, 0, 0, 0, 0]);
-    assert_eq!(made, replied(reply(&body)));
+    replies! {
+        open() => Open answer(Ok((Some(1 << 33), OpenOptions::DIRECT_IO))), reply(&words(&[0, 2, 1, 0]));
+        open() => Open answer(Ok((None, OpenOptions::empty()))), reply(&words(&[0, 0, 0, 0]));
+        Request::new(34, 1).u32(4).u32(0) => Access answer(Ok(())), reply(&[]);
+        Request::new(17, 1) => Statfs answer(Ok(statfs)),
+            reply(&words(&[3, 0, 4, 0, 5, 0, 6, 0, 7, 0, 1, 8, 2, 0, 0, 0, 0, 0, 0, 0]));
+    }
+}
+
+/// A GETXATTR of that many bytes.
+fn getxattr(size: u32) -> Request {
+    Request::new(22, 1).u32(size).u32(0).name("a")
+}
+
+fn value() -> GetxattrReply {
+    GetxattrReply::Value(b"value".to_vec())
 }
 
 #[test]
 fn texts_and_counts() {
-    let made = answers!(Request::new(5, 1), Readlink, slot, to => to.answer(slot, Ok(b"to")));
-    assert_eq!(made, replied(reply(b"to")));
-    let getxattr = |size| Request::new(22, 1).u32(size).u32(0).name("a");
-    let value = || Ok(GetxattrReply::Value(b"value".to_vec()));
-    let made = answers!(getxattr(9), Getxattr, slot, to => to.answer(slot, value()));
-    assert_eq!(made, replied(reply(b"value")));
-    let count = || Ok(GetxattrReply::Count(5));
-    let made = answers!(getxattr(0), Getxattr, slot, to => to.answer(slot, count()));
-    assert_eq!(made, replied(reply(&words(&[5, 0]))));
-    let listxattr = Request::new(23, 1).u32(9).u32(0);
-    let names = || Ok(ListxattrReply::Names(b"a\0b\0".to_vec()));
-    let made = answers!(listxattr, Listxattr, slot, to => to.answer(slot, names()));
-    assert_eq!(made, replied(reply(b"a\0b\0")));
+    let names = ListxattrReply::Names(b"a\0b\0".to_vec());
+    replies! {
+        Request::new(5, 1) => Readlink answer(Ok(b"to")), reply(b"to");
+        getxattr(9) => Getxattr answer(Ok(value())), reply(b"value");
+        getxattr(0) => Getxattr answer(Ok(GetxattrReply::Count(5))), reply(&words(&[5, 0]));
+        Request::new(23, 1).u32(9).u32(0) => Listxattr answer(Ok(names)), reply(b"a\0b\0");
+    }
 }
 
 #[test]
@@ -188,73 +194,56 @@ fn texts_that_linux_does_not_take_are_faults() {
         });
         assert_eq!(made, replied(expected.map_or_else(|| reply(&text), fault)));
     }
-    let ask = |size, answered| {
-        let request = Request::new(22, 1).u32(size).u32(0).name("a");
-        answers!(request, Getxattr, slot, to => to.answer(slot, Ok(answered)))
-    };
-    let value = || GetxattrReply::Value(b"value".to_vec());
-    assert_eq!(ask(5, value()), replied(reply(b"value")));
-    assert_eq!(ask(4, value()), replied(fault(34)));
-    // A value stands for its length where that is asked for; a length is no value.
-    assert_eq!(ask(0, value()), replied(reply(&words(&[5, 0]))));
-    assert_eq!(ask(9, GetxattrReply::Count(9)), replied(fault(5)));
-    assert_eq!(ask(9, GetxattrReply::Count(10)), replied(fault(34)));
+    replies! {
+        getxattr(5) => Getxattr answer(Ok(value())), reply(b"value");
+        getxattr(4) => Getxattr answer(Ok(value())), fault(34);
+        // A value stands for its length where that is asked for; a length is no value.
+        getxattr(0) => Getxattr answer(Ok(value())), reply(&words(&[5, 0]));
+        getxattr(9) => Getxattr answer(Ok(GetxattrReply::Count(9))), fault(5);
+        getxattr(9) => Getxattr answer(Ok(GetxattrReply::Count(10))), fault(34);
+    }
 }
 
 #[test]
 fn faults() {
     // Linux takes 1 to 511.
     for (number, expected) in [(2, 2), (511, 511), (512, 5), (i32::MAX, 5), (0, 5), (-2, 5)] {
-        let made = answers!(lookup(), Lookup, slot, to => to.answer(slot, os_error(number)));
-        assert_eq!(made, replied(fault(expected)));
+        replies! { lookup() => Lookup answer(os_error(number)), fault(expected); }
     }
     let nameless = io::Error::from(io::ErrorKind::NotFound);
-    let made = answers!(lookup(), Lookup, slot, to => to.fail(slot, &nameless));
-    assert_eq!(made, replied(fault(5)));
-    let made = answers!(lock(31, 0, 0), Getlk, slot, to => to.answer(slot, os_error(11)));
-    assert_eq!(made, replied(fault(11)));
-    let made = answers!(lock(33, 0, 0), Setlkw, slot, to => to.answer(slot, os_error(4)));
-    assert_eq!(made, replied(fault(4)));
-    let statx = Request::new(52, 5).bytes(&[0; 24]);
-    let made = answers!(statx, Statx, slot, to => to.answer(slot, os_error(13)));
-    assert_eq!(made, replied(fault(13)));
-    // A FORGET never has one.
-    let made = answers!(Request::new(2, 5).u64(1), Forget, slot, to => to.done(slot));
-    assert_eq!(made, replied(Vec::new()));
-    let made = answers!(Request::new(2, 5).u64(1), Forget, slot, to => to.fail(slot, &nameless));
-    assert_eq!(made, replied(Vec::new()));
+    let forget = || Request::new(2, 5).u64(1);
+    replies! {
+        lookup() => Lookup fail(&nameless), fault(5);
+        lock(31, 0, 0) => Getlk answer(os_error(11)), fault(11);
+        lock(33, 0, 0) => Setlkw answer(os_error(4)), fault(4);
+        Request::new(52, 5).bytes(&[0; 24]) => Statx answer(os_error(13)), fault(13);
+        // A FORGET never has one.
+        forget() => Forget done(), Vec::new();
+        forget() => Forget fail(&nameless), Vec::new();
+    }
 }
 
 #[test]
 fn results_of_ioctl() {
-    let ask = |flags: u32, answered: IoctlReply| {
-        let request = Request::new(39, 5).u64(8).u32(flags).u32(0).u64(0).u32(0).u32(4);
-        answers!(request, Ioctl, slot, to => to.answer(slot, Ok(answered)))
-    };
-    let done = |output: &[u8]| IoctlReply::Done { result: -1, output: output.to_vec() };
+    let ask = |flags: u32| Request::new(39, 5).u64(8).u32(flags).u32(0).u64(0).u32(0).u32(4);
+    let done = |output: &[u8]| Ok(IoctlReply::Done { result: -1, output: output.to_vec() });
     let head = words(&[u32::MAX, 0, 0, 0]);
-    assert_eq!(ask(0, done(b"")), replied(reply(&head)));
-    assert_eq!(ask(0, done(b"four")), replied(reply(&[head, b"four".to_vec()].concat())));
-    // More than is asked for is a fault, and so are too many ranges.
-    assert_eq!(ask(0, done(b"fives")), replied(fault(5)));
     let range = IoctlRange { base: 1 << 32, len: 3 };
-    let retry = |count| IoctlReply::Retry { input: vec![range; count], output: vec![range] };
-    let body = words(&[0, 4, 1, 1, 0, 1, 3, 0, 0, 1, 3, 0]);
-    assert_eq!(ask(2, retry(1)), replied(reply(&body)));
-    assert_eq!(ask(2, retry(256)), replied(fault(5)));
-    let made = answers!(Request::new(39, 5).bytes(&[0; 32]), Ioctl, slot, to =>
-        to.answer(slot, os_error(25)));
-    assert_eq!(made, replied(fault(25)));
-}
-
-/// A READ of that many bytes.
-fn read(size: u32) -> Request {
-    Request::new(15, 2).u64(8).u64(0).u32(size).u32(0).u64(0).u32(0).u32(0)
+    let retry = |count| Ok(IoctlReply::Retry { input: vec![range; count], output: vec![range] });
+    replies! {
+        ask(0) => Ioctl answer(done(b"")), reply(&head);
+        ask(0) => Ioctl answer(done(b"four")), reply(&[&head[..], b"four"].concat());
+        // More than is asked for is a fault, and so are too many ranges.
+        ask(0) => Ioctl answer(done(b"fives")), fault(5);
+        ask(2) => Ioctl answer(retry(1)), reply(&words(&[0, 4, 1, 1, 0, 1, 3, 0, 0, 1, 3, 0]));
+        ask(2) => Ioctl answer(retry(256)), fault(5);
+        Request::new(39, 5).bytes(&[0; 32]) => Ioctl answer(os_error(25)), fault(25);
+    }
 }
 
 #[test]
 fn data_of_a_read_stand_in_the_room_already() {
-    let request = read(100).done();
+    let request = reading(15, 2, 0, 100).done();
     let slices = [IoSlice::new(&request)];
     let mut slot = Slot::new();
     let mut room = vec![0xaa; 64];
@@ -272,8 +261,7 @@ fn data_of_a_read_stand_in_the_room_already() {
         panic!("no READ");
     }
     // A count that is too large is answered EIO.
-    let made = answers!(read(100), Read, slot, to => to.answer(slot, Ok(101)));
-    assert_eq!(made, replied(fault(5)));
+    replies! { reading(15, 2, 0, 100) => Read answer(Ok(101)), fault(5); }
 }
 
 /// The call, if there is one.
@@ -287,10 +275,10 @@ fn asked<'r>(asked: Asked<'_, 'r>) -> Option<Call<'r>> {
 #[test]
 fn a_write_says_how_much() {
     let write = || Request::new(16, 2).u64(8).u64(0).u32(4).bytes(&[0; 20]).bytes(b"data");
-    let made = answers!(write(), Write, slot, to => to.answer(slot, Ok(3)));
-    assert_eq!(made, replied(reply(&words(&[3, 0]))));
-    let made = answers!(write(), Write, slot, to => to.answer(slot, Ok(1 << 32)));
-    assert_eq!(made, replied(fault(5)));
+    replies! {
+        write() => Write answer(Ok(3)), reply(&words(&[3, 0]));
+        write() => Write answer(Ok(1 << 32)), fault(5);
+    }
 }
 
 #[test]
@@ -302,8 +290,7 @@ fn options_are_told_after_init_and_destroy() {
     // Version 7.38, the readahead, flags, 65535 in the background, congested at 49149, payloads of a
     // mebibyte, times in nanoseconds, 256 pages.
     let background = 65535 | 49149 << 16;
-    let mut body = words(&[7, 38, 131_072, 1 << 13 | 1, background, 1 << 20, 1, 256]);
-    body.resize(64, 0);
+    let body = padded(&[7, 38, 131_072, 1 << 13 | 1, background, 1 << 20, 1, 256], 64);
     assert_eq!(made, Ended { options: Some(agreed), ..replied(reply(&body)) });
     let made = answers!(init, Init, slot, to => to.answer(slot, os_error(13)));
     assert_eq!(made, Ended { options: Some(FsOptions::empty()), ..replied(fault(13)) });
@@ -313,10 +300,7 @@ fn options_are_told_after_init_and_destroy() {
 
 #[test]
 fn limits_are_told_at_init() {
-    let init = |flags2| {
-        let request = Request::new(26, 0).u32(7).u32(38).u32(131_072);
-        request.u32(1 << 30).u32(flags2).bytes(&[0; 44])
-    };
+    let init = |flags2| init(131_072, 1 << 30, flags2);
     let further = FsOptions::HAS_RESEND | FsOptions::REQUEST_TIMEOUT;
     let limits = Limits {
         max_readahead: 65536,
@@ -332,14 +316,12 @@ fn limits_are_told_at_init() {
     let options = (agreed | further | FsOptions::CREATE_SUPP_GROUP | FsOptions::ALLOW_IDMAP).bits();
     let flags2 = u32::try_from(options >> 32).unwrap();
     let background = 10 << 16 | 0x14;
-    let mut body = words(&[7, 38, 65536, 1 << 30, background, 8192, 100, 256, flags2, 0, 60]);
-    body.resize(64, 0);
+    let body = padded(&[7, 38, 65536, 1 << 30, background, 8192, 100, 256, flags2, 0, 60], 64);
     let options = Some(FsOptions::from_bits_truncate(options));
     assert_eq!(made, Ended { options, ..replied(reply(&body)) });
     // What the client does not offer is not agreed on. Without limits, nothing changes.
     let made = answered(0, further, Limits::default());
-    let mut body = words(&[7, 38, 131_072, 1 << 30, 65535 | 49149 << 16, 1 << 20, 1, 256]);
-    body.resize(64, 0);
+    let body = padded(&[7, 38, 131_072, 1 << 30, 65535 | 49149 << 16, 1 << 20, 1, 256], 64);
     assert_eq!(made, Ended { options: Some(agreed), ..replied(reply(&body)) });
     let made = answers!(init(0), Init, slot, to => to.answer_with(slot, os_error(13), limits));
     assert_eq!(made, Ended { options: Some(FsOptions::empty()), ..replied(fault(13)) });
@@ -352,19 +334,17 @@ fn an_entry_that_does_not_fit_is_given_back() {
         given_back,
         ..replied(Vec::new())
     };
-    for room in 0..144 {
-        let made = answer(&lookup().done(), room, |slot, call| match call {
-            Call::Lookup { to, .. } => to.answer(slot, Ok(entry(9))),
+    let looked_up = |room, node| {
+        answer(&lookup().done(), room, |slot, call| match call {
+            Call::Lookup { to, .. } => to.answer(slot, Ok(entry(node))),
             other => panic!("{other:?}"),
-        });
-        assert_eq!(made, nothing(vec![9]));
+        })
+    };
+    for room in 0..144 {
+        assert_eq!(looked_up(room, 9), nothing(vec![9]));
     }
     // Node 0 has no lookup, and an error no entry.
-    let made = answer(&lookup().done(), 143, |slot, call| match call {
-        Call::Lookup { to, .. } => to.answer(slot, Ok(entry(0))),
-        other => panic!("{other:?}"),
-    });
-    assert_eq!(made, nothing(Vec::new()));
+    assert_eq!(looked_up(143, 0), nothing(Vec::new()));
     let made =
         answer(&lookup().done(), 15, |slot, call| call.fail(slot, &io::ErrorKind::Other.into()));
     assert_eq!(made, nothing(Vec::new()));
@@ -422,15 +402,7 @@ fn what_may_have_to_be_given_back_is_not_forgotten() {
 
 /// A READDIR or a READDIRPLUS of that many bytes.
 fn readdir(opcode: u32, size: u32) -> Request {
-    Request::new(opcode, 1).u64(8).u64(0).u32(size).u32(0).u64(0).u32(0).u32(0)
-}
-
-/// `fuse_dirent` of 24 bytes, and the name up to a multiple of 8.
-fn record(ino: u32, offset: u32, kind: u32, name: &str) -> Vec<u8> {
-    let len = u32::try_from(name.len()).unwrap();
-    let mut bytes = [words(&[ino, 0, offset, 0, len, kind]), name.as_bytes().to_vec()].concat();
-    bytes.resize((bytes.len() + 7) / 8 * 8, 0);
-    bytes
+    reading(opcode, 1, 0, size)
 }
 
 #[test]
@@ -488,10 +460,10 @@ fn readdirplus_gives_back_what_does_not_fit() {
         let expected = replied(reply(&records[..taken].concat()));
         assert_eq!(made, Ended { given_back, taken, ..expected });
     }
-    // The error of the first lookup is the reply.
-    let made = answers!(readdir(44, 4000), Readdir, slot, to => to.answer(slot, Ok(&items[4..])));
-    assert_eq!(made, replied(fault(5)));
-    // A READDIR holds no lookups.
-    let made = answers!(readdir(28, 31), Readdir, slot, to => to.answer(slot, Ok(&items)));
-    assert_eq!(made, replied(reply(&[])));
+    replies! {
+        // The error of the first lookup is the reply.
+        readdir(44, 4000) => Readdir answer(Ok(&items[4..])), fault(5);
+        // A READDIR holds no lookups.
+        readdir(28, 31) => Readdir answer(Ok(&items)), reply(&[]);
+    }
 }

@@ -4,7 +4,7 @@
 mod common;
 
 use common::diary::{each_call, lock, Row};
-use common::{each_cutting, fault, session, words, Request, WHO};
+use common::{each_cutting, fault, init, session, words, Request, WHO};
 use nizwarf::{
     Asked, Call, Context, Extensions, FsOptions, Offers, SecContext, Session, SetattrValid,
     SetxattrFlags, Slot,
@@ -12,19 +12,22 @@ use nizwarf::{
 use std::ffi::{CStr, CString};
 use std::io::{self, IoSlice};
 
-/// Asks for the call of a request, and checks it: by a pattern, and by a condition on its variables.
+/// Asks for the calls of requests, and checks each: by its pattern, and by a condition on the variables of that.
+/// After `with` there are the options of the session.
 macro_rules! asks {
-    ($request:expr, $options:expr, $context:expr, $pattern:pat => $facts:expr) => {
-        each_cutting($options, &$request.done(), |context, call| match call {
-            $pattern => {
-                assert!($facts);
-                assert_eq!(context, $context);
-            }
+    (options) => { FsOptions::empty() };
+    (options $options:expr) => { $options };
+    (call $call:ident $Call:ident { $($field:tt)* } $($facts:expr)?) => {
+        match $call {
+            Call::$Call { $($field)* } => { $(assert!($facts);)? }
             other => panic!("{other:?}"),
-        })
+        }
     };
-    ($request:expr, $pattern:pat => $facts:expr) => {
-        asks!($request, FsOptions::empty(), WHO, $pattern => $facts)
+    ($($request:expr $(, with $options:expr)? => $Call:ident $fields:tt $(if $facts:expr)?;)*) => {
+        $(each_cutting(asks!(options $($options)?), &$request.done(), |context, call| {
+            assert_eq!(context, caller_of(&call));
+            asks!(call call $Call $fields $($facts)?);
+        });)*
     };
 }
 
@@ -32,9 +35,14 @@ fn is(name: &CStr, text: &str) -> bool {
     name.to_bytes() == text.as_bytes()
 }
 
-/// The context of a call that has no caller.
-fn no_one() -> Context {
-    Context { unique: 7, ..Context::default() }
+/// The context of a call: of some the caller is not said.
+fn caller_of(call: &Call<'_>) -> Context {
+    let has_caller = !matches!(call, Call::Init { .. } | Call::Destroy { .. });
+    if has_caller {
+        WHO
+    } else {
+        Context { unique: 7, ..Context::default() }
+    }
 }
 
 #[test]
@@ -42,60 +50,44 @@ fn each_request_asks_for_its_call() {
     for Row { request, is, line, .. } in each_call() {
         each_cutting(FsOptions::empty(), &request.done(), |context, call| {
             assert!(is(&call), "{line}: {call:?}");
-            let has_caller = !matches!(call, Call::Init { .. } | Call::Destroy { .. });
-            assert_eq!(context, if has_caller { WHO } else { no_one() }, "{line}");
+            assert_eq!(context, caller_of(&call), "{line}");
         });
     }
 }
 
 #[test]
 fn names() {
-    asks!(Request::new(1, 1).name("a.b"), Call::Lookup { parent: 1, name, .. } => is(&name, "a.b"));
-    asks!(Request::new(1, 1).name(""), Call::Lookup { name, .. } => is(&name, ""));
-    asks!(
-        Request::new(12, 2).u64(3).name("old").name("new"),
-        Call::Rename { parent: 2, name, new_parent: 3, new_name, flags: 0, .. }
-            => is(&name, "old") && is(&new_name, "new")
-    );
-    // The flags of a RENAME2 are reduced to NOREPLACE, EXCHANGE and WHITEOUT.
-    asks!(
-        Request::new(45, 2).u64(3).u32(0xff).u32(0).name("old").name("new"),
-        Call::Rename { parent: 2, name, new_parent: 3, new_name, flags: 7, .. }
-            => is(&name, "old") && is(&new_name, "new")
-    );
+    asks! {
+        Request::new(1, 1).name("a.b") => Lookup { parent: 1, name, .. } if is(&name, "a.b");
+        Request::new(1, 1).name("") => Lookup { name, .. } if is(&name, "");
+        Request::new(12, 2).u64(3).name("old").name("new") =>
+            Rename { parent: 2, name, new_parent: 3, new_name, flags: 0, .. }
+            if is(&name, "old") && is(&new_name, "new");
+        // The flags of a RENAME2 are reduced to NOREPLACE, EXCHANGE and WHITEOUT.
+        Request::new(45, 2).u64(3).u32(0xff).u32(0).name("old").name("new") =>
+            Rename { parent: 2, name, new_parent: 3, new_name, flags: 7, .. }
+            if is(&name, "old") && is(&new_name, "new");
+    }
 }
 
 #[test]
 fn new_nodes() {
     let none = Extensions::default();
-    asks!(
-        Request::new(6, 2).name("link").name("to/where"),
-        Call::Symlink { linkname, parent: 2, name, extensions, .. }
-            => is(&linkname, "to/where") && is(&name, "link") && extensions == none
-    );
-    asks!(
-        Request::new(8, 2).u32(0o10644).u32(5).u32(0o22).u32(0).name("pipe"),
-        Call::Mknod { parent: 2, name, mode: 0o10644, rdev: 5, umask: 0o22, extensions, .. }
-            => is(&name, "pipe") && extensions == none
-    );
-    asks!(
-        Request::new(9, 2).u32(0o755).u32(0o22).name("dir"),
-        Call::Mkdir { parent: 2, name, mode: 0o755, umask: 0o22, extensions, .. }
-            => is(&name, "dir") && extensions == none
-    );
-    asks!(
-        Request::new(35, 2).u32(0x41).u32(0o100_600).u32(0o77).u32(1).name("file"),
-        Call::Create {
-            parent: 2,
-            name,
-            mode: 0o100_600,
-            kill_priv: true,
-            flags: 0x41,
-            umask: 0o77,
-            extensions,
-            ..
-        } => is(&name, "file") && extensions == none
-    );
+    asks! {
+        Request::new(6, 2).name("link").name("to/where") =>
+            Symlink { linkname, parent: 2, name, extensions, .. }
+            if is(&linkname, "to/where") && is(&name, "link") && extensions == none;
+        Request::new(8, 2).u32(0o10644).u32(5).u32(0o22).u32(0).name("pipe") =>
+            Mknod { parent: 2, name, mode: 0o10644, rdev: 5, umask: 0o22, extensions, .. }
+            if is(&name, "pipe") && extensions == none;
+        Request::new(9, 2).u32(0o755).u32(0o22).name("dir") =>
+            Mkdir { parent: 2, name, mode: 0o755, umask: 0o22, extensions, .. }
+            if is(&name, "dir") && extensions == none;
+        Request::new(35, 2).u32(0x41).u32(0o100_600).u32(0o77).u32(1).name("file") =>
+            Create { parent: 2, name, mode: 0o100_600, kill_priv: true, flags: 0x41, umask: 0o77, extensions,
+                .. }
+            if is(&name, "file") && extensions == none;
+    }
 }
 
 #[test]
@@ -112,62 +104,50 @@ fn extensions_of_new_nodes() {
         }),
         sup_gid: Some(4242),
     };
-    for blocks in [[&group[..], &context], [&context, &group]] {
-        let request = Request::new(9, 2).u32(0o755).u32(0).name("dir").bytes(&blocks.concat());
-        asks!(request, options, WHO, Call::Mkdir { extensions, .. } => extensions == expected);
+    let mkdir = |blocks: &[u8]| Request::new(9, 2).u32(0o755).u32(0).name("dir").bytes(blocks);
+    asks! {
+        mkdir(&[&group[..], &context].concat()), with options =>
+            Mkdir { extensions, .. } if extensions == expected;
+        mkdir(&[&context[..], &group].concat()), with options =>
+            Mkdir { extensions, .. } if extensions == expected;
+        // Without the option, extensions are ignored.
+        mkdir(&context) => Mkdir { extensions, .. } if extensions == Extensions::default();
     }
-    // Without the option, extensions are ignored.
-    let request = Request::new(9, 2).u32(0o755).u32(0).name("dir").bytes(&context);
-    asks!(request, Call::Mkdir { extensions, .. } => extensions == Extensions::default());
 }
 
 #[test]
 fn nodes() {
-    asks!(
-        Request::new(3, 5).u32(0).u32(0).u64(8),
-        Call::Getattr { node: 5, handle: None, .. } => true
-    );
-    asks!(
-        Request::new(3, 5).u32(1).u32(0).u64(8),
-        Call::Getattr { node: 5, handle: Some(8), .. } => true
-    );
     // A SETATTR of mode and size, by a handle, with an unknown bit.
     let record = Request::new(4, 5).u32(0x8000 | 1 | 8 | 64).u32(0).u64(8).u64(99).u64(0);
     let record = record.u64(1).u64(2).u64(3).u32(4).u32(5).u32(6).u32(0o600).u32(0).u32(7).u32(8);
-    asks!(
-        record.u32(0),
-        Call::Setattr { node: 5, attr, handle: Some(8), valid, .. }
-            => valid == SetattrValid::MODE | SetattrValid::SIZE
+    asks! {
+        Request::new(3, 5).u32(0).u32(0).u64(8) => Getattr { node: 5, handle: None, .. };
+        Request::new(3, 5).u32(1).u32(0).u64(8) => Getattr { node: 5, handle: Some(8), .. };
+        record.u32(0) => Setattr { node: 5, attr, handle: Some(8), valid, .. }
+            if valid == SetattrValid::MODE | SetattrValid::SIZE
                 && (attr.size, attr.mode, attr.uid, attr.gid) == (99, 0o600, 7, 8)
                 && (attr.atime, attr.mtime, attr.ctime) == (1, 2, 3)
-                && (attr.atimensec, attr.mtimensec, attr.ctimensec) == (4, 5, 6)
-    );
-    let pairs = Request::new(42, 0).u32(2).u32(0).u64(5).u64(1).u64(6).u64(9);
-    asks!(
-        pairs,
-        Call::BatchForget { forgets, .. } => forgets.collect::<Vec<_>>() == [(5, 1), (6, 9)]
-    );
+                && (attr.atimensec, attr.mtimensec, attr.ctimensec) == (4, 5, 6);
+        Request::new(42, 0).u32(2).u32(0).u64(5).u64(1).u64(6).u64(9) => BatchForget { forgets, .. }
+            if forgets.collect::<Vec<_>>() == [(5, 1), (6, 9)];
+    }
 }
 
 #[test]
 fn extended_attributes() {
-    asks!(
-        Request::new(21, 5).u32(5).u32(1).name("user.a").bytes(b"value"),
-        Call::Setxattr { node: 5, name, value, flags: 1, extra_flags, .. }
-            => is(&name, "user.a") && *value == *b"value" && extra_flags.is_empty()
-    );
-    asks!(
+    asks! {
+        Request::new(21, 5).u32(5).u32(1).name("user.a").bytes(b"value") =>
+            Setxattr { node: 5, name, value, flags: 1, extra_flags, .. }
+            if is(&name, "user.a") && *value == *b"value" && extra_flags.is_empty();
         Request::new(21, 5).u32(5).u32(2).u32(3).u32(0).name("user.a").bytes(b"value"),
-        FsOptions::SETXATTR_EXT, WHO,
-        Call::Setxattr { node: 5, name, value, flags: 2, extra_flags, .. }
-            => is(&name, "user.a")
+            with FsOptions::SETXATTR_EXT =>
+            Setxattr { node: 5, name, value, flags: 2, extra_flags, .. }
+            if is(&name, "user.a")
                 && *value == *b"value"
-                && extra_flags == SetxattrFlags::SETXATTR_ACL_KILL_SGID
-    );
-    asks!(
-        Request::new(22, 5).u32(100).u32(0).name("user.a"),
-        Call::Getxattr { node: 5, name, size: 100, .. } => is(&name, "user.a")
-    );
+                && extra_flags == SetxattrFlags::SETXATTR_ACL_KILL_SGID;
+        Request::new(22, 5).u32(100).u32(0).name("user.a") => Getxattr { node: 5, name, size: 100, .. }
+            if is(&name, "user.a");
+    }
 }
 
 /// `fuse_read_in` and `fuse_write_in`.
@@ -177,101 +157,57 @@ fn moves(opcode: u32, size: u32, its_flags: u32) -> Request {
 
 #[test]
 fn open_files() {
-    asks!(
-        Request::new(14, 5).u32(0x8001).u32(1),
-        Call::Open { node: 5, kill_priv: true, flags: 0x8001, .. } => true
-    );
-    asks!(
-        Request::new(14, 5).u32(0).u32(0),
-        Call::Open { node: 5, kill_priv: false, flags: 0, .. } => true
-    );
-    asks!(
-        moves(15, 6000, 0),
-        Call::Read { node: 5, handle: 8, size: 6000, offset: 0x100_0000_0000, lock_owner: None,
-            flags: 2, to } => to.most() == 4080 && to.room() == 4096 && to.unique() == 7
-    );
-    asks!(
-        moves(15, 60, 2),
-        Call::Read { lock_owner: Some(44), to, .. } => to.most() == 60
-    );
-    asks!(
-        moves(16, 4, 0).bytes(b"data"),
-        Call::Write { node: 5, handle: 8, data, size: 4, offset: 0x100_0000_0000,
-            lock_owner: None, delayed_write: false, kill_priv: false, flags: 2, .. }
-            => *data.to_cow() == *b"data" && data.len() == 4
-    );
-    // Bytes after the first `size` are not to be written.
-    asks!(
-        moves(16, 2, 7).bytes(b"data"),
-        Call::Write { data, size: 2, lock_owner: Some(44), delayed_write: true,
-            kill_priv: true, .. } => *data.to_cow() == *b"da"
-    );
-    asks!(
-        moves(16, 9, 0).bytes(b"data"),
-        Call::Write { data, size: 9, .. } => *data.to_cow() == *b"data"
-    );
-    let release = Request::new(18, 5).u64(8).u32(0x8000);
-    asks!(
-        release.clone().u32(0).u64(44),
-        Call::Release { node: 5, flags: 0x8000, handle: 8, flush: false, flock_release: false,
-            lock_owner: None, .. } => true
-    );
-    asks!(
-        release.clone().u32(1).u64(44),
-        Call::Release { flush: true, flock_release: false, lock_owner: Some(44), .. } => true
-    );
-    asks!(
-        release.u32(2).u64(44),
-        Call::Release { flush: false, flock_release: true, lock_owner: Some(44), .. } => true
-    );
+    let release = |flags| Request::new(18, 5).u64(8).u32(0x8000).u32(flags).u64(44);
+    asks! {
+        Request::new(14, 5).u32(0x8001).u32(1) => Open { node: 5, kill_priv: true, flags: 0x8001, .. };
+        Request::new(14, 5).u32(0).u32(0) => Open { node: 5, kill_priv: false, flags: 0, .. };
+        moves(15, 6000, 0) =>
+            Read { node: 5, handle: 8, size: 6000, offset: 0x100_0000_0000, lock_owner: None, flags: 2, to }
+            if to.most() == 4080 && to.room() == 4096 && to.unique() == 7;
+        moves(15, 60, 2) => Read { lock_owner: Some(44), to, .. } if to.most() == 60;
+        moves(16, 4, 0).bytes(b"data") =>
+            Write { node: 5, handle: 8, data, size: 4, offset: 0x100_0000_0000, lock_owner: None,
+                delayed_write: false, kill_priv: false, flags: 2, .. }
+            if *data.to_cow() == *b"data" && data.len() == 4;
+        // Bytes after the first `size` are not to be written.
+        moves(16, 2, 7).bytes(b"data") =>
+            Write { data, size: 2, lock_owner: Some(44), delayed_write: true, kill_priv: true, .. }
+            if *data.to_cow() == *b"da";
+        moves(16, 9, 0).bytes(b"data") => Write { data, size: 9, .. } if *data.to_cow() == *b"data";
+        release(0) => Release { node: 5, flags: 0x8000, handle: 8, flush: false, flock_release: false,
+            lock_owner: None, .. };
+        release(1) => Release { flush: true, flock_release: false, lock_owner: Some(44), .. };
+        release(2) => Release { flush: false, flock_release: true, lock_owner: Some(44), .. };
+    }
 }
 
 #[test]
 fn directories() {
-    asks!(
-        Request::new(27, 5).u32(0x10000).u32(0),
-        Call::Opendir { node: 5, flags: 0x10000, .. } => true
-    );
-    for (opcode, is_plus) in [(28, false), (44, true)] {
-        asks!(
-            moves(opcode, 4000, 0),
-            Call::Readdir { node: 5, handle: 8, size: 4000, offset: 0x100_0000_0000, plus, .. }
-                => plus == is_plus
-        );
+    asks! {
+        Request::new(27, 5).u32(0x10000).u32(0) => Opendir { node: 5, flags: 0x10000, .. };
+        moves(28, 4000, 0) =>
+            Readdir { node: 5, handle: 8, size: 4000, offset: 0x100_0000_0000, plus: false, .. };
+        moves(44, 4000, 0) =>
+            Readdir { node: 5, handle: 8, size: 4000, offset: 0x100_0000_0000, plus: true, .. };
+        Request::new(29, 5).u64(8).u32(0x10000).u32(0).u64(0) =>
+            Releasedir { node: 5, flags: 0x10000, handle: 8, .. };
+        Request::new(30, 5).u64(8).u32(0).u32(0) => Fsyncdir { node: 5, datasync: false, handle: 8, .. };
     }
-    asks!(
-        Request::new(29, 5).u64(8).u32(0x10000).u32(0).u64(0),
-        Call::Releasedir { node: 5, flags: 0x10000, handle: 8, .. } => true
-    );
-    asks!(
-        Request::new(30, 5).u64(8).u32(0).u32(0),
-        Call::Fsyncdir { node: 5, datasync: false, handle: 8, .. } => true
-    );
 }
 
 #[test]
 fn sessions() {
-    let options = FsOptions::empty();
-    let no_one = no_one();
-    let first = Request::new(26, 0).u32(7).u32(38).u32(131_072);
-    // Bit 26 is no option. Without bit 30 the second record is ignored.
-    asks!(
-        first.clone().u32(1 << 26 | 1 << 13).bytes(&[0xff; 48]), options, no_one,
-        Call::Init { capable: FsOptions::DO_READDIRPLUS, readahead: 131_072, .. } => true
-    );
-    asks!(
-        first.u32(1 << 30).u32(1).bytes(&[0; 44]), options, no_one,
-        Call::Init { capable, .. } => capable == FsOptions::INIT_EXT | FsOptions::SECURITY_CTX
-    );
     // The library itself does not know these.
     let further = FsOptions::HAS_RESEND | FsOptions::REQUEST_TIMEOUT;
     let bits = u32::try_from(further.bits() >> 32).unwrap() | 1 << 5 | 1 << 9;
-    asks!(
-        Request::new(26, 0).u32(7).u32(38).u32(0).u32(1 << 30).u32(bits).bytes(&[0; 44]),
-        options,
-        no_one,
-        Call::Init { capable, .. } => capable == FsOptions::INIT_EXT | further
-    );
+    asks! {
+        // Bit 26 is no option. Without bit 30 the second record is ignored.
+        Request::new(26, 0).u32(7).u32(38).u32(131_072).u32(1 << 26 | 1 << 13).bytes(&[0xff; 48]) =>
+            Init { capable: FsOptions::DO_READDIRPLUS, readahead: 131_072, .. };
+        init(131_072, 1 << 30, 1) => Init { capable, .. }
+            if capable == FsOptions::INIT_EXT | FsOptions::SECURITY_CTX;
+        init(0, 1 << 30, bits) => Init { capable, .. } if capable == FsOptions::INIT_EXT | further;
+    }
 }
 
 /// The number of the call of a request, if it is unknown.

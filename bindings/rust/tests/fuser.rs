@@ -2,12 +2,12 @@
 //! another thread, how their sessions begin and end, and hostile requests.
 
 mod common;
+#[macro_use]
 #[path = "common/folder.rs"]
 mod folder;
 
 use common::hostile::{delivered, seeds, word, Random, NODE};
-use common::{fault, reply, words, Request};
-use folder::Folder;
+use common::{fault, reading, record, reply, words, Peer, Request};
 use nizwarf::fuser::{
     spawn_mount2, BackgroundSession, Config, Errno, FileAttr, FileHandle, FileType, Filesystem,
     FopenFlags, Generation, INodeNo, InitFlags, IoctlFlags, KernelConfig, LockOwner, MountOption,
@@ -20,7 +20,6 @@ use std::ffi::OsStr;
 use std::fs::{self, File};
 use std::io;
 use std::os::unix::io::OwnedFd;
-use std::os::unix::net::UnixDatagram;
 use std::sync::atomic::{AtomicI64, AtomicUsize, Ordering};
 use std::sync::mpsc::{channel, Receiver, Sender};
 use std::sync::{Arc, Mutex};
@@ -264,7 +263,7 @@ impl Filesystem for Files {
 
 /// A session at one end of a socket.
 struct Served {
-    client: UnixDatagram,
+    client: Peer,
     session: Option<BackgroundSession>,
 }
 
@@ -274,33 +273,20 @@ fn config(threads: usize) -> Config {
     config
 }
 
-/// An INIT of version 7.38 that offers all options.
+/// An INIT that offers all options.
 fn init() -> Vec<u8> {
-    let request = Request::new(26, 0).u32(7).u32(38).u32(4096).u32(u32::MAX).u32(u32::MAX);
-    request.bytes(&[0; 44]).done()
+    common::init(4096, u32::MAX, u32::MAX).done()
 }
 
-/// Begins a session. The client waits for each reply, as long as a busy machine wants.
-fn begin(
-    files: Files,
-    acl: SessionACL,
-    threads: usize,
-) -> (UnixDatagram, io::Result<Session<Files>>) {
-    let (client, device) = UnixDatagram::pair().unwrap();
-    client.set_read_timeout(Some(60 * SECOND)).unwrap();
+/// Begins a session.
+fn begin(files: Files, acl: SessionACL, threads: usize) -> (Peer, io::Result<Session<Files>>) {
+    let (client, device) = Peer::new();
     // What comes before an INIT is refused.
-    client.send(&Request::new(17, 1).done()).unwrap();
-    client.send(&init()).unwrap();
+    client.send(&Request::new(17, 1).done());
+    client.send(&init());
     let session = Session::from_fd(files, OwnedFd::from(device), acl, config(threads));
-    assert_eq!(receive(&client), fault(5));
+    assert_eq!(client.receive(), fault(5));
     (client, session)
-}
-
-fn receive(client: &UnixDatagram) -> Vec<u8> {
-    let mut bytes = vec![0; 1 << 13];
-    let len = client.recv(&mut bytes).unwrap_or(0);
-    bytes.truncate(len);
-    bytes
 }
 
 impl Served {
@@ -312,30 +298,25 @@ impl Served {
     fn on(threads: usize, files: Files, acl: SessionACL) -> Self {
         let (client, session) = begin(files, acl, threads);
         let session = session.unwrap();
-        assert_eq!(receive(&client).len(), 80);
+        assert_eq!(client.receive().len(), 80);
         Served { client, session: Some(session.spawn().unwrap()) }
-    }
-
-    fn ask(&self, request: &[u8]) -> Vec<u8> {
-        self.client.send(request).unwrap();
-        receive(&self.client)
     }
 
     /// Ends both threads, by reads of no bytes.
     fn end(&mut self) -> io::Result<()> {
         for _ in 0..2 {
-            self.client.send(&[]).unwrap();
+            self.client.send(&[]);
         }
         self.session.take().unwrap().join()
     }
 }
 
 fn getattr(node: u64) -> Vec<u8> {
-    Request::new(3, node).u32(0).u32(0).u64(0).done()
+    common::getattr(node).done()
 }
 
 /// The record of the attributes of a node.
-fn record(ino: u32, mode: u32) -> Vec<u8> {
+fn attr_record(ino: u32, mode: u32) -> Vec<u8> {
     // 200 milliseconds before 1970 are the second -1 and 800 milliseconds.
     let times = [0, 0, u32::MAX, u32::MAX, 0, 0, 0, 800_000_000, 0];
     let (begins, ends) = ([ino, 0, 3, 0, 0, 0], [mode, 1, 9, 8, 0, 512, 0]);
@@ -346,33 +327,28 @@ fn record(ino: u32, mode: u32) -> Vec<u8> {
 fn replies_are_those_of_the_protocol() {
     let (files, _, _) = Files::new(Ok(InitFlags::FUSE_DO_READDIRPLUS));
     let mut served = Served::new(files, SessionACL::All);
-    let file = record(50, 0o100_644);
+    let file = attr_record(50, 0o100_644);
     let entry = [words(&[50, 0, 3, 0, 1, 0, 1, 0, 0, 0]), file].concat();
-    let data = |opcode, node, offset: u64, size| {
-        Request::new(opcode, node).u64(8).u64(offset).u32(size).u32(0).u64(0).u32(0).u32(0).done()
-    };
-    let dirent = |ino: u32, name: &[u8]| {
-        [words(&[ino, 0, ino, 0, u32::try_from(name.len()).unwrap(), 8]), name.to_vec()].concat()
-    };
-    let first = [dirent(1, b"."), vec![0; 7], dirent(2, b".."), vec![0; 6]].concat();
+    let reading = |opcode, node, offset, size| reading(opcode, node, offset, size).done();
+    let first = [record(1, 1, 8, "."), record(2, 2, 8, "..")].concat();
     for (request, expected) in [
         (Request::new(1, 1).name("a").done(), reply(&entry)),
         (Request::new(1, 1).name("b").done(), fault(2)),
-        (getattr(1), reply(&[words(&[1, 0, 0, 0]), record(1, 0o40_644)].concat())),
+        (getattr(1), reply(&[words(&[1, 0, 0, 0]), attr_record(1, 0o40_644)].concat())),
         // Nobody answers.
         (getattr(10), fault(5)),
         (Request::new(5, 4).done(), reply(b"llll")),
         (Request::new(5, 4096).done(), fault(5)),
         (Request::new(14, 4).u32(2).u32(0).done(), reply(&words(&[5, 0, 2, 0]))),
-        (data(15, 4, 0, 3), reply(b"ddd")),
-        (data(15, 4, 0, 0), reply(b"")),
+        (reading(15, 4, 0, 3), reply(b"ddd")),
+        (reading(15, 4, 0, 0), reply(b"")),
         // More than was asked for, and no place in a file.
-        (data(15, 8, 0, 3), fault(5)),
-        (data(15, 4, 1 << 63, 3), fault(22)),
-        (data(28, 1, 0, 70), reply(&first)),
-        (data(28, 1, 2, 32), reply(&[dirent(3, b"a"), vec![0; 7]].concat())),
-        (data(28, 1, 0, 31), reply(b"")),
-        (data(28, 8, 0, 4096), fault(5)),
+        (reading(15, 8, 0, 3), fault(5)),
+        (reading(15, 4, 1 << 63, 3), fault(22)),
+        (reading(28, 1, 0, 70), reply(&first)),
+        (reading(28, 1, 2, 32), reply(&record(3, 3, 8, "a"))),
+        (reading(28, 1, 0, 31), reply(b"")),
+        (reading(28, 8, 0, 4096), fault(5)),
         (Request::new(17, 1).done(), {
             reply(&words(&[1, 0, 2, 0, 3, 0, 4, 0, 5, 0, 6, 7, 8, 0, 0, 0, 0, 0, 0, 0]))
         }),
@@ -381,7 +357,7 @@ fn replies_are_those_of_the_protocol() {
         (Request::new(22, 5).u32(7).u32(0).name("user.a").done(), reply(b"1234567")),
         // What has no method of its own here.
         (Request::new(9, 1).u32(0).u32(0).name("d").done(), {
-            let entry = [words(&[50, 0, 0, 0, 1, 0, 1, 0, 0, 0]), record(50, 0o100_644)];
+            let entry = [words(&[50, 0, 0, 0, 1, 0, 1, 0, 0, 0]), attr_record(50, 0o100_644)];
             reply(&entry.concat())
         }),
         (Request::new(6, 1).name("a").name("b").done(), fault(1)),
@@ -390,7 +366,7 @@ fn replies_are_those_of_the_protocol() {
         // There is one INIT.
         (init(), fault(5)),
     ] {
-        assert_eq!(served.ask(&request), expected, "{request:?}");
+        assert_eq!(served.client.ask(&request), expected, "{request:?}");
     }
     served.end().unwrap();
 }
@@ -401,27 +377,27 @@ fn a_reply_comes_later_and_from_another_thread() {
     let mut served = Served::new(files, SessionACL::All);
     let waiting: Vec<ReplyAttr> = (0..4)
         .map(|_| {
-            served.client.send(&getattr(9)).unwrap();
+            served.client.send(&getattr(9));
             later.recv().unwrap()
         })
         .collect();
-    assert_eq!(served.ask(&Request::new(5, 4).done()), reply(b"llll"));
+    assert_eq!(served.client.ask(&Request::new(5, 4).done()), reply(b"llll"));
     let mut waiting = waiting.into_iter();
     let mut next = || waiting.next().unwrap();
     let (first, second, third, last) = (next(), next(), next(), next());
     thread::spawn(move || first.attr(&SECOND, &attr(9))).join().unwrap();
-    let expected = [words(&[1, 0, 0, 0]), record(9, 0o100_644)].concat();
-    assert_eq!(receive(&served.client), reply(&expected));
+    let expected = [words(&[1, 0, 0, 0]), attr_record(9, 0o100_644)].concat();
+    assert_eq!(served.client.receive(), reply(&expected));
     thread::spawn(move || second.error(Errno::EAGAIN)).join().unwrap();
-    assert_eq!(receive(&served.client), fault(11));
+    assert_eq!(served.client.receive(), fault(11));
     thread::spawn(move || drop(third)).join().unwrap();
-    assert_eq!(receive(&served.client), fault(5));
+    assert_eq!(served.client.receive(), fault(5));
     served.end().unwrap();
     assert_eq!(seen.ended.load(Ordering::Relaxed), 1);
     // One that comes after the end goes nowhere.
     last.attr(&SECOND, &attr(9));
-    served.client.set_read_timeout(Some(SECOND)).unwrap();
-    assert_eq!(receive(&served.client), b"");
+    served.client.0.set_read_timeout(Some(SECOND)).unwrap();
+    assert_eq!(served.client.receive(), b"");
 }
 
 /// A file system whose listings have an entry, and a name that is none. That of node 1 is answered as its entry is
@@ -462,28 +438,24 @@ impl Filesystem for Losing {
 
 #[test]
 fn what_is_given_back_may_answer_another_call() {
-    let (client, device) = UnixDatagram::pair().unwrap();
-    client.set_read_timeout(Some(20 * SECOND)).unwrap();
-    let (files, list) = (Losing::default(), |node| {
-        let request = Request::new(44, node).u64(8).u64(0).u32(4000).u32(0);
-        request.u64(0).u32(0).u32(0).done()
-    });
+    let (client, device) = Peer::new();
+    let files = Losing::default();
     let given_back = Arc::clone(&files.given_back);
-    client.send(&init()).unwrap();
+    client.send(&init());
     let session = Session::from_fd(files, OwnedFd::from(device), SessionACL::All, config(1));
     let session = session.unwrap().spawn().unwrap();
-    assert_eq!(receive(&client).len(), 80);
-    client.send(&list(1)).unwrap();
-    client.send(&list(2)).unwrap();
-    assert_eq!(receive(&client), fault(5));
+    assert_eq!(client.receive().len(), 80);
+    client.send(&reading(44, 1, 0, 4000).done());
+    client.send(&reading(44, 2, 0, 4000).done());
+    assert_eq!(client.receive(), fault(5));
     // When the second one's entry is given back, the first is answered; then its own is given back.
     for _ in 0..2 {
-        client.send(&getattr(2)).unwrap();
+        client.send(&getattr(2));
     }
-    let replies = [receive(&client), receive(&client), receive(&client)];
+    let replies = [client.receive(), client.receive(), client.receive()];
     assert_eq!(replies, [fault(5), fault(38), fault(38)]);
     assert_eq!(given_back.load(Ordering::Relaxed), 2);
-    client.send(&[]).unwrap();
+    client.send(&[]);
     session.join().unwrap();
 }
 
@@ -494,7 +466,7 @@ fn a_session_begins_and_ends_once() {
     // It is dropped before it is served.
     let (files, seen, _) = Files::new(Ok(InitFlags::FUSE_WRITEBACK_CACHE));
     let (client, session) = begin(files, SessionACL::All, 2);
-    let answer = receive(&client);
+    let answer = client.receive();
     // ASYNC_READ, BIG_WRITES, MAX_PAGES and INIT_EXT, and what was asked for; the longest WRITE.
     assert_eq!(word(&answer, 28), 1 | 1 << 5 | 1 << 16 | 1 << 22 | 1 << 30);
     assert_eq!((word(&answer, 24), word(&answer, 36)), (4096, 65536));
@@ -507,10 +479,10 @@ fn a_session_begins_and_ends_once() {
     let (files, seen, _) = Files::new(Err(13));
     let (client, session) = begin(files, SessionACL::All, 2);
     assert_eq!(session.unwrap_err().raw_os_error(), Some(13));
-    assert_eq!((receive(&client), count(&seen)), (fault(13), (1, 1)));
+    assert_eq!((client.receive(), count(&seen)), (fault(13), (1, 1)));
     // Its client is gone, or its configuration is wrong.
-    let (client, device) = UnixDatagram::pair().unwrap();
-    client.send(&[]).unwrap();
+    let (client, device) = Peer::new();
+    client.send(&[]);
     for (threads, expected) in [(0, io::ErrorKind::InvalidInput), (1, io::ErrorKind::NotConnected)]
     {
         let (files, seen, _) = Files::new(Ok(InitFlags::empty()));
@@ -526,8 +498,8 @@ fn a_panic_ends_a_session_after_its_caller_is_answered() {
     let (files, seen, _) = Files::new(Ok(InitFlags::empty()));
     let mut served = Served::new(files, SessionACL::All);
     std::panic::set_hook(Box::new(|_| ()));
-    assert_eq!(served.ask(&getattr(666)), fault(5));
-    served.client.send(&[]).unwrap();
+    assert_eq!(served.client.ask(&getattr(666)), fault(5));
+    served.client.send(&[]);
     let ended = served.session.take().unwrap().join();
     let _ = std::panic::take_hook();
     assert_eq!(ended.unwrap_err().to_string(), "the file system panicked");
@@ -544,13 +516,12 @@ fn only_those_users_are_served_that_may() {
     for (acl, expected) in [(SessionACL::Owner, 13), (SessionACL::RootAndOwner, 13)] {
         let (files, _, _) = Files::new(Ok(InitFlags::empty()));
         let mut served = Served::new(files, acl);
-        assert_eq!(served.ask(&Request::new(5, 4).done()), fault(expected));
+        assert_eq!(served.client.ask(&Request::new(5, 4).done()), fault(expected));
         // The kernel reads for nobody.
-        let read = Request::new(15, 4).u64(8).u64(0).u32(3).u32(0).u64(0).u32(0).u32(0);
-        assert_eq!(served.ask(&read.done()), reply(b"ddd"));
+        assert_eq!(served.client.ask(&reading(15, 4, 0, 3).done()), reply(b"ddd"));
         let mut by_root = Request::new(5, 4).done();
         by_root[24..28].fill(0);
-        assert_eq!(served.ask(&by_root), reply(b"llll"));
+        assert_eq!(served.client.ask(&by_root), reply(b"llll"));
         served.end().unwrap();
     }
 }
@@ -575,12 +546,12 @@ fn hostile_requests() {
         if request.len() >= 16 {
             request[8..16].copy_from_slice(&u64::from(round + 1000).to_le_bytes());
         }
-        served.client.send(&request).unwrap();
-        served.client.send(&Request::new(17, 1).done()).unwrap();
+        served.client.send(&request);
+        served.client.send(&Request::new(17, 1).done());
         // (there is one thread, so its reply is there before that of the next request)
         let mut own = None;
         loop {
-            let reply = receive(&served.client);
+            let reply = served.client.receive();
             assert!(reply.len() >= 16, "round {round}: {request:?}");
             assert_eq!(word(&reply, 0) as usize, reply.len());
             match word(&reply, 8) {
@@ -610,10 +581,7 @@ fn hostile_requests() {
 
 #[test]
 fn a_mount_ends_with_its_session() {
-    let folder = match Folder::new("fuser") {
-        Some(folder) => folder,
-        None => return,
-    };
+    let folder = folder!("fuser");
     let mut config = config(2);
     config.mount_options = vec![MountOption::RO, MountOption::FSName("files".into())];
     for unmounts in [true, false] {

@@ -3,20 +3,16 @@
 mod common;
 
 use common::diary::lock;
-use common::{fault, reply, words, Request};
+use common::{fault, init, reading, reply, words, Peer, Request};
 use nizwarf::{
     Call, Client, Context, Entry, Errno, FileSystem, FsOptions, Limits, NoEntries, Notifier,
     Offers, PollHandle, Server, Slot,
 };
 use std::ffi::{CStr, CString};
-use std::fs::File;
 use std::io;
-use std::os::unix::io::OwnedFd;
-use std::os::unix::net::UnixDatagram;
 use std::sync::mpsc::{channel, Receiver, Sender};
 use std::sync::Mutex;
 use std::thread;
-use std::time::Duration;
 
 /// What is taken, with what answers it.
 type Taken = (u64, Call<'static>, Client);
@@ -100,51 +96,13 @@ impl FileSystem for Taking {
     }
 }
 
-/// A client at a socket whose other end is served.
-struct Ends {
-    client: UnixDatagram,
-    device: File,
-}
-
-impl Ends {
-    fn new() -> Self {
-        let (client, device) = UnixDatagram::pair().unwrap();
-        client.set_read_timeout(Some(Duration::from_secs(20))).unwrap();
-        Ends { client, device: File::from(OwnedFd::from(device)) }
-    }
-
-    fn send(&self, request: Request) {
-        self.client.send(&request.done()).unwrap();
-    }
-
-    fn receive(&self) -> Vec<u8> {
-        let mut bytes = vec![0; 4096];
-        let len = self.client.recv(&mut bytes).unwrap();
-        bytes.truncate(len);
-        bytes
-    }
-
-    fn ask(&self, request: Request) -> Vec<u8> {
-        self.send(request);
-        self.receive()
-    }
-
-    /// Ends the server.
-    fn end(&self) {
-        self.client.send(&[]).unwrap();
-    }
-}
-
-fn read(size: u32) -> Request {
-    Request::new(15, 9).u64(8).u64(0).u32(size).u32(0).u64(0).u32(0).u32(0)
-}
-
 /// Serves while a client does something.
-fn serve(server: &Server<Taking>, ends: &Ends, ask: impl FnOnce()) {
+fn serve(server: &Server<Taking>, ask: impl FnOnce(&Peer)) {
+    let (peer, device) = Peer::new();
     thread::scope(|scope| {
-        let thread = scope.spawn(|| server.serve(&ends.device));
-        ask();
-        ends.end();
+        let thread = scope.spawn(|| server.serve(&device));
+        ask(&peer);
+        peer.send(&[]);
         thread.join().unwrap().unwrap();
     });
 }
@@ -152,29 +110,29 @@ fn serve(server: &Server<Taking>, ends: &Ends, ask: impl FnOnce()) {
 #[test]
 fn a_call_that_is_taken_is_answered_later() {
     let (files, taken) = Taking::new();
-    let (server, ends) = (Server::new(files), Ends::new());
+    let server = Server::new(files);
     let mut slot = Slot::new();
-    serve(&server, &ends, || {
-        ends.send(lock(33, 1, 0));
+    serve(&server, |peer| {
+        peer.send(&lock(33, 1, 0).done());
         // One thread serves, and the next request does not wait for the lock.
-        assert_eq!(ends.ask(Request::new(17, 1)).len(), 96);
+        assert_eq!(peer.ask(&Request::new(17, 1).done()).len(), 96);
         let (unique, call, client) = taken.recv().unwrap();
         assert_eq!(unique, 7);
         if let Call::Setlkw { node: 5, lock_owner: 44, to, .. } = call {
             client.send(to.answer(&mut slot, Ok(())).reply()).unwrap();
         }
-        assert_eq!(ends.receive(), reply(&[]));
-        ends.send(lock(33, 1, 0));
+        assert_eq!(peer.receive(), reply(&[]));
+        peer.send(&lock(33, 1, 0).done());
         let (_, call, client) = taken.recv().unwrap();
         client.send(call.fail(&mut slot, &Errno::EINTR.into()).reply()).unwrap();
-        assert_eq!(ends.receive(), fault(4));
+        assert_eq!(peer.receive(), fault(4));
     });
     // After the end a reply is dropped.
     let (_, call, client) = {
-        let late = Ends::new();
-        late.send(lock(33, 1, 0));
-        late.end();
-        server.serve(&late.device).unwrap();
+        let (late, device) = Peer::new();
+        late.send(&lock(33, 1, 0).done());
+        late.send(&[]);
+        server.serve(&device).unwrap();
         taken.recv().unwrap()
     };
     client.send(call.fail(&mut slot, &Errno::EINTR.into()).reply()).unwrap();
@@ -183,9 +141,9 @@ fn a_call_that_is_taken_is_answered_later() {
 #[test]
 fn data_follow_the_reply_to_a_read() {
     let (files, taken) = Taking::new();
-    let (server, ends) = (Server::new(files), Ends::new());
+    let server = Server::new(files);
     let mut slot = Slot::new();
-    serve(&server, &ends, || {
+    serve(&server, |peer| {
         for (answered, data, expected, is_sent) in [
             (Ok(4), &b"data"[..], reply(b"data"), true),
             (Ok(0), b"", reply(b""), true),
@@ -194,12 +152,12 @@ fn data_follow_the_reply_to_a_read() {
             (Ok(11), b"more than is", fault(5), true),
             (Err(Errno::EACCES.into()), b"data", fault(13), true),
         ] {
-            ends.send(read(10));
+            peer.send(&reading(15, 9, 0, 10).done());
             if let (_, Call::Read { to, .. }, client) = taken.recv().unwrap() {
                 let sent = client.send_with(to.answer(&mut slot, answered).reply(), data);
                 assert_eq!(sent.is_ok(), is_sent);
             }
-            assert_eq!(ends.receive(), expected);
+            assert_eq!(peer.receive(), expected);
         }
     });
 }
@@ -207,18 +165,18 @@ fn data_follow_the_reply_to_a_read() {
 #[test]
 fn what_is_refused_later_is_answered() {
     let (files, taken) = Taking::new();
-    let (server, ends) = (Server::new(files).catch_panics(true), Ends::new());
+    let server = Server::new(files).catch_panics(true);
     let mut slot = Slot::new();
     std::panic::set_hook(Box::new(|_| ()));
-    serve(&server, &ends, || {
-        ends.send(Request::new(1, 9).name("a"));
+    serve(&server, |peer| {
+        peer.send(&Request::new(1, 9).name("a").done());
         if let (_, Call::Lookup { to, .. }, client) = taken.recv().unwrap() {
             let entry = Entry { inode: 3, ..Entry::default() };
             let told = to.answer(&mut slot, Ok(entry));
             client.send(told.give_back(|node| panic!("{node}"))).unwrap();
         }
-        assert_eq!(ends.receive()[..24], reply(&[3, 0, 0, 0, 0, 0, 0, 0].repeat(16))[..24]);
-        assert_eq!(ends.ask(Request::new(17, 666)), fault(5));
+        assert_eq!(peer.receive()[..24], reply(&[3, 0, 0, 0, 0, 0, 0, 0].repeat(16))[..24]);
+        assert_eq!(peer.ask(&Request::new(17, 666).done()), fault(5));
     });
     let _ = std::panic::take_hook();
 }
@@ -226,10 +184,9 @@ fn what_is_refused_later_is_answered() {
 #[test]
 fn limits_and_further_options_are_agreed_on() {
     let (files, _taken) = Taking::new();
-    let (server, ends) = (Server::new(files), Ends::new());
-    serve(&server, &ends, || {
-        let init = Request::new(26, 0).u32(7).u32(38).u32(0).u32(u32::MAX).u32(u32::MAX);
-        let said = ends.ask(init.bytes(&[0; 44]));
+    let server = Server::new(files);
+    serve(&server, |peer| {
+        let said = peer.ask(&init(0, u32::MAX, u32::MAX).done());
         assert_eq!(said[16 + 16..16 + 18], [7, 0]);
         let options = server.options();
         assert!(options.contains(FsOptions::HAS_RESEND | FsOptions::POSIX_LOCKS));
@@ -238,10 +195,9 @@ fn limits_and_further_options_are_agreed_on() {
         assert_eq!(flags2, u32::try_from(options.bits() >> 32).unwrap());
     });
     let (files, _taken) = Taking::new();
-    let (server, ends) = (Server::new(files).withhold(FsOptions::HAS_RESEND), Ends::new());
-    serve(&server, &ends, || {
-        let init = Request::new(26, 0).u32(7).u32(38).u32(0).u32(u32::MAX).u32(u32::MAX);
-        ends.ask(init.bytes(&[0; 44]));
+    let server = Server::new(files).withhold(FsOptions::HAS_RESEND);
+    serve(&server, |peer| {
+        assert_eq!(peer.ask(&init(0, u32::MAX, u32::MAX).done()).len(), 80);
         assert!(!server.options().contains(FsOptions::HAS_RESEND));
     });
 }
@@ -258,10 +214,10 @@ type Tell<'a> = &'a dyn Fn(&Notifier, &CStr) -> io::Result<()>;
 #[test]
 fn notices() {
     let (files, _taken) = Taking::new();
-    let (server, ends) = (Server::new(files), Ends::new());
+    let server = Server::new(files);
     let mut kept = None;
-    serve(&server, &ends, || {
-        ends.ask(Request::new(40, 5).u64(8).u64(6 << 32).u32(1).u32(1));
+    serve(&server, |peer| {
+        peer.ask(&Request::new(40, 5).u64(8).u64(6 << 32).u32(1).u32(1).done());
         let files = server.file_system();
         let notifier = files.notifier();
         let wake = files.polled.lock().unwrap().unwrap();
@@ -286,13 +242,13 @@ fn notices() {
         ];
         for (tell, expected) in tells {
             tell(&notifier, &name).unwrap();
-            assert_eq!(ends.receive(), expected);
+            assert_eq!(peer.receive(), expected);
         }
         let longest = CString::new(vec![b'x'; 1023]).unwrap();
         notifier.inval_entry(5, &longest).unwrap();
-        assert_eq!(ends.receive().len(), 16 + 16 + 1024);
+        assert_eq!(peer.receive().len(), 16 + 16 + 1024);
         notifier.delete(5, 6, &longest).unwrap();
-        assert_eq!(ends.receive().len(), 16 + 24 + 1024);
+        assert_eq!(peer.receive().len(), 16 + 24 + 1024);
         let longer = CString::new(vec![b'x'; 1024]).unwrap();
         let error = notifier.inval_entry(5, &longer).unwrap_err();
         assert_eq!(error.raw_os_error(), Some(36));
@@ -306,12 +262,12 @@ fn notices() {
 #[test]
 fn the_first_thread_begins() {
     let (files, _taken) = Taking::new();
-    let (server, ends) = (Server::new(files), Ends::new());
+    let (server, (peer, device)) = (Server::new(files), Peer::new());
     thread::scope(|scope| {
-        let threads: Vec<_> = (0..3).map(|_| scope.spawn(|| server.serve(&ends.device))).collect();
-        assert_eq!(ends.ask(Request::new(17, 1)).len(), 96);
+        let threads: Vec<_> = (0..3).map(|_| scope.spawn(|| server.serve(&device))).collect();
+        assert_eq!(peer.ask(&Request::new(17, 1).done()).len(), 96);
         for _ in &threads {
-            ends.end();
+            peer.send(&[]);
         }
         // The notifier works until the last thread ends.
         for thread in threads {

@@ -1,9 +1,10 @@
 //! Mounts. They need root and /dev/fuse: without them nothing is tested, as the output says.
 
+#[macro_use]
 #[path = "common/folder.rs"]
 mod folder;
 
-use folder::Folder;
+use folder::{comes, number};
 use nizwarf::{
     mount, spawn_mount, Attr, Context, Entry, Errno, FileSystem, FsOptions, GetxattrReply,
     ListxattrReply, MountOption, NoEntries, Server, SetattrIn, SetattrValid, ZeroCopyReader,
@@ -18,7 +19,6 @@ use std::path::Path;
 use std::process::{Command, Stdio};
 use std::sync::atomic::{AtomicU32, AtomicUsize, Ordering};
 use std::sync::{Arc, Mutex};
-use std::thread;
 use std::time::Duration;
 
 /// What the file system of a mount knows.
@@ -40,6 +40,14 @@ const PANIC: u64 = 4;
 /// Reading a file of this and a later number fails with one of these.
 const BROKEN: u64 = 10;
 const NUMBERS: [i32; 6] = [512, 524, 600, 0, -5, i32::MAX];
+
+impl Odd {
+    fn with_text() -> Self {
+        let odd = Odd::default();
+        *odd.0.text.lock().unwrap() = b"0123456789".to_vec();
+        odd
+    }
+}
 
 impl FileSystem for Odd {
     type Inode = u64;
@@ -175,18 +183,10 @@ fn attribute(path: &Path, name: &str, size: usize) -> Result<usize, i32> {
     usize::try_from(len).map_err(|_| io::Error::last_os_error().raw_os_error().unwrap())
 }
 
-fn number<T: std::fmt::Debug>(result: io::Result<T>) -> Option<i32> {
-    result.unwrap_err().raw_os_error()
-}
-
 #[test]
 fn no_answer_ends_a_mount() {
-    let folder = match Folder::new("answers") {
-        Some(folder) => folder,
-        None => return,
-    };
-    let files = Odd::default();
-    *files.0.text.lock().unwrap() = b"0123456789".to_vec();
+    let folder = folder!("answers");
+    let files = Odd::with_text();
     let options = [MountOption::Threads(3)];
     let mounted = spawn_mount(files.clone(), &folder.0, &options).unwrap();
     let text = mounted.folder().join("text");
@@ -221,12 +221,8 @@ fn no_answer_ends_a_mount() {
 
 #[test]
 fn without_open_a_file_is_truncated_and_the_caller_is_known() {
-    let folder = match Folder::new("truncation") {
-        Some(folder) => folder,
-        None => return,
-    };
-    let files = Odd::default();
-    *files.0.text.lock().unwrap() = b"0123456789".to_vec();
+    let folder = folder!("truncation");
+    let files = Odd::with_text();
     // Without DefaultPermissions, too, Linux mounts it.
     let mounted = spawn_mount(files.clone(), &folder.0, &[]).unwrap();
     fs::write(folder.0.join("text"), "ab\n").unwrap();
@@ -238,10 +234,7 @@ fn without_open_a_file_is_truncated_and_the_caller_is_known() {
 
 #[test]
 fn options_are_those_of_the_mount() {
-    let folder = match Folder::new("options") {
-        Some(folder) => folder,
-        None => return,
-    };
+    let folder = folder!("options");
     for (options, words) in [
         (vec![], vec!["rw,", "nosuid,nodev,", " - fuse nizwarf "]),
         (
@@ -282,10 +275,7 @@ fn options_are_those_of_the_mount() {
 
 #[test]
 fn a_panic_ends_a_mount_after_its_caller_is_answered() {
-    let folder = match Folder::new("panic") {
-        Some(folder) => folder,
-        None => return,
-    };
+    let folder = folder!("panic");
     for catches in [true, false] {
         let server = Server::new(Odd::default()).catch_panics(catches);
         let mounted = server.spawn_mount(&folder.0, &[MountOption::Threads(2)]).unwrap();
@@ -303,10 +293,7 @@ fn a_panic_ends_a_mount_after_its_caller_is_answered() {
 
 #[test]
 fn what_is_unmounted_is_what_was_mounted() {
-    let folder = match Folder::new("place") {
-        Some(folder) => folder,
-        None => return,
-    };
+    let folder = folder!("place");
     let (above, moved, other) =
         (folder.0.join("above"), folder.0.join("moved"), folder.0.join("other"));
     let point = above.join("point");
@@ -314,19 +301,13 @@ fn what_is_unmounted_is_what_was_mounted() {
         let lines = fs::read_to_string("/proc/self/mountinfo").unwrap();
         lines.contains(&format!(" {} ", path.display()))
     };
-    let run = |program: &str, words: &[&std::ffi::OsStr]| {
-        assert!(Command::new(program).args(words).status().unwrap().success(), "{program}");
-    };
-    let cover = |path: &Path| {
-        run(
-            "mount",
-            &["-t", "tmpfs", "none"]
-                .map(AsRef::as_ref)
-                .into_iter()
-                .chain([path.as_os_str()])
-                .collect::<Vec<_>>(),
+    let run = |program: &str, words: &[&str], path: &Path| {
+        assert!(
+            Command::new(program).args(words).arg(path).status().unwrap().success(),
+            "{program}"
         );
     };
+    let cover = |path: &Path| run("mount", &["-t", "tmpfs", "none"], path);
     fs::create_dir_all(&point).unwrap();
     fs::create_dir_all(other.join("point")).unwrap();
     let has_helper = Command::new("fusermount3").arg("-V").output().is_ok();
@@ -342,7 +323,7 @@ fn what_is_unmounted_is_what_was_mounted() {
         std::os::unix::fs::symlink(&other, &above).unwrap();
         drop(mounted);
         assert!(is_mounted(&other.join("point")) && !is_mounted(&moved.join("point")));
-        run("umount", &[other.join("point").as_os_str()]);
+        run("umount", &[], &other.join("point"));
         fs::remove_file(&above).unwrap();
         fs::rename(&moved, &above).unwrap();
     }
@@ -353,8 +334,8 @@ fn what_is_unmounted_is_what_was_mounted() {
     assert!(error.to_string().contains("another file system is mounted there"), "{error}");
     let kind = Command::new("stat").args(["-f", "-c", "%T"]).arg(&point).output().unwrap().stdout;
     assert_eq!(String::from_utf8_lossy(&kind).trim(), "tmpfs");
-    run("umount", &[point.as_os_str()]);
-    run("umount", &["-l".as_ref(), point.as_os_str()]);
+    run("umount", &[], &point);
+    run("umount", &["-l"], &point);
     for path in [other.join("point"), other, point, above] {
         fs::remove_dir(path).unwrap();
     }
@@ -369,19 +350,13 @@ fn a_mount_ends_with_its_process() {
         let options = [MountOption::AutoUnmount, MountOption::FSName("a,b".into())];
         return mount(Odd::default(), folder, &options).unwrap();
     }
-    let folder = match Folder::new("process") {
-        Some(folder) => folder,
-        None => return,
-    };
+    let folder = folder!("process");
     if Command::new("fusermount3").arg("-V").output().is_err() {
         return eprintln!("process: fusermount3 is not installed.");
     }
     let wait = |is_mounted: bool| {
-        let is_so = |_| {
-            thread::sleep(Duration::from_millis(20));
-            folder.line().is_some() == is_mounted
-        };
-        assert!((0..500).any(is_so), "it is not {is_mounted} that it is mounted");
+        let is_so = comes(|| folder.line().is_some() == is_mounted);
+        assert!(is_so, "it is not {is_mounted} that it is mounted");
     };
     for is_killed in [true, false] {
         let mut command = Command::new(std::env::current_exe().unwrap());

@@ -1,14 +1,16 @@
 //! Mounts of a file system that serves what virtiofsd does not: locks, notices, STATX, IOCTL, POLL and files without a
 //! name. They need root and /dev/fuse: without them nothing is tested, as the output says.
 
+#[macro_use]
 #[path = "common/folder.rs"]
 mod folder;
 
-use folder::Folder;
+use folder::{comes, number, Folder};
 use nizwarf::{
     kinds, spawn_mount, Attr, Call, Client, Context, Entry, Errno, Extensions, FileSystem,
-    FsOptions, IoctlFlags, IoctlReply, Limits, Lock, LockType, MountOption, NoEntries, Notifier,
-    Offers, OpenOptions, PollHandle, Slot, Statx, StatxTime, To, ZeroCopyReader, ZeroCopyWriter,
+    FsOptions, IoctlFlags, IoctlReply, Limits, Lock, LockType, MountOption, Mounted, NoEntries,
+    Notifier, Offers, OpenOptions, PollHandle, Slot, Statx, StatxTime, To, ZeroCopyReader,
+    ZeroCopyWriter,
 };
 use std::ffi::{CStr, CString};
 use std::fs::{self, File};
@@ -134,11 +136,14 @@ impl News {
 
     /// Returns whether one waits for a lock in the end.
     fn waits(&self) -> bool {
-        let waits = |_| {
-            thread::sleep(Duration::from_millis(5));
-            !self.state().waiting.is_empty()
-        };
-        (0..2000).any(waits)
+        comes(|| !self.state().waiting.is_empty())
+    }
+
+    /// One that is mounted on a folder.
+    fn mounted(folder: &Folder, options: &[MountOption]) -> (Self, Mounted) {
+        let files = News::new();
+        let mounted = spawn_mount(files.clone(), &folder.0, options).unwrap();
+        (files, mounted)
     }
 }
 
@@ -413,10 +418,6 @@ fn lock(file: &File, command: c_int, kind: c_short, start: i64, len: i64) -> Res
     done(unsafe { fcntl(file.as_raw_fd(), command, &mut lock) }).map(|_| lock)
 }
 
-fn number(result: io::Result<()>) -> Option<i32> {
-    result.unwrap_err().raw_os_error()
-}
-
 fn open(folder: &Folder) -> File {
     File::open(folder.0.join("news")).unwrap()
 }
@@ -441,12 +442,8 @@ fn detach(folder: &Folder, flags: c_int) -> Result<c_int, i32> {
 
 #[test]
 fn one_thread_serves_locks_that_wait() {
-    let folder = match Folder::new("locks") {
-        Some(folder) => folder,
-        None => return,
-    };
-    let files = News::new();
-    let mounted = spawn_mount(files.clone(), &folder.0, &[MountOption::Threads(1)]).unwrap();
+    let folder = folder!("locks");
+    let (files, mounted) = News::mounted(&folder, &[MountOption::Threads(1)]);
     let (one, other) = (open_to_write(&folder), open_to_write(&folder));
     lock(&one, OFD_SETLK, WRITE, 10, 10).unwrap();
     assert_eq!(lock(&other, OFD_SETLK, READ, 19, 1).map(|_| ()), Err(11));
@@ -475,12 +472,8 @@ fn one_thread_serves_locks_that_wait() {
 
 #[test]
 fn locks_are_those_of_linux() {
-    let folder = match Folder::new("programs") {
-        Some(folder) => folder,
-        None => return,
-    };
-    let files = News::new();
-    let mounted = spawn_mount(files.clone(), &folder.0, &[MountOption::Threads(1)]).unwrap();
+    let folder = folder!("programs");
+    let (files, mounted) = News::mounted(&folder, &[MountOption::Threads(1)]);
     let program = concat!(env!("CARGO_MANIFEST_DIR"), "/../../tests/programs/locks.py");
     // (the packed crate does not have it)
     if fs::metadata(program).is_ok() {
@@ -497,13 +490,9 @@ fn locks_are_those_of_linux() {
 
 #[test]
 fn a_mount_ends_while_a_call_is_taken() {
-    let folder = match Folder::new("taken") {
-        Some(folder) => folder,
-        None => return,
-    };
+    let folder = folder!("taken");
     for is_forced in [true, false] {
-        let files = News::new();
-        let mounted = spawn_mount(files.clone(), &folder.0, &[]).unwrap();
+        let (files, mounted) = News::mounted(&folder, &[]);
         let (one, other) = (open_to_write(&folder), open_to_write(&folder));
         lock(&one, OFD_SETLK, WRITE, 0, 0).unwrap();
         thread::scope(|scope| {
@@ -538,12 +527,8 @@ fn a_mount_ends_while_a_call_is_taken() {
 
 #[test]
 fn a_waiting_lock_is_interrupted() {
-    let folder = match Folder::new("interrupt") {
-        Some(folder) => folder,
-        None => return,
-    };
-    let files = News::new();
-    let mounted = spawn_mount(files.clone(), &folder.0, &[]).unwrap();
+    let folder = folder!("interrupt");
+    let (files, mounted) = News::mounted(&folder, &[]);
     let one = open_to_write(&folder);
     lock(&one, OFD_SETLK, WRITE, 0, 0).unwrap();
     let waits = "import fcntl, signal, sys
@@ -563,12 +548,8 @@ fcntl.lockf(open(sys.argv[1], 'r+b'), fcntl.LOCK_EX)";
 
 #[test]
 fn a_notice_is_seen() {
-    let folder = match Folder::new("notices") {
-        Some(folder) => folder,
-        None => return,
-    };
-    let files = News::new();
-    let mounted = spawn_mount(files.clone(), &folder.0, &[]).unwrap();
+    let folder = folder!("notices");
+    let (files, mounted) = News::mounted(&folder, &[]);
     let notifier = mounted.notifier();
     let set = |text: &str| files.state().text = text.into();
     assert_eq!(read(&folder, "news").unwrap(), "old\n");
@@ -590,11 +571,7 @@ fn a_notice_is_seen() {
     file.read_exact_at(&mut data, 0).unwrap();
     assert_eq!(&data, b"stored\n");
     notifier.retrieve(77, NEWS, 0, 7).unwrap();
-    let came = |_| {
-        thread::sleep(Duration::from_millis(5));
-        !files.state().retrieved.is_empty()
-    };
-    assert!((0..2000).any(came));
+    assert!(comes(|| !files.state().retrieved.is_empty()));
     assert_eq!(files.state().retrieved, [(77, NEWS, 0, b"stored\n".to_vec())]);
     drop(file);
     names_are_told(&files, &notifier, &folder);
@@ -634,12 +611,8 @@ fn names_are_told(files: &News, notifier: &Notifier, folder: &Folder) {
 
 #[test]
 fn poll_is_woken() {
-    let folder = match Folder::new("poll") {
-        Some(folder) => folder,
-        None => return,
-    };
-    let files = News::new();
-    let mounted = spawn_mount(files.clone(), &folder.0, &[]).unwrap();
+    let folder = folder!("poll");
+    let (files, mounted) = News::mounted(&folder, &[]);
     let file = open(&folder);
     let wait = |milliseconds| {
         let mut polled = Polled { descriptor: file.as_raw_fd(), events: 1, came: 0 };
@@ -650,11 +623,7 @@ fn poll_is_woken() {
     assert_eq!(wait(0), (0, 0));
     thread::scope(|scope| {
         let waiter = scope.spawn(|| wait(20_000));
-        let is_polled = |_| {
-            thread::sleep(Duration::from_millis(5));
-            files.state().polled.is_some()
-        };
-        assert!((0..2000).any(is_polled));
+        assert!(comes(|| files.state().polled.is_some()));
         assert!(!waiter.is_finished());
         files.state().text = "new\n".into();
         let (notifier, handle) = (files.notifier(), files.state().polled.unwrap());
@@ -667,12 +636,8 @@ fn poll_is_woken() {
 
 #[test]
 fn statx_ioctl_and_unnamed_files() {
-    let folder = match Folder::new("further") {
-        Some(folder) => folder,
-        None => return,
-    };
-    let files = News::new();
-    let mounted = spawn_mount(files.clone(), &folder.0, &[]).unwrap();
+    let folder = folder!("further");
+    let (files, mounted) = News::mounted(&folder, &[]);
     let born = fs::metadata(folder.0.join("news")).unwrap().created().unwrap();
     let expected = Duration::new(u64::try_from(BORN).unwrap(), 5);
     assert_eq!(born.duration_since(UNIX_EPOCH).unwrap(), expected);
@@ -700,10 +665,6 @@ fn statx_ioctl_and_unnamed_files() {
     assert_eq!((&data, unnamed.metadata().unwrap().nlink()), (b"no name", 0));
     assert_eq!(files.state().forgotten, 0);
     drop(unnamed);
-    let is_forgotten = |_| {
-        thread::sleep(Duration::from_millis(5));
-        files.state().forgotten > 0
-    };
-    assert!((0..2000).any(is_forgotten));
+    assert!(comes(|| files.state().forgotten > 0));
     mounted.unmount().unwrap();
 }

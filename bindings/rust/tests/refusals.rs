@@ -2,7 +2,7 @@
 
 mod common;
 
-use common::{fault, session, words, Request};
+use common::{fault, padded, reading, session, words, Request};
 use nizwarf::{Asked, FsOptions, Refusal, Slot};
 use std::io::IoSlice;
 
@@ -28,7 +28,6 @@ fn finished(
 #[test]
 fn each_refusal() {
     let lookup = Request::new(1, 1);
-    let read = Request::new(15, 1).u64(8).u64(0).u32(9).u32(0).u64(0).u32(0).u32(0);
     let setxattr = Request::new(21, 1).u32(6).u32(0).name("a").bytes(b"short");
     let mkdir = Request::new(9, 1).u32(0o755).u32(0).name("a");
     let none = FsOptions::empty();
@@ -36,7 +35,7 @@ fn each_refusal() {
         (none, Vec::new(), 64, Refusal::DecodeMessage),
         (none, lookup.clone().done()[..39].to_vec(), 64, Refusal::DecodeMessage),
         (none, lookup.clone().name("a").long(43), 64, Refusal::DecodeMessage),
-        (none, read.done(), 15, Refusal::EncodeMessage),
+        (none, reading(15, 1, 0, 9).done(), 15, Refusal::EncodeMessage),
         (none, Request::new(255, 1).done(), 15, Refusal::EncodeMessage),
         (none, Request::new(12, 1).u64(2).bytes(b"old").done(), 64, Refusal::MissingParameter),
         (none, lookup.clone().bytes(b"a").done(), 64, Refusal::InvalidCString),
@@ -66,8 +65,7 @@ fn what_needs_no_file_system() {
         assert_eq!(finished(none, &request, 64), (Ok(()), fault(number), None));
     }
     let newer = Request::new(26, 0).bytes(&words(&[8, 0, 0, 0])).done();
-    let mut expected = words(&[80, 0, 7, 0, 7, 38]);
-    expected.resize(80, 0);
+    let expected = padded(&[80, 0, 7, 0, 7, 38], 80);
     assert_eq!(finished(none, &newer, 80), (Ok(()), expected, None));
 }
 

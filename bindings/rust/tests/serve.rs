@@ -3,12 +3,9 @@
 
 mod common;
 
-use common::{fault, reply, Request};
+use common::{fault, getattr, init, reply, Peer, Request};
 use nizwarf::{Attr, Context, Errno, FileSystem, FsOptions, NoEntries, Offers, Server, Slot};
-use std::fs::File;
 use std::io::{self, IoSlice, IoSliceMut};
-use std::os::unix::io::OwnedFd;
-use std::os::unix::net::UnixDatagram;
 use std::panic::{catch_unwind, AssertUnwindSafe};
 use std::sync::atomic::{AtomicU64, AtomicUsize, Ordering};
 use std::thread;
@@ -61,40 +58,11 @@ impl FileSystem for Plain {
     }
 }
 
-/// Both ends of a socket. The client waits for each reply for a second.
-fn ends() -> (UnixDatagram, File) {
-    let (client, device) = UnixDatagram::pair().unwrap();
-    client.set_read_timeout(Some(Duration::from_secs(1))).unwrap();
-    (client, File::from(OwnedFd::from(device)))
-}
-
-/// The next reply. It is empty if there is none.
-fn receive(client: &UnixDatagram) -> Vec<u8> {
-    let mut bytes = vec![0; 4096];
-    let len = client.recv(&mut bytes).unwrap_or(0);
-    bytes.truncate(len);
-    bytes
-}
-
-fn ask(client: &UnixDatagram, request: &[u8]) -> Vec<u8> {
-    client.send(request).unwrap();
-    receive(client)
-}
-
-fn getattr(node: u64) -> Vec<u8> {
-    Request::new(3, node).u32(0).u32(0).u64(0).done()
-}
-
-/// An INIT of version 7.38 that offers all options.
-fn init() -> Request {
-    Request::new(26, 0).u32(7).u32(38).u32(0).u32(u32::MAX).u32(u32::MAX).bytes(&[0; 44])
-}
-
 #[test]
 fn a_refused_request_is_answered_and_the_last_thread_ends_the_session() {
     let server = Server::new(Plain::default());
     let ended = || server.file_system().ended.load(Ordering::Relaxed);
-    let (client, device) = ends();
+    let (client, device) = Peer::new();
     let refused = [
         // A name without NUL, and a length that is not that of the request.
         Request::new(1, 1).bytes(b"abc").done(),
@@ -107,22 +75,22 @@ fn a_refused_request_is_answered_and_the_last_thread_ends_the_session() {
     ];
     let (replies, before) = thread::scope(|scope| {
         let threads: Vec<_> = (0..2).map(|_| scope.spawn(|| server.serve(&device))).collect();
-        let mut replies = vec![ask(&client, &init().done())];
+        let mut replies = vec![client.ask(&init(0, u32::MAX, u32::MAX).done())];
         for request in &refused {
-            client.send(request).unwrap();
+            client.send(request);
         }
-        replies.extend((0..2).map(|_| receive(&client)));
+        replies.extend((0..2).map(|_| client.receive()));
         // Both threads serve.
-        client.send(&getattr(MEETING)).unwrap();
-        replies.extend([ask(&client, &getattr(MEETING)), receive(&client)]);
-        replies.push(ask(&client, &getattr(NAMELESS)));
+        client.send(&getattr(MEETING).done());
+        replies.extend([client.ask(&getattr(MEETING).done()), client.receive()]);
+        replies.push(client.ask(&getattr(NAMELESS).done()));
         // A read of no bytes is the end of one thread.
-        client.send(&[]).unwrap();
+        client.send(&[]);
         while !threads.iter().any(thread::ScopedJoinHandle::is_finished) {
             thread::yield_now();
         }
         let before = ended();
-        client.send(&[]).unwrap();
+        client.send(&[]);
         for thread in threads {
             thread.join().unwrap().unwrap();
         }
@@ -138,13 +106,14 @@ fn a_refused_request_is_answered_and_the_last_thread_ends_the_session() {
 fn a_session_ends_once() {
     for destroys in [true, false] {
         let server = Server::new(Plain::default());
-        let (client, device) = ends();
+        let (client, device) = Peer::new();
         let mut requests = vec![Vec::new()];
         if destroys {
-            requests = vec![init().done(), Request::new(38, 0).done(), Vec::new()];
+            requests =
+                vec![init(0, u32::MAX, u32::MAX).done(), Request::new(38, 0).done(), Vec::new()];
         }
         for request in requests {
-            client.send(&request).unwrap();
+            client.send(&request);
         }
         server.serve(&device).unwrap();
         // Without an INIT nothing had begun.
@@ -155,13 +124,13 @@ fn a_session_ends_once() {
 #[test]
 fn the_caller_of_a_panic_is_answered() {
     let server = Server::new(Plain::default());
-    let (client, device) = ends();
-    client.send(&getattr(666)).unwrap();
+    let (client, device) = Peer::new();
+    client.send(&getattr(666).done());
     std::panic::set_hook(Box::new(|_| ()));
     let ended = catch_unwind(AssertUnwindSafe(|| server.serve(&device)));
     let _ = std::panic::take_hook();
     assert!(ended.is_err());
-    assert_eq!(receive(&client), fault(5));
+    assert_eq!(client.receive(), fault(5));
 }
 
 /// Options of the reply to an INIT that offers all, and what the file system was told of.
@@ -193,15 +162,16 @@ fn options_that_only_some_serve_are_agreed_on_if_they_are_wanted() {
         (FsOptions::ATOMIC_O_TRUNC, all - FsOptions::ALLOW_IDMAP),
         (special | FsOptions::FLOCK_LOCKS, all | FsOptions::FLOCK_LOCKS),
     ] {
-        assert_eq!(agreed(&of(want), &init()), (expected, FsOptions::all()));
+        assert_eq!(agreed(&of(want), &init(0, u32::MAX, u32::MAX)), (expected, FsOptions::all()));
     }
     // What is withheld is not offered, even if it is wanted.
     let withheld = FsOptions::PARALLEL_DIROPS | FsOptions::ALLOW_IDMAP;
-    let (got, capable) = agreed(&of(special).withhold(withheld), &init());
+    let (got, capable) = agreed(&of(special).withhold(withheld), &init(0, u32::MAX, u32::MAX));
     assert_eq!((got, capable), (all - withheld, FsOptions::all() - withheld));
     // Without INIT_EXT the second half is none.
     let low = FsOptions::from_bits_truncate(u32::MAX.into());
-    let (got, capable) = agreed(&of(special).withhold(FsOptions::INIT_EXT), &init());
+    let (got, capable) =
+        agreed(&of(special).withhold(FsOptions::INIT_EXT), &init(0, u32::MAX, u32::MAX));
     assert_eq!((got, capable), ((all & low) - FsOptions::INIT_EXT, low - FsOptions::INIT_EXT));
     // A shorter INIT, of an older version, has only the first half.
     let short = Request::new(26, 0).u32(7).u32(31).u32(0).u32(0x28);

@@ -3,7 +3,7 @@
 mod common;
 
 use common::diary::{each_call, entry, moves, Diary, Row};
-use common::{fault, reply, words, Request};
+use common::{fault, record, reply, words, Request};
 use nizwarf::{FileSystem, FsOptions, NoEntries, Refusal, Served, Server, Session, Slot};
 use std::fs::File;
 use std::io::{IoSlice, IoSliceMut};
@@ -131,18 +131,15 @@ fn what_is_not_opened_is_not_released() {
     assert_eq!((done.outcome, done.len), (Err(Refusal::EncodeMessage), 0));
 }
 
-/// `fuse_dirent` of 24 bytes, and the name up to a multiple of 8.
-fn record(ino: u32, offset: u32, name: &str) -> Vec<u8> {
-    let len = u32::try_from(name.len()).unwrap();
-    let mut bytes = [words(&[ino, 0, offset, 0, len, 8]), name.as_bytes().to_vec()].concat();
-    bytes.resize(32, 0);
-    bytes
-}
-
 #[test]
 fn directories() {
     let server = Server::new(Diary::default());
-    let records = [record(11, 1, "."), record(12, 2, ".."), record(13, 3, "a"), record(14, 4, "b")];
+    let records = [
+        record(11, 1, 8, "."),
+        record(12, 2, 8, ".."),
+        record(13, 3, 8, "a"),
+        record(14, 4, 8, "b"),
+    ];
     for (size, taken) in [(31, 0), (95, 2), (96, 3), (127, 3), (128, 4), (4000, 4)] {
         let expected = reply(&records[..taken].concat());
         assert_eq!(serve(&server, &moves(28, 1, size)), expected);
@@ -160,10 +157,10 @@ fn directories_with_entries() {
         bytes
     };
     let records = [
-        [dot(11), record(11, 1, ".")].concat(),
-        [dot(12), record(12, 2, "..")].concat(),
-        [entry(), record(13, 3, "a")].concat(),
-        [entry(), record(14, 4, "b")].concat(),
+        [dot(11), record(11, 1, 8, ".")].concat(),
+        [dot(12), record(12, 2, 8, "..")].concat(),
+        [entry(), record(13, 3, 8, "a")].concat(),
+        [entry(), record(14, 4, 8, "b")].concat(),
     ];
     // Each has 160 bytes. What does not fit is not looked up.
     for (size, taken) in [(159, 0), (479, 2), (480, 3), (639, 3), (640, 4), (4000, 4)] {
@@ -174,7 +171,7 @@ fn directories_with_entries() {
         assert_eq!(server.file_system().take(), lines);
     }
     // A lookup that fails ends the reading, and is the reply if it is the first.
-    let first = [entry(), record(11, 1, "a")].concat();
+    let first = [entry(), record(11, 1, 8, "a")].concat();
     assert_eq!(serve(&server, &moves(44, 2, 4000)), reply(&first));
     assert_eq!(
         server.file_system().take(),
@@ -287,6 +284,6 @@ fn a_panic_is_a_fault_if_it_is_caught() {
     // The second lookup of this listing panics, and the first item is in the reply.
     let listed = serve(&server, &moves(44, 4, 4000));
     let _ = std::panic::take_hook();
-    assert_eq!(listed, reply(&[entry(), record(11, 1, "a")].concat()));
+    assert_eq!(listed, reply(&[entry(), record(11, 1, 8, "a")].concat()));
     assert_eq!(server.file_system().take(), ["readdir 5 4 4000 9", "lookup 5 a 1000 7"]);
 }

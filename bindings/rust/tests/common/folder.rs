@@ -1,8 +1,34 @@
-//! Folders to mount on.
+//! Folders to mount on, and what tests of mounts have in common.
+#![allow(dead_code, unused_macros)] // each test uses some of it
 
 use std::fs::{self, File};
 use std::path::PathBuf;
 use std::process::Command;
+use std::thread;
+use std::time::Duration;
+
+/// A new folder of this name. The test ends where nothing can be mounted.
+macro_rules! folder {
+    ($name:literal) => {
+        match crate::folder::Folder::new($name) {
+            Some(folder) => folder,
+            None => return,
+        }
+    };
+}
+
+/// Whether this becomes true in ten seconds.
+pub fn comes(mut is_so: impl FnMut() -> bool) -> bool {
+    (0..2000).any(|_| {
+        thread::sleep(Duration::from_millis(5));
+        is_so()
+    })
+}
+
+/// The number of the error of what failed.
+pub fn number<T: std::fmt::Debug>(result: std::io::Result<T>) -> Option<i32> {
+    result.unwrap_err().raw_os_error()
+}
 
 /// A new folder, which is removed at the end.
 pub struct Folder(pub PathBuf);

@@ -5,7 +5,11 @@ pub mod diary;
 pub mod hostile;
 
 use nizwarf::{Asked, Call, Context, FsOptions, Offers, Session, Slot};
+use std::fs::File;
 use std::io::IoSlice;
+use std::os::unix::io::OwnedFd;
+use std::os::unix::net::UnixDatagram;
+use std::time::Duration;
 
 /// The caller and the number of all requests.
 pub const WHO: Context = Context { uid: 1000, gid: 1001, pid: 77, unique: 7 };
@@ -51,6 +55,22 @@ impl Request {
     }
 }
 
+/// A GETATTR.
+pub fn getattr(node: u64) -> Request {
+    Request::new(3, node).u32(0).u32(0).u64(0)
+}
+
+/// A READ, a READDIR or a READDIRPLUS, with the handle 8.
+pub fn reading(opcode: u32, node: u64, offset: u64, size: u32) -> Request {
+    Request::new(opcode, node).u64(8).u64(offset).u32(size).u32(0).u64(0).u32(0).u32(0)
+}
+
+/// An INIT of version 7.38 that offers these options, and of the second half `flags2`.
+pub fn init(readahead: u32, flags: u32, flags2: u32) -> Request {
+    let request = Request::new(26, 0).u32(7).u32(38).u32(readahead);
+    request.u32(flags).u32(flags2).bytes(&[0; 44])
+}
+
 /// The bytes of numbers of 32 bits.
 pub fn words(words: &[u32]) -> Vec<u8> {
     words.iter().flat_map(|word| word.to_le_bytes()).collect()
@@ -63,6 +83,14 @@ pub fn padded(numbers: &[u32], len: usize) -> Vec<u8> {
     bytes
 }
 
+/// `fuse_dirent` of 24 bytes, and the name up to a multiple of 8.
+pub fn record(ino: u32, offset: u32, kind: u32, name: &str) -> Vec<u8> {
+    let len = u32::try_from(name.len()).unwrap();
+    let mut bytes = [words(&[ino, 0, offset, 0, len, kind]), name.as_bytes().to_vec()].concat();
+    bytes.resize((bytes.len() + 7) / 8 * 8, 0);
+    bytes
+}
+
 /// A reply: `fuse_out_header`, of 16 bytes, and a body.
 pub fn reply(body: &[u8]) -> Vec<u8> {
     let len = u32::try_from(16 + body.len()).unwrap();
@@ -72,6 +100,36 @@ pub fn reply(body: &[u8]) -> Vec<u8> {
 /// The reply of an error.
 pub fn fault(error: i32) -> Vec<u8> {
     [words(&[16]), (-error).to_le_bytes().to_vec(), words(&[7, 0])].concat()
+}
+
+/// A client at a socket that keeps messages apart.
+pub struct Peer(pub UnixDatagram);
+
+impl Peer {
+    /// One, and the other end of the socket, for a server.
+    pub fn new() -> (Self, File) {
+        let (client, device) = UnixDatagram::pair().unwrap();
+        client.set_read_timeout(Some(Duration::from_secs(20))).unwrap();
+        (Peer(client), File::from(OwnedFd::from(device)))
+    }
+
+    /// Sends a request. One without bytes ends a thread of the server.
+    pub fn send(&self, request: &[u8]) {
+        assert_eq!(self.0.send(request).unwrap(), request.len());
+    }
+
+    /// Returns the next reply. It is empty if none comes.
+    pub fn receive(&self) -> Vec<u8> {
+        let mut bytes = vec![0; 1 << 13];
+        let len = self.0.recv(&mut bytes).unwrap_or(0);
+        bytes.truncate(len);
+        bytes
+    }
+
+    pub fn ask(&self, request: &[u8]) -> Vec<u8> {
+        self.send(request);
+        self.receive()
+    }
 }
 
 /// A session in which all calls are offered.
