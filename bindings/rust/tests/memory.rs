@@ -4,17 +4,14 @@
 
 mod common;
 
-use common::{session, Request};
+use common::{reading, session, Peer, Request};
 use nizwarf::{
     Asked, Call, Client, Entry, FileSystem, FsOptions, Item, NoEntries, Refusal, Server, Slot,
 };
 use std::alloc::{GlobalAlloc, Layout, System};
 use std::cell::Cell;
 use std::ffi::{c_void, CString};
-use std::fs::File;
 use std::io::{ErrorKind, IoSlice};
-use std::os::unix::io::OwnedFd;
-use std::os::unix::net::UnixDatagram;
 use std::sync::Mutex;
 use std::thread;
 
@@ -95,15 +92,43 @@ fn lookup() -> Vec<u8> {
     Request::new(1, 1).name("abc").done()
 }
 
+/// Has one allocation of a test refused after another, until none is left. The test gets its number, and returns its
+/// outcome, and whether an allocation was refused.
+fn refuse_each(mut test: impl FnMut(u32) -> (Result<(), Refusal>, bool)) {
+    let mut refusals = 0;
+    for number in 1.. {
+        let (outcome, was_refused) = test(number);
+        if outcome.is_ok() {
+            break;
+        }
+        assert!(was_refused);
+        assert_eq!(outcome, Err(Refusal::OutOfMemory));
+        refusals += 1;
+    }
+    assert!(refusals > 0);
+}
+
+/// What answers the call of a request: its field `to`.
+macro_rules! to_of {
+    ($request:expr, $Call:ident) => {
+        match Slot::new().ask(&session(FsOptions::empty()), &[IoSlice::new($request)], 4096) {
+            Asked::Call(pending) => match pending.call {
+                Call::$Call { to, .. } => to,
+                other => panic!("{other:?}"),
+            },
+            Asked::Finished(done) => panic!("{done:?}"),
+        }
+    };
+}
+
 #[test]
 fn asking() {
     let bytes = lookup();
     let (first, second) = bytes.split_at(42);
     let slices = [IoSlice::new(first), IoSlice::new(second)];
-    let mut refusals = 0;
-    for number in 1.. {
+    refuse_each(|number| {
         let mut slot = Slot::new();
-        let (code, was_refused) =
+        let asked =
             refuse(number, || match slot.ask(&session(FsOptions::empty()), &slices, 4096) {
                 Asked::Finished(done) => {
                     assert!(done.reply.is_empty());
@@ -111,32 +136,17 @@ fn asking() {
                 }
                 Asked::Call(_) => Ok(()),
             });
-        if code.is_ok() {
-            break;
-        }
-        assert!(was_refused);
-        assert_eq!(code, Err(Refusal::OutOfMemory));
-        refusals += 1;
         // The slot can be used again.
         assert!(matches!(slot.ask(&session(FsOptions::empty()), &slices, 4096), Asked::Call(_)));
-    }
-    assert!(refusals > 0);
+        asked
+    });
 }
 
 #[test]
 fn answering() {
     let bytes = lookup();
-    let slices = [IoSlice::new(&bytes)];
-    let mut refusals = 0;
-    for number in 1.. {
-        let mut slot = Slot::new();
-        let to = match slot.ask(&session(FsOptions::empty()), &slices, 4096) {
-            Asked::Call(pending) => match pending.call {
-                Call::Lookup { to, .. } => to,
-                other => panic!("{other:?}"),
-            },
-            Asked::Finished(done) => panic!("{done:?}"),
-        };
+    refuse_each(|number| {
+        let to = to_of!(&bytes, Lookup);
         // A slot without memory.
         let mut slot = Slot::new();
         let entry = Entry { inode: 9, ..Entry::default() };
@@ -144,54 +154,33 @@ fn answering() {
         let outcome = told.outcome;
         let mut given_back = Vec::new();
         let length = told.give_back(|node| given_back.push(node)).len();
-        if outcome.is_ok() {
-            assert_eq!((length, given_back.len()), (144, 0));
-            break;
-        }
-        assert!(was_refused);
-        assert_eq!((outcome, length), (Err(Refusal::OutOfMemory), 0));
-        assert_eq!(given_back, [9]);
-        refusals += 1;
-    }
-    assert!(refusals > 0);
+        let expected = if outcome.is_ok() { (144, vec![]) } else { (0, vec![9]) };
+        assert_eq!((length, given_back), expected);
+        (outcome, was_refused)
+    });
 }
 
 #[test]
 fn a_directory_gives_all_back() {
-    let bytes = Request::new(44, 1).u64(8).u64(0).u32(4000).u32(0).u64(0).u32(0).u32(0).done();
-    let slices = [IoSlice::new(&bytes)];
+    let bytes = reading(44, 1, 0, 4000).done();
     let names = ["a", "b"].map(|name| CString::new(name).unwrap());
     let items = [
         Item::new(2, 1, 8, &names[0]).looked_up(&Ok(Entry { inode: 51, ..Entry::default() })),
         Item::new(3, 2, 8, &names[1]).looked_up(&Ok(Entry { inode: 52, ..Entry::default() })),
     ];
-    let mut refusals = 0;
-    for number in 1.. {
-        let mut slot = Slot::new();
-        let asked = slot.ask(&session(FsOptions::empty()), &slices, 4096);
-        let to = match asked {
-            Asked::Call(pending) => match pending.call {
-                Call::Readdir { to, .. } => to,
-                other => panic!("{other:?}"),
-            },
-            Asked::Finished(done) => panic!("{done:?}"),
-        };
+    refuse_each(|number| {
+        let to = to_of!(&bytes, Readdir);
         let mut slot = Slot::new();
         let (told, was_refused) = refuse(number, || to.answer(&mut slot, Ok(&items)));
         let (outcome, taken) = (told.outcome, told.taken);
         let mut given_back = Vec::new();
         let mut answered = told.give_back(|node| given_back.push(node));
-        if outcome.is_ok() {
-            assert_eq!((answered.len(), taken, given_back.len()), (16 + 2 * 160, 2, 0));
-            break;
-        }
-        assert!(was_refused);
-        assert_eq!((outcome, taken), (Err(Refusal::OutOfMemory), 0));
-        assert!(answered.bytes().is_empty());
-        assert_eq!(given_back, [51, 52]);
-        refusals += 1;
-    }
-    assert!(refusals > 0);
+        let expected =
+            if outcome.is_ok() { (16 + 2 * 160, 2, vec![]) } else { (0, 0, vec![51, 52]) };
+        assert_eq!((answered.len(), taken, given_back), expected);
+        assert_eq!(answered.bytes().len(), answered.len());
+        (outcome, was_refused)
+    });
 }
 
 /// A file system that keeps its client.
@@ -210,9 +199,8 @@ impl FileSystem for Keeping {
 
 #[test]
 fn what_has_no_reply_gets_none_later() {
-    let (theirs, device) = UnixDatagram::pair().unwrap();
-    let device = File::from(OwnedFd::from(device));
-    theirs.set_nonblocking(true).unwrap();
+    let (theirs, device) = Peer::new();
+    theirs.0.set_nonblocking(true).unwrap();
     let server = Server::new(Keeping::default());
     let forget = Request::new(2, 5).u64(1).done();
     let (was_refused, received) = thread::scope(|scope| {
@@ -223,19 +211,12 @@ fn what_has_no_reply_gets_none_later() {
                 None => thread::yield_now(),
             }
         };
-        let mut slot = Slot::new();
-        let to = match slot.ask(&session(FsOptions::empty()), &[IoSlice::new(&forget)], 4096) {
-            Asked::Call(pending) => match pending.call {
-                Call::Forget { to, .. } => to,
-                other => panic!("{other:?}"),
-            },
-            Asked::Finished(done) => panic!("{done:?}"),
-        };
+        let to = to_of!(&forget, Forget);
         let mut slot = Slot::new();
         let (told, was_refused) = refuse(1, || to.done(&mut slot));
         client.send(told.give_back(|_| ())).unwrap();
-        let received = theirs.recv(&mut [0; 64]);
-        theirs.send(&[]).unwrap(); // it ends by this
+        let received = theirs.0.recv(&mut [0; 64]);
+        theirs.send(&[]); // it ends by this
         (was_refused, received)
     });
     assert!(was_refused);
