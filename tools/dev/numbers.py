@@ -90,14 +90,13 @@ OTHERS = {"nizwarf_answer": ["text", "text_len", "items", "items_len"]}
 RUST_STRUCTS = {"RawSession": "session", "Range": "range", "RawCall": "call", "RawEntry": "entry", "RawAnswer": "answer", "Item": "item",
                 "RawInitMore": "init_more", "RawTold": "told", "SetattrIn": "setattr", "Attr": "attr", "Statvfs": "statfs"}
 for name, short in RUST_STRUCTS.items():
-    struct, place = f"nizwarf_{short}", "0"
-    fields = re.findall(r"^    (?:pub )?(\w+): (?!Phantom)(.*),$", part(RUST, f"struct {name}{'<' if name == 'Item' else ' {'}", "}"), re.M)
-    for field, kind in fields:
+    struct = f"nizwarf_{short}"
+    size, fields = re.search(rf"struct {name}(?:<'a>)?: (\d+) \{{(.*?)^    \}}", RUST, re.M | re.S).groups()
+    for place, field, kind in re.findall(r"^        \[(\d+)\] (?:pub )?(\w+): (?!Phantom)(.*),$", fields, re.M):
         field = field.removeprefix("f_").rstrip("_")
-        size = SIZES.get(kind) or f"sizeof(nizwarf_{RUST_STRUCTS[kind]})"
-        same(f"offsetof({struct}, {field}) == {place} && SIZE({struct}, {field}) == {size}", f"bindings/rust, {name}")
-        place = f"offsetof({struct}, {field}) + {size}"
-    same(" + ".join([place, *(f"SIZE({struct}, {it})" for it in OTHERS.get(struct, []))]) + f" == sizeof({struct})", f"bindings/rust, {name}")
+        width = SIZES.get(kind) or f"sizeof(nizwarf_{RUST_STRUCTS[kind]})"
+        same(f"offsetof({struct}, {field}) == {place} && SIZE({struct}, {field}) == {width}", f"bindings/rust, {name}")
+    same(" + ".join([size, *(f"SIZE({struct}, {it})" for it in OTHERS.get(struct, []))]) + f" == sizeof({struct})", f"bindings/rust, {name}")
 hello = importlib.import_module("hello")
 for name, it in vars(hello).items():
     if isinstance(it, type) and issubclass(it, ctypes.Structure) and it is not ctypes.Structure:

@@ -4,71 +4,50 @@
 use std::fs::Metadata;
 use std::os::unix::fs::MetadataExt;
 
-/// Attributes of a node: `fuse_attr`.
-///
-/// ```
-/// use nizwarf::Attr;
-///
-/// let attr = Attr::from(&std::fs::metadata("/").unwrap());
-/// assert_eq!(attr.mode >> 12, nizwarf::DT_DIR);
-/// ```
-#[repr(C)]
-#[derive(Clone, Copy, Debug, Default, PartialEq, Eq)]
-pub struct Attr {
-    /// The inode number that programs see.
-    pub ino: u64,
-    /// The size in bytes.
-    pub size: u64,
-    /// The allocated blocks, of 512 bytes each.
-    pub blocks: u64,
-    /// The time of the last access, in seconds since 1970.
-    pub atime: u64,
-    /// The time of the last modification of the data.
-    pub mtime: u64,
-    /// The time of the last change of the attributes.
-    pub ctime: u64,
-    /// The nanoseconds of `atime`.
-    pub atimensec: u32,
-    /// The nanoseconds of `mtime`.
-    pub mtimensec: u32,
-    /// The nanoseconds of `ctime`.
-    pub ctimensec: u32,
-    /// The type and the permissions.
-    pub mode: u32,
-    /// The number of hard links.
-    pub nlink: u32,
-    /// The owner.
-    pub uid: u32,
-    /// The group.
-    pub gid: u32,
-    /// The device number, if it is a device.
-    pub rdev: u32,
-    /// The preferred size of reads and writes.
-    pub blksize: u32,
-    /// `FUSE_ATTR_SUBMOUNT`, which is 1, and `FUSE_ATTR_DAX`, which is 2.
-    pub flags: u32,
-}
-
-impl Attr {
-    /// All fields 0.
-    pub(crate) const NONE: Self = Attr {
-        ino: 0,
-        size: 0,
-        blocks: 0,
-        atime: 0,
-        mtime: 0,
-        ctime: 0,
-        atimensec: 0,
-        mtimensec: 0,
-        ctimensec: 0,
-        mode: 0,
-        nlink: 0,
-        uid: 0,
-        gid: 0,
-        rdev: 0,
-        blksize: 0,
-        flags: 0,
-    };
+records! {
+    /// Attributes of a node: `fuse_attr`.
+    ///
+    /// ```
+    /// use nizwarf::Attr;
+    ///
+    /// let attr = Attr::from(&std::fs::metadata("/").unwrap());
+    /// assert_eq!(attr.mode >> 12, nizwarf::DT_DIR);
+    /// ```
+    #[derive(Debug, Default, PartialEq, Eq)]
+    pub struct Attr: 88 {
+        /// The inode number that programs see.
+        [0] pub ino: u64,
+        /// The size in bytes.
+        [8] pub size: u64,
+        /// The allocated blocks, of 512 bytes each.
+        [16] pub blocks: u64,
+        /// The time of the last access, in seconds since 1970.
+        [24] pub atime: u64,
+        /// The time of the last modification of the data.
+        [32] pub mtime: u64,
+        /// The time of the last change of the attributes.
+        [40] pub ctime: u64,
+        /// The nanoseconds of `atime`.
+        [48] pub atimensec: u32,
+        /// The nanoseconds of `mtime`.
+        [52] pub mtimensec: u32,
+        /// The nanoseconds of `ctime`.
+        [56] pub ctimensec: u32,
+        /// The type and the permissions.
+        [60] pub mode: u32,
+        /// The number of hard links.
+        [64] pub nlink: u32,
+        /// The owner.
+        [68] pub uid: u32,
+        /// The group.
+        [72] pub gid: u32,
+        /// The device number, if it is a device.
+        [76] pub rdev: u32,
+        /// The preferred size of reads and writes.
+        [80] pub blksize: u32,
+        /// `FUSE_ATTR_SUBMOUNT`, which is 1, and `FUSE_ATTR_DAX`, which is 2.
+        [84] pub flags: u32,
+    }
 }
 
 impl From<&Metadata> for Attr {
@@ -96,99 +75,65 @@ impl From<&Metadata> for Attr {
     }
 }
 
-/// The attributes to set: `fuse_setattr_in`.
-#[repr(C)]
-#[derive(Clone, Copy, Debug, Default, PartialEq, Eq)]
-pub struct SetattrIn {
-    /// Which fields to set, as sent by the client. [`SetattrValid`](crate::SetattrValid) has the known bits.
-    pub valid: u32,
-    /// Not used.
-    pub padding: u32,
-    /// The handle, if there is one.
-    pub fh: u64,
-    /// The size in bytes.
-    pub size: u64,
-    /// The owner of POSIX locks.
-    pub lock_owner: u64,
-    /// The time of the last access, in seconds since 1970.
-    pub atime: u64,
-    /// The time of the last modification of the data.
-    pub mtime: u64,
-    /// The time of the last change of the attributes.
-    pub ctime: u64,
-    /// The nanoseconds of `atime`.
-    pub atimensec: u32,
-    /// The nanoseconds of `mtime`.
-    pub mtimensec: u32,
-    /// The nanoseconds of `ctime`.
-    pub ctimensec: u32,
-    /// The type and the permissions.
-    pub mode: u32,
-    /// Not used.
-    pub unused4: u32,
-    /// The owner.
-    pub uid: u32,
-    /// The group.
-    pub gid: u32,
-    /// Not used.
-    pub unused5: u32,
+records! {
+    /// The attributes to set: `fuse_setattr_in`.
+    #[derive(Debug, Default, PartialEq, Eq)]
+    pub struct SetattrIn: 88 {
+        /// Which fields to set, as sent by the client. [`SetattrValid`](crate::SetattrValid) has the known bits.
+        [0] pub valid: u32,
+        /// Not used.
+        [4] pub padding: u32,
+        /// The handle, if there is one.
+        [8] pub fh: u64,
+        /// The size in bytes.
+        [16] pub size: u64,
+        /// The owner of POSIX locks.
+        [24] pub lock_owner: u64,
+        /// The time of the last access, in seconds since 1970.
+        [32] pub atime: u64,
+        /// The time of the last modification of the data.
+        [40] pub mtime: u64,
+        /// The time of the last change of the attributes.
+        [48] pub ctime: u64,
+        /// The nanoseconds of `atime`.
+        [56] pub atimensec: u32,
+        /// The nanoseconds of `mtime`.
+        [60] pub mtimensec: u32,
+        /// The nanoseconds of `ctime`.
+        [64] pub ctimensec: u32,
+        /// The type and the permissions.
+        [68] pub mode: u32,
+        /// Not used.
+        [72] pub unused4: u32,
+        /// The owner.
+        [76] pub uid: u32,
+        /// The group.
+        [80] pub gid: u32,
+        /// Not used.
+        [84] pub unused5: u32,
+    }
 }
 
-impl SetattrIn {
-    /// All fields 0.
-    pub(crate) const NONE: Self = SetattrIn {
-        valid: 0,
-        padding: 0,
-        fh: 0,
-        size: 0,
-        lock_owner: 0,
-        atime: 0,
-        mtime: 0,
-        ctime: 0,
-        atimensec: 0,
-        mtimensec: 0,
-        ctimensec: 0,
-        mode: 0,
-        unused4: 0,
-        uid: 0,
-        gid: 0,
-        unused5: 0,
-    };
-}
-
-/// Statistics of a file system: `statvfs(3)`.
-#[repr(C)]
-#[derive(Clone, Copy, Debug, Default, PartialEq, Eq)]
-#[allow(clippy::struct_field_names)] // the names are those of C
-pub struct Statvfs {
-    /// The size of a block.
-    pub f_bsize: u64,
-    /// The size of a fragment: the unit of the three numbers of blocks.
-    pub f_frsize: u64,
-    /// The number of blocks.
-    pub f_blocks: u64,
-    /// The number of free blocks.
-    pub f_bfree: u64,
-    /// The number of blocks that are free for users.
-    pub f_bavail: u64,
-    /// The number of nodes.
-    pub f_files: u64,
-    /// The number of free nodes.
-    pub f_ffree: u64,
-    /// The length of the longest name.
-    pub f_namemax: u64,
-}
-
-impl Statvfs {
-    /// All fields 0.
-    pub(crate) const NONE: Self = Statvfs {
-        f_bsize: 0,
-        f_frsize: 0,
-        f_blocks: 0,
-        f_bfree: 0,
-        f_bavail: 0,
-        f_files: 0,
-        f_ffree: 0,
-        f_namemax: 0,
-    };
+records! {
+    /// Statistics of a file system: `statvfs(3)`.
+    #[derive(Debug, Default, PartialEq, Eq)]
+    #[allow(clippy::struct_field_names)] // the names are those of C
+    pub struct Statvfs: 64 {
+        /// The size of a block.
+        [0] pub f_bsize: u64,
+        /// The size of a fragment: the unit of the three numbers of blocks.
+        [8] pub f_frsize: u64,
+        /// The number of blocks.
+        [16] pub f_blocks: u64,
+        /// The number of free blocks.
+        [24] pub f_bfree: u64,
+        /// The number of blocks that are free for users.
+        [32] pub f_bavail: u64,
+        /// The number of nodes.
+        [40] pub f_files: u64,
+        /// The number of free nodes.
+        [48] pub f_ffree: u64,
+        /// The length of the longest name.
+        [56] pub f_namemax: u64,
+    }
 }

@@ -11,6 +11,7 @@ use std::fmt;
 use std::fs::File;
 use std::io::{self, IoSlice};
 use std::marker::PhantomData;
+use std::mem::size_of;
 use std::os::raw::c_int;
 use std::os::unix::io::AsRawFd;
 use std::ptr;
@@ -29,137 +30,130 @@ impl RawSlot {
     }
 }
 
-/// `nizwarf_session`.
-#[repr(C)]
-#[derive(Clone, Copy, Debug, PartialEq, Eq)]
-pub(crate) struct RawSession {
-    pub options: u64,
-    pub page_size: u32,
-    pub max_buffer: u32,
-}
+records! {
+    /// `nizwarf_session`.
+    #[derive(Debug, PartialEq, Eq)]
+    pub(crate) struct RawSession: 16 {
+        [0] pub options: u64,
+        [8] pub page_size: u32,
+        [12] pub max_buffer: u32,
+    }
 
-/// `nizwarf_range`: bytes of a request.
-#[repr(C)]
-#[derive(Clone, Copy, Debug, Default, PartialEq, Eq)]
-pub(crate) struct Range {
-    pub at: u64,
-    pub len: u64,
-}
+    /// `nizwarf_range`: bytes of a request.
+    #[derive(Debug, Default, PartialEq, Eq)]
+    pub(crate) struct Range: 16 {
+        [0] pub at: u64,
+        [8] pub len: u64,
+    }
 
-/// `nizwarf_call`.
-#[repr(C)]
-#[derive(Clone, Copy, Debug)]
-pub(crate) struct RawCall {
-    pub unique: u64,
-    pub options: u64,
-    pub room: u64,
-    pub node: u64,
-    pub handle: u64,
-    pub offset: u64,
-    pub length: u64,
-    pub lock_owner: u64,
-    pub other_node: u64,
-    pub other_handle: u64,
-    pub other_offset: u64,
-    pub name: Range,
-    pub other_name: Range,
-    pub data: Range,
-    pub context_name: Range,
-    pub context: Range,
-    pub attr: SetattrIn,
-    pub call: u32,
-    pub answer: u32,
-    pub has: u32,
-    pub uid: u32,
-    pub gid: u32,
-    pub pid: i32,
-    pub flags: u32,
-    pub mode: u32,
-    pub umask: u32,
-    pub rdev: u32,
-    pub size: u32,
-    pub more: u32,
-    pub group: u32,
-    pub readahead: u32,
-}
+    /// `nizwarf_call`.
+    #[derive(Debug)]
+    pub(crate) struct RawCall: 312 {
+        [0] pub unique: u64,
+        [8] pub options: u64,
+        [16] pub room: u64,
+        [24] pub node: u64,
+        [32] pub handle: u64,
+        [40] pub offset: u64,
+        [48] pub length: u64,
+        [56] pub lock_owner: u64,
+        [64] pub other_node: u64,
+        [72] pub other_handle: u64,
+        [80] pub other_offset: u64,
+        [88] pub name: Range,
+        [104] pub other_name: Range,
+        [120] pub data: Range,
+        [136] pub context_name: Range,
+        [152] pub context: Range,
+        [168] pub attr: SetattrIn,
+        [256] pub call: u32,
+        [260] pub answer: u32,
+        [264] pub has: u32,
+        [268] pub uid: u32,
+        [272] pub gid: u32,
+        [276] pub pid: i32,
+        [280] pub flags: u32,
+        [284] pub mode: u32,
+        [288] pub umask: u32,
+        [292] pub rdev: u32,
+        [296] pub size: u32,
+        [300] pub more: u32,
+        [304] pub group: u32,
+        [308] pub readahead: u32,
+    }
 
-/// `nizwarf_entry`.
-#[repr(C)]
-#[derive(Clone, Copy, Debug)]
-pub(crate) struct RawEntry {
-    pub node: u64,
-    generation: u64,
-    entry_seconds: u64,
-    pub attr_seconds: u64,
-    entry_nanoseconds: u32,
-    pub attr_nanoseconds: u32,
-    pub attr: Attr,
-}
+    /// `nizwarf_entry`.
+    #[derive(Debug)]
+    pub(crate) struct RawEntry: 128 {
+        [0] pub node: u64,
+        [8] generation: u64,
+        [16] entry_seconds: u64,
+        [24] pub attr_seconds: u64,
+        [32] entry_nanoseconds: u32,
+        [36] pub attr_nanoseconds: u32,
+        [40] pub attr: Attr,
+    }
 
-/// The first 224 bytes of `nizwarf_answer`, which are all that the library reads: text and items are
-/// arguments of their own.
-#[repr(C)]
-#[derive(Clone, Copy, Debug)]
-pub(crate) struct RawAnswer {
-    pub error: i32,
-    pub has_handle: u32,
-    pub handle: u64,
-    pub count: u64,
-    pub open_flags: u32,
-    pub has_count: u32,
-    pub entry: RawEntry,
-    pub statfs: Statvfs,
-}
+    /// The first 224 bytes of `nizwarf_answer`, which are all that the library reads: text and items are
+    /// arguments of their own.
+    #[derive(Debug)]
+    pub(crate) struct RawAnswer: 224 {
+        [0] pub error: i32,
+        [4] pub has_handle: u32,
+        [8] pub handle: u64,
+        [16] pub count: u64,
+        [24] pub open_flags: u32,
+        [28] pub has_count: u32,
+        [32] pub entry: RawEntry,
+        [160] pub statfs: Statvfs,
+    }
 
-/// An item of a directory listing, as a READDIR is answered with.
-///
-/// ```
-/// use nizwarf::Item;
-/// use std::ffi::CString;
-///
-/// let name = CString::new("hello").unwrap();
-/// let item = Item::new(2, 1, nizwarf::DT_REG, &name);
-/// assert_eq!(item.record_len(false), 32);
-/// assert_eq!(item.record_len(true), 160);
-/// ```
-#[repr(C)]
-#[derive(Clone, Copy)]
-pub struct Item<'a> {
-    ino: u64,
-    offset: u64,
-    name: *const u8,
-    name_size: usize,
-    entry: RawEntry,
-    type_: u32,
-    error: i32,
-    lent: PhantomData<&'a CStr>,
-}
+    /// An item of a directory listing, as a READDIR is answered with.
+    ///
+    /// ```
+    /// use nizwarf::Item;
+    /// use std::ffi::CString;
+    ///
+    /// let name = CString::new("hello").unwrap();
+    /// let item = Item::new(2, 1, nizwarf::DT_REG, &name);
+    /// assert_eq!(item.record_len(false), 32);
+    /// assert_eq!(item.record_len(true), 160);
+    /// ```
+    pub struct Item<'a>: 168 {
+        [0] ino: u64,
+        [8] offset: u64,
+        [16] name: *const u8,
+        [24] name_size: usize,
+        [32] entry: RawEntry,
+        [160] type_: u32,
+        [164] error: i32,
+        [168] lent: PhantomData<&'a CStr>,
+    }
 
-/// `nizwarf_init_more`.
-#[repr(C)]
-#[derive(Clone, Copy, Debug)]
-pub(crate) struct RawInitMore {
-    pub want: u64,
-    pub max_readahead: u32,
-    pub max_write: u32,
-    pub time_gran: u32,
-    pub max_stack_depth: u32,
-    pub request_timeout: u32,
-    pub max_background: u16,
-    pub congestion_threshold: u16,
-    pub padding: u64,
-}
+    /// `nizwarf_init_more`.
+    #[derive(Debug)]
+    pub(crate) struct RawInitMore: 40 {
+        [0] pub want: u64,
+        [8] pub max_readahead: u32,
+        [12] pub max_write: u32,
+        [16] pub time_gran: u32,
+        [20] pub max_stack_depth: u32,
+        [24] pub request_timeout: u32,
+        [28] pub max_background: u16,
+        [30] pub congestion_threshold: u16,
+        [32] pub padding: u64,
+    }
 
-/// `nizwarf_told`.
-#[repr(C)]
-#[derive(Clone, Copy, Debug, Default)]
-pub(crate) struct RawTold {
-    pub len: u64,
-    pub put: u64,
-    pub options: u64,
-    pub give_back: u64,
-    pub taken: u64,
-    pub interrupts: u64,
+    /// `nizwarf_told`.
+    #[derive(Debug, Default)]
+    pub(crate) struct RawTold: 48 {
+        [0] pub len: u64,
+        [8] pub put: u64,
+        [16] pub options: u64,
+        [24] pub give_back: u64,
+        [32] pub taken: u64,
+        [40] pub interrupts: u64,
+    }
 }
 
 // `std` guarantees that `IoSlice` has the layout of `iovec`, which is that of `nizwarf_segment`.
@@ -223,48 +217,6 @@ extern "C" {
         offered: u64,
         more: *const RawInitMore,
     ) -> u64;
-    fn nizwarf_notice_inval_inode_at(
-        node: u64,
-        offset: i64,
-        len: i64,
-        out: *mut u8,
-        out_len: usize,
-    ) -> usize;
-    fn nizwarf_notice_inval_entry_at(
-        parent: u64,
-        flags: u32,
-        name: *const u8,
-        name_len: usize,
-        out: *mut u8,
-        out_len: usize,
-    ) -> usize;
-    fn nizwarf_notice_delete_at(
-        parent: u64,
-        child: u64,
-        name: *const u8,
-        name_len: usize,
-        out: *mut u8,
-        out_len: usize,
-    ) -> usize;
-    fn nizwarf_notice_store_at(
-        node: u64,
-        offset: u64,
-        size: u32,
-        out: *mut u8,
-        out_len: usize,
-    ) -> usize;
-    fn nizwarf_notice_retrieve_at(
-        unique: u64,
-        node: u64,
-        offset: u64,
-        size: u32,
-        out: *mut u8,
-        out_len: usize,
-    ) -> usize;
-    fn nizwarf_notice_poll_at(handle: u64, out: *mut u8, out_len: usize) -> usize;
-    fn nizwarf_notice_resend_at(out: *mut u8, out_len: usize) -> usize;
-    fn nizwarf_notice_inc_epoch_at(out: *mut u8, out_len: usize) -> usize;
-    fn nizwarf_notice_prune_at(count: u32, out: *mut u8, out_len: usize) -> usize;
 }
 
 // A function of the C library that `std` does not have.
@@ -326,53 +278,47 @@ pub(crate) fn add_to_init(reply: &mut InitReply, offered: u64, more: &RawInitMor
     unsafe { nizwarf_add_to_init_at(reply.as_mut_ptr(), reply.len(), offered, more) }
 }
 
-/// A notice.
-#[derive(Clone, Copy, Debug)]
-pub(crate) enum Notice<'a> {
-    InvalInode { node: u64, offset: i64, len: i64 },
-    InvalEntry { parent: u64, flags: u32, name: &'a CStr },
-    Delete { parent: u64, child: u64, name: &'a CStr },
-    Store { node: u64, offset: u64, size: u32 },
-    Retrieve { unique: u64, node: u64, offset: u64, size: u32 },
-    Poll { handle: u64 },
-    Resend,
-    IncEpoch,
-    Prune { count: u32 },
-}
+/// Declares the notices: of each the fields, a name if it has one, and the function of the library.
+macro_rules! notices {
+    ($($Name:ident { $($field:ident: $type:ty),* } $($name:ident)? = $function:ident;)*) => {
+        extern "C" {
+            $(fn $function(
+                $($field: $type,)* $($name: *const u8, name_len: usize,)? out: *mut u8, out_len: usize,
+            ) -> usize;)*
+        }
 
-impl Notice<'_> {
-    /// Puts it at the start of `out`, without the data that follow it. Returns its length, which is 0 if it has
-    /// no room.
-    pub fn put(self, out: &mut [u8]) -> usize {
-        let (at, len) = (out.as_mut_ptr(), out.len());
-        // SAFETY: the pointers and lengths are those of slices, which do not overlap.
-        unsafe {
-            match self {
-                Notice::InvalInode { node, offset, len: size } => {
-                    nizwarf_notice_inval_inode_at(node, offset, size, at, len)
+        /// A notice.
+        #[derive(Clone, Copy, Debug)]
+        pub(crate) enum Notice<'a> {
+            $($Name { $($field: $type,)* $($name: &'a CStr,)? },)*
+        }
+
+        impl Notice<'_> {
+            /// Puts it at the start of `out`, without the data that follow it. Returns its length, which is 0 if it
+            /// has no room.
+            pub fn put(self, out: &mut [u8]) -> usize {
+                let (at, out_len) = (out.as_mut_ptr(), out.len());
+                match self {
+                    // SAFETY: the pointers and lengths are those of slices, which do not overlap.
+                    $(Notice::$Name { $($field,)* $($name,)? } => unsafe {
+                        $function($($field,)* $($name.as_ptr().cast(), $name.to_bytes().len(),)? at, out_len)
+                    },)*
                 }
-                Notice::InvalEntry { parent, flags, name } => {
-                    let name = name.to_bytes();
-                    let (name, name_len) = (name.as_ptr(), name.len());
-                    nizwarf_notice_inval_entry_at(parent, flags, name, name_len, at, len)
-                }
-                Notice::Delete { parent, child, name } => {
-                    let name = name.to_bytes();
-                    nizwarf_notice_delete_at(parent, child, name.as_ptr(), name.len(), at, len)
-                }
-                Notice::Store { node, offset, size } => {
-                    nizwarf_notice_store_at(node, offset, size, at, len)
-                }
-                Notice::Retrieve { unique, node, offset, size } => {
-                    nizwarf_notice_retrieve_at(unique, node, offset, size, at, len)
-                }
-                Notice::Poll { handle } => nizwarf_notice_poll_at(handle, at, len),
-                Notice::Resend => nizwarf_notice_resend_at(at, len),
-                Notice::IncEpoch => nizwarf_notice_inc_epoch_at(at, len),
-                Notice::Prune { count } => nizwarf_notice_prune_at(count, at, len),
             }
         }
-    }
+    };
+}
+
+notices! {
+    InvalInode { node: u64, offset: i64, len: i64 } = nizwarf_notice_inval_inode_at;
+    InvalEntry { parent: u64, flags: u32 } name = nizwarf_notice_inval_entry_at;
+    Delete { parent: u64, child: u64 } name = nizwarf_notice_delete_at;
+    Store { node: u64, offset: u64, size: u32 } = nizwarf_notice_store_at;
+    Retrieve { unique: u64, node: u64, offset: u64, size: u32 } = nizwarf_notice_retrieve_at;
+    Poll { handle: u64 } = nizwarf_notice_poll_at;
+    Resend {} = nizwarf_notice_resend_at;
+    IncEpoch {} = nizwarf_notice_inc_epoch_at;
+    Prune { count: u32 } = nizwarf_notice_prune_at;
 }
 
 /// Has a line written into memory that is as long as the line, and a byte longer.
@@ -411,71 +357,6 @@ pub(crate) struct Pending {
     pub answer: RawAnswer,
 }
 
-impl RawCall {
-    /// No call.
-    pub const NONE: Self = Self {
-        unique: 0,
-        options: 0,
-        room: 0,
-        node: 0,
-        handle: 0,
-        offset: 0,
-        length: 0,
-        lock_owner: 0,
-        other_node: 0,
-        other_handle: 0,
-        other_offset: 0,
-        name: Range { at: 0, len: 0 },
-        other_name: Range { at: 0, len: 0 },
-        data: Range { at: 0, len: 0 },
-        context_name: Range { at: 0, len: 0 },
-        context: Range { at: 0, len: 0 },
-        attr: SetattrIn::NONE,
-        call: 0,
-        answer: 0,
-        has: 0,
-        uid: 0,
-        gid: 0,
-        pid: 0,
-        flags: 0,
-        mode: 0,
-        umask: 0,
-        rdev: 0,
-        size: 0,
-        more: 0,
-        group: 0,
-        readahead: 0,
-    };
-}
-
-impl RawInitMore {
-    /// Nothing more.
-    pub const NONE: Self = Self {
-        want: 0,
-        max_readahead: 0,
-        max_write: 0,
-        time_gran: 0,
-        max_stack_depth: 0,
-        request_timeout: 0,
-        max_background: 0,
-        congestion_threshold: 0,
-        padding: 0,
-    };
-}
-
-impl RawEntry {
-    /// No entry.
-    pub const NONE: Self = Self {
-        node: 0,
-        generation: 0,
-        entry_seconds: 0,
-        attr_seconds: 0,
-        entry_nanoseconds: 0,
-        attr_nanoseconds: 0,
-        attr: Attr::NONE,
-    };
-}
-
 impl From<&Entry> for RawEntry {
     fn from(entry: &Entry) -> Self {
         Self {
@@ -492,16 +373,7 @@ impl From<&Entry> for RawEntry {
 
 impl RawAnswer {
     /// Success, with all other fields 0.
-    pub const DONE: Self = Self {
-        error: 0,
-        has_handle: 0,
-        handle: 0,
-        count: 0,
-        open_flags: 0,
-        has_count: 0,
-        entry: RawEntry::NONE,
-        statfs: Statvfs::NONE,
-    };
+    pub const DONE: Self = Self::NONE;
 
     /// Answers an INIT with the options that are wanted.
     pub fn set_options(&mut self, options: u64) {
@@ -515,17 +387,6 @@ impl RawAnswer {
 }
 
 impl<'a> Item<'a> {
-    const NONE: Item<'static> = Item {
-        ino: 0,
-        offset: 0,
-        name: ptr::null(),
-        name_size: 0,
-        entry: RawEntry::NONE,
-        type_: 0,
-        error: 0,
-        lent: PhantomData,
-    };
-
     /// Creates an item from what `readdir(3)` reports: `ino` is the inode number that programs see,
     /// `offset` the position after the item, from which a later READDIR continues, and `kind` its type,
     /// as [`DT_REG`](crate::DT_REG).
@@ -739,74 +600,5 @@ impl Drop for Slot {
     }
 }
 
-/// Checks of the layout against the numbers in the header.
-#[allow(dead_code)] // older compilers do not count uses in unnamed constants
-mod layout {
-    use super::{
-        Attr, IoSlice, Item, Range, RawAnswer, RawCall, RawEntry, RawInitMore, RawSession, RawSlot,
-        RawTold, SetattrIn, Statvfs,
-    };
-    use std::mem::{size_of, transmute};
-
-    /// Asserts the size of a struct, that it has no padding, and the offsets of its fields: with a 1 in one
-    /// field and zeros in all others, the first byte that is not 0 is at the offset of that field.
-    macro_rules! laid_out {
-        ($name:ty, $size:literal, $none:expr $(, $field:ident: $one:expr => $at:literal)*) => {
-            $(const _: () = {
-                // SAFETY: bytes are valid for any value; padding or another size does not compile.
-                let bytes: [u8; $size] = unsafe { transmute::<$name, _>({
-                    let mut one = $none;
-                    one.$field = $one;
-                    one
-                }) };
-                let mut first = 0;
-                while bytes[first] == 0 {
-                    first += 1;
-                }
-                assert!(first == $at && bytes[first] == 1);
-            };)*
-        };
-    }
-
-    const RANGE: Range = Range { at: 1, len: 0 };
-    const ATTR: Attr = Attr { ino: 1, ..Attr::NONE };
-    const TOLD: RawTold =
-        RawTold { len: 0, put: 0, options: 0, give_back: 0, taken: 0, interrupts: 0 };
-    const SESSION: RawSession = RawSession { options: 0, page_size: 0, max_buffer: 0 };
-
-    laid_out!(RawSession, 16, SESSION, options: 1 => 0, page_size: 1 => 8, max_buffer: 1 => 12);
-    laid_out!(SetattrIn, 88, SetattrIn::NONE, valid: 1 => 0, fh: 1 => 8, size: 1 => 16,
-        lock_owner: 1 => 24, atime: 1 => 32, mtime: 1 => 40, ctime: 1 => 48, atimensec: 1 => 56,
-        mtimensec: 1 => 60, ctimensec: 1 => 64, mode: 1 => 68, uid: 1 => 76, gid: 1 => 80,
-        unused5: 1 => 84);
-    laid_out!(RawCall, 312, RawCall::NONE, unique: 1 => 0, options: 1 => 8, room: 1 => 16, node: 1 => 24,
-        handle: 1 => 32, offset: 1 => 40, length: 1 => 48, lock_owner: 1 => 56, other_node: 1 => 64,
-        other_handle: 1 => 72, other_offset: 1 => 80, name: RANGE => 88, other_name: RANGE => 104,
-        data: RANGE => 120, context_name: RANGE => 136, context: RANGE => 152,
-        attr: SetattrIn { valid: 1, ..SetattrIn::NONE } => 168, call: 1 => 256, answer: 1 => 260,
-        has: 1 => 264, uid: 1 => 268, gid: 1 => 272, pid: 1 => 276, flags: 1 => 280, mode: 1 => 284,
-        umask: 1 => 288, rdev: 1 => 292, size: 1 => 296, more: 1 => 300, group: 1 => 304,
-        readahead: 1 => 308);
-    laid_out!(Attr, 88, Attr::NONE, ino: 1 => 0, size: 1 => 8, blocks: 1 => 16, atime: 1 => 24,
-        mtime: 1 => 32, ctime: 1 => 40, atimensec: 1 => 48, mtimensec: 1 => 52, ctimensec: 1 => 56,
-        mode: 1 => 60, nlink: 1 => 64, uid: 1 => 68, gid: 1 => 72, rdev: 1 => 76, blksize: 1 => 80,
-        flags: 1 => 84);
-    laid_out!(RawEntry, 128, RawEntry::NONE, node: 1 => 0, generation: 1 => 8, entry_seconds: 1 => 16,
-        attr_seconds: 1 => 24, entry_nanoseconds: 1 => 32, attr_nanoseconds: 1 => 36, attr: ATTR => 40);
-    laid_out!(Statvfs, 64, Statvfs::NONE, f_bsize: 1 => 0, f_frsize: 1 => 8, f_blocks: 1 => 16,
-        f_bfree: 1 => 24, f_bavail: 1 => 32, f_files: 1 => 40, f_ffree: 1 => 48, f_namemax: 1 => 56);
-    laid_out!(Item<'static>, 168, Item::NONE, ino: 1 => 0, offset: 1 => 8, name: 1 as *const u8 => 16,
-        name_size: 1 => 24, entry: RawEntry { node: 1, ..RawEntry::NONE } => 32, type_: 1 => 160,
-        error: 1 => 164);
-    laid_out!(RawAnswer, 224, RawAnswer::DONE, error: 1 => 0, has_handle: 1 => 4, handle: 1 => 8,
-        count: 1 => 16, open_flags: 1 => 24, has_count: 1 => 28,
-        entry: RawEntry { node: 1, ..RawEntry::NONE } => 32,
-        statfs: Statvfs { f_bsize: 1, ..Statvfs::NONE } => 160);
-    laid_out!(RawInitMore, 40, RawInitMore::NONE, want: 1 => 0, max_readahead: 1 => 8, max_write: 1 => 12,
-        time_gran: 1 => 16, max_stack_depth: 1 => 20, request_timeout: 1 => 24, max_background: 1 => 28,
-        congestion_threshold: 1 => 30, padding: 1 => 32);
-    laid_out!(RawTold, 48, TOLD, len: 1 => 0, put: 1 => 8, options: 1 => 16, give_back: 1 => 24,
-        taken: 1 => 32, interrupts: 1 => 40);
-    const _: () = assert!(size_of::<RawSlot>() == 8);
-    const _: () = assert!(size_of::<IoSlice<'_>>() == 16);
-}
+const _: () = assert!(size_of::<RawSlot>() == 8);
+const _: () = assert!(size_of::<IoSlice<'_>>() == 16);

@@ -57,6 +57,9 @@
 #[cfg(not(all(target_os = "linux", target_arch = "x86_64")))]
 compile_error!("nizwarf is for Linux on x86-64");
 
+#[macro_use]
+mod record;
+
 mod answer;
 mod attr;
 mod bytes;
@@ -68,6 +71,7 @@ mod door;
 mod errno;
 mod ffi;
 mod file_system;
+#[macro_use]
 mod flags;
 mod further;
 pub mod fuser;

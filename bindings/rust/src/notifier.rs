@@ -93,12 +93,12 @@ impl Notifier {
     /// Asks for all requests again that are not answered. Their numbers then have bit 63. Linux has this if it offers
     /// [`HAS_RESEND`](crate::FsOptions::HAS_RESEND).
     pub fn resend(&self) -> io::Result<()> {
-        self.tell(Notice::Resend, &[])
+        self.tell(Notice::Resend {}, &[])
     }
 
     /// Lets all names expire. Linux has this from 6.16 on.
     pub fn expire_all(&self) -> io::Result<()> {
-        self.tell(Notice::IncEpoch, &[])
+        self.tell(Notice::IncEpoch {}, &[])
     }
 
     /// Asks for the lookups of these nodes, if nobody uses them. Linux has this from 6.19 on.
