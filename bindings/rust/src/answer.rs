@@ -234,6 +234,14 @@ impl<K> To<K> {
         tell(self.pending, slot, text, items)
     }
 
+    /// Answers with an error, or with a text.
+    fn put(self, slot: &mut Slot, result: io::Result<impl AsRef<[u8]>>) -> Told<'_> {
+        match result {
+            Ok(text) => self.succeed(slot, text.as_ref(), &[]),
+            Err(error) => self.fail(slot, &error),
+        }
+    }
+
     /// Answers with an error, or with an answer of which `change` sets the fields that its kind has.
     #[inline]
     fn say<T>(
@@ -306,11 +314,64 @@ impl To<Destroyed> {
     }
 }
 
-impl To<Done> {
+/// Declares how calls are answered: of each kind the type of the result, and what sets the fields that its answer has.
+macro_rules! answers {
+    ($($(#[$about:meta])* $kind:ident: $result:ty => $change:expr;)*) => {
+        $(impl To<$kind> {
+            $(#[$about])*
+            #[inline]
+            pub fn answer(self, slot: &mut Slot, result: io::Result<$result>) -> Told<'_> {
+                self.say(slot, result, $change)
+            }
+        })*
+    };
+}
+
+answers! {
     /// Answers with success or an error.
+    Done: () => |_, ()| ();
+    /// Answers with attributes, and how long they are valid.
+    Attributes: (Attr, Duration) => |answer, (attr, timeout)| {
+        answer.entry.attr = attr;
+        answer.entry.attr_seconds = timeout.as_secs();
+        answer.entry.attr_nanoseconds = timeout.subsec_nanos();
+    };
+    /// Answers with statistics.
+    Statistics: Statvfs => |answer, statfs| answer.statfs = statfs;
+    /// Answers with an offset.
+    Offset: u64 => RawAnswer::set_offset;
+    /// Answers with the number of bytes that were copied.
+    Copied: usize => |answer, count| answer.count = count as u64;
+    /// Answers with events, as `poll(2)` has them.
+    Events: u32 => |answer, events| answer.count = events.into();
+    /// Answers with the number of bytes that were written.
+    Written: usize => |answer, count| answer.count = count as u64;
+}
+
+impl To<Locked> {
+    /// Answers with a lock that is in the way, or one of type [`LockType::Unlock`](crate::LockType::Unlock).
     #[inline]
-    pub fn answer(self, slot: &mut Slot, result: io::Result<()>) -> Told<'_> {
-        self.say(slot, result, |_, ()| ())
+    pub fn answer(self, slot: &mut Slot, result: io::Result<Lock>) -> Told<'_> {
+        self.put(slot, result.map(Lock::to_record))
+    }
+}
+
+impl To<Extended> {
+    /// Answers with attributes, and how long they are valid.
+    #[inline]
+    pub fn answer(self, slot: &mut Slot, result: io::Result<(Statx, Duration)>) -> Told<'_> {
+        self.put(slot, result.map(|(statx, timeout)| statx.to_record(timeout)))
+    }
+}
+
+impl To<Controlled> {
+    /// Answers with the result of a command. Output of more than `output_size` bytes, and more than 256 ranges, are
+    /// answered EIO.
+    #[inline]
+    pub fn answer(self, slot: &mut Slot, result: io::Result<IoctlReply>) -> Told<'_> {
+        let size = self.pending.call.size;
+        let text = result.and_then(|reply| reply.to_text(size).ok_or_else(|| Errno::EIO.into()));
+        self.put(slot, text)
     }
 }
 
@@ -370,18 +431,6 @@ impl To<EntryOf> {
     }
 }
 
-impl To<Attributes> {
-    /// Answers with attributes, and how long they are valid.
-    #[inline]
-    pub fn answer(self, slot: &mut Slot, result: io::Result<(Attr, Duration)>) -> Told<'_> {
-        self.say(slot, result, |answer, (attr, timeout)| {
-            answer.entry.attr = attr;
-            answer.entry.attr_seconds = timeout.as_secs();
-            answer.entry.attr_nanoseconds = timeout.subsec_nanos();
-        })
-    }
-}
-
 impl To<Opened> {
     /// Answers with a handle, which is sent as 0 if there is none, and options of the open file.
     #[inline]
@@ -415,14 +464,6 @@ impl To<Created> {
         })
         .with_entry(Some(node).filter(|node| *node != 0))
         .with_handle(node, handle)
-    }
-}
-
-impl To<Statistics> {
-    /// Answers with statistics.
-    #[inline]
-    pub fn answer(self, slot: &mut Slot, result: io::Result<Statvfs>) -> Told<'_> {
-        self.say(slot, result, |answer, statfs| answer.statfs = statfs)
     }
 }
 
@@ -476,74 +517,6 @@ impl From<ListxattrReply> for GetxattrReply {
             ListxattrReply::Names(names) => GetxattrReply::Value(names),
             ListxattrReply::Count(count) => GetxattrReply::Count(count),
         }
-    }
-}
-
-impl To<Offset> {
-    /// Answers with an offset.
-    #[inline]
-    pub fn answer(self, slot: &mut Slot, result: io::Result<u64>) -> Told<'_> {
-        self.say(slot, result, RawAnswer::set_offset)
-    }
-}
-
-impl To<Copied> {
-    /// Answers with the number of bytes that were copied.
-    #[inline]
-    pub fn answer(self, slot: &mut Slot, result: io::Result<usize>) -> Told<'_> {
-        self.say(slot, result, |answer, count| answer.count = count as u64)
-    }
-}
-
-impl To<Events> {
-    /// Answers with events, as `poll(2)` has them.
-    #[inline]
-    pub fn answer(self, slot: &mut Slot, result: io::Result<u32>) -> Told<'_> {
-        self.say(slot, result, |answer, events| answer.count = events.into())
-    }
-}
-
-impl To<Locked> {
-    /// Answers with a lock that is in the way, or one of type [`LockType::Unlock`](crate::LockType::Unlock).
-    #[inline]
-    pub fn answer(self, slot: &mut Slot, result: io::Result<Lock>) -> Told<'_> {
-        match result {
-            Ok(lock) => self.succeed(slot, &lock.to_record(), &[]),
-            Err(error) => self.fail(slot, &error),
-        }
-    }
-}
-
-impl To<Extended> {
-    /// Answers with attributes, and how long they are valid.
-    #[inline]
-    pub fn answer(self, slot: &mut Slot, result: io::Result<(Statx, Duration)>) -> Told<'_> {
-        match result {
-            Ok((statx, timeout)) => self.succeed(slot, &statx.to_record(timeout), &[]),
-            Err(error) => self.fail(slot, &error),
-        }
-    }
-}
-
-impl To<Controlled> {
-    /// Answers with the result of a command. Output of more than `output_size` bytes, and more than 256 ranges, are
-    /// answered EIO.
-    #[inline]
-    pub fn answer(self, slot: &mut Slot, result: io::Result<IoctlReply>) -> Told<'_> {
-        let size = self.pending.call.size;
-        let text = result.and_then(|reply| reply.to_text(size).ok_or_else(|| Errno::EIO.into()));
-        match text {
-            Ok(text) => self.succeed(slot, &text, &[]),
-            Err(error) => self.fail(slot, &error),
-        }
-    }
-}
-
-impl To<Written> {
-    /// Answers with the number of bytes that were written.
-    #[inline]
-    pub fn answer(self, slot: &mut Slot, result: io::Result<usize>) -> Told<'_> {
-        self.say(slot, result, |answer, count| answer.count = count as u64)
     }
 }
 

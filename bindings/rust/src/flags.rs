@@ -4,6 +4,25 @@
 use std::fmt;
 use std::ops::{BitAnd, BitOr, BitOrAssign, Sub};
 
+/// Implements operators of sets by those of their bits.
+macro_rules! operators {
+    ($($name:ident: $Operator:ident $operator:ident [$($of_bits:tt)*] $($Assign:ident $assign:ident)?;)*) => {$(
+        impl $Operator for $name {
+            type Output = Self;
+
+            fn $operator(self, other: Self) -> Self {
+                Self(self.0 $($of_bits)* other.0)
+            }
+        }
+
+        $(impl $Assign for $name {
+            fn $assign(&mut self, other: Self) {
+                *self = $Operator::$operator(*self, other);
+            }
+        })?
+    )*};
+}
+
 /// Declares a set of bits.
 macro_rules! flags {
     ($(#[$about:meta])* $name:ident: $bits:ty { $($(#[$flag_about:meta])* $flag:ident = $bit:expr;)* }) => {
@@ -51,34 +70,10 @@ macro_rules! flags {
             }
         }
 
-        impl BitOr for $name {
-            type Output = Self;
-
-            fn bitor(self, others: Self) -> Self {
-                Self(self.0 | others.0)
-            }
-        }
-
-        impl BitOrAssign for $name {
-            fn bitor_assign(&mut self, others: Self) {
-                self.0 |= others.0;
-            }
-        }
-
-        impl BitAnd for $name {
-            type Output = Self;
-
-            fn bitand(self, others: Self) -> Self {
-                Self(self.0 & others.0)
-            }
-        }
-
-        impl Sub for $name {
-            type Output = Self;
-
-            fn sub(self, others: Self) -> Self {
-                Self(self.0 & !others.0)
-            }
+        operators! {
+            $name: BitOr bitor [|] BitOrAssign bitor_assign;
+            $name: BitAnd bitand [&];
+            $name: Sub sub [& !];
         }
 
         impl fmt::Debug for $name {

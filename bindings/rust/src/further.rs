@@ -40,7 +40,8 @@ impl LockType {
         })
     }
 
-    fn number(self) -> u32 {
+    /// `F_RDLCK`, `F_WRLCK` or `F_UNLCK`.
+    pub(crate) fn number(self) -> u32 {
         match self {
             LockType::Read => 0,
             LockType::Write => 1,

@@ -1,14 +1,14 @@
 //! A file system of this crate that is one of fuser's: each call is taken, and answered by the reply that the method
 //! gets.
 
-use crate::answer::{Controlled, Done, Events, To};
+use crate::answer::{Data, Text, To};
 use crate::attr::SetattrIn;
 use crate::call::Call;
 use crate::client::Client;
 use crate::errno::Errno as Own;
 use crate::file_system::{Context, FileSystem, NoEntries};
 use crate::flags::{FsOptions, Offers, SetattrValid};
-use crate::further::{Limits, Lock, LockType};
+use crate::further::{Limits, PollHandle as Handle};
 use crate::fuser::config::{KernelConfig, SessionACL};
 use crate::fuser::errno::Errno;
 use crate::fuser::filesystem::Filesystem;
@@ -246,14 +246,14 @@ impl<F: Filesystem> FileSystem for Adapter<F> {
             Stage::Begun(_) if !self.allows(ctx.uid, &call) => refuse(call, Errno::EACCES),
             Stage::Begun(files) => {
                 let made = Made { files, req: &Request::new(ctx), link: &link };
-                made.of_names(call).and_then(|call| refuse(call, Errno::ENOSYS))
+                made.make(call).and_then(|call| refuse(call, Errno::ENOSYS))
             }
             _ => refuse(call, Errno::EIO),
         }
     }
 }
 
-/// What a call is made with. Each function makes some of the calls, and returns the others.
+/// What a call is made with.
 struct Made<'a, F> {
     files: &'a F,
     req: &'a Request,
@@ -271,9 +271,54 @@ const fn signed(bits: u32) -> i32 {
     bits as i32
 }
 
-/// Whether the kernel could mean these as places in a file, which have 63 bits.
-fn are_places(places: &[u64]) -> bool {
-    places.iter().all(|place| i64::try_from(*place).is_ok())
+/// Whether the kernel cannot mean one of these as a place in a file, which has 63 bits.
+fn are_none(places: &[u64]) -> bool {
+    places.iter().any(|place| i64::try_from(*place).is_err())
+}
+
+fn file_data(answer: Answer<Data>) -> ReplyData {
+    ReplyData(DataOf::File(answer))
+}
+
+fn link_data(answer: Answer<Text>) -> ReplyData {
+    ReplyData(DataOf::Link(answer))
+}
+
+fn write_flags(is_cached: bool, has_owner: bool, kills: bool) -> WriteFlags {
+    let mut flags = WriteFlags::empty();
+    flags.set(WriteFlags::FUSE_WRITE_CACHE, is_cached);
+    flags.set(WriteFlags::FUSE_WRITE_LOCKOWNER, has_owner);
+    flags.set(WriteFlags::FUSE_WRITE_KILL_SUIDGID, kills);
+    flags
+}
+
+fn poll_flags(waits: bool) -> PollFlags {
+    let mut flags = PollFlags::empty();
+    flags.set(PollFlags::FUSE_POLL_SCHEDULE_NOTIFY, waits);
+    flags
+}
+
+/// Makes a call by a method of fuser's. Each row has the fields of the call that the method takes, the method with its
+/// arguments, and its reply; after `unless` a condition in which the answer is an error instead. Before the rows there
+/// is what makes other calls.
+macro_rules! make {
+    ($this:ident, $call:ident else $rest:expr; $(
+        $Call:ident { $($field:ident),* } => $method:ident($($argument:expr),*) -> $reply:expr
+        $(, unless $is_wrong:expr => $error:ident)?;
+    )*) => {
+        match $call {
+            $(Call::$Call { $($field,)* to, .. } => {
+                let reply = $reply($this.answer(to));
+                $(if $is_wrong {
+                    reply.error(Errno::$error);
+                    return None;
+                })?
+                $this.files.$method($this.req, $($argument,)* reply);
+                None
+            })*
+            $call => $rest,
+        }
+    };
 }
 
 impl<F: Filesystem> Made<'_, F> {
@@ -282,98 +327,131 @@ impl<F: Filesystem> Made<'_, F> {
         Answer::new(to, self.link)
     }
 
-    /// The reply of a call that tells nothing but its outcome.
-    fn empty(&self, to: To<Done>) -> ReplyEmpty {
-        ReplyEmpty(self.answer(to))
-    }
-
-    /// Calls with names.
-    fn of_names<'r>(&self, call: Call<'r>) -> Option<Call<'r>> {
-        let Made { files, req, .. } = *self;
-        match call {
-            Call::Lookup { parent, name, to } => {
-                let reply = ReplyEntry(self.answer(to));
-                files.lookup(req, INodeNo(parent), name_of(&name), reply);
-            }
-            Call::Symlink { linkname, parent, name, to, .. } => {
-                let (reply, target) = (ReplyEntry(self.answer(to)), Path::new(name_of(&linkname)));
-                files.symlink(req, INodeNo(parent), name_of(&name), target, reply);
-            }
-            Call::Mknod { parent, name, mode, rdev, umask, to, .. } => {
-                let (parent, reply) = (INodeNo(parent), ReplyEntry(self.answer(to)));
-                files.mknod(req, parent, name_of(&name), mode, umask, rdev, reply);
-            }
-            Call::Mkdir { parent, name, mode, umask, to, .. } => {
-                let reply = ReplyEntry(self.answer(to));
-                files.mkdir(req, INodeNo(parent), name_of(&name), mode, umask, reply);
-            }
-            Call::Unlink { parent, name, to } => {
-                files.unlink(req, INodeNo(parent), name_of(&name), self.empty(to));
-            }
-            Call::Rmdir { parent, name, to } => {
-                files.rmdir(req, INodeNo(parent), name_of(&name), self.empty(to));
-            }
-            Call::Rename { parent, name, new_parent, new_name, flags, to } => {
-                let (parent, new_parent) = (INodeNo(parent), INodeNo(new_parent));
-                let (name, new_name) = (name_of(&name), name_of(&new_name));
-                let flags = RenameFlags::from_bits_retain(flags);
-                files.rename(req, parent, name, new_parent, new_name, flags, self.empty(to));
-            }
-            Call::Link { node, new_parent, new_name, to } => {
-                let (parent, reply) = (INodeNo(new_parent), ReplyEntry(self.answer(to)));
-                files.link(req, INodeNo(node), parent, name_of(&new_name), reply);
-            }
-            Call::Create { parent, name, mode, flags, umask, to, .. } => {
-                let (parent, reply) = (INodeNo(parent), ReplyCreate(self.answer(to)));
-                files.create(req, parent, name_of(&name), mode, umask, signed(flags), reply);
-            }
-            other => return self.of_nodes(other),
+    /// Makes a call, or returns one that fuser does not have.
+    #[allow(clippy::too_many_lines)] // a table
+    fn make<'r>(&self, call: Call<'r>) -> Option<Call<'r>> {
+        make! { self, call else self.make_other(call);
+            Lookup { parent, name } => lookup(INodeNo(parent), name_of(&name)) -> ReplyEntry;
+            Symlink { linkname, parent, name } =>
+                symlink(INodeNo(parent), name_of(&name), Path::new(name_of(&linkname))) -> ReplyEntry;
+            Mknod { parent, name, mode, rdev, umask } =>
+                mknod(INodeNo(parent), name_of(&name), mode, umask, rdev) -> ReplyEntry;
+            Mkdir { parent, name, mode, umask } =>
+                mkdir(INodeNo(parent), name_of(&name), mode, umask) -> ReplyEntry;
+            Unlink { parent, name } => unlink(INodeNo(parent), name_of(&name)) -> ReplyEmpty;
+            Rmdir { parent, name } => rmdir(INodeNo(parent), name_of(&name)) -> ReplyEmpty;
+            Rename { parent, name, new_parent, new_name, flags } =>
+                rename(
+                    INodeNo(parent), name_of(&name), INodeNo(new_parent), name_of(&new_name),
+                    RenameFlags::from_bits_retain(flags)
+                ) -> ReplyEmpty;
+            Link { node, new_parent, new_name } =>
+                link(INodeNo(node), INodeNo(new_parent), name_of(&new_name)) -> ReplyEntry;
+            Create { parent, name, mode, flags, umask } =>
+                create(INodeNo(parent), name_of(&name), mode, umask, signed(flags)) -> ReplyCreate;
+            Getattr { node, handle } => getattr(INodeNo(node), handle.map(FileHandle)) -> ReplyAttr;
+            Readlink { node } => readlink(INodeNo(node)) -> link_data;
+            Statfs { node } => statfs(INodeNo(node)) -> ReplyStatfs;
+            Setxattr { node, name, value, flags } =>
+                setxattr(INodeNo(node), name_of(&name), &value, signed(flags), 0) -> ReplyEmpty;
+            Getxattr { node, name, size } => getxattr(INodeNo(node), name_of(&name), size) -> ReplyXattr;
+            Listxattr { node, size } => listxattr(INodeNo(node), size) -> ReplyXattr;
+            Removexattr { node, name } => removexattr(INodeNo(node), name_of(&name)) -> ReplyEmpty;
+            Access { node, mask } =>
+                access(INodeNo(node), AccessFlags::from_bits_retain(signed(mask))) -> ReplyEmpty;
+            Bmap { node, block, block_size } => bmap(INodeNo(node), block_size, block) -> ReplyBmap;
+            Open { node, flags } => open(INodeNo(node), OpenFlags(signed(flags))) -> ReplyOpen;
+            Opendir { node, flags } => opendir(INodeNo(node), OpenFlags(signed(flags))) -> ReplyOpen;
+            Releasedir { node, flags, handle } =>
+                releasedir(INodeNo(node), FileHandle(handle), OpenFlags(signed(flags))) -> ReplyEmpty;
+            Fsyncdir { node, datasync, handle } =>
+                fsyncdir(INodeNo(node), FileHandle(handle), datasync) -> ReplyEmpty;
+            Read { node, handle, size, offset, lock_owner, flags } =>
+                read(
+                    INodeNo(node), FileHandle(handle), offset, size, OpenFlags(signed(flags)),
+                    lock_owner.map(LockOwner)
+                ) -> file_data, unless are_none(&[offset]) => EINVAL;
+            Flush { node, handle, lock_owner } =>
+                flush(INodeNo(node), FileHandle(handle), LockOwner(lock_owner)) -> ReplyEmpty;
+            Release { node, flags, handle, flush, lock_owner } =>
+                release(
+                    INodeNo(node), FileHandle(handle), OpenFlags(signed(flags)), lock_owner.map(LockOwner),
+                    flush
+                ) -> ReplyEmpty;
+            Fsync { node, datasync, handle } =>
+                fsync(INodeNo(node), FileHandle(handle), datasync) -> ReplyEmpty;
+            Fallocate { node, handle, mode, offset, length } =>
+                fallocate(INodeNo(node), FileHandle(handle), offset, length, signed(mode)) -> ReplyEmpty,
+                unless are_none(&[offset, length]) => EINVAL;
+            Lseek { node, handle, offset, whence } =>
+                lseek(
+                    INodeNo(node), FileHandle(handle), i64::from_le_bytes(offset.to_le_bytes()),
+                    signed(whence)
+                ) -> ReplyLseek;
+            Write { node, handle, data, offset, lock_owner, delayed_write, kill_priv, flags } =>
+                write(
+                    INodeNo(node), FileHandle(handle), offset, &data.to_cow(),
+                    write_flags(delayed_write, lock_owner.is_some(), kill_priv), OpenFlags(signed(flags)),
+                    lock_owner.map(LockOwner)
+                ) -> ReplyWrite, unless are_none(&[offset]) => EINVAL;
+            CopyFileRange { node_in, handle_in, offset_in, node_out, handle_out, offset_out, len, flags } =>
+                copy_file_range(
+                    INodeNo(node_in), FileHandle(handle_in), offset_in, INodeNo(node_out),
+                    FileHandle(handle_out), offset_out, len, CopyFileRangeFlags::from_bits_retain(flags)
+                ) -> ReplyWrite, unless are_none(&[offset_in, offset_out]) => EINVAL;
+            Getlk { node, handle, lock_owner, lock } =>
+                getlk(
+                    INodeNo(node), FileHandle(handle), LockOwner(lock_owner), lock.start, lock.end,
+                    signed(lock.kind.number()), lock.pid
+                ) -> ReplyLock;
+            Setlk { node, handle, lock_owner, lock } =>
+                setlk(
+                    INodeNo(node), FileHandle(handle), LockOwner(lock_owner), lock.start, lock.end,
+                    signed(lock.kind.number()), lock.pid, false
+                ) -> ReplyEmpty;
+            Setlkw { node, handle, lock_owner, lock } =>
+                setlk(
+                    INodeNo(node), FileHandle(handle), LockOwner(lock_owner), lock.start, lock.end,
+                    signed(lock.kind.number()), lock.pid, true
+                ) -> ReplyEmpty;
+            Ioctl { node, handle, flags, cmd, input, output_size } =>
+                ioctl(
+                    INodeNo(node), FileHandle(handle), IoctlFlags::from_bits_retain(flags.bits()), cmd,
+                    &input, output_size
+                ) -> ReplyIoctl, unless flags.contains(crate::IoctlFlags::UNRESTRICTED) => ENOSYS;
+            Poll { node, handle, wake, events } =>
+                poll(
+                    INodeNo(node), FileHandle(handle), self.notifier(wake),
+                    PollEvents::from_bits_retain(events), poll_flags(wake.is_some())
+                ) -> ReplyPoll;
         }
-        None
     }
 
-    /// Calls about a node.
-    fn of_nodes<'r>(&self, call: Call<'r>) -> Option<Call<'r>> {
-        let Made { files, req, .. } = *self;
+    /// Makes a call whose method has other arguments, or returns it.
+    fn make_other<'r>(&self, call: Call<'r>) -> Option<Call<'r>> {
         match call {
-            Call::Getattr { node, handle, to } => {
-                let reply = ReplyAttr(self.answer(to));
-                files.getattr(req, INodeNo(node), handle.map(FileHandle), reply);
-            }
             Call::Setattr { node, attr, handle, valid, to } => {
                 self.setattr(INodeNo(node), &attr, handle, valid, ReplyAttr(self.answer(to)));
             }
-            Call::Readlink { node, to } => {
-                let reply = ReplyData(DataOf::Link(self.answer(to)));
-                files.readlink(req, INodeNo(node), reply);
+            Call::Readdir { node, handle, size, offset, plus, to } => {
+                let (files, req) = (self.files, self.req);
+                let (node, handle) = (INodeNo(node), FileHandle(handle));
+                let listing = Listing::new(to, size, self.link);
+                if plus {
+                    files.readdirplus(req, node, handle, offset, ReplyDirectoryPlus(listing));
+                } else {
+                    files.readdir(req, node, handle, offset, ReplyDirectory(listing));
+                }
             }
-            Call::Statfs { node, to } => {
-                files.statfs(req, INodeNo(node), ReplyStatfs(self.answer(to)));
-            }
-            Call::Setxattr { node, name, value, flags, to, .. } => {
-                let (name, flags, reply) = (name_of(&name), signed(flags), self.empty(to));
-                files.setxattr(req, INodeNo(node), name, &value, flags, 0, reply);
-            }
-            Call::Getxattr { node, name, size, to } => {
-                let reply = ReplyXattr(self.answer(to));
-                files.getxattr(req, INodeNo(node), name_of(&name), size, reply);
-            }
-            Call::Listxattr { node, size, to } => {
-                files.listxattr(req, INodeNo(node), size, ReplyXattr(self.answer(to)));
-            }
-            Call::Removexattr { node, name, to } => {
-                files.removexattr(req, INodeNo(node), name_of(&name), self.empty(to));
-            }
-            Call::Access { node, mask, to } => {
-                let mask = AccessFlags::from_bits_retain(signed(mask));
-                files.access(req, INodeNo(node), mask, self.empty(to));
-            }
-            Call::Bmap { node, block, block_size, to } => {
-                files.bmap(req, INodeNo(node), block_size, block, ReplyBmap(self.answer(to)));
-            }
-            other => return self.of_directories(other),
+            other => return Some(other),
         }
         None
+    }
+
+    /// What tells the client of an event. It has the name of who waits, or 0.
+    fn notifier(&self, wake: Option<Handle>) -> PollNotifier {
+        let handle = PollHandle(wake.map_or(0, |wake| wake.0));
+        PollNotifier { handle, notifier: Notifier(self.link.client.notifier()) }
     }
 
     fn setattr(
@@ -411,226 +489,5 @@ impl<F: Filesystem> Made<'_, F> {
             None,
             reply,
         );
-    }
-
-    /// Calls about an open directory, and those that open.
-    fn of_directories<'r>(&self, call: Call<'r>) -> Option<Call<'r>> {
-        let Made { files, req, .. } = *self;
-        match call {
-            Call::Open { node, flags, to, .. } => {
-                let (flags, reply) = (OpenFlags(signed(flags)), ReplyOpen(self.answer(to)));
-                files.open(req, INodeNo(node), flags, reply);
-            }
-            Call::Opendir { node, flags, to } => {
-                let (flags, reply) = (OpenFlags(signed(flags)), ReplyOpen(self.answer(to)));
-                files.opendir(req, INodeNo(node), flags, reply);
-            }
-            Call::Readdir { node, handle, size, offset, plus, to } => {
-                let (node, handle) = (INodeNo(node), FileHandle(handle));
-                let listing = Listing::new(to, size, self.link);
-                if plus {
-                    files.readdirplus(req, node, handle, offset, ReplyDirectoryPlus(listing));
-                } else {
-                    files.readdir(req, node, handle, offset, ReplyDirectory(listing));
-                }
-            }
-            Call::Releasedir { node, flags, handle, to } => {
-                let (handle, flags) = (FileHandle(handle), OpenFlags(signed(flags)));
-                files.releasedir(req, INodeNo(node), handle, flags, self.empty(to));
-            }
-            Call::Fsyncdir { node, datasync, handle, to } => {
-                files.fsyncdir(req, INodeNo(node), FileHandle(handle), datasync, self.empty(to));
-            }
-            other => return self.of_files(other),
-        }
-        None
-    }
-
-    /// Calls about an open file.
-    fn of_files<'r>(&self, call: Call<'r>) -> Option<Call<'r>> {
-        let Made { files, req, .. } = *self;
-        match call {
-            Call::Read { node, handle, size, offset, lock_owner, flags, to } => {
-                let reply = ReplyData(DataOf::File(self.answer(to)));
-                if !are_places(&[offset]) {
-                    reply.error(Errno::EINVAL);
-                    return None;
-                }
-                let (node, handle, flags) =
-                    (INodeNo(node), FileHandle(handle), OpenFlags(signed(flags)));
-                let owner = lock_owner.map(LockOwner);
-                files.read(req, node, handle, offset, size, flags, owner, reply);
-            }
-            Call::Flush { node, handle, lock_owner, to } => {
-                let (handle, owner) = (FileHandle(handle), LockOwner(lock_owner));
-                files.flush(req, INodeNo(node), handle, owner, self.empty(to));
-            }
-            Call::Release { node, flags, handle, flush, lock_owner, to, .. } => {
-                let (handle, flags) = (FileHandle(handle), OpenFlags(signed(flags)));
-                let (owner, reply) = (lock_owner.map(LockOwner), self.empty(to));
-                files.release(req, INodeNo(node), handle, flags, owner, flush, reply);
-            }
-            Call::Fsync { node, datasync, handle, to } => {
-                files.fsync(req, INodeNo(node), FileHandle(handle), datasync, self.empty(to));
-            }
-            Call::Fallocate { node, handle, mode, offset, length, to } => {
-                let (handle, reply) = (FileHandle(handle), self.empty(to));
-                if are_places(&[offset, length]) {
-                    files.fallocate(
-                        req,
-                        INodeNo(node),
-                        handle,
-                        offset,
-                        length,
-                        signed(mode),
-                        reply,
-                    );
-                } else {
-                    reply.error(Errno::EINVAL);
-                }
-            }
-            Call::Lseek { node, handle, offset, whence, to } => {
-                let (handle, reply) = (FileHandle(handle), ReplyLseek(self.answer(to)));
-                let offset = i64::from_le_bytes(offset.to_le_bytes());
-                files.lseek(req, INodeNo(node), handle, offset, signed(whence), reply);
-            }
-            other => return self.of_data(other),
-        }
-        None
-    }
-
-    /// Calls that write, or copy.
-    fn of_data<'r>(&self, call: Call<'r>) -> Option<Call<'r>> {
-        let Made { files, req, .. } = *self;
-        match call {
-            Call::Write {
-                node,
-                handle,
-                data,
-                offset,
-                lock_owner,
-                delayed_write,
-                kill_priv,
-                flags,
-                to,
-                ..
-            } => {
-                let reply = ReplyWrite(self.answer(to));
-                if !are_places(&[offset]) {
-                    reply.error(Errno::EINVAL);
-                    return None;
-                }
-                let mut how = WriteFlags::empty();
-                how.set(WriteFlags::FUSE_WRITE_CACHE, delayed_write);
-                how.set(WriteFlags::FUSE_WRITE_LOCKOWNER, lock_owner.is_some());
-                how.set(WriteFlags::FUSE_WRITE_KILL_SUIDGID, kill_priv);
-                let (node, handle) = (INodeNo(node), FileHandle(handle));
-                let (flags, owner) = (OpenFlags(signed(flags)), lock_owner.map(LockOwner));
-                files.write(req, node, handle, offset, &data.to_cow(), how, flags, owner, reply);
-            }
-            Call::CopyFileRange {
-                node_in,
-                handle_in,
-                offset_in,
-                node_out,
-                handle_out,
-                offset_out,
-                len,
-                flags,
-                to,
-            } => {
-                let reply = ReplyWrite(self.answer(to));
-                if !are_places(&[offset_in, offset_out]) {
-                    reply.error(Errno::EINVAL);
-                    return None;
-                }
-                files.copy_file_range(
-                    req,
-                    INodeNo(node_in),
-                    FileHandle(handle_in),
-                    offset_in,
-                    INodeNo(node_out),
-                    FileHandle(handle_out),
-                    offset_out,
-                    len,
-                    CopyFileRangeFlags::from_bits_retain(flags),
-                    reply,
-                );
-            }
-            other => return self.further(other),
-        }
-        None
-    }
-
-    /// Calls that virtiofsd does not serve. Others are left.
-    fn further<'r>(&self, call: Call<'r>) -> Option<Call<'r>> {
-        let Made { files, req, .. } = *self;
-        match call {
-            Call::Getlk { node, handle, lock_owner, lock, to } => {
-                let Lock { start, end, kind, pid } = lock;
-                let (node, handle, owner) =
-                    (INodeNo(node), FileHandle(handle), LockOwner(lock_owner));
-                let reply = ReplyLock(self.answer(to));
-                files.getlk(req, node, handle, owner, start, end, number_of(kind), pid, reply);
-            }
-            Call::Setlk { node, handle, lock_owner, lock, to, .. } => {
-                self.set_lock(node, handle, lock_owner, lock, false, to);
-            }
-            Call::Setlkw { node, handle, lock_owner, lock, to, .. } => {
-                self.set_lock(node, handle, lock_owner, lock, true, to);
-            }
-            Call::Ioctl { node, handle, flags, cmd, input, output_size, to, .. } => {
-                let flags = IoctlFlags::from_bits_retain(flags.bits());
-                self.control(node, handle, flags, (cmd, &input, output_size), to);
-            }
-            Call::Poll { node, handle, wake, events, to } => {
-                self.poll(node, handle, wake.map(|it| PollHandle(it.0)), events, to);
-            }
-            other => return Some(other),
-        }
-        None
-    }
-
-    fn set_lock(&self, node: u64, handle: u64, owner: u64, lock: Lock, sleep: bool, to: To<Done>) {
-        let Lock { start, end, kind, pid } = lock;
-        let (node, handle, owner) = (INodeNo(node), FileHandle(handle), LockOwner(owner));
-        let (kind, reply) = (number_of(kind), self.empty(to));
-        self.files.setlk(self.req, node, handle, owner, start, end, kind, pid, sleep, reply);
-    }
-
-    fn control(
-        &self,
-        node: u64,
-        handle: u64,
-        flags: IoctlFlags,
-        (cmd, input, output_size): (u32, &[u8], u32),
-        to: To<Controlled>,
-    ) {
-        let (node, handle, reply) =
-            (INodeNo(node), FileHandle(handle), ReplyIoctl(self.answer(to)));
-        if flags.contains(IoctlFlags::FUSE_IOCTL_UNRESTRICTED) {
-            reply.error(Errno::ENOSYS);
-        } else {
-            self.files.ioctl(self.req, node, handle, flags, cmd, input, output_size, reply);
-        }
-    }
-
-    fn poll(&self, node: u64, handle: u64, wake: Option<PollHandle>, events: u32, to: To<Events>) {
-        let mut flags = PollFlags::empty();
-        flags.set(PollFlags::FUSE_POLL_SCHEDULE_NOTIFY, wake.is_some());
-        let notifier = Notifier(self.link.client.notifier());
-        let notifier = PollNotifier { handle: wake.unwrap_or(PollHandle(0)), notifier };
-        let (node, handle, reply) = (INodeNo(node), FileHandle(handle), ReplyPoll(self.answer(to)));
-        let events = PollEvents::from_bits_retain(events);
-        self.files.poll(self.req, node, handle, notifier, events, flags, reply);
-    }
-}
-
-/// `F_RDLCK`, `F_WRLCK` or `F_UNLCK`.
-fn number_of(kind: LockType) -> i32 {
-    match kind {
-        LockType::Read => 0,
-        LockType::Write => 1,
-        LockType::Unlock => 2,
     }
 }

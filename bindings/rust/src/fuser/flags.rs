@@ -147,10 +147,12 @@ macro_rules! bits {
             }
         }
 
-        operators! { $name BitOr bitor union BitOrAssign bitor_assign }
-        operators! { $name BitAnd bitand intersection BitAndAssign bitand_assign }
-        operators! { $name BitXor bitxor symmetric_difference BitXorAssign bitxor_assign }
-        operators! { $name Sub sub difference SubAssign sub_assign }
+        operators! {
+            $name: BitOr bitor [|] BitOrAssign bitor_assign;
+            $name: BitAnd bitand [&] BitAndAssign bitand_assign;
+            $name: BitXor bitxor [^] BitXorAssign bitxor_assign;
+            $name: Sub sub [& !] SubAssign sub_assign;
+        }
 
         impl Not for $name {
             type Output = Self;
@@ -187,26 +189,7 @@ macro_rules! bits {
     };
 }
 
-/// Implements an operator by a function of the set.
-macro_rules! operators {
-    ($name:ident $Operator:ident $operator:ident $function:ident $Assign:ident $assign:ident) => {
-        impl $Operator for $name {
-            type Output = Self;
-
-            fn $operator(self, other: Self) -> Self {
-                self.$function(other)
-            }
-        }
-
-        impl $Assign for $name {
-            fn $assign(&mut self, other: Self) {
-                *self = self.$function(other);
-            }
-        }
-    };
-}
-
-/// Prints a set as the number that it is.
+/// Prints a number with a type of its own as the number that it is.
 macro_rules! formats {
     ($name:ident $($Format:ident)*) => {
         $(impl fmt::$Format for $name {

@@ -54,6 +54,7 @@ mod adapter;
 mod config;
 mod errno;
 mod filesystem;
+#[macro_use]
 mod flags;
 mod notify;
 mod reply;

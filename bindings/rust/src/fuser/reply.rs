@@ -121,7 +121,7 @@ macro_rules! replies {
             $(#[$about])*
             #[derive(Debug)]
             #[must_use = "the caller waits for the answer: it is EIO if this is dropped"]
-            pub struct $name(pub(super) Answer<$kind>);
+            pub struct $name(pub(super) $kind);
 
             impl $name {
                 /// Answers with an error.
@@ -135,31 +135,37 @@ macro_rules! replies {
 
 replies! {
     /// Answers with attributes.
-    ReplyAttr: Attributes;
+    ReplyAttr: Answer<Attributes>;
     /// Answers with the number of a block.
-    ReplyBmap: Offset;
+    ReplyBmap: Answer<Offset>;
     /// Answers with a file that was created and opened.
-    ReplyCreate: Created;
+    ReplyCreate: Answer<Created>;
+    /// Answers with data of a file, or with the text of a symbolic link.
+    ReplyData: DataOf;
+    /// Answers with items of a directory.
+    ReplyDirectory: Listing;
+    /// Answers with items of a directory and their entries.
+    ReplyDirectoryPlus: Listing;
     /// Answers with success.
-    ReplyEmpty: Done;
+    ReplyEmpty: Answer<Done>;
     /// Answers with an entry.
-    ReplyEntry: EntryOf;
+    ReplyEntry: Answer<EntryOf>;
     /// Answers with the result of a command.
-    ReplyIoctl: Controlled;
+    ReplyIoctl: Answer<Controlled>;
     /// Answers with a lock.
-    ReplyLock: Locked;
+    ReplyLock: Answer<Locked>;
     /// Answers with an offset in a file.
-    ReplyLseek: Offset;
+    ReplyLseek: Answer<Offset>;
     /// Answers with an open file or directory.
-    ReplyOpen: Opened;
+    ReplyOpen: Answer<Opened>;
     /// Answers with events.
-    ReplyPoll: Events;
+    ReplyPoll: Answer<Events>;
     /// Answers with statistics.
-    ReplyStatfs: Statistics;
+    ReplyStatfs: Answer<Statistics>;
     /// Answers with the number of bytes that were written.
-    ReplyWrite: Written;
+    ReplyWrite: Answer<Written>;
     /// Answers with an extended attribute, or with their names.
-    ReplyXattr: TextOrCount;
+    ReplyXattr: Answer<TextOrCount>;
 }
 
 impl ReplyAttr {
@@ -349,16 +355,20 @@ impl ReplyCreate {
     }
 }
 
-/// Answers with data of a file, or with the text of a symbolic link.
-#[derive(Debug)]
-#[must_use = "the caller waits for the answer: it is EIO if this is dropped"]
-pub struct ReplyData(pub(super) DataOf);
-
 /// What a [`ReplyData`] answers.
 #[derive(Debug)]
 pub(super) enum DataOf {
     File(Answer<Data>),
     Link(Answer<Text>),
+}
+
+impl DataOf {
+    fn fail(self, error: Errno) {
+        match self {
+            DataOf::File(answer) => answer.fail(error),
+            DataOf::Link(answer) => answer.fail(error),
+        }
+    }
 }
 
 impl ReplyData {
@@ -369,14 +379,6 @@ impl ReplyData {
                 answer.send_with(data, |to, slot| to.answer(slot, Ok(data.len())));
             }
             DataOf::Link(answer) => answer.send(|to, slot| to.answer(slot, Ok(data))),
-        }
-    }
-
-    /// Answers with an error.
-    pub fn error(self, err: Errno) {
-        match self.0 {
-            DataOf::File(answer) => answer.fail(err),
-            DataOf::Link(answer) => answer.fail(err),
         }
     }
 }
@@ -436,6 +438,10 @@ impl Listing {
         name
     }
 
+    fn fail(self, error: Errno) {
+        self.answer.fail(error);
+    }
+
     fn send(self) {
         let items: Vec<Item<'_>> = self.items.iter().map(Listed::item).collect();
         if self.is_invalid {
@@ -445,11 +451,6 @@ impl Listing {
         self.answer.send(|to, slot| to.answer(slot, Ok(&items)));
     }
 }
-
-/// Answers with items of a directory.
-#[derive(Debug)]
-#[must_use = "the caller waits for the answer: it is EIO if this is dropped"]
-pub struct ReplyDirectory(pub(super) Listing);
 
 impl ReplyDirectory {
     /// Adds an item, if it fits, and returns whether it does not. `offset` is the position after it, from which a later
@@ -472,17 +473,7 @@ impl ReplyDirectory {
     pub fn ok(self) {
         self.0.send();
     }
-
-    /// Answers with an error.
-    pub fn error(self, err: Errno) {
-        self.0.answer.fail(err);
-    }
 }
-
-/// Answers with items of a directory and their entries.
-#[derive(Debug)]
-#[must_use = "the caller waits for the answer: it is EIO if this is dropped"]
-pub struct ReplyDirectoryPlus(pub(super) Listing);
 
 impl ReplyDirectoryPlus {
     /// Adds an item and its entry, as [`ReplyDirectory::add`] and [`ReplyEntry::entry`]. Its number is that of the
@@ -508,10 +499,5 @@ impl ReplyDirectoryPlus {
     /// Answers with the items.
     pub fn ok(self) {
         self.0.send();
-    }
-
-    /// Answers with an error.
-    pub fn error(self, err: Errno) {
-        self.0.answer.fail(err);
     }
 }

@@ -19,11 +19,7 @@ macro_rules! numbers {
                 }
             }
 
-            impl fmt::Display for $name {
-                fn fmt(&self, f: &mut fmt::Formatter<'_>) -> fmt::Result {
-                    fmt::Display::fmt(&self.0, f)
-                }
-            }
+            formats! { $name Display }
         )*
     };
 }
@@ -246,17 +242,7 @@ impl OpenFlags {
     }
 }
 
-impl fmt::LowerHex for OpenFlags {
-    fn fmt(&self, f: &mut fmt::Formatter<'_>) -> fmt::Result {
-        fmt::LowerHex::fmt(&self.0, f)
-    }
-}
-
-impl fmt::UpperHex for OpenFlags {
-    fn fmt(&self, f: &mut fmt::Formatter<'_>) -> fmt::Result {
-        fmt::UpperHex::fmt(&self.0, f)
-    }
-}
+formats! { OpenFlags LowerHex UpperHex }
 
 /// Who asks.
 #[derive(Debug)]
