@@ -100,9 +100,9 @@ check_documents() { tools/dev/documents.sh; }
 check_edits() { tests/edits/run.sh --texts; }
 check_numbers() { tools/dev/numbers.py; }
 check_shell() { scripts | each shellcheck; }
-# (one by one from the input: some name modules that are elsewhere)
+# (one by one from the input: some name modules that are elsewhere; and in their folder, for its rustfmt.toml)
 # shellcheck disable=SC2016
-check_rust() { files '*.rs' | each -n 1 bash -c 'rustfmt --check --color never < "$0" || { echo "$0" && exit 1; }'; }
+check_rust() { files '*.rs' | each -n 1 bash -c 'cd "${0%/*}" && rustfmt --check --color never < "${0##*/}" || { echo "$0" && exit 1; }'; }
 check_python() { files '*.py' | each pyflakes3; }
 check_door() { pytest-3 -q -m "not slow" tests/c; }
 

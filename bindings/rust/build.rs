@@ -10,13 +10,9 @@ const NAME: &str = "nizwarf";
 const VERSIONS: [&str; 2] = [">= 0.3", "< 1"];
 
 fn main() {
-    for name in [
-        "NIZWARF_LIB_DIR",
-        "PKG_CONFIG",
-        "PKG_CONFIG_PATH",
-        "PKG_CONFIG_LIBDIR",
-        "PKG_CONFIG_SYSROOT_DIR",
-    ] {
+    for name in
+        ["NIZWARF_LIB_DIR", "PKG_CONFIG", "PKG_CONFIG_PATH", "PKG_CONFIG_LIBDIR", "PKG_CONFIG_SYSROOT_DIR"]
+    {
         println!("cargo:rerun-if-env-changed={name}");
     }
     println!("cargo:rerun-if-changed=build.rs");
@@ -50,9 +46,7 @@ fn link_folder(folder: &str) -> Result<(), String> {
         return Err(format!("the folder {folder} has {kind}"));
     };
     // The linker runs in another folder.
-    let folder = Path::new(folder)
-        .canonicalize()
-        .map_err(|fault| format!("the folder {folder}: {fault}"))?;
+    let folder = Path::new(folder).canonicalize().map_err(|fault| format!("the folder {folder}: {fault}"))?;
     println!("cargo:rustc-link-search=native={}", folder.display());
     for library in libraries {
         println!("cargo:rustc-link-lib={library}");
@@ -98,8 +92,7 @@ fn link_installed() -> Result<(), String> {
 /// Returns what pkg-config says.
 fn ask_pkg_config(words: &[&str], of: &[String]) -> Result<String, String> {
     let program = env::var("PKG_CONFIG").unwrap_or_else(|_| "pkg-config".into());
-    let why =
-        |why: &dyn std::fmt::Display| format!("NIZWARF_LIB_DIR is not set, and `{program}`: {why}");
+    let why = |why: &dyn std::fmt::Display| format!("NIZWARF_LIB_DIR is not set, and `{program}`: {why}");
     let said = Command::new(&program).args(words).arg("--print-errors").args(of).output();
     let said = said.map_err(|fault| why(&fault))?;
     if said.status.success() {

@@ -14,8 +14,7 @@ use std::process::{exit, Command};
 use std::sync::atomic::{AtomicU64, Ordering};
 use std::thread;
 
-const USAGE: &str =
-    "Usage: check MOUNTPOINT PROGRAM [WORD..], as root: mounts what PROGRAM serves at its
+const USAGE: &str = "Usage: check MOUNTPOINT PROGRAM [WORD..], as root: mounts what PROGRAM serves at its
        standard input, and passes only well-formed requests on to it. SIGINT and SIGTERM
        unmount it.
        check - PROGRAM [WORD..]: the same for requests from standard input.";
@@ -155,8 +154,7 @@ extern "C" {
 struct Signals([u64; 16]);
 
 /// SIGINT and SIGTERM.
-static ENDING: Signals =
-    Signals([1 << (2 - 1) | 1 << (15 - 1), 0, 0, 0, 0, 0, 0, 0, 0, 0, 0, 0, 0, 0, 0, 0]);
+static ENDING: Signals = Signals([1 << (2 - 1) | 1 << (15 - 1), 0, 0, 0, 0, 0, 0, 0, 0, 0, 0, 0, 0, 0, 0, 0]);
 
 /// Holds the signals back that end this process. Threads that begin after it do so too.
 fn hold_signals() {

@@ -4,7 +4,8 @@ use nizwarf::*;
 use std::{env, ffi::CStr, fs::File, io::*, os::unix::io::AsFd, process::exit, time::Duration};
 
 const TEXT: &[u8] = b"Hello, world!\n";
-const USAGE: &str = "Usage: hello MOUNTPOINT: mounts a file there, by fusermount3, until it is unmounted or this ends.
+const USAGE: &str =
+    "Usage: hello MOUNTPOINT: mounts a file there, by fusermount3, until it is unmounted or this ends.
        hello -: serves it at the socket that is standard input.";
 struct Hello;
 struct Items(u64);
@@ -18,7 +19,6 @@ impl DirectoryIterator for Items {
         Some(DirEntry { ino, offset: self.0, type_: DT_UNKNOWN, name })
     }
 }
-#[rustfmt::skip] // fewer lines
 impl FileSystem for Hello {
     type Inode = u64;
     type Handle = u64;
@@ -37,8 +37,9 @@ impl FileSystem for Hello {
     fn readdir(&self, _: Context, _: u64, _: u64, _: u32, offset: u64) -> Result<Items> {
         Ok(Items(offset))
     }
-    fn read<W: ZeroCopyWriter>(&self, _: Context, _: u64, _: u64, mut w: W, size: u32, at: u64,
-                               _: Option<u64>, _: u32) -> Result<usize> {
+    fn read<W: ZeroCopyWriter>(
+        &self, _: Context, _: u64, _: u64, mut w: W, size: u32, at: u64, _: Option<u64>, _: u32,
+    ) -> Result<usize> {
         let left = &TEXT[TEXT.len().min(usize::try_from(at).unwrap_or(usize::MAX))..];
         let data = &left[..left.len().min(size as usize)];
         w.write_all(data).map(|()| data.len())

@@ -245,10 +245,7 @@ impl<K> To<K> {
     /// Answers with an error, or with an answer of which `change` sets the fields that its kind has.
     #[inline]
     fn say<T>(
-        mut self,
-        slot: &mut Slot,
-        result: io::Result<T>,
-        change: impl FnOnce(&mut RawAnswer, T),
+        mut self, slot: &mut Slot, result: io::Result<T>, change: impl FnOnce(&mut RawAnswer, T),
     ) -> Told<'_> {
         match result {
             Ok(value) => {
@@ -262,12 +259,7 @@ impl<K> To<K> {
 
 /// Tells the library the answer to a call.
 #[inline(never)]
-fn tell<'s>(
-    pending: Box<Pending>,
-    slot: &'s mut Slot,
-    text: &[u8],
-    items: &[Item<'_>],
-) -> Told<'s> {
+fn tell<'s>(pending: Box<Pending>, slot: &'s mut Slot, text: &[u8], items: &[Item<'_>]) -> Told<'s> {
     let call = &pending.call;
     let (code, told) = slot.answer_raw(&pending, text, items);
     let taken = usize::try_from(told.taken).unwrap_or(usize::MAX);
@@ -401,12 +393,7 @@ impl To<Want> {
     }
 
     /// Answers with the options that the file system wants, as [`answer`](Self::answer), and with limits.
-    pub fn answer_with(
-        self,
-        slot: &mut Slot,
-        result: io::Result<FsOptions>,
-        limits: Limits,
-    ) -> Told<'_> {
+    pub fn answer_with(self, slot: &mut Slot, result: io::Result<FsOptions>, limits: Limits) -> Told<'_> {
         let want = result.as_ref().map_or(0, |want| want.bits());
         // What the library knows itself is not there.
         let offered = self.pending.call.other_offset;
@@ -426,19 +413,14 @@ impl To<EntryOf> {
     #[inline]
     pub fn answer(self, slot: &mut Slot, result: io::Result<Entry>) -> Told<'_> {
         let node = result.as_ref().ok().map(|entry| entry.inode).filter(|node| *node != 0);
-        self.say(slot, result, |answer, entry| answer.entry = RawEntry::from(&entry))
-            .with_entry(node)
+        self.say(slot, result, |answer, entry| answer.entry = RawEntry::from(&entry)).with_entry(node)
     }
 }
 
 impl To<Opened> {
     /// Answers with a handle, which is sent as 0 if there is none, and options of the open file.
     #[inline]
-    pub fn answer(
-        self,
-        slot: &mut Slot,
-        result: io::Result<(Option<u64>, OpenOptions)>,
-    ) -> Told<'_> {
+    pub fn answer(self, slot: &mut Slot, result: io::Result<(Option<u64>, OpenOptions)>) -> Told<'_> {
         let node = self.pending.call.node;
         let handle = result.as_ref().ok().and_then(|(handle, _)| *handle);
         self.say(slot, result, |answer, (handle, options)| opened(answer, handle, options))
@@ -449,11 +431,7 @@ impl To<Opened> {
 impl To<Created> {
     /// Answers with an entry, as a LOOKUP, and an open file, as an OPEN.
     #[inline]
-    pub fn answer(
-        self,
-        slot: &mut Slot,
-        result: io::Result<(Entry, Option<u64>, OpenOptions)>,
-    ) -> Told<'_> {
+    pub fn answer(self, slot: &mut Slot, result: io::Result<(Entry, Option<u64>, OpenOptions)>) -> Told<'_> {
         let (node, handle) = match &result {
             Ok((entry, handle, _)) => (entry.inode, *handle),
             Err(_) => (0, None),
@@ -485,11 +463,7 @@ impl To<TextOrCount> {
     /// Answers with a text, or with its length if the `size` of the call is 0: then a text stands for its
     /// length. What is longer than `size` is answered ERANGE; a length where a text is asked for, EIO.
     #[inline]
-    pub fn answer<T: Into<GetxattrReply>>(
-        mut self,
-        slot: &mut Slot,
-        result: io::Result<T>,
-    ) -> Told<'_> {
+    pub fn answer<T: Into<GetxattrReply>>(mut self, slot: &mut Slot, result: io::Result<T>) -> Told<'_> {
         let size = self.pending.call.size as usize;
         let (count, text) = match result.map(Into::into) {
             Ok(GetxattrReply::Value(text)) => (text.len(), Some(text)),

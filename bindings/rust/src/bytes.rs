@@ -166,10 +166,7 @@ impl Iterator for Forgets<'_> {
         let pair = self.pairs.get(self.at..self.at + 16)?;
         self.at += 16;
         let (node, count) = pair.split_at(8);
-        Some((
-            u64::from_le_bytes(node.try_into().ok()?),
-            u64::from_le_bytes(count.try_into().ok()?),
-        ))
+        Some((u64::from_le_bytes(node.try_into().ok()?), u64::from_le_bytes(count.try_into().ok()?)))
     }
 
     fn size_hint(&self) -> (usize, Option<usize>) {

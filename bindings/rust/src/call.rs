@@ -2,9 +2,8 @@
 #![forbid(unsafe_code)]
 
 use crate::answer::{
-    Attributes, Controlled, Copied, Created, Data, Destroyed, Directory, Done, EntryOf, Events,
-    Extended, Fault, Locked, Offset, Opened, Quiet, Statistics, Text, TextOrCount, To, Told, Want,
-    Written,
+    Attributes, Controlled, Copied, Created, Data, Destroyed, Directory, Done, EntryOf, Events, Extended,
+    Fault, Locked, Offset, Opened, Quiet, Statistics, Text, TextOrCount, To, Told, Want, Written,
 };
 use crate::attr::SetattrIn;
 use crate::bytes::{Bytes, Forgets};

@@ -43,11 +43,7 @@ impl<F: FileSystem> Server<F> {
 
     /// Serves the next request of a device, after it was shown. Returns whether there was one.
     pub(crate) fn serve_next(
-        &self,
-        device: &File,
-        client: &Client,
-        buffers: &mut Buffers,
-        show: impl FnOnce(&[u8]),
+        &self, device: &File, client: &Client, buffers: &mut Buffers, show: impl FnOnce(&[u8]),
     ) -> io::Result<bool> {
         let Buffers { slot, request, room } = buffers;
         let request = match read_next(device, request)? {
@@ -91,9 +87,7 @@ fn read_next(mut device: &File, request: &mut [u8]) -> io::Result<usize> {
     loop {
         match device.read(request) {
             // It was unmounted; ECONNABORTED: just when a request was taken.
-            Err(error)
-                if Errno::ENODEV.is(&error) || error.kind() == io::ErrorKind::ConnectionAborted =>
-            {
+            Err(error) if Errno::ENODEV.is(&error) || error.kind() == io::ErrorKind::ConnectionAborted => {
                 return Ok(0);
             }
             // The request was aborted while it was read.

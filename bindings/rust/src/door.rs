@@ -184,9 +184,7 @@ impl fmt::Display for Refusal {
             Refusal::MissingParameter => "a name or another part is missing",
             Refusal::InvalidCString => "a name does not end with its only NUL",
             Refusal::InvalidHeaderLength => "a length is less than what it covers",
-            Refusal::InvalidXattrSize => {
-                "the value of an attribute does not have the stated length"
-            }
+            Refusal::InvalidXattrSize => "the value of an attribute does not have the stated length",
             Refusal::MissingExtension => "the security context is missing",
             Refusal::OutOfMemory => "an allocation failed",
             Refusal::TooLong => "the sum of the slices' lengths overflows",
@@ -331,10 +329,7 @@ impl Slot {
     /// # else { panic!() }
     /// ```
     pub fn ask<'s, 'r>(
-        &'s mut self,
-        session: &Session,
-        request: &'r [IoSlice<'r>],
-        room: usize,
+        &'s mut self, session: &Session, request: &'r [IoSlice<'r>], room: usize,
     ) -> Asked<'s, 'r> {
         let call = |_: &'s mut Slot, context, call| PendingCall { context, call };
         match self.ask_with(session, request, room, call) {
@@ -367,10 +362,7 @@ impl Slot {
     /// If the request needs no call.
     #[inline]
     pub fn ask_with<'s, 'r, T>(
-        &'s mut self,
-        session: &Session,
-        request: &'r [IoSlice<'r>],
-        room: usize,
+        &'s mut self, session: &Session, request: &'r [IoSlice<'r>], room: usize,
         make: impl FnOnce(&'s mut Slot, Context, Call<'r>) -> T,
     ) -> Result<T, Finished<'s>> {
         let mut pending = self.take(session.raw);

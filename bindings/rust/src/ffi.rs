@@ -159,75 +159,32 @@ records! {
 // `std` guarantees that `IoSlice` has the layout of `iovec`, which is that of `nizwarf_segment`.
 extern "C" {
     fn nizwarf_ask_offered_at(
-        slot: *mut RawSlot,
-        session: *const RawSession,
-        offers: u32,
-        request: *const IoSlice<'_>,
-        segments: usize,
-        room: usize,
-        call: *mut RawCall,
-        told: *mut RawTold,
+        slot: *mut RawSlot, session: *const RawSession, offers: u32, request: *const IoSlice<'_>,
+        segments: usize, room: usize, call: *mut RawCall, told: *mut RawTold,
     ) -> i32;
     fn nizwarf_answer_offered_at(
-        slot: *mut RawSlot,
-        session: *const RawSession,
-        call: *const RawCall,
-        answer: *const RawAnswer,
-        text: *const u8,
-        text_len: usize,
-        items: *const Item<'_>,
-        items_len: usize,
-        told: *mut RawTold,
+        slot: *mut RawSlot, session: *const RawSession, call: *const RawCall, answer: *const RawAnswer,
+        text: *const u8, text_len: usize, items: *const Item<'_>, items_len: usize, told: *mut RawTold,
     ) -> i32;
-    fn nizwarf_copy_slot_at(
-        slot: *mut RawSlot,
-        at: usize,
-        piece: *mut u8,
-        piece_len: usize,
-    ) -> usize;
+    fn nizwarf_copy_slot_at(slot: *mut RawSlot, at: usize, piece: *mut u8, piece_len: usize) -> usize;
     fn nizwarf_end_slot_at(slot: *mut RawSlot) -> i32;
     fn nizwarf_check_offered_at(
-        session: *const RawSession,
-        offers: u32,
-        request: *const u8,
-        len: usize,
-        room: usize,
-        call: *mut RawCall,
-        interrupts: *mut u64,
+        session: *const RawSession, offers: u32, request: *const u8, len: usize, room: usize,
+        call: *mut RawCall, interrupts: *mut u64,
     ) -> i32;
     fn nizwarf_print_request_at(
-        request: *const u8,
-        len: usize,
-        options: u64,
-        text: *mut u8,
-        text_len: usize,
+        request: *const u8, len: usize, options: u64, text: *mut u8, text_len: usize,
     ) -> usize;
     fn nizwarf_print_reply_at(
-        request: *const u8,
-        len: usize,
-        reply: *const u8,
-        reply_len: usize,
-        text: *mut u8,
-        text_len: usize,
+        request: *const u8, len: usize, reply: *const u8, reply_len: usize, text: *mut u8, text_len: usize,
     ) -> usize;
     fn nizwarf_init_offered_at(request: *const u8, len: usize) -> u64;
-    fn nizwarf_add_to_init_at(
-        reply: *mut u8,
-        len: usize,
-        offered: u64,
-        more: *const RawInitMore,
-    ) -> u64;
+    fn nizwarf_add_to_init_at(reply: *mut u8, len: usize, offered: u64, more: *const RawInitMore) -> u64;
 }
 
 // A function of the C library that `std` does not have.
 extern "C" {
-    fn pwritev2(
-        file: c_int,
-        pieces: *const IoSlice<'_>,
-        count: c_int,
-        offset: i64,
-        flags: c_int,
-    ) -> isize;
+    fn pwritev2(file: c_int, pieces: *const IoSlice<'_>, count: c_int, offset: i64, flags: c_int) -> isize;
 }
 
 /// Writes to a file at an offset, as `pwritev2(2)`, and returns how many bytes were written.
@@ -240,18 +197,12 @@ pub(crate) fn write_at(file: &File, piece: &[u8], off: u64, flags: i32) -> io::R
 }
 
 /// Checks a request: a code, the call that it asks for, and the request that it interrupts.
-pub(crate) fn check(
-    session: &RawSession,
-    offers: u32,
-    request: &[u8],
-    room: usize,
-) -> (i32, RawCall, u64) {
+pub(crate) fn check(session: &RawSession, offers: u32, request: &[u8], room: usize) -> (i32, RawCall, u64) {
     let (mut call, mut interrupts) = (RawCall::NONE, 0);
     let (at, len) = (request.as_ptr(), request.len());
     // SAFETY: all pointers are valid for this call, which keeps none.
-    let code = unsafe {
-        nizwarf_check_offered_at(session, offers, at, len, room, &mut call, &mut interrupts)
-    };
+    let code =
+        unsafe { nizwarf_check_offered_at(session, offers, at, len, room, &mut call, &mut interrupts) };
     (code, call, interrupts)
 }
 
@@ -393,14 +344,7 @@ impl<'a> Item<'a> {
     #[must_use]
     pub fn new(ino: u64, offset: u64, kind: u32, name: &'a CStr) -> Self {
         let bytes = name.to_bytes_with_nul();
-        Item {
-            ino,
-            offset,
-            name: bytes.as_ptr(),
-            name_size: bytes.len(),
-            type_: kind,
-            ..Item::NONE
-        }
+        Item { ino, offset, name: bytes.as_ptr(), name_size: bytes.len(), type_: kind, ..Item::NONE }
     }
 
     /// Adds the result of looking the name up, which READDIRPLUS needs for all items but `.` and `..`;
@@ -512,11 +456,7 @@ impl Slot {
 
     /// Asks the library for the call of a request. It is in `pending` if the code is [`ASKED`](crate::numbers::code::ASKED).
     pub(crate) fn ask_raw(
-        &mut self,
-        pending: &mut Pending,
-        offers: Offers,
-        request: &[IoSlice<'_>],
-        room: usize,
+        &mut self, pending: &mut Pending, offers: Offers, request: &[IoSlice<'_>], room: usize,
     ) -> (i32, RawTold) {
         let Pending { call, session, .. } = pending;
         call.call = 0;
@@ -540,10 +480,7 @@ impl Slot {
     }
 
     pub(crate) fn answer_raw(
-        &mut self,
-        pending: &Pending,
-        text: &[u8],
-        items: &[Item<'_>],
+        &mut self, pending: &Pending, text: &[u8], items: &[Item<'_>],
     ) -> (i32, RawTold) {
         let Pending { call, session, answer } = pending;
         let mut told = RawTold { options: call.options, ..RawTold::default() };

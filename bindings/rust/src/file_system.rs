@@ -5,9 +5,7 @@ use crate::attr::{Attr, SetattrIn, Statvfs};
 use crate::call::Call;
 use crate::client::Client;
 use crate::errno::Errno;
-use crate::flags::{
-    FsOptions, IoctlFlags, Offers, OpenOptions, SetattrValid, SetxattrFlags, WritevFlags,
-};
+use crate::flags::{FsOptions, IoctlFlags, Offers, OpenOptions, SetattrValid, SetxattrFlags, WritevFlags};
 use crate::further::{IoctlReply, Limits, Lock, PollHandle, Statx};
 use std::ffi::{CStr, CString};
 use std::fs::File;
@@ -153,21 +151,13 @@ pub trait ZeroCopyReader: io::Read {
     /// # Errors
     /// The error of the first write.
     fn write_to_file_at(
-        &mut self,
-        f: &File,
-        count: usize,
-        off: u64,
-        flags: Option<WritevFlags>,
+        &mut self, f: &File, count: usize, off: u64, flags: Option<WritevFlags>,
     ) -> io::Result<usize>;
 }
 
 impl<R: ZeroCopyReader> ZeroCopyReader for &mut R {
     fn write_to_file_at(
-        &mut self,
-        f: &File,
-        count: usize,
-        off: u64,
-        flags: Option<WritevFlags>,
+        &mut self, f: &File, count: usize, off: u64, flags: Option<WritevFlags>,
     ) -> io::Result<usize> {
         (**self).write_to_file_at(f, count, off, flags)
     }
@@ -295,21 +285,14 @@ pub trait FileSystem {
 
     /// Returns attributes, and how long they are valid.
     fn getattr(
-        &self,
-        ctx: Context,
-        inode: Self::Inode,
-        handle: Option<Self::Handle>,
+        &self, ctx: Context, inode: Self::Inode, handle: Option<Self::Handle>,
     ) -> io::Result<(Attr, Duration)> {
         not_served()
     }
 
     /// Sets the attributes that `valid` names. Returns all attributes, and how long they are valid.
     fn setattr(
-        &self,
-        ctx: Context,
-        inode: Self::Inode,
-        attr: SetattrIn,
-        handle: Option<Self::Handle>,
+        &self, ctx: Context, inode: Self::Inode, attr: SetattrIn, handle: Option<Self::Handle>,
         valid: SetattrValid,
     ) -> io::Result<(Attr, Duration)> {
         not_served()
@@ -322,25 +305,14 @@ pub trait FileSystem {
 
     /// Creates a symbolic link.
     fn symlink(
-        &self,
-        ctx: Context,
-        linkname: &CStr,
-        parent: Self::Inode,
-        name: &CStr,
-        extensions: Extensions,
+        &self, ctx: Context, linkname: &CStr, parent: Self::Inode, name: &CStr, extensions: Extensions,
     ) -> io::Result<Entry> {
         not_served()
     }
 
     /// Creates a node. With [`FsOptions::DONT_MASK`] it must apply the umask.
     fn mknod(
-        &self,
-        ctx: Context,
-        inode: Self::Inode,
-        name: &CStr,
-        mode: u32,
-        rdev: u32,
-        umask: u32,
+        &self, ctx: Context, inode: Self::Inode, name: &CStr, mode: u32, rdev: u32, umask: u32,
         extensions: Extensions,
     ) -> io::Result<Entry> {
         not_served()
@@ -348,13 +320,7 @@ pub trait FileSystem {
 
     /// Creates a directory. With [`FsOptions::DONT_MASK`] it must apply the umask.
     fn mkdir(
-        &self,
-        ctx: Context,
-        parent: Self::Inode,
-        name: &CStr,
-        mode: u32,
-        umask: u32,
-        extensions: Extensions,
+        &self, ctx: Context, parent: Self::Inode, name: &CStr, mode: u32, umask: u32, extensions: Extensions,
     ) -> io::Result<Entry> {
         not_served()
     }
@@ -371,12 +337,7 @@ pub trait FileSystem {
 
     /// Renames a node. The flags are those of `renameat2(2)`.
     fn rename(
-        &self,
-        ctx: Context,
-        olddir: Self::Inode,
-        oldname: &CStr,
-        newdir: Self::Inode,
-        newname: &CStr,
+        &self, ctx: Context, olddir: Self::Inode, oldname: &CStr, newdir: Self::Inode, newname: &CStr,
         flags: u32,
     ) -> io::Result<()> {
         not_served()
@@ -384,11 +345,7 @@ pub trait FileSystem {
 
     /// Creates a hard link.
     fn link(
-        &self,
-        ctx: Context,
-        inode: Self::Inode,
-        newparent: Self::Inode,
-        newname: &CStr,
+        &self, ctx: Context, inode: Self::Inode, newparent: Self::Inode, newname: &CStr,
     ) -> io::Result<Entry> {
         not_served()
     }
@@ -397,93 +354,52 @@ pub trait FileSystem {
     /// [`init`](Self::init) wanted [`ATOMIC_O_TRUNC`](FsOptions::ATOMIC_O_TRUNC). By default it succeeds
     /// without a handle.
     fn open(
-        &self,
-        ctx: Context,
-        inode: Self::Inode,
-        kill_priv: bool,
-        flags: u32,
+        &self, ctx: Context, inode: Self::Inode, kill_priv: bool, flags: u32,
     ) -> io::Result<(Option<Self::Handle>, OpenOptions)> {
         Ok((None, OpenOptions::empty()))
     }
 
     /// Creates and opens a file. With [`FsOptions::DONT_MASK`] it must apply the umask.
     fn create(
-        &self,
-        ctx: Context,
-        parent: Self::Inode,
-        name: &CStr,
-        mode: u32,
-        kill_priv: bool,
-        flags: u32,
-        umask: u32,
-        extensions: Extensions,
+        &self, ctx: Context, parent: Self::Inode, name: &CStr, mode: u32, kill_priv: bool, flags: u32,
+        umask: u32, extensions: Extensions,
     ) -> io::Result<(Entry, Option<Self::Handle>, OpenOptions)> {
         not_served()
     }
 
     /// Reads at most `size` bytes of a file into `w`, and returns how many.
     fn read<W: ZeroCopyWriter>(
-        &self,
-        ctx: Context,
-        inode: Self::Inode,
-        handle: Self::Handle,
-        w: W,
-        size: u32,
-        offset: u64,
-        lock_owner: Option<u64>,
-        flags: u32,
+        &self, ctx: Context, inode: Self::Inode, handle: Self::Handle, w: W, size: u32, offset: u64,
+        lock_owner: Option<u64>, flags: u32,
     ) -> io::Result<usize> {
         not_served()
     }
 
     /// Writes at most `size` bytes of `r` to a file, and returns how many.
     fn write<R: ZeroCopyReader>(
-        &self,
-        ctx: Context,
-        inode: Self::Inode,
-        handle: Self::Handle,
-        r: R,
-        size: u32,
-        offset: u64,
-        lock_owner: Option<u64>,
-        delayed_write: bool,
-        kill_priv: bool,
-        flags: u32,
+        &self, ctx: Context, inode: Self::Inode, handle: Self::Handle, r: R, size: u32, offset: u64,
+        lock_owner: Option<u64>, delayed_write: bool, kill_priv: bool, flags: u32,
     ) -> io::Result<usize> {
         not_served()
     }
 
     /// Is called whenever a descriptor of an open file is closed.
     fn flush(
-        &self,
-        ctx: Context,
-        inode: Self::Inode,
-        handle: Self::Handle,
-        lock_owner: u64,
+        &self, ctx: Context, inode: Self::Inode, handle: Self::Handle, lock_owner: u64,
     ) -> io::Result<()> {
         not_served()
     }
 
     /// Synchronizes a file: with `datasync` only its data.
     fn fsync(
-        &self,
-        ctx: Context,
-        inode: Self::Inode,
-        datasync: bool,
-        handle: Self::Handle,
+        &self, ctx: Context, inode: Self::Inode, datasync: bool, handle: Self::Handle,
     ) -> io::Result<()> {
         not_served()
     }
 
     /// Allocates or deallocates space of a file, as `fallocate(2)`.
     fn fallocate(
-        &self,
-        ctx: Context,
-        inode: Self::Inode,
-        handle: Self::Handle,
-        mode: u32,
-        offset: u64,
-        length: u64,
+        &self, ctx: Context, inode: Self::Inode, handle: Self::Handle, mode: u32, offset: u64, length: u64,
     ) -> io::Result<()> {
         not_served()
     }
@@ -491,14 +407,8 @@ pub trait FileSystem {
     /// Closes a file. With `flush` it does what a FLUSH does, with `flock_release` it releases locks of
     /// `flock(2)`.
     fn release(
-        &self,
-        ctx: Context,
-        inode: Self::Inode,
-        flags: u32,
-        handle: Self::Handle,
-        flush: bool,
-        flock_release: bool,
-        lock_owner: Option<u64>,
+        &self, ctx: Context, inode: Self::Inode, flags: u32, handle: Self::Handle, flush: bool,
+        flock_release: bool, lock_owner: Option<u64>,
     ) -> io::Result<()> {
         not_served()
     }
@@ -510,12 +420,7 @@ pub trait FileSystem {
 
     /// Sets an extended attribute. The flags are those of `setxattr(2)`.
     fn setxattr(
-        &self,
-        ctx: Context,
-        inode: Self::Inode,
-        name: &CStr,
-        value: &[u8],
-        flags: u32,
+        &self, ctx: Context, inode: Self::Inode, name: &CStr, value: &[u8], flags: u32,
         extra_flags: SetxattrFlags,
     ) -> io::Result<()> {
         not_served()
@@ -524,11 +429,7 @@ pub trait FileSystem {
     /// Returns an extended attribute, or its length if `size` is 0. A value that is longer than `size` is
     /// answered ERANGE.
     fn getxattr(
-        &self,
-        ctx: Context,
-        inode: Self::Inode,
-        name: &CStr,
-        size: u32,
+        &self, ctx: Context, inode: Self::Inode, name: &CStr, size: u32,
     ) -> io::Result<GetxattrReply> {
         not_served()
     }
@@ -546,10 +447,7 @@ pub trait FileSystem {
 
     /// Opens a directory. By default it succeeds without a handle.
     fn opendir(
-        &self,
-        ctx: Context,
-        inode: Self::Inode,
-        flags: u32,
+        &self, ctx: Context, inode: Self::Inode, flags: u32,
     ) -> io::Result<(Option<Self::Handle>, OpenOptions)> {
         Ok((None, OpenOptions::empty()))
     }
@@ -557,34 +455,21 @@ pub trait FileSystem {
     /// Returns the items of a directory after a position, which is that of an earlier item, or 0. For a
     /// READDIRPLUS the server looks each up, except `.` and `..`.
     fn readdir(
-        &self,
-        ctx: Context,
-        inode: Self::Inode,
-        handle: Self::Handle,
-        size: u32,
-        offset: u64,
+        &self, ctx: Context, inode: Self::Inode, handle: Self::Handle, size: u32, offset: u64,
     ) -> io::Result<Self::DirIter> {
         not_served()
     }
 
     /// Synchronizes a directory.
     fn fsyncdir(
-        &self,
-        ctx: Context,
-        inode: Self::Inode,
-        datasync: bool,
-        handle: Self::Handle,
+        &self, ctx: Context, inode: Self::Inode, datasync: bool, handle: Self::Handle,
     ) -> io::Result<()> {
         not_served()
     }
 
     /// Closes a directory.
     fn releasedir(
-        &self,
-        ctx: Context,
-        inode: Self::Inode,
-        flags: u32,
-        handle: Self::Handle,
+        &self, ctx: Context, inode: Self::Inode, flags: u32, handle: Self::Handle,
     ) -> io::Result<()> {
         not_served()
     }
@@ -596,12 +481,7 @@ pub trait FileSystem {
 
     /// Finds data or holes, as `lseek(2)`.
     fn lseek(
-        &self,
-        ctx: Context,
-        inode: Self::Inode,
-        handle: Self::Handle,
-        offset: u64,
-        whence: u32,
+        &self, ctx: Context, inode: Self::Inode, handle: Self::Handle, offset: u64, whence: u32,
     ) -> io::Result<u64> {
         not_served()
     }
@@ -610,16 +490,8 @@ pub trait FileSystem {
     /// [`COPY_64`](Offers::COPY_64) is offered, `len` is at most `0xffff_f000`, because the reply has 32 bits for the
     /// count.
     fn copyfilerange(
-        &self,
-        ctx: Context,
-        inode_in: Self::Inode,
-        handle_in: Self::Handle,
-        offset_in: u64,
-        inode_out: Self::Inode,
-        handle_out: Self::Handle,
-        offset_out: u64,
-        len: u64,
-        flags: u64,
+        &self, ctx: Context, inode_in: Self::Inode, handle_in: Self::Handle, offset_in: u64,
+        inode_out: Self::Inode, handle_out: Self::Handle, offset_out: u64, len: u64, flags: u64,
     ) -> io::Result<usize> {
         not_served()
     }
@@ -706,12 +578,7 @@ pub trait FileSystem {
     ///
     /// [`LockType::Unlock`]: crate::LockType::Unlock
     fn getlk(
-        &self,
-        ctx: Context,
-        inode: Self::Inode,
-        handle: Self::Handle,
-        lock_owner: u64,
-        lock: Lock,
+        &self, ctx: Context, inode: Self::Inode, handle: Self::Handle, lock_owner: u64, lock: Lock,
     ) -> io::Result<Lock> {
         not_served()
     }
@@ -723,26 +590,14 @@ pub trait FileSystem {
     /// While it waits, its thread serves no other request, not even the one that removes the other lock:
     /// [`take`](Self::take) a [`Call::Setlkw`] if it has to wait.
     fn setlk(
-        &self,
-        ctx: Context,
-        inode: Self::Inode,
-        handle: Self::Handle,
-        lock_owner: u64,
-        lock: Lock,
-        wait: bool,
-        flock: bool,
+        &self, ctx: Context, inode: Self::Inode, handle: Self::Handle, lock_owner: u64, lock: Lock,
+        wait: bool, flock: bool,
     ) -> io::Result<()> {
         not_served()
     }
 
     /// Returns the number of the block of the device that has this block of a file.
-    fn bmap(
-        &self,
-        ctx: Context,
-        inode: Self::Inode,
-        block: u64,
-        block_size: u32,
-    ) -> io::Result<u64> {
+    fn bmap(&self, ctx: Context, inode: Self::Inode, block: u64, block_size: u32) -> io::Result<u64> {
         not_served()
     }
 
@@ -750,15 +605,8 @@ pub trait FileSystem {
     /// `output_size` how much it copies back at most. Both are as `cmd` says, unless
     /// [`UNRESTRICTED`](IoctlFlags::UNRESTRICTED) is set. A command that is not known is ENOTTY.
     fn ioctl(
-        &self,
-        ctx: Context,
-        inode: Self::Inode,
-        handle: Self::Handle,
-        flags: IoctlFlags,
-        cmd: u32,
-        arg: u64,
-        input: &[u8],
-        output_size: u32,
+        &self, ctx: Context, inode: Self::Inode, handle: Self::Handle, flags: IoctlFlags, cmd: u32, arg: u64,
+        input: &[u8], output_size: u32,
     ) -> io::Result<IoctlReply> {
         not_served()
     }
@@ -766,12 +614,7 @@ pub trait FileSystem {
     /// Returns which of the events, as `poll(2)` has them, are there. If there is a `wake`,
     /// [`Notifier::wake`](crate::Notifier::wake) has to tell the client by it when one comes.
     fn poll(
-        &self,
-        ctx: Context,
-        inode: Self::Inode,
-        handle: Self::Handle,
-        wake: Option<PollHandle>,
-        events: u32,
+        &self, ctx: Context, inode: Self::Inode, handle: Self::Handle, wake: Option<PollHandle>, events: u32,
     ) -> io::Result<u32> {
         not_served()
     }
@@ -779,12 +622,7 @@ pub trait FileSystem {
     /// Returns attributes, also that of the birth, and how long they are valid. `flags` are those of `statx(2)`, and
     /// `mask` says which attributes are wanted. Linux asks for it if that has more than [`Statx::BASIC`].
     fn statx(
-        &self,
-        ctx: Context,
-        inode: Self::Inode,
-        handle: Option<Self::Handle>,
-        flags: u32,
-        mask: u32,
+        &self, ctx: Context, inode: Self::Inode, handle: Option<Self::Handle>, flags: u32, mask: u32,
     ) -> io::Result<(Statx, Duration)> {
         not_served()
     }
@@ -792,15 +630,8 @@ pub trait FileSystem {
     /// Creates and opens a file without a name in the file system of `parent`, as [`create`](Self::create). Linux sends
     /// `/` as `name`.
     fn tmpfile(
-        &self,
-        ctx: Context,
-        parent: Self::Inode,
-        name: &CStr,
-        mode: u32,
-        kill_priv: bool,
-        flags: u32,
-        umask: u32,
-        extensions: Extensions,
+        &self, ctx: Context, parent: Self::Inode, name: &CStr, mode: u32, kill_priv: bool, flags: u32,
+        umask: u32, extensions: Extensions,
     ) -> io::Result<(Entry, Option<Self::Handle>, OpenOptions)> {
         not_served()
     }

@@ -218,8 +218,7 @@ impl From<&Metadata> for Statx {
     /// truncated to the width of their field.
     #[allow(clippy::cast_possible_truncation, clippy::cast_sign_loss, clippy::cast_possible_wrap)] // as documented
     fn from(stat: &Metadata) -> Self {
-        let time =
-            |seconds, nanoseconds: i64| StatxTime { seconds, nanoseconds: nanoseconds as u32 };
+        let time = |seconds, nanoseconds: i64| StatxTime { seconds, nanoseconds: nanoseconds as u32 };
         let born = stat.created().ok().and_then(|born| born.duration_since(UNIX_EPOCH).ok());
         let numbers = |device: u64| {
             let major = (device >> 8) & 0xfff | (device >> 32) & !0xfff;
@@ -323,8 +322,7 @@ mod tests {
 
     #[test]
     fn a_lock_has_its_record() {
-        for (number, kind) in [LockType::Read, LockType::Write, LockType::Unlock].iter().enumerate()
-        {
+        for (number, kind) in [LockType::Read, LockType::Write, LockType::Unlock].iter().enumerate() {
             let number = u32::try_from(number).unwrap();
             let lock = Lock { start: 1, end: 2 << 32, kind: *kind, pid: 4 };
             assert_eq!(words(&lock.to_record()), [1, 0, 0, 2, number, 4]);

@@ -88,9 +88,8 @@ mod transfer;
 /// The kinds of answers: the type parameters of [`To`].
 pub mod kinds {
     pub use crate::answer::{
-        Attributes, Controlled, Copied, Created, Data, Destroyed, Directory, Done, EntryOf, Events,
-        Extended, Fault, Locked, Offset, Opened, Quiet, Statistics, Text, TextOrCount, Want,
-        Written,
+        Attributes, Controlled, Copied, Created, Data, Destroyed, Directory, Done, EntryOf, Events, Extended,
+        Fault, Locked, Offset, Opened, Quiet, Statistics, Text, TextOrCount, Want, Written,
     };
 }
 
@@ -103,13 +102,10 @@ pub use door::{withhold, Asked, Finished, Refusal, Reply, Session, WrongSize};
 pub use errno::Errno;
 pub use ffi::{Item, Slot};
 pub use file_system::{
-    Context, DirEntry, DirectoryIterator, Entry, Extensions, FileSystem, GetxattrReply,
-    ListxattrReply, NoEntries, SecContext, ZeroCopyReader, ZeroCopyWriter, DT_DIR, DT_LNK, DT_REG,
-    DT_UNKNOWN, ROOT_ID,
+    Context, DirEntry, DirectoryIterator, Entry, Extensions, FileSystem, GetxattrReply, ListxattrReply,
+    NoEntries, SecContext, ZeroCopyReader, ZeroCopyWriter, DT_DIR, DT_LNK, DT_REG, DT_UNKNOWN, ROOT_ID,
 };
-pub use flags::{
-    FsOptions, IoctlFlags, Offers, OpenOptions, SetattrValid, SetxattrFlags, WritevFlags,
-};
+pub use flags::{FsOptions, IoctlFlags, Offers, OpenOptions, SetattrValid, SetxattrFlags, WritevFlags};
 pub use further::{IoctlRange, IoctlReply, Limits, Lock, LockType, PollHandle, Statx, StatxTime};
 pub use mount::{mount, spawn_mount, MountOption, Mounted};
 pub use notifier::Notifier;

@@ -12,10 +12,7 @@ use std::panic::{catch_unwind, resume_unwind, AssertUnwindSafe};
 impl<F: FileSystem> Server<F> {
     /// Lists a directory: items until one does not fit, or, for a READDIRPLUS, until a lookup fails.
     pub(crate) fn read_directory<'s>(
-        &self,
-        slot: &'s mut Slot,
-        place: &Place,
-        to: To<Directory>,
+        &self, slot: &'s mut Slot, place: &Place, to: To<Directory>,
     ) -> Told<'s> {
         let Place { ctx, node, handle, size, offset, .. } = *place;
         let begun = self.ask(|files| files.readdir(ctx, node.into(), handle.into(), size, offset));
@@ -37,11 +34,7 @@ impl<F: FileSystem> Server<F> {
         // (a panic comes here only if none are caught)
         if let Err(panic) = catch_unwind(AssertUnwindSafe(list)) {
             // Their lookups would never be told to the client, which could not give them back.
-            listing
-                .items()
-                .iter()
-                .filter_map(Item::held)
-                .for_each(|node| self.give_back(ctx, node));
+            listing.items().iter().filter_map(Item::held).for_each(|node| self.give_back(ctx, node));
             resume_unwind(panic);
         }
         to.answer(slot, Ok(&listing.items()))
@@ -49,11 +42,7 @@ impl<F: FileSystem> Server<F> {
 
     /// Adds the next item to the listing, if there is one and it fits. Returns its name.
     fn take_item<'l>(
-        &self,
-        iterator: &mut F::DirIter,
-        listing: &'l mut Listing,
-        most: usize,
-        plus: bool,
+        &self, iterator: &mut F::DirIter, listing: &'l mut Listing, most: usize, plus: bool,
     ) -> Option<&'l [u8]> {
         let taken = self.ask(|_| Ok(iterator.next().map(|item| listing.add(&item, most, plus))));
         // If the iterator panics, the listing ends.
@@ -114,13 +103,7 @@ impl Listing {
         self.len += record;
         let at = self.names.len();
         self.names.extend_from_slice(item.name.to_bytes_with_nul());
-        self.records.push(Record {
-            ino: item.ino,
-            offset: item.offset,
-            kind: item.type_,
-            at,
-            entry: None,
-        });
+        self.records.push(Record { ino: item.ino, offset: item.offset, kind: item.type_, at, entry: None });
         true
     }
 
@@ -144,8 +127,7 @@ impl Listing {
             .zip(ends)
             .map(|(record, end)| {
                 let name = CStr::from_bytes_with_nul(&self.names[record.at..end]);
-                let item =
-                    Item::new(record.ino, record.offset, record.kind, name.unwrap_or_default());
+                let item = Item::new(record.ino, record.offset, record.kind, name.unwrap_or_default());
                 match &record.entry {
                     Some(result) => item.looked_up(result),
                     None => item,

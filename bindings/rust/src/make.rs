@@ -16,10 +16,7 @@ use std::sync::atomic::Ordering;
 impl<F: FileSystem> Server<F> {
     /// Makes a call, and answers it.
     pub(crate) fn make<'s>(
-        &self,
-        slot: &'s mut Slot,
-        pending: PendingCall<'_>,
-        room: &mut [IoSliceMut<'_>],
+        &self, slot: &'s mut Slot, pending: PendingCall<'_>, room: &mut [IoSliceMut<'_>],
     ) -> Told<'s> {
         let ctx = pending.context;
         make_call!(pending.call, slot, self, ctx, call => self.make_of_file(slot, ctx, call, room))
@@ -29,11 +26,7 @@ impl<F: FileSystem> Server<F> {
     /// method.
     #[inline]
     fn make_of_file<'s>(
-        &self,
-        slot: &'s mut Slot,
-        ctx: Context,
-        call: Call<'_>,
-        room: &mut [IoSliceMut<'_>],
+        &self, slot: &'s mut Slot, ctx: Context, call: Call<'_>, room: &mut [IoSliceMut<'_>],
     ) -> Told<'s> {
         match call {
             Call::Read { node, handle, size, offset, lock_owner, flags, to } => {
@@ -79,8 +72,7 @@ impl<F: FileSystem> Server<F> {
                 to.answer(slot, written.and_then(|count| at_most(count, most)))
             }
             Call::Open { node, kill_priv, flags, to } => {
-                let result =
-                    self.ask(|files| files.open(ctx, node.into(), kill_priv, flags).map(opened));
+                let result = self.ask(|files| files.open(ctx, node.into(), kill_priv, flags).map(opened));
                 let told = to.answer(slot, result);
                 // The reply does not fit, so the client does not know the handle.
                 if let Some((node, handle)) = told.lost_handle() {
@@ -88,11 +80,12 @@ impl<F: FileSystem> Server<F> {
                 }
                 told
             }
-            Call::Create { parent, name, mode, kill_priv, flags, umask, extensions, to } => self
-                .create(slot, (ctx, flags), to, |files| {
+            Call::Create { parent, name, mode, kill_priv, flags, umask, extensions, to } => {
+                self.create(slot, (ctx, flags), to, |files| {
                     let parent = parent.into();
                     files.create(ctx, parent, &name, mode, kill_priv, flags, umask, extensions)
-                }),
+                })
+            }
             call => self.make_other(slot, ctx, call),
         }
     }
@@ -100,10 +93,7 @@ impl<F: FileSystem> Server<F> {
     /// Creates and opens a file, for this caller and with these flags.
     #[inline]
     fn create<'s>(
-        &self,
-        slot: &'s mut Slot,
-        (ctx, flags): (Context, u32),
-        to: To<Created>,
+        &self, slot: &'s mut Slot, (ctx, flags): (Context, u32), to: To<Created>,
         create: impl FnOnce(&F) -> io::Result<(Entry, Option<F::Handle>, OpenOptions)>,
     ) -> Told<'s> {
         let result = self.ask(|files| {
@@ -126,12 +116,10 @@ impl<F: FileSystem> Server<F> {
                 let place = Place { ctx, node, handle, size, offset, plus };
                 self.read_directory(slot, &place, to)
             }
-            Call::Readlink { node, to } => {
-                match &self.ask(|files| files.readlink(ctx, node.into())) {
-                    Ok(text) => to.answer(slot, Ok(text)),
-                    Err(error) => to.fail(slot, error),
-                }
-            }
+            Call::Readlink { node, to } => match &self.ask(|files| files.readlink(ctx, node.into())) {
+                Ok(text) => to.answer(slot, Ok(text)),
+                Err(error) => to.fail(slot, error),
+            },
             Call::Forget { node, count, to } => {
                 self.quietly(|files| files.forget(ctx, node.into(), count));
                 to.done(slot)
@@ -174,12 +162,7 @@ impl<F: FileSystem> Server<F> {
 
     /// Opens a directory. If its reply does not fit, the handle is released: the client does not know it.
     fn open_directory<'s>(
-        &self,
-        slot: &'s mut Slot,
-        ctx: Context,
-        node: u64,
-        flags: u32,
-        to: To<Opened>,
+        &self, slot: &'s mut Slot, ctx: Context, node: u64, flags: u32, to: To<Opened>,
     ) -> Told<'s> {
         let result = self.ask(|files| files.opendir(ctx, node.into(), flags).map(opened));
         let told = to.answer(slot, result);
@@ -192,8 +175,7 @@ impl<F: FileSystem> Server<F> {
 
     /// Releases a handle. Nobody can be told of an error.
     fn release(&self, ctx: Context, node: u64, handle: u64, flags: u32) {
-        let _ = self
-            .ask(|files| files.release(ctx, node.into(), flags, handle.into(), false, false, None));
+        let _ = self.ask(|files| files.release(ctx, node.into(), flags, handle.into(), false, false, None));
     }
 }
 

@@ -107,9 +107,7 @@ impl MountOption {
 /// # Panics
 /// If a call panics: the folder is unmounted then.
 pub fn mount<F: FileSystem + Sync>(
-    file_system: F,
-    folder: impl AsRef<Path>,
-    options: &[MountOption],
+    file_system: F, folder: impl AsRef<Path>, options: &[MountOption],
 ) -> io::Result<()> {
     Server::new(file_system).mount(folder, options)
 }
@@ -119,9 +117,7 @@ pub fn mount<F: FileSystem + Sync>(
 /// # Errors
 /// If it cannot be mounted.
 pub fn spawn_mount<F: FileSystem + Send + Sync + 'static>(
-    file_system: F,
-    folder: impl AsRef<Path>,
-    options: &[MountOption],
+    file_system: F, folder: impl AsRef<Path>, options: &[MountOption],
 ) -> io::Result<Mounted> {
     Server::new(file_system).spawn_mount(folder, options)
 }
@@ -143,11 +139,7 @@ impl<F: FileSystem + Sync> Server<F> {
     ///
     /// # Errors
     /// If it cannot be mounted.
-    pub fn spawn_mount(
-        self,
-        folder: impl AsRef<Path>,
-        options: &[MountOption],
-    ) -> io::Result<Mounted>
+    pub fn spawn_mount(self, folder: impl AsRef<Path>, options: &[MountOption]) -> io::Result<Mounted>
     where
         F: Send + 'static,
     {
@@ -392,17 +384,15 @@ impl Point {
             return Ok(());
         }
         match &self.helper {
-            None => {
-                system::unmount(&path_of(&self.folder, self.place.as_ref())?).map_err(of_folder)
-            }
+            None => system::unmount(&path_of(&self.folder, self.place.as_ref())?).map_err(of_folder),
             Some(Helper { name, .. }) => {
                 let mut command = Command::new(name);
                 command.args(["-u", "-q", "-z", "--"]);
                 match &self.place {
                     // It looks where that directory is now.
-                    Some(place) => command
-                        .current_dir(place.directory())
-                        .arg(OsStr::from_bytes(place.name.as_bytes())),
+                    Some(place) => {
+                        command.current_dir(place.directory()).arg(OsStr::from_bytes(place.name.as_bytes()))
+                    }
                     None => command.arg(&self.folder),
                 };
                 succeeded(name, &command.output()?)
@@ -435,17 +425,13 @@ fn mount_as_root(folder: &CStr, mode: u32, options: &[MountOption]) -> io::Resul
     let device = device.map_err(|error| named("/dev/fuse", &error))?;
     let (user, group) = system::user_and_group();
     // (the kernel takes the type of the mode alone)
-    let mut data = format!(
-        "fd={},rootmode={:o},user_id={user},group_id={group}",
-        device.as_raw_fd(),
-        mode & 0o170_000,
-    );
+    let mut data =
+        format!("fd={},rootmode={:o},user_id={user},group_id={group}", device.as_raw_fd(), mode & 0o170_000);
     for word in options.iter().filter_map(MountOption::word) {
         data.push(',');
         data.push_str(word);
     }
-    let mut flags =
-        options.iter().filter_map(MountOption::flag).fold(0, |all, (_, flag)| all | flag);
+    let mut flags = options.iter().filter_map(MountOption::flag).fold(0, |all, (_, flag)| all | flag);
     flags |= if options.contains(&MountOption::Suid) { 0 } else { MS_NOSUID };
     flags |= if options.contains(&MountOption::Dev) { 0 } else { MS_NODEV };
     let (source, subtype) = names(options);

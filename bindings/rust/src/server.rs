@@ -175,23 +175,14 @@ impl<F: FileSystem> Server<F> {
     /// the buffers in `room`. A READ may also change them after its reply.
     ///
     /// No call can be taken, to be answered later: [`FileSystem::take`] is not called. [`Slot::ask`] is for that.
-    pub fn serve_one(
-        &self,
-        slot: &mut Slot,
-        request: &[IoSlice<'_>],
-        room: &mut [IoSliceMut<'_>],
-    ) -> Served {
+    pub fn serve_one(&self, slot: &mut Slot, request: &[IoSlice<'_>], room: &mut [IoSliceMut<'_>]) -> Served {
         self.serve_by(slot, request, room, None)
     }
 
     /// Serves one request of a client, if there is one to whom a call can be answered later.
     #[inline]
     pub(crate) fn serve_by(
-        &self,
-        slot: &mut Slot,
-        request: &[IoSlice<'_>],
-        room: &mut [IoSliceMut<'_>],
-        client: Option<&Client>,
+        &self, slot: &mut Slot, request: &[IoSlice<'_>], room: &mut [IoSliceMut<'_>], client: Option<&Client>,
     ) -> Served {
         let total = room.iter().map(|piece| piece.len()).sum();
         match slot.ask(&self.session(), request, total) {
@@ -199,11 +190,7 @@ impl<F: FileSystem> Server<F> {
                 if let Some(unique) = done.interrupts {
                     self.quietly(|files| files.interrupt(unique));
                 }
-                Served {
-                    len: done.reply.copy_to(room),
-                    outcome: done.outcome,
-                    interrupts: done.interrupts,
-                }
+                Served { len: done.reply.copy_to(room), outcome: done.outcome, interrupts: done.interrupts }
             }
             Asked::Call(pending) => {
                 let context = pending.context;
@@ -228,10 +215,7 @@ impl<F: FileSystem> Server<F> {
     /// Returns a call unless the file system takes it. If it panics, the request is refused.
     #[inline]
     fn left<'r>(
-        &self,
-        context: Context,
-        call: Call<'r>,
-        client: Option<&Client>,
+        &self, context: Context, call: Call<'r>, client: Option<&Client>,
     ) -> Result<Call<'r>, Result<(), Refusal>> {
         let client = match client {
             Some(client) => client,
@@ -246,11 +230,7 @@ impl<F: FileSystem> Server<F> {
     /// Makes an INIT: tells the file system what is offered, and agrees to some options only if it wants
     /// them.
     fn begin<'s>(
-        &self,
-        slot: &'s mut Slot,
-        request: &[IoSlice<'_>],
-        capable: FsOptions,
-        to: To<Want>,
+        &self, slot: &'s mut Slot, request: &[IoSlice<'_>], capable: FsOptions, to: To<Want>,
     ) -> Told<'s> {
         let mut request: Vec<u8> = request.iter().flat_map(|piece| piece.to_vec()).collect();
         let (capable, to) = self.offer(slot, &mut request, self.withheld, (capable, to));
@@ -266,11 +246,7 @@ impl<F: FileSystem> Server<F> {
 
     /// Asks for the call of an INIT again, without options. If there are none it is the present one.
     fn offer(
-        &self,
-        slot: &mut Slot,
-        request: &mut [u8],
-        withheld: FsOptions,
-        present: (FsOptions, To<Want>),
+        &self, slot: &mut Slot, request: &mut [u8], withheld: FsOptions, present: (FsOptions, To<Want>),
     ) -> (FsOptions, To<Want>) {
         if (withheld & present.0).is_empty() {
             return present;

@@ -51,20 +51,11 @@ struct Seen {
 
 extern "C" {
     fn mount(
-        source: *const c_char,
-        folder: *const c_char,
-        kind: *const c_char,
-        flags: c_ulong,
+        source: *const c_char, folder: *const c_char, kind: *const c_char, flags: c_ulong,
         data: *const c_char,
     ) -> c_int;
     fn umount2(folder: *const c_char, flags: c_int) -> c_int;
-    fn statx(
-        directory: c_int,
-        name: *const c_char,
-        flags: c_int,
-        mask: u32,
-        seen: *mut Seen,
-    ) -> c_int;
+    fn statx(directory: c_int, name: *const c_char, flags: c_int, mask: u32, seen: *mut Seen) -> c_int;
     fn geteuid() -> u32;
     fn getegid() -> u32;
     fn poll(polled: *mut Polled, count: c_ulong, milliseconds: c_int) -> c_int;
@@ -78,13 +69,7 @@ pub(crate) fn user_and_group() -> (u32, u32) {
 }
 
 /// Mounts, as `mount(2)`.
-pub(crate) fn mount_on(
-    source: &CStr,
-    folder: &CStr,
-    kind: &CStr,
-    flags: u64,
-    data: &CStr,
-) -> io::Result<()> {
+pub(crate) fn mount_on(source: &CStr, folder: &CStr, kind: &CStr, flags: u64, data: &CStr) -> io::Result<()> {
     let data = data.as_ptr();
     // SAFETY: all are strings that end with a NUL, and valid for this call.
     let failed = unsafe { mount(source.as_ptr(), folder.as_ptr(), kind.as_ptr(), flags, data) };

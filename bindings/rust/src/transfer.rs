@@ -43,11 +43,7 @@ impl Read for Reader<'_> {
 
 impl ZeroCopyReader for Reader<'_> {
     fn write_to_file_at(
-        &mut self,
-        f: &File,
-        count: usize,
-        off: u64,
-        flags: Option<WritevFlags>,
+        &mut self, f: &File, count: usize, off: u64, flags: Option<WritevFlags>,
     ) -> io::Result<usize> {
         transfer(count, off, |left, at| {
             let piece = self.piece();
@@ -139,9 +135,7 @@ impl ZeroCopyWriter for Writer<'_, '_> {
 
 /// Moves bytes until a step moves none. Returns an error only if the first step fails.
 fn transfer(
-    count: usize,
-    off: u64,
-    mut step: impl FnMut(usize, u64) -> io::Result<usize>,
+    count: usize, off: u64, mut step: impl FnMut(usize, u64) -> io::Result<usize>,
 ) -> io::Result<usize> {
     let mut done = 0;
     while done < count {

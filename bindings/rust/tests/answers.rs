@@ -5,8 +5,8 @@ mod common;
 use common::diary::lock;
 use common::{fault, getattr, init, padded, reading, record, reply, session, words, Request};
 use nizwarf::{
-    Asked, Attr, Call, Entry, FsOptions, GetxattrReply, IoctlRange, IoctlReply, Item, Limits,
-    ListxattrReply, OpenOptions, Refusal, Slot, Statvfs, Told, DT_DIR, DT_REG,
+    Asked, Attr, Call, Entry, FsOptions, GetxattrReply, IoctlRange, IoctlReply, Item, Limits, ListxattrReply,
+    OpenOptions, Refusal, Slot, Statvfs, Told, DT_DIR, DT_REG,
 };
 use std::ffi::CString;
 use std::io::{self, IoSlice, IoSliceMut};
@@ -25,9 +25,7 @@ struct Ended {
 
 /// Asks for the call of a request, with a buffer of this size, and answers it.
 fn answer(
-    request: &[u8],
-    room: usize,
-    answer: impl for<'s> FnOnce(&'s mut Slot, Call<'_>) -> Told<'s>,
+    request: &[u8], room: usize, answer: impl for<'s> FnOnce(&'s mut Slot, Call<'_>) -> Told<'s>,
 ) -> Ended {
     let mut slot = Slot::new();
     let slices = [IoSlice::new(request)];
@@ -51,14 +49,7 @@ fn answer(
 
 /// A result that has only a reply.
 fn replied(bytes: Vec<u8>) -> Ended {
-    Ended {
-        outcome: Ok(()),
-        given_back: Vec::new(),
-        taken: 0,
-        options: None,
-        len: bytes.len(),
-        bytes,
-    }
+    Ended { outcome: Ok(()), given_back: Vec::new(), taken: 0, options: None, len: bytes.len(), bytes }
 }
 
 /// Asks with a large buffer, and answers by the field `to` of the call.
@@ -247,9 +238,7 @@ fn data_of_a_read_stand_in_the_room_already() {
     let slices = [IoSlice::new(&request)];
     let mut slot = Slot::new();
     let mut room = vec![0xaa; 64];
-    if let Some(Call::Read { to, .. }) =
-        asked(slot.ask(&session(FsOptions::empty()), &slices, room.len()))
-    {
+    if let Some(Call::Read { to, .. }) = asked(slot.ask(&session(FsOptions::empty()), &slices, room.len())) {
         assert_eq!(to.most(), 48);
         room[16..20].copy_from_slice(b"data");
         let mut reply = to.answer(&mut slot, Ok(4)).reply();
@@ -329,11 +318,8 @@ fn limits_are_told_at_init() {
 
 #[test]
 fn an_entry_that_does_not_fit_is_given_back() {
-    let nothing = |given_back| Ended {
-        outcome: Err(Refusal::EncodeMessage),
-        given_back,
-        ..replied(Vec::new())
-    };
+    let nothing =
+        |given_back| Ended { outcome: Err(Refusal::EncodeMessage), given_back, ..replied(Vec::new()) };
     let looked_up = |room, node| {
         answer(&lookup().done(), room, |slot, call| match call {
             Call::Lookup { to, .. } => to.answer(slot, Ok(entry(node))),
@@ -345,8 +331,7 @@ fn an_entry_that_does_not_fit_is_given_back() {
     }
     // Node 0 has no lookup, and an error no entry.
     assert_eq!(looked_up(143, 0), nothing(Vec::new()));
-    let made =
-        answer(&lookup().done(), 15, |slot, call| call.fail(slot, &io::ErrorKind::Other.into()));
+    let made = answer(&lookup().done(), 15, |slot, call| call.fail(slot, &io::ErrorKind::Other.into()));
     assert_eq!(made, nothing(Vec::new()));
 }
 
@@ -393,9 +378,7 @@ fn what_may_have_to_be_given_back_is_not_forgotten() {
     let request = lookup().done();
     let slices = [IoSlice::new(&request)];
     let mut slot = Slot::new();
-    if let Some(Call::Lookup { to, .. }) =
-        asked(slot.ask(&session(FsOptions::empty()), &slices, 4096))
-    {
+    if let Some(Call::Lookup { to, .. }) = asked(slot.ask(&session(FsOptions::empty()), &slices, 4096)) {
         let _ = to.answer(&mut slot, Ok(entry(9))).reply();
     }
 }

@@ -6,8 +6,8 @@ mod common;
 use common::diary::{each_call, lock, Row};
 use common::{each_cutting, fault, init, session, words, Request, WHO};
 use nizwarf::{
-    Asked, Call, Context, Extensions, FsOptions, Offers, SecContext, Session, SetattrValid,
-    SetxattrFlags, Slot,
+    Asked, Call, Context, Extensions, FsOptions, Offers, SecContext, Session, SetattrValid, SetxattrFlags,
+    Slot,
 };
 use std::ffi::{CStr, CString};
 use std::io::{self, IoSlice};
@@ -98,10 +98,7 @@ fn extensions_of_new_nodes() {
     let context = [words(&[30, 1, 5, 0]), b"security\0value".to_vec()].concat();
     let options = FsOptions::SECURITY_CTX | FsOptions::CREATE_SUPP_GROUP;
     let expected = Extensions {
-        secctx: Some(SecContext {
-            name: CString::new("security").unwrap(),
-            secctx: b"value".to_vec(),
-        }),
+        secctx: Some(SecContext { name: CString::new("security").unwrap(), secctx: b"value".to_vec() }),
         sup_gid: Some(4242),
     };
     let mkdir = |blocks: &[u8]| Request::new(9, 2).u32(0o755).u32(0).name("dir").bytes(blocks);
@@ -234,9 +231,8 @@ fn unknown(session: &Session, request: Request) -> Option<u32> {
 #[test]
 fn what_is_not_offered_is_unknown() {
     let rows = || each_call().into_iter().map(|row| row.request);
-    let unknown_in = |session: &Session| -> Vec<u32> {
-        rows().filter_map(|request| unknown(session, request)).collect()
-    };
+    let unknown_in =
+        |session: &Session| -> Vec<u32> { rows().filter_map(|request| unknown(session, request)).collect() };
     // The opcodes 52 and 53 do not exist then.
     assert_eq!(unknown_in(&Session::default()), [31, 32, 33, 37, 39, 40, 40, 41, 51]);
     let mut some = Session::default();

@@ -9,12 +9,11 @@ mod folder;
 use common::hostile::{delivered, seeds, word, Random, NODE};
 use common::{fault, reading, record, reply, words, Peer, Request};
 use nizwarf::fuser::{
-    spawn_mount2, BackgroundSession, Config, Errno, FileAttr, FileHandle, FileType, Filesystem,
-    FopenFlags, Generation, INodeNo, InitFlags, IoctlFlags, KernelConfig, LockOwner, MountOption,
-    Notifier, OpenFlags, PollEvents, PollFlags, PollNotifier, ReplyAttr, ReplyCreate, ReplyData,
-    ReplyDirectory, ReplyDirectoryPlus, ReplyEmpty, ReplyEntry, ReplyIoctl, ReplyLock, ReplyOpen,
-    ReplyPoll, ReplyStatfs, ReplyWrite, ReplyXattr, Request as Caller, Session, SessionACL,
-    Version, WriteFlags,
+    spawn_mount2, BackgroundSession, Config, Errno, FileAttr, FileHandle, FileType, Filesystem, FopenFlags,
+    Generation, INodeNo, InitFlags, IoctlFlags, KernelConfig, LockOwner, MountOption, Notifier, OpenFlags,
+    PollEvents, PollFlags, PollNotifier, ReplyAttr, ReplyCreate, ReplyData, ReplyDirectory,
+    ReplyDirectoryPlus, ReplyEmpty, ReplyEntry, ReplyIoctl, ReplyLock, ReplyOpen, ReplyPoll, ReplyStatfs,
+    ReplyWrite, ReplyXattr, Request as Caller, Session, SessionACL, Version, WriteFlags,
 };
 use std::ffi::OsStr;
 use std::fs::{self, File};
@@ -128,29 +127,13 @@ impl Filesystem for Files {
         reply.opened(FileHandle(5), FopenFlags::FOPEN_KEEP_CACHE | FopenFlags::FOPEN_PASSTHROUGH);
     }
 
-    fn create(
-        &self,
-        _: &Caller,
-        _: INodeNo,
-        _: &OsStr,
-        _: u32,
-        _: u32,
-        _: i32,
-        reply: ReplyCreate,
-    ) {
+    fn create(&self, _: &Caller, _: INodeNo, _: &OsStr, _: u32, _: u32, _: i32, reply: ReplyCreate) {
         reply.created(&SECOND, &self.entry(), Generation(0), FileHandle(5), FopenFlags::empty());
     }
 
     fn read(
-        &self,
-        _: &Caller,
-        ino: INodeNo,
-        _: FileHandle,
-        offset: u64,
-        size: u32,
-        _: OpenFlags,
-        _: Option<LockOwner>,
-        reply: ReplyData,
+        &self, _: &Caller, ino: INodeNo, _: FileHandle, offset: u64, size: u32, _: OpenFlags,
+        _: Option<LockOwner>, reply: ReplyData,
     ) {
         assert!(i64::try_from(offset).is_ok());
         let more = u32::from(ino.0 == 8);
@@ -158,16 +141,8 @@ impl Filesystem for Files {
     }
 
     fn write(
-        &self,
-        _: &Caller,
-        _: INodeNo,
-        _: FileHandle,
-        _: u64,
-        data: &[u8],
-        write_flags: WriteFlags,
-        _: OpenFlags,
-        _: Option<LockOwner>,
-        reply: ReplyWrite,
+        &self, _: &Caller, _: INodeNo, _: FileHandle, _: u64, data: &[u8], write_flags: WriteFlags,
+        _: OpenFlags, _: Option<LockOwner>, reply: ReplyWrite,
     ) {
         assert!(write_flags.bits() < 8);
         reply.written(u32::try_from(data.len()).unwrap());
@@ -183,14 +158,7 @@ impl Filesystem for Files {
         reply.ok();
     }
 
-    fn readdirplus(
-        &self,
-        _: &Caller,
-        ino: INodeNo,
-        _: FileHandle,
-        at: u64,
-        mut reply: ReplyDirectoryPlus,
-    ) {
+    fn readdirplus(&self, _: &Caller, ino: INodeNo, _: FileHandle, at: u64, mut reply: ReplyDirectoryPlus) {
         let names = [".", "..", "a", if ino.0 == 8 { "a\0b" } else { "b" }, "some-name"];
         for (name, offset) in names.iter().zip(1..).skip(usize::try_from(at).unwrap_or(5)) {
             if reply.add(INodeNo(NODE), offset, name, &SECOND, &attr(NODE), Generation(0)) {
@@ -215,43 +183,22 @@ impl Filesystem for Files {
     }
 
     fn getlk(
-        &self,
-        _: &Caller,
-        _: INodeNo,
-        _: FileHandle,
-        _: LockOwner,
-        start: u64,
-        end: u64,
-        typ: i32,
-        pid: u32,
+        &self, _: &Caller, _: INodeNo, _: FileHandle, _: LockOwner, start: u64, end: u64, typ: i32, pid: u32,
         reply: ReplyLock,
     ) {
         reply.locked(start, end, typ, pid);
     }
 
     fn ioctl(
-        &self,
-        _: &Caller,
-        _: INodeNo,
-        _: FileHandle,
-        flags: IoctlFlags,
-        _: u32,
-        in_data: &[u8],
-        out_size: u32,
-        reply: ReplyIoctl,
+        &self, _: &Caller, _: INodeNo, _: FileHandle, flags: IoctlFlags, _: u32, in_data: &[u8],
+        out_size: u32, reply: ReplyIoctl,
     ) {
         assert!(!flags.contains(IoctlFlags::FUSE_IOCTL_UNRESTRICTED));
         reply.ioctl(1, &in_data[..in_data.len().min(out_size as usize)]);
     }
 
     fn poll(
-        &self,
-        _: &Caller,
-        _: INodeNo,
-        _: FileHandle,
-        ph: PollNotifier,
-        events: PollEvents,
-        flags: PollFlags,
+        &self, _: &Caller, _: INodeNo, _: FileHandle, ph: PollNotifier, events: PollEvents, flags: PollFlags,
         reply: ReplyPoll,
     ) {
         if flags.contains(PollFlags::FUSE_POLL_SCHEDULE_NOTIFY) {
@@ -409,14 +356,7 @@ struct Losing {
 }
 
 impl Filesystem for Losing {
-    fn readdirplus(
-        &self,
-        _: &Caller,
-        ino: INodeNo,
-        _: FileHandle,
-        _: u64,
-        mut reply: ReplyDirectoryPlus,
-    ) {
+    fn readdirplus(&self, _: &Caller, ino: INodeNo, _: FileHandle, _: u64, mut reply: ReplyDirectoryPlus) {
         for name in ["a", "\0"] {
             assert!(!reply.add(INodeNo(NODE), 1, name, &SECOND, &attr(NODE), Generation(0)));
         }
@@ -461,8 +401,7 @@ fn what_is_given_back_may_answer_another_call() {
 
 #[test]
 fn a_session_begins_and_ends_once() {
-    let count =
-        |seen: &Seen| (seen.begun.load(Ordering::Relaxed), seen.ended.load(Ordering::Relaxed));
+    let count = |seen: &Seen| (seen.begun.load(Ordering::Relaxed), seen.ended.load(Ordering::Relaxed));
     // It is dropped before it is served.
     let (files, seen, _) = Files::new(Ok(InitFlags::FUSE_WRITEBACK_CACHE));
     let (client, session) = begin(files, SessionACL::All, 2);
@@ -483,8 +422,7 @@ fn a_session_begins_and_ends_once() {
     // Its client is gone, or its configuration is wrong.
     let (client, device) = Peer::new();
     client.send(&[]);
-    for (threads, expected) in [(0, io::ErrorKind::InvalidInput), (1, io::ErrorKind::NotConnected)]
-    {
+    for (threads, expected) in [(0, io::ErrorKind::InvalidInput), (1, io::ErrorKind::NotConnected)] {
         let (files, seen, _) = Files::new(Ok(InitFlags::empty()));
         let device = OwnedFd::from(device.try_clone().unwrap());
         let failed = Session::from_fd(files, device, SessionACL::All, config(threads));
@@ -509,8 +447,7 @@ fn a_panic_ends_a_session_after_its_caller_is_answered() {
 #[test]
 fn only_those_users_are_served_that_may() {
     // (the user of these requests is 1000)
-    if !fs::metadata("/proc/self").map_or(false, |it| std::os::unix::fs::MetadataExt::uid(&it) == 0)
-    {
+    if !fs::metadata("/proc/self").map_or(false, |it| std::os::unix::fs::MetadataExt::uid(&it) == 0) {
         return eprintln!("users: this needs root.");
     }
     for (acl, expected) in [(SessionACL::Owner, 13), (SessionACL::RootAndOwner, 13)] {
@@ -564,8 +501,7 @@ fn hostile_requests() {
             }
         }
         // (a NOTIFY_REPLY is not offered, and only that is answered)
-        let (none, perhaps) =
-            (matches!(opcode, 2 | 42), matches!(opcode, 36 | 41) || request.len() < 16);
+        let (none, perhaps) = (matches!(opcode, 2 | 42), matches!(opcode, 36 | 41) || request.len() < 16);
         assert!(perhaps || own.is_some() != none, "round {round}: {request:?}");
         let own = own.unwrap_or_default();
         let is_fault = !own.is_empty() && word(&own, 4) != 0;

@@ -6,9 +6,9 @@ mod common;
 
 use common::hostile::{delivered, seeds, word, Random, NODE};
 use nizwarf::{
-    Attr, Context, DirEntry, DirectoryIterator, Entry, Extensions, FileSystem, FsOptions,
-    GetxattrReply, IoctlFlags, IoctlReply, Lock, Offers, OpenOptions, Refusal, Server, Session,
-    Slot, Statx, ZeroCopyReader, ZeroCopyWriter,
+    Attr, Context, DirEntry, DirectoryIterator, Entry, Extensions, FileSystem, FsOptions, GetxattrReply,
+    IoctlFlags, IoctlReply, Lock, Offers, OpenOptions, Refusal, Server, Session, Slot, Statx, ZeroCopyReader,
+    ZeroCopyWriter,
 };
 use std::ffi::{CStr, CString};
 use std::io::{self, IoSlice, IoSliceMut};
@@ -72,13 +72,7 @@ impl FileSystem for Counting {
     }
 
     fn mkdir(
-        &self,
-        _: Context,
-        _: u64,
-        name: &CStr,
-        _: u32,
-        _: u32,
-        extensions: Extensions,
+        &self, _: Context, _: u64, name: &CStr, _: u32, _: u32, extensions: Extensions,
     ) -> io::Result<Entry> {
         assert!(!name.to_bytes().contains(&0));
         if let Some(context) = extensions.secctx {
@@ -88,15 +82,7 @@ impl FileSystem for Counting {
     }
 
     fn create(
-        &self,
-        _: Context,
-        _: u64,
-        _: &CStr,
-        _: u32,
-        _: bool,
-        _: u32,
-        _: u32,
-        _: Extensions,
+        &self, _: Context, _: u64, _: &CStr, _: u32, _: bool, _: u32, _: u32, _: Extensions,
     ) -> io::Result<(Entry, Option<u64>, OpenOptions)> {
         Ok((self.entry()?, None, OpenOptions::all()))
     }
@@ -106,15 +92,7 @@ impl FileSystem for Counting {
     }
 
     fn tmpfile(
-        &self,
-        _: Context,
-        _: u64,
-        _: &CStr,
-        _: u32,
-        _: bool,
-        _: u32,
-        _: u32,
-        _: Extensions,
+        &self, _: Context, _: u64, _: &CStr, _: u32, _: bool, _: u32, _: u32, _: Extensions,
     ) -> io::Result<(Entry, Option<u64>, OpenOptions)> {
         Ok((self.entry()?, None, OpenOptions::all()))
     }
@@ -124,28 +102,13 @@ impl FileSystem for Counting {
     }
 
     fn ioctl(
-        &self,
-        _: Context,
-        _: u64,
-        _: u64,
-        _: IoctlFlags,
-        _: u32,
-        _: u64,
-        input: &[u8],
-        output_size: u32,
+        &self, _: Context, _: u64, _: u64, _: IoctlFlags, _: u32, _: u64, input: &[u8], output_size: u32,
     ) -> io::Result<IoctlReply> {
         let output = vec![b'z'; input.len().min(output_size as usize)];
         Ok(IoctlReply::Done { result: 0, output })
     }
 
-    fn statx(
-        &self,
-        _: Context,
-        _: u64,
-        _: Option<u64>,
-        _: u32,
-        mask: u32,
-    ) -> io::Result<(Statx, Duration)> {
+    fn statx(&self, _: Context, _: u64, _: Option<u64>, _: u32, mask: u32) -> io::Result<(Statx, Duration)> {
         Ok((Statx { mask, ..Statx::default() }, Duration::ZERO))
     }
 
@@ -154,15 +117,7 @@ impl FileSystem for Counting {
     }
 
     fn read<W: ZeroCopyWriter>(
-        &self,
-        _: Context,
-        _: u64,
-        _: u64,
-        mut w: W,
-        size: u32,
-        _: u64,
-        _: Option<u64>,
-        _: u32,
+        &self, _: Context, _: u64, _: u64, mut w: W, size: u32, _: u64, _: Option<u64>, _: u32,
     ) -> io::Result<usize> {
         let mut put = 0;
         while put < 300.min(size as usize) {
@@ -175,16 +130,7 @@ impl FileSystem for Counting {
     }
 
     fn write<R: ZeroCopyReader>(
-        &self,
-        _: Context,
-        _: u64,
-        _: u64,
-        mut r: R,
-        size: u32,
-        _: u64,
-        _: Option<u64>,
-        _: bool,
-        _: bool,
+        &self, _: Context, _: u64, _: u64, mut r: R, size: u32, _: u64, _: Option<u64>, _: bool, _: bool,
         _: u32,
     ) -> io::Result<usize> {
         let mut data = Vec::new();
@@ -218,11 +164,8 @@ fn hostile_requests() {
         let cut = random.below(request.len() + 1);
         let (first, second) = request.split_at(cut);
         let before = server.file_system().0.load(Ordering::Relaxed);
-        let done = server.serve_one(
-            &mut slot,
-            &[IoSlice::new(&request)],
-            &mut [IoSliceMut::new(&mut rooms[0])],
-        );
+        let done =
+            server.serve_one(&mut slot, &[IoSlice::new(&request)], &mut [IoSliceMut::new(&mut rooms[0])]);
         let at = random.below(rooms[1].len() + 1);
         let (one, two) = rooms[1].split_at_mut(at);
         let in_pieces = other.serve_one(

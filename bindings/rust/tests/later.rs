@@ -5,8 +5,8 @@ mod common;
 use common::diary::lock;
 use common::{fault, init, reading, reply, words, Peer, Request};
 use nizwarf::{
-    Call, Client, Context, Entry, Errno, FileSystem, FsOptions, Limits, NoEntries, Notifier,
-    Offers, PollHandle, Server, Slot,
+    Call, Client, Context, Entry, Errno, FileSystem, FsOptions, Limits, NoEntries, Notifier, Offers,
+    PollHandle, Server, Slot,
 };
 use std::ffi::{CStr, CString};
 use std::io;
@@ -83,14 +83,7 @@ impl FileSystem for Taking {
         }
     }
 
-    fn poll(
-        &self,
-        _: Context,
-        _: u64,
-        _: u64,
-        wake: Option<PollHandle>,
-        _: u32,
-    ) -> io::Result<u32> {
+    fn poll(&self, _: Context, _: u64, _: u64, wake: Option<PollHandle>, _: u32) -> io::Result<u32> {
         *self.polled.lock().unwrap() = wake;
         Ok(0)
     }

@@ -5,9 +5,7 @@
 mod common;
 
 use common::{reading, session, Peer, Request};
-use nizwarf::{
-    Asked, Call, Client, Entry, FileSystem, FsOptions, Item, NoEntries, Refusal, Server, Slot,
-};
+use nizwarf::{Asked, Call, Client, Entry, FileSystem, FsOptions, Item, NoEntries, Refusal, Server, Slot};
 use std::alloc::{GlobalAlloc, Layout, System};
 use std::cell::Cell;
 use std::ffi::{c_void, CString};
@@ -128,14 +126,13 @@ fn asking() {
     let slices = [IoSlice::new(first), IoSlice::new(second)];
     refuse_each(|number| {
         let mut slot = Slot::new();
-        let asked =
-            refuse(number, || match slot.ask(&session(FsOptions::empty()), &slices, 4096) {
-                Asked::Finished(done) => {
-                    assert!(done.reply.is_empty());
-                    done.outcome
-                }
-                Asked::Call(_) => Ok(()),
-            });
+        let asked = refuse(number, || match slot.ask(&session(FsOptions::empty()), &slices, 4096) {
+            Asked::Finished(done) => {
+                assert!(done.reply.is_empty());
+                done.outcome
+            }
+            Asked::Call(_) => Ok(()),
+        });
         // The slot can be used again.
         assert!(matches!(slot.ask(&session(FsOptions::empty()), &slices, 4096), Asked::Call(_)));
         asked
@@ -175,8 +172,7 @@ fn a_directory_gives_all_back() {
         let (outcome, taken) = (told.outcome, told.taken);
         let mut given_back = Vec::new();
         let mut answered = told.give_back(|node| given_back.push(node));
-        let expected =
-            if outcome.is_ok() { (16 + 2 * 160, 2, vec![]) } else { (0, 0, vec![51, 52]) };
+        let expected = if outcome.is_ok() { (16 + 2 * 160, 2, vec![]) } else { (0, 0, vec![51, 52]) };
         assert_eq!((answered.len(), taken, given_back), expected);
         assert_eq!(answered.bytes().len(), answered.len());
         (outcome, was_refused)

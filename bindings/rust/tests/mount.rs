@@ -6,9 +6,8 @@ mod folder;
 
 use folder::{comes, number};
 use nizwarf::{
-    mount, spawn_mount, Attr, Context, Entry, Errno, FileSystem, FsOptions, GetxattrReply,
-    ListxattrReply, MountOption, NoEntries, Server, SetattrIn, SetattrValid, ZeroCopyReader,
-    ZeroCopyWriter, ROOT_ID,
+    mount, spawn_mount, Attr, Context, Entry, Errno, FileSystem, FsOptions, GetxattrReply, ListxattrReply,
+    MountOption, NoEntries, Server, SetattrIn, SetattrValid, ZeroCopyReader, ZeroCopyWriter, ROOT_ID,
 };
 use std::ffi::{c_void, CStr, CString};
 use std::fs;
@@ -87,12 +86,7 @@ impl FileSystem for Odd {
     }
 
     fn setattr(
-        &self,
-        ctx: Context,
-        inode: u64,
-        attr: SetattrIn,
-        _: Option<u64>,
-        valid: SetattrValid,
+        &self, ctx: Context, inode: u64, attr: SetattrIn, _: Option<u64>, valid: SetattrValid,
     ) -> io::Result<(Attr, Duration)> {
         if valid.contains(SetattrValid::SIZE) {
             self.0.text.lock().unwrap().resize(usize::try_from(attr.size).unwrap(), 0);
@@ -105,15 +99,7 @@ impl FileSystem for Odd {
     }
 
     fn read<W: ZeroCopyWriter>(
-        &self,
-        _: Context,
-        inode: u64,
-        _: u64,
-        mut w: W,
-        size: u32,
-        offset: u64,
-        _: Option<u64>,
-        _: u32,
+        &self, _: Context, inode: u64, _: u64, mut w: W, size: u32, offset: u64, _: Option<u64>, _: u32,
     ) -> io::Result<usize> {
         if let Some(number) = usize::try_from(inode - TEXT).ok().filter(|at| *at >= 8) {
             return Err(io::Error::from_raw_os_error(NUMBERS[number - 8]));
@@ -125,16 +111,7 @@ impl FileSystem for Odd {
     }
 
     fn write<R: ZeroCopyReader>(
-        &self,
-        _: Context,
-        _: u64,
-        _: u64,
-        mut r: R,
-        _: u32,
-        offset: u64,
-        _: Option<u64>,
-        _: bool,
-        _: bool,
+        &self, _: Context, _: u64, _: u64, mut r: R, _: u32, offset: u64, _: Option<u64>, _: bool, _: bool,
         _: u32,
     ) -> io::Result<usize> {
         let (mut text, mut data) = (self.0.text.lock().unwrap(), Vec::new());
@@ -294,18 +271,14 @@ fn a_panic_ends_a_mount_after_its_caller_is_answered() {
 #[test]
 fn what_is_unmounted_is_what_was_mounted() {
     let folder = folder!("place");
-    let (above, moved, other) =
-        (folder.0.join("above"), folder.0.join("moved"), folder.0.join("other"));
+    let (above, moved, other) = (folder.0.join("above"), folder.0.join("moved"), folder.0.join("other"));
     let point = above.join("point");
     let is_mounted = |path: &Path| {
         let lines = fs::read_to_string("/proc/self/mountinfo").unwrap();
         lines.contains(&format!(" {} ", path.display()))
     };
     let run = |program: &str, words: &[&str], path: &Path| {
-        assert!(
-            Command::new(program).args(words).arg(path).status().unwrap().success(),
-            "{program}"
-        );
+        assert!(Command::new(program).args(words).arg(path).status().unwrap().success(), "{program}");
     };
     let cover = |path: &Path| run("mount", &["-t", "tmpfs", "none"], path);
     fs::create_dir_all(&point).unwrap();

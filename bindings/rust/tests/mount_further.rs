@@ -7,10 +7,9 @@ mod folder;
 
 use folder::{comes, number, Folder};
 use nizwarf::{
-    kinds, spawn_mount, Attr, Call, Client, Context, Entry, Errno, Extensions, FileSystem,
-    FsOptions, IoctlFlags, IoctlReply, Limits, Lock, LockType, MountOption, Mounted, NoEntries,
-    Notifier, Offers, OpenOptions, PollHandle, Slot, Statx, StatxTime, To, ZeroCopyReader,
-    ZeroCopyWriter,
+    kinds, spawn_mount, Attr, Call, Client, Context, Entry, Errno, Extensions, FileSystem, FsOptions,
+    IoctlFlags, IoctlReply, Limits, Lock, LockType, MountOption, Mounted, NoEntries, Notifier, Offers,
+    OpenOptions, PollHandle, Slot, Statx, StatxTime, To, ZeroCopyReader, ZeroCopyWriter,
 };
 use std::ffi::{CStr, CString};
 use std::fs::{self, File};
@@ -201,14 +200,7 @@ impl FileSystem for News {
     }
 
     fn setlk(
-        &self,
-        _: Context,
-        _: u64,
-        _: u64,
-        owner: u64,
-        lock: Lock,
-        wait: bool,
-        flock: bool,
+        &self, _: Context, _: u64, _: u64, owner: u64, lock: Lock, wait: bool, flock: bool,
     ) -> io::Result<()> {
         assert!(!wait);
         let (wanted, mut state) = (Held { owner, lock, flock }, self.state());
@@ -225,14 +217,7 @@ impl FileSystem for News {
     }
 
     fn release(
-        &self,
-        _: Context,
-        _: u64,
-        _: u32,
-        _: u64,
-        _: bool,
-        flock_release: bool,
-        lock_owner: Option<u64>,
+        &self, _: Context, _: u64, _: u32, _: u64, _: bool, flock_release: bool, lock_owner: Option<u64>,
     ) -> io::Result<()> {
         if flock_release {
             self.state().unlock(lock_owner.unwrap_or(0), true);
@@ -256,12 +241,7 @@ impl FileSystem for News {
     }
 
     fn statx(
-        &self,
-        _: Context,
-        inode: u64,
-        _: Option<u64>,
-        _: u32,
-        mask: u32,
+        &self, _: Context, inode: u64, _: Option<u64>, _: u32, mask: u32,
     ) -> io::Result<(Statx, Duration)> {
         assert_ne!(mask & Statx::BTIME, 0);
         let Attr { ino, mode, size, nlink, .. } = self.attr(inode);
@@ -275,30 +255,14 @@ impl FileSystem for News {
     }
 
     fn tmpfile(
-        &self,
-        _: Context,
-        _: u64,
-        name: &CStr,
-        mode: u32,
-        _: bool,
-        _: u32,
-        _: u32,
-        _: Extensions,
+        &self, _: Context, _: u64, name: &CStr, mode: u32, _: bool, _: u32, _: u32, _: Extensions,
     ) -> io::Result<(Entry, Option<u64>, OpenOptions)> {
         assert_eq!((name.to_bytes(), mode & 0o777), (&b"/"[..], 0o600));
         Ok((self.entry(UNNAMED), Some(5), OpenOptions::empty()))
     }
 
     fn read<W: ZeroCopyWriter>(
-        &self,
-        _: Context,
-        inode: u64,
-        _: u64,
-        mut w: W,
-        size: u32,
-        offset: u64,
-        _: Option<u64>,
-        _: u32,
+        &self, _: Context, inode: u64, _: u64, mut w: W, size: u32, offset: u64, _: Option<u64>, _: u32,
     ) -> io::Result<usize> {
         let state = self.state();
         let all = if inode == UNNAMED { &state.unnamed[..] } else { state.text.as_bytes() };
@@ -308,30 +272,13 @@ impl FileSystem for News {
     }
 
     fn write<R: ZeroCopyReader>(
-        &self,
-        _: Context,
-        _: u64,
-        _: u64,
-        mut r: R,
-        _: u32,
-        _: u64,
-        _: Option<u64>,
-        _: bool,
-        _: bool,
-        _: u32,
+        &self, _: Context, _: u64, _: u64, mut r: R, _: u32, _: u64, _: Option<u64>, _: bool, _: bool, _: u32,
     ) -> io::Result<usize> {
         r.read_to_end(&mut self.state().unnamed)
     }
 
     fn ioctl(
-        &self,
-        _: Context,
-        inode: u64,
-        _: u64,
-        flags: IoctlFlags,
-        cmd: u32,
-        _: u64,
-        input: &[u8],
+        &self, _: Context, inode: u64, _: u64, flags: IoctlFlags, cmd: u32, _: u64, input: &[u8],
         output_size: u32,
     ) -> io::Result<IoctlReply> {
         assert!(flags.is_empty());
@@ -345,14 +292,7 @@ impl FileSystem for News {
         Ok(IoctlReply::Done { result: 7, output })
     }
 
-    fn poll(
-        &self,
-        _: Context,
-        _: u64,
-        _: u64,
-        wake: Option<PollHandle>,
-        _: u32,
-    ) -> io::Result<u32> {
+    fn poll(&self, _: Context, _: u64, _: u64, wake: Option<PollHandle>, _: u32) -> io::Result<u32> {
         let mut state = self.state();
         state.polled = wake;
         Ok(u32::from(state.text != "old\n"))

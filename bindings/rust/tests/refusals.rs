@@ -7,11 +7,7 @@ use nizwarf::{Asked, FsOptions, Refusal, Slot};
 use std::io::IoSlice;
 
 /// The outcome and the reply of a request that needs no call, and the request that it interrupts.
-fn finished(
-    options: FsOptions,
-    request: &[u8],
-    room: usize,
-) -> (Result<(), Refusal>, Vec<u8>, Option<u64>) {
+fn finished(options: FsOptions, request: &[u8], room: usize) -> (Result<(), Refusal>, Vec<u8>, Option<u64>) {
     let mut slot = Slot::new();
     let slices = [IoSlice::new(request)];
     match slot.ask(&session(options), &slices, room) {

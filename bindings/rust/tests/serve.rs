@@ -109,8 +109,7 @@ fn a_session_ends_once() {
         let (client, device) = Peer::new();
         let mut requests = vec![Vec::new()];
         if destroys {
-            requests =
-                vec![init(0, u32::MAX, u32::MAX).done(), Request::new(38, 0).done(), Vec::new()];
+            requests = vec![init(0, u32::MAX, u32::MAX).done(), Request::new(38, 0).done(), Vec::new()];
         }
         for request in requests {
             client.send(&request);
@@ -170,8 +169,7 @@ fn options_that_only_some_serve_are_agreed_on_if_they_are_wanted() {
     assert_eq!((got, capable), (all - withheld, FsOptions::all() - withheld));
     // Without INIT_EXT the second half is none.
     let low = FsOptions::from_bits_truncate(u32::MAX.into());
-    let (got, capable) =
-        agreed(&of(special).withhold(FsOptions::INIT_EXT), &init(0, u32::MAX, u32::MAX));
+    let (got, capable) = agreed(&of(special).withhold(FsOptions::INIT_EXT), &init(0, u32::MAX, u32::MAX));
     assert_eq!((got, capable), ((all & low) - FsOptions::INIT_EXT, low - FsOptions::INIT_EXT));
     // A shorter INIT, of an older version, has only the first half.
     let short = Request::new(26, 0).u32(7).u32(31).u32(0).u32(0x28);

@@ -19,12 +19,7 @@ impl FileSystem for Nothing {
 }
 
 /// Serves a request, of which request and buffer are cut in two, and returns the reply.
-fn serve_in<F: FileSystem>(
-    server: &Server<F>,
-    request: &[u8],
-    room: usize,
-    cut: usize,
-) -> (Served, Vec<u8>) {
+fn serve_in<F: FileSystem>(server: &Server<F>, request: &[u8], room: usize, cut: usize) -> (Served, Vec<u8>) {
     let mut bytes = vec![0xaa; room];
     let (first, second) = bytes.split_at_mut(cut.min(room));
     let (one, other) = request.split_at(cut.min(request.len()));
@@ -90,11 +85,7 @@ fn a_handle_that_the_client_does_not_get_is_released() {
     let server = Server::new(Diary::default());
     let entry_and_open = 128 + 16;
     for (request, len, lines) in [
-        (
-            Request::new(14, 5).u32(2).u32(0),
-            16,
-            vec!["open 5 false 2", "release 5 2 70 false false None"],
-        ),
+        (Request::new(14, 5).u32(2).u32(0), 16, vec!["open 5 false 2", "release 5 2 70 false false None"]),
         (Request::new(27, 5).u32(2).u32(0), 16, vec!["opendir 5 2", "releasedir 5 2 72"]),
         (
             Request::new(35, 5).bytes(&words(&[2, 0o600, 0o22, 0])).name("f"),
@@ -104,11 +95,7 @@ fn a_handle_that_the_client_does_not_get_is_released() {
         (
             Request::new(51, 5).bytes(&words(&[2, 0o600, 0o22, 0])).name("/"),
             entry_and_open,
-            vec![
-                "tmpfile 77 5 / 600 false 2 22",
-                "release 50 2 73 false false None",
-                "forget 50 1",
-            ],
+            vec!["tmpfile 77 5 / 600 false 2 22", "release 50 2 73 false false None", "forget 50 1"],
         ),
     ] {
         let request = request.done();
@@ -134,12 +121,8 @@ fn what_is_not_opened_is_not_released() {
 #[test]
 fn directories() {
     let server = Server::new(Diary::default());
-    let records = [
-        record(11, 1, 8, "."),
-        record(12, 2, 8, ".."),
-        record(13, 3, 8, "a"),
-        record(14, 4, 8, "b"),
-    ];
+    let records =
+        [record(11, 1, 8, "."), record(12, 2, 8, ".."), record(13, 3, 8, "a"), record(14, 4, 8, "b")];
     for (size, taken) in [(31, 0), (95, 2), (96, 3), (127, 3), (128, 4), (4000, 4)] {
         let expected = reply(&records[..taken].concat());
         assert_eq!(serve(&server, &moves(28, 1, size)), expected);

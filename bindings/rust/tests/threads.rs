@@ -7,9 +7,7 @@
 mod common;
 
 use common::{session, Request};
-use nizwarf::{
-    Asked, Attr, Call, Context, Entry, FileSystem, FsOptions, NoEntries, Server, Slot, Told,
-};
+use nizwarf::{Asked, Attr, Call, Context, Entry, FileSystem, FsOptions, NoEntries, Server, Slot, Told};
 use std::ffi::CStr;
 use std::io::{self, IoSlice, IoSliceMut};
 use std::sync::{Arc, Mutex};
@@ -157,11 +155,8 @@ fn one_server_serves_all_threads() {
         let serve = |number| {
             let mut room = [0; 1024];
             let bytes = request(number);
-            let done = server.serve_one(
-                &mut slot,
-                &[IoSlice::new(&bytes)],
-                &mut [IoSliceMut::new(&mut room)],
-            );
+            let done =
+                server.serve_one(&mut slot, &[IoSlice::new(&bytes)], &mut [IoSliceMut::new(&mut room)]);
             assert_eq!(done.outcome, Ok(()));
             let asked = ask(&mut slot, number);
             assert_eq!(room[..done.len], answer(&mut slot, asked));

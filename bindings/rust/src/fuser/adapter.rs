@@ -17,9 +17,9 @@ use crate::fuser::flags::{
 };
 use crate::fuser::notify::{Notifier, PollHandle, PollNotifier};
 use crate::fuser::reply::{
-    Answer, DataOf, Link, Listing, Loss, ReplyAttr, ReplyBmap, ReplyCreate, ReplyData,
-    ReplyDirectory, ReplyDirectoryPlus, ReplyEmpty, ReplyEntry, ReplyIoctl, ReplyLock, ReplyLseek,
-    ReplyOpen, ReplyPoll, ReplyStatfs, ReplyWrite, ReplyXattr,
+    Answer, DataOf, Link, Listing, Loss, ReplyAttr, ReplyBmap, ReplyCreate, ReplyData, ReplyDirectory,
+    ReplyDirectoryPlus, ReplyEmpty, ReplyEntry, ReplyIoctl, ReplyLock, ReplyLseek, ReplyOpen, ReplyPoll,
+    ReplyStatfs, ReplyWrite, ReplyXattr,
 };
 use crate::fuser::types::{
     time_of, FileHandle, ForgetOne, INodeNo, LockOwner, OpenFlags, Request, TimeOrNow, Version,
@@ -118,8 +118,7 @@ impl<F: Filesystem> Adapter<F> {
 
     /// Ends the session once.
     fn end(&self) {
-        if let Stage::New(mut files) | Stage::Begun(mut files) =
-            mem::replace(&mut *self.write(), Stage::Over)
+        if let Stage::New(mut files) | Stage::Begun(mut files) = mem::replace(&mut *self.write(), Stage::Over)
         {
             files.destroy();
         }
@@ -271,8 +270,8 @@ const fn signed(bits: u32) -> i32 {
     bits as i32
 }
 
-/// Whether the kernel cannot mean one of these as a place in a file, which has 63 bits.
-fn are_none(places: &[u64]) -> bool {
+/// Whether one of these is no place in a file, which has 63 bits.
+fn are_too_large(places: &[u64]) -> bool {
     places.iter().any(|place| i64::try_from(*place).is_err())
 }
 
@@ -370,7 +369,7 @@ impl<F: Filesystem> Made<'_, F> {
                 read(
                     INodeNo(node), FileHandle(handle), offset, size, OpenFlags(signed(flags)),
                     lock_owner.map(LockOwner)
-                ) -> file_data, unless are_none(&[offset]) => EINVAL;
+                ) -> file_data, unless are_too_large(&[offset]) => EINVAL;
             Flush { node, handle, lock_owner } =>
                 flush(INodeNo(node), FileHandle(handle), LockOwner(lock_owner)) -> ReplyEmpty;
             Release { node, flags, handle, flush, lock_owner } =>
@@ -382,7 +381,7 @@ impl<F: Filesystem> Made<'_, F> {
                 fsync(INodeNo(node), FileHandle(handle), datasync) -> ReplyEmpty;
             Fallocate { node, handle, mode, offset, length } =>
                 fallocate(INodeNo(node), FileHandle(handle), offset, length, signed(mode)) -> ReplyEmpty,
-                unless are_none(&[offset, length]) => EINVAL;
+                unless are_too_large(&[offset, length]) => EINVAL;
             Lseek { node, handle, offset, whence } =>
                 lseek(
                     INodeNo(node), FileHandle(handle), i64::from_le_bytes(offset.to_le_bytes()),
@@ -393,12 +392,12 @@ impl<F: Filesystem> Made<'_, F> {
                     INodeNo(node), FileHandle(handle), offset, &data.to_cow(),
                     write_flags(delayed_write, lock_owner.is_some(), kill_priv), OpenFlags(signed(flags)),
                     lock_owner.map(LockOwner)
-                ) -> ReplyWrite, unless are_none(&[offset]) => EINVAL;
+                ) -> ReplyWrite, unless are_too_large(&[offset]) => EINVAL;
             CopyFileRange { node_in, handle_in, offset_in, node_out, handle_out, offset_out, len, flags } =>
                 copy_file_range(
                     INodeNo(node_in), FileHandle(handle_in), offset_in, INodeNo(node_out),
                     FileHandle(handle_out), offset_out, len, CopyFileRangeFlags::from_bits_retain(flags)
-                ) -> ReplyWrite, unless are_none(&[offset_in, offset_out]) => EINVAL;
+                ) -> ReplyWrite, unless are_too_large(&[offset_in, offset_out]) => EINVAL;
             Getlk { node, handle, lock_owner, lock } =>
                 getlk(
                     INodeNo(node), FileHandle(handle), LockOwner(lock_owner), lock.start, lock.end,
@@ -455,12 +454,7 @@ impl<F: Filesystem> Made<'_, F> {
     }
 
     fn setattr(
-        &self,
-        node: INodeNo,
-        attr: &SetattrIn,
-        handle: Option<u64>,
-        valid: SetattrValid,
-        reply: ReplyAttr,
+        &self, node: INodeNo, attr: &SetattrIn, handle: Option<u64>, valid: SetattrValid, reply: ReplyAttr,
     ) {
         fn some<T>(is_set: bool, value: T) -> Option<T> {
             is_set.then_some(value)

@@ -156,12 +156,7 @@ const WANTED: InitFlags =
     InitFlags::FUSE_ASYNC_READ.union(InitFlags::FUSE_BIG_WRITES).union(InitFlags::FUSE_MAX_PAGES);
 
 impl KernelConfig {
-    pub(super) fn new(
-        capable: FsOptions,
-        readahead: u32,
-        most_write: u32,
-        version: Version,
-    ) -> Self {
+    pub(super) fn new(capable: FsOptions, readahead: u32, most_write: u32, version: Version) -> Self {
         let capabilities = InitFlags::from_bits_retain(capable.bits());
         KernelConfig {
             capabilities,
@@ -279,11 +274,7 @@ impl KernelConfig {
 }
 
 /// Sets a number, if it is one of these, and returns what it was. Otherwise returns the nearest.
-fn set<T: Copy + Ord>(
-    number: &mut T,
-    value: T,
-    can_be: std::ops::RangeInclusive<T>,
-) -> Result<T, T> {
+fn set<T: Copy + Ord>(number: &mut T, value: T, can_be: std::ops::RangeInclusive<T>) -> Result<T, T> {
     if can_be.contains(&value) {
         Ok(std::mem::replace(number, value))
     } else if value < *can_be.start() {

@@ -100,10 +100,7 @@ mod tests {
         for (name, error) in ALL {
             let here = format!("{:?}", crate::errno::answered(&(*error).into()));
             let is_named = !here.starts_with("Errno(");
-            assert!(
-                !is_named || &here == name || matches!(*name, "EWOULDBLOCK" | "ENOTSUP"),
-                "{name}"
-            );
+            assert!(!is_named || &here == name || matches!(*name, "EWOULDBLOCK" | "ENOTSUP"), "{name}");
         }
         assert_eq!(Errno::ENOTRECOVERABLE.code(), 131);
         assert_eq!(Errno::from(io::ErrorKind::NotFound).code(), 5);

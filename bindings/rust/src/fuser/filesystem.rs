@@ -8,13 +8,10 @@ use crate::fuser::flags::{
 };
 use crate::fuser::notify::PollNotifier;
 use crate::fuser::reply::{
-    ReplyAttr, ReplyBmap, ReplyCreate, ReplyData, ReplyDirectory, ReplyDirectoryPlus, ReplyEmpty,
-    ReplyEntry, ReplyIoctl, ReplyLock, ReplyLseek, ReplyOpen, ReplyPoll, ReplyStatfs, ReplyWrite,
-    ReplyXattr,
+    ReplyAttr, ReplyBmap, ReplyCreate, ReplyData, ReplyDirectory, ReplyDirectoryPlus, ReplyEmpty, ReplyEntry,
+    ReplyIoctl, ReplyLock, ReplyLseek, ReplyOpen, ReplyPoll, ReplyStatfs, ReplyWrite, ReplyXattr,
 };
-use crate::fuser::types::{
-    FileHandle, ForgetOne, INodeNo, LockOwner, OpenFlags, Request, TimeOrNow,
-};
+use crate::fuser::types::{FileHandle, ForgetOne, INodeNo, LockOwner, OpenFlags, Request, TimeOrNow};
 use std::ffi::OsStr;
 use std::io;
 use std::path::Path;
@@ -56,22 +53,10 @@ pub trait Filesystem: Send + Sync + 'static {
 
     /// Sets the attributes that there are, and returns all. Linux does not say the last four.
     fn setattr(
-        &self,
-        req: &Request,
-        ino: INodeNo,
-        mode: Option<u32>,
-        uid: Option<u32>,
-        gid: Option<u32>,
-        size: Option<u64>,
-        atime: Option<TimeOrNow>,
-        mtime: Option<TimeOrNow>,
-        ctime: Option<SystemTime>,
-        fh: Option<FileHandle>,
-        crtime: Option<SystemTime>,
-        chgtime: Option<SystemTime>,
-        bkuptime: Option<SystemTime>,
-        flags: Option<BsdFileFlags>,
-        reply: ReplyAttr,
+        &self, req: &Request, ino: INodeNo, mode: Option<u32>, uid: Option<u32>, gid: Option<u32>,
+        size: Option<u64>, atime: Option<TimeOrNow>, mtime: Option<TimeOrNow>, ctime: Option<SystemTime>,
+        fh: Option<FileHandle>, crtime: Option<SystemTime>, chgtime: Option<SystemTime>,
+        bkuptime: Option<SystemTime>, flags: Option<BsdFileFlags>, reply: ReplyAttr,
     ) {
         reply.error(Errno::ENOSYS);
     }
@@ -83,28 +68,14 @@ pub trait Filesystem: Send + Sync + 'static {
 
     /// Creates a node.
     fn mknod(
-        &self,
-        req: &Request,
-        parent: INodeNo,
-        name: &OsStr,
-        mode: u32,
-        umask: u32,
-        rdev: u32,
+        &self, req: &Request, parent: INodeNo, name: &OsStr, mode: u32, umask: u32, rdev: u32,
         reply: ReplyEntry,
     ) {
         reply.error(Errno::ENOSYS);
     }
 
     /// Creates a directory.
-    fn mkdir(
-        &self,
-        req: &Request,
-        parent: INodeNo,
-        name: &OsStr,
-        mode: u32,
-        umask: u32,
-        reply: ReplyEntry,
-    ) {
+    fn mkdir(&self, req: &Request, parent: INodeNo, name: &OsStr, mode: u32, umask: u32, reply: ReplyEntry) {
         reply.error(Errno::ENOSYS);
     }
 
@@ -119,40 +90,20 @@ pub trait Filesystem: Send + Sync + 'static {
     }
 
     /// Creates a symbolic link. By default it answers EPERM.
-    fn symlink(
-        &self,
-        req: &Request,
-        parent: INodeNo,
-        link_name: &OsStr,
-        target: &Path,
-        reply: ReplyEntry,
-    ) {
+    fn symlink(&self, req: &Request, parent: INodeNo, link_name: &OsStr, target: &Path, reply: ReplyEntry) {
         reply.error(Errno::EPERM);
     }
 
     /// Renames a node.
     fn rename(
-        &self,
-        req: &Request,
-        parent: INodeNo,
-        name: &OsStr,
-        newparent: INodeNo,
-        newname: &OsStr,
-        flags: RenameFlags,
-        reply: ReplyEmpty,
+        &self, req: &Request, parent: INodeNo, name: &OsStr, newparent: INodeNo, newname: &OsStr,
+        flags: RenameFlags, reply: ReplyEmpty,
     ) {
         reply.error(Errno::ENOSYS);
     }
 
     /// Creates a hard link. By default it answers EPERM.
-    fn link(
-        &self,
-        req: &Request,
-        ino: INodeNo,
-        newparent: INodeNo,
-        newname: &OsStr,
-        reply: ReplyEntry,
-    ) {
+    fn link(&self, req: &Request, ino: INodeNo, newparent: INodeNo, newname: &OsStr, reply: ReplyEntry) {
         reply.error(Errno::EPERM);
     }
 
@@ -163,70 +114,35 @@ pub trait Filesystem: Send + Sync + 'static {
 
     /// Reads at most `size` bytes. More are answered EIO.
     fn read(
-        &self,
-        req: &Request,
-        ino: INodeNo,
-        fh: FileHandle,
-        offset: u64,
-        size: u32,
-        flags: OpenFlags,
-        lock_owner: Option<LockOwner>,
-        reply: ReplyData,
+        &self, req: &Request, ino: INodeNo, fh: FileHandle, offset: u64, size: u32, flags: OpenFlags,
+        lock_owner: Option<LockOwner>, reply: ReplyData,
     ) {
         reply.error(Errno::ENOSYS);
     }
 
     /// Writes data.
     fn write(
-        &self,
-        req: &Request,
-        ino: INodeNo,
-        fh: FileHandle,
-        offset: u64,
-        data: &[u8],
-        write_flags: WriteFlags,
-        flags: OpenFlags,
-        lock_owner: Option<LockOwner>,
-        reply: ReplyWrite,
+        &self, req: &Request, ino: INodeNo, fh: FileHandle, offset: u64, data: &[u8],
+        write_flags: WriteFlags, flags: OpenFlags, lock_owner: Option<LockOwner>, reply: ReplyWrite,
     ) {
         reply.error(Errno::ENOSYS);
     }
 
     /// Is called whenever a descriptor of an open file is closed.
-    fn flush(
-        &self,
-        req: &Request,
-        ino: INodeNo,
-        fh: FileHandle,
-        lock_owner: LockOwner,
-        reply: ReplyEmpty,
-    ) {
+    fn flush(&self, req: &Request, ino: INodeNo, fh: FileHandle, lock_owner: LockOwner, reply: ReplyEmpty) {
         reply.error(Errno::ENOSYS);
     }
 
     /// Closes a file. By default it succeeds.
     fn release(
-        &self,
-        req: &Request,
-        ino: INodeNo,
-        fh: FileHandle,
-        flags: OpenFlags,
-        lock_owner: Option<LockOwner>,
-        flush: bool,
-        reply: ReplyEmpty,
+        &self, req: &Request, ino: INodeNo, fh: FileHandle, flags: OpenFlags, lock_owner: Option<LockOwner>,
+        flush: bool, reply: ReplyEmpty,
     ) {
         reply.ok();
     }
 
     /// Synchronizes a file: with `datasync` only its data.
-    fn fsync(
-        &self,
-        req: &Request,
-        ino: INodeNo,
-        fh: FileHandle,
-        datasync: bool,
-        reply: ReplyEmpty,
-    ) {
+    fn fsync(&self, req: &Request, ino: INodeNo, fh: FileHandle, datasync: bool, reply: ReplyEmpty) {
         reply.error(Errno::ENOSYS);
     }
 
@@ -236,51 +152,25 @@ pub trait Filesystem: Send + Sync + 'static {
     }
 
     /// Returns the items of a directory after a position, which is that of an earlier item, or 0.
-    fn readdir(
-        &self,
-        req: &Request,
-        ino: INodeNo,
-        fh: FileHandle,
-        offset: u64,
-        reply: ReplyDirectory,
-    ) {
+    fn readdir(&self, req: &Request, ino: INodeNo, fh: FileHandle, offset: u64, reply: ReplyDirectory) {
         reply.error(Errno::ENOSYS);
     }
 
     /// Returns the items with their entries. The kernel asks for it only if [`init`](Self::init) added
     /// `FUSE_DO_READDIRPLUS`.
     fn readdirplus(
-        &self,
-        req: &Request,
-        ino: INodeNo,
-        fh: FileHandle,
-        offset: u64,
-        reply: ReplyDirectoryPlus,
+        &self, req: &Request, ino: INodeNo, fh: FileHandle, offset: u64, reply: ReplyDirectoryPlus,
     ) {
         reply.error(Errno::ENOSYS);
     }
 
     /// Closes a directory. By default it succeeds.
-    fn releasedir(
-        &self,
-        req: &Request,
-        ino: INodeNo,
-        fh: FileHandle,
-        flags: OpenFlags,
-        reply: ReplyEmpty,
-    ) {
+    fn releasedir(&self, req: &Request, ino: INodeNo, fh: FileHandle, flags: OpenFlags, reply: ReplyEmpty) {
         reply.ok();
     }
 
     /// Synchronizes a directory.
-    fn fsyncdir(
-        &self,
-        req: &Request,
-        ino: INodeNo,
-        fh: FileHandle,
-        datasync: bool,
-        reply: ReplyEmpty,
-    ) {
+    fn fsyncdir(&self, req: &Request, ino: INodeNo, fh: FileHandle, datasync: bool, reply: ReplyEmpty) {
         reply.error(Errno::ENOSYS);
     }
 
@@ -291,13 +181,7 @@ pub trait Filesystem: Send + Sync + 'static {
 
     /// Sets an extended attribute. `position` is 0 on Linux.
     fn setxattr(
-        &self,
-        req: &Request,
-        ino: INodeNo,
-        name: &OsStr,
-        value: &[u8],
-        flags: i32,
-        position: u32,
+        &self, req: &Request, ino: INodeNo, name: &OsStr, value: &[u8], flags: i32, position: u32,
         reply: ReplyEmpty,
     ) {
         reply.error(Errno::ENOSYS);
@@ -325,13 +209,7 @@ pub trait Filesystem: Send + Sync + 'static {
 
     /// Creates and opens a file.
     fn create(
-        &self,
-        req: &Request,
-        parent: INodeNo,
-        name: &OsStr,
-        mode: u32,
-        umask: u32,
-        flags: i32,
+        &self, req: &Request, parent: INodeNo, name: &OsStr, mode: u32, umask: u32, flags: i32,
         reply: ReplyCreate,
     ) {
         reply.error(Errno::ENOSYS);
@@ -340,33 +218,16 @@ pub trait Filesystem: Send + Sync + 'static {
     /// Returns a lock that is in the way of this one, or one of type `F_UNLCK`. Linux asks for it and for
     /// [`setlk`](Self::setlk) only if [`init`](Self::init) added `FUSE_POSIX_LOCKS`.
     fn getlk(
-        &self,
-        req: &Request,
-        ino: INodeNo,
-        fh: FileHandle,
-        lock_owner: LockOwner,
-        start: u64,
-        end: u64,
-        typ: i32,
-        pid: u32,
-        reply: ReplyLock,
+        &self, req: &Request, ino: INodeNo, fh: FileHandle, lock_owner: LockOwner, start: u64, end: u64,
+        typ: i32, pid: u32, reply: ReplyLock,
     ) {
         reply.error(Errno::ENOSYS);
     }
 
     /// Sets or removes a lock. With `sleep` it waits until it can.
     fn setlk(
-        &self,
-        req: &Request,
-        ino: INodeNo,
-        fh: FileHandle,
-        lock_owner: LockOwner,
-        start: u64,
-        end: u64,
-        typ: i32,
-        pid: u32,
-        sleep: bool,
-        reply: ReplyEmpty,
+        &self, req: &Request, ino: INodeNo, fh: FileHandle, lock_owner: LockOwner, start: u64, end: u64,
+        typ: i32, pid: u32, sleep: bool, reply: ReplyEmpty,
     ) {
         reply.error(Errno::ENOSYS);
     }
@@ -378,42 +239,23 @@ pub trait Filesystem: Send + Sync + 'static {
 
     /// Carries out a command of `ioctl(2)`.
     fn ioctl(
-        &self,
-        req: &Request,
-        ino: INodeNo,
-        fh: FileHandle,
-        flags: IoctlFlags,
-        cmd: u32,
-        in_data: &[u8],
-        out_size: u32,
-        reply: ReplyIoctl,
+        &self, req: &Request, ino: INodeNo, fh: FileHandle, flags: IoctlFlags, cmd: u32, in_data: &[u8],
+        out_size: u32, reply: ReplyIoctl,
     ) {
         reply.error(Errno::ENOSYS);
     }
 
     /// Returns which events are there. With `FUSE_POLL_SCHEDULE_NOTIFY` it tells `ph` when one comes.
     fn poll(
-        &self,
-        req: &Request,
-        ino: INodeNo,
-        fh: FileHandle,
-        ph: PollNotifier,
-        events: PollEvents,
-        flags: PollFlags,
-        reply: ReplyPoll,
+        &self, req: &Request, ino: INodeNo, fh: FileHandle, ph: PollNotifier, events: PollEvents,
+        flags: PollFlags, reply: ReplyPoll,
     ) {
         reply.error(Errno::ENOSYS);
     }
 
     /// Allocates or deallocates space of a file, as `fallocate(2)`.
     fn fallocate(
-        &self,
-        req: &Request,
-        ino: INodeNo,
-        fh: FileHandle,
-        offset: u64,
-        length: u64,
-        mode: i32,
+        &self, req: &Request, ino: INodeNo, fh: FileHandle, offset: u64, length: u64, mode: i32,
         reply: ReplyEmpty,
     ) {
         reply.error(Errno::ENOSYS);
@@ -421,30 +263,15 @@ pub trait Filesystem: Send + Sync + 'static {
 
     /// Finds data or holes, as `lseek(2)`.
     fn lseek(
-        &self,
-        req: &Request,
-        ino: INodeNo,
-        fh: FileHandle,
-        offset: i64,
-        whence: i32,
-        reply: ReplyLseek,
+        &self, req: &Request, ino: INodeNo, fh: FileHandle, offset: i64, whence: i32, reply: ReplyLseek,
     ) {
         reply.error(Errno::ENOSYS);
     }
 
     /// Copies from one file to another, as `copy_file_range(2)`.
     fn copy_file_range(
-        &self,
-        req: &Request,
-        ino_in: INodeNo,
-        fh_in: FileHandle,
-        offset_in: u64,
-        ino_out: INodeNo,
-        fh_out: FileHandle,
-        offset_out: u64,
-        len: u64,
-        flags: CopyFileRangeFlags,
-        reply: ReplyWrite,
+        &self, req: &Request, ino_in: INodeNo, fh_in: FileHandle, offset_in: u64, ino_out: INodeNo,
+        fh_out: FileHandle, offset_out: u64, len: u64, flags: CopyFileRangeFlags, reply: ReplyWrite,
     ) {
         reply.error(Errno::ENOSYS);
     }

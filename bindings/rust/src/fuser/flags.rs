@@ -2,9 +2,7 @@
 //! they keep bits without a name.
 
 use std::fmt;
-use std::ops::{
-    BitAnd, BitAndAssign, BitOr, BitOrAssign, BitXor, BitXorAssign, Not, Sub, SubAssign,
-};
+use std::ops::{BitAnd, BitAndAssign, BitOr, BitOrAssign, BitXor, BitXorAssign, Not, Sub, SubAssign};
 
 /// Declares a set of bits.
 macro_rules! bits {
@@ -382,10 +380,7 @@ mod tests {
         let mut set = RenameFlags::from_bits_retain(0x80 | 1);
         assert_eq!(RenameFlags::from_bits(0x81), None);
         assert_eq!(RenameFlags::from_bits_truncate(0x81), RenameFlags::RENAME_NOREPLACE);
-        assert_eq!(
-            format!("{set:?} {set} {set:#x}"),
-            "RenameFlags(RENAME_NOREPLACE | 0x80) 129 0x81"
-        );
+        assert_eq!(format!("{set:?} {set} {set:#x}"), "RenameFlags(RENAME_NOREPLACE | 0x80) 129 0x81");
         set.set(RenameFlags::RENAME_EXCHANGE, true);
         set -= RenameFlags::RENAME_NOREPLACE;
         assert_eq!(set.bits(), 0x82);

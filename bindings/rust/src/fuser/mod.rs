@@ -65,19 +65,18 @@ pub use config::{Config, KernelConfig, MountOption, SessionACL};
 pub use errno::Errno;
 pub use filesystem::Filesystem;
 pub use flags::{
-    AccessFlags, BsdFileFlags, CopyFileRangeFlags, FopenFlags, InitFlags, IoctlFlags, PollEvents,
-    PollFlags, RenameFlags, WriteFlags,
+    AccessFlags, BsdFileFlags, CopyFileRangeFlags, FopenFlags, InitFlags, IoctlFlags, PollEvents, PollFlags,
+    RenameFlags, WriteFlags,
 };
 pub use notify::{Notifier, PollHandle, PollNotifier};
 pub use reply::{
-    BackingId, ReplyAttr, ReplyBmap, ReplyCreate, ReplyData, ReplyDirectory, ReplyDirectoryPlus,
-    ReplyEmpty, ReplyEntry, ReplyIoctl, ReplyLock, ReplyLseek, ReplyOpen, ReplyPoll, ReplyStatfs,
-    ReplyWrite, ReplyXattr,
+    BackingId, ReplyAttr, ReplyBmap, ReplyCreate, ReplyData, ReplyDirectory, ReplyDirectoryPlus, ReplyEmpty,
+    ReplyEntry, ReplyIoctl, ReplyLock, ReplyLseek, ReplyOpen, ReplyPoll, ReplyStatfs, ReplyWrite, ReplyXattr,
 };
 pub use session::{mount2, spawn_mount2, BackgroundSession, Session, SessionUnmounter};
 pub use types::{
-    FileAttr, FileHandle, FileType, ForgetOne, Generation, INodeNo, LockOwner, OpenAccMode,
-    OpenFlags, Request, RequestId, TimeOrNow, Version,
+    FileAttr, FileHandle, FileType, ForgetOne, Generation, INodeNo, LockOwner, OpenAccMode, OpenFlags,
+    Request, RequestId, TimeOrNow, Version,
 };
 
 /// Numbers of the protocol.

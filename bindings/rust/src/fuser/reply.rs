@@ -1,8 +1,8 @@
 //! What a call is answered by, as fuser has it.
 
 use crate::answer::{
-    Attributes, Controlled, Created, Data, Directory, Done, EntryOf, Events, Locked, Offset,
-    Opened, Statistics, Text, TextOrCount, To, Told, Written,
+    Attributes, Controlled, Created, Data, Directory, Done, EntryOf, Events, Locked, Offset, Opened,
+    Statistics, Text, TextOrCount, To, Told, Written,
 };
 use crate::attr::Statvfs;
 use crate::client::Client;
@@ -82,11 +82,7 @@ impl<K> Answer<K> {
         self.send_with(&[], answer);
     }
 
-    fn send_with(
-        &mut self,
-        data: &[u8],
-        answer: impl for<'s> FnOnce(To<K>, &'s mut Slot) -> Told<'s>,
-    ) {
+    fn send_with(&mut self, data: &[u8], answer: impl for<'s> FnOnce(To<K>, &'s mut Slot) -> Told<'s>) {
         if let (Some(to), Some(link)) = (self.to.take(), self.link.take()) {
             link.send(data, |slot| answer(to, slot));
         }
@@ -241,14 +237,7 @@ impl ReplyStatfs {
     /// Answers with statistics.
     #[allow(clippy::too_many_arguments)] // they are fuser's
     pub fn statfs(
-        self,
-        blocks: u64,
-        bfree: u64,
-        bavail: u64,
-        files: u64,
-        ffree: u64,
-        bsize: u32,
-        namelen: u32,
+        self, blocks: u64, bfree: u64, bavail: u64, files: u64, ffree: u64, bsize: u32, namelen: u32,
         frsize: u32,
     ) {
         let answer = Statvfs {
@@ -321,12 +310,7 @@ impl ReplyOpen {
 impl ReplyCreate {
     /// Answers with an entry, and the handle and options of its open file.
     pub fn created(
-        self,
-        ttl: &Duration,
-        attr: &FileAttr,
-        generation: Generation,
-        fh: FileHandle,
-        flags: FopenFlags,
+        self, ttl: &Duration, attr: &FileAttr, generation: Generation, fh: FileHandle, flags: FopenFlags,
     ) {
         let entry = entry_of(*ttl, attr, generation);
         let options = OpenOptions::from_bits_truncate(flags.bits());
@@ -343,13 +327,8 @@ impl ReplyCreate {
 
     /// As [`ReplyOpen::opened_passthrough`]. It cannot be called.
     pub fn created_passthrough(
-        self,
-        _ttl: &Duration,
-        _attr: &FileAttr,
-        _generation: Generation,
-        _fh: FileHandle,
-        _flags: FopenFlags,
-        backing_id: &BackingId,
+        self, _ttl: &Duration, _attr: &FileAttr, _generation: Generation, _fh: FileHandle,
+        _flags: FopenFlags, backing_id: &BackingId,
     ) {
         match backing_id.never {}
     }
@@ -456,13 +435,7 @@ impl ReplyDirectory {
     /// Adds an item, if it fits, and returns whether it does not. `offset` is the position after it, from which a later
     /// call continues; it is not 0.
     #[must_use]
-    pub fn add<T: AsRef<OsStr>>(
-        &mut self,
-        ino: INodeNo,
-        offset: u64,
-        kind: FileType,
-        name: T,
-    ) -> bool {
+    pub fn add<T: AsRef<OsStr>>(&mut self, ino: INodeNo, offset: u64, kind: FileType, name: T) -> bool {
         match self.0.name(name.as_ref()) {
             Some(name) => self.0.add(Listed { ino: ino.0, offset, kind, name, entry: None }),
             None => false,
@@ -479,19 +452,12 @@ impl ReplyDirectoryPlus {
     /// Adds an item and its entry, as [`ReplyDirectory::add`] and [`ReplyEntry::entry`]. Its number is that of the
     /// attributes. An item that is added is a lookup of its node, but for `.` and `..`.
     pub fn add<T: AsRef<OsStr>>(
-        &mut self,
-        _ino: INodeNo,
-        offset: u64,
-        name: T,
-        ttl: &Duration,
-        attr: &FileAttr,
+        &mut self, _ino: INodeNo, offset: u64, name: T, ttl: &Duration, attr: &FileAttr,
         generation: Generation,
     ) -> bool {
         let entry = Some(entry_of(*ttl, attr, generation));
         match self.0.name(name.as_ref()) {
-            Some(name) => {
-                self.0.add(Listed { ino: attr.ino.0, offset, kind: attr.kind, name, entry })
-            }
+            Some(name) => self.0.add(Listed { ino: attr.ino.0, offset, kind: attr.kind, name, entry }),
             None => false,
         }
     }

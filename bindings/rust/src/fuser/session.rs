@@ -25,9 +25,7 @@ use std::thread::{self, JoinHandle};
 /// If the options contradict each other or it cannot be mounted, the error of [`Filesystem::init`], and errors of
 /// reading and writing the device. A panic of the file system is one, too.
 pub fn mount2<FS: Filesystem, P: AsRef<Path>>(
-    filesystem: FS,
-    mountpoint: P,
-    options: &Config,
+    filesystem: FS, mountpoint: P, options: &Config,
 ) -> io::Result<()> {
     Session::new(filesystem, mountpoint, options)?.run()
 }
@@ -37,9 +35,7 @@ pub fn mount2<FS: Filesystem, P: AsRef<Path>>(
 /// # Errors
 /// As [`Session::new`].
 pub fn spawn_mount2<FS: Filesystem, P: AsRef<Path>>(
-    filesystem: FS,
-    mountpoint: P,
-    options: &Config,
+    filesystem: FS, mountpoint: P, options: &Config,
 ) -> io::Result<BackgroundSession> {
     Session::new(filesystem, mountpoint, options)?.spawn()
 }
@@ -76,11 +72,7 @@ impl<FS: Filesystem> Session<FS> {
     ///
     /// # Errors
     /// If the options contradict each other or it cannot be mounted, and the error of [`Filesystem::init`].
-    pub fn new<P: AsRef<Path>>(
-        filesystem: FS,
-        mountpoint: P,
-        options: &Config,
-    ) -> io::Result<Session<FS>> {
+    pub fn new<P: AsRef<Path>>(filesystem: FS, mountpoint: P, options: &Config) -> io::Result<Session<FS>> {
         let threads = options.threads()?;
         let point = Point::new(mountpoint.as_ref(), &options.own_options()?)?;
         Self::begin(filesystem, point, options.acl, threads)
@@ -91,22 +83,12 @@ impl<FS: Filesystem> Session<FS> {
     /// # Errors
     /// If the configuration is wrong, and the error of [`Filesystem::init`].
     #[allow(clippy::needless_pass_by_value)] // as fuser has it
-    pub fn from_fd(
-        filesystem: FS,
-        fd: OwnedFd,
-        acl: SessionACL,
-        config: Config,
-    ) -> io::Result<Self> {
+    pub fn from_fd(filesystem: FS, fd: OwnedFd, acl: SessionACL, config: Config) -> io::Result<Self> {
         let threads = config.threads()?;
         Self::begin(filesystem, Point::of_other(File::from(fd)), acl, threads)
     }
 
-    fn begin(
-        filesystem: FS,
-        point: Point,
-        acl: SessionACL,
-        threads: usize,
-    ) -> io::Result<Session<FS>> {
+    fn begin(filesystem: FS, point: Point, acl: SessionACL, threads: usize) -> io::Result<Session<FS>> {
         let most_write = crate::door::Session::default().max_buffer();
         let adapter = Adapter::new(filesystem, acl, most_write);
         let server = Server::new(adapter).agree_unasked(UNASKED);

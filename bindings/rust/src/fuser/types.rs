@@ -198,8 +198,7 @@ pub(super) fn time_of(seconds: u64, nanoseconds: u32) -> SystemTime {
     #[allow(clippy::cast_possible_wrap)] // the bits of a signed number
     let signed = seconds as i64;
     let whole = Duration::from_secs(signed.unsigned_abs());
-    let begins =
-        if signed < 0 { UNIX_EPOCH.checked_sub(whole) } else { UNIX_EPOCH.checked_add(whole) };
+    let begins = if signed < 0 { UNIX_EPOCH.checked_sub(whole) } else { UNIX_EPOCH.checked_add(whole) };
     let part = Duration::from_nanos(nanoseconds.into());
     begins.and_then(|time| time.checked_add(part)).unwrap_or(UNIX_EPOCH)
 }

@@ -3,9 +3,8 @@
 use super::{fault, padded, reply, words, Request};
 use nizwarf::{
     Attr, Call, Context, DirEntry, DirectoryIterator, Entry, Extensions, FileSystem, FsOptions,
-    GetxattrReply, IoctlFlags, IoctlReply, ListxattrReply, Lock, LockType, Offers, OpenOptions,
-    PollHandle, SetattrIn, SetattrValid, SetxattrFlags, Statvfs, Statx, ZeroCopyReader,
-    ZeroCopyWriter,
+    GetxattrReply, IoctlFlags, IoctlReply, ListxattrReply, Lock, LockType, Offers, OpenOptions, PollHandle,
+    SetattrIn, SetattrValid, SetxattrFlags, Statvfs, Statx, ZeroCopyReader, ZeroCopyWriter,
 };
 use std::ffi::{CStr, CString};
 use std::fs::File;
@@ -120,15 +119,8 @@ impl FileSystem for Diary {
     }
 
     fn read<W: ZeroCopyWriter>(
-        &self,
-        _: Context,
-        inode: u64,
-        handle: u64,
-        mut w: W,
-        size: u32,
-        offset: u64,
-        lock_owner: Option<u64>,
-        flags: u32,
+        &self, _: Context, inode: u64, handle: u64, mut w: W, size: u32, offset: u64,
+        lock_owner: Option<u64>, flags: u32,
     ) -> io::Result<usize> {
         self.write(format!("read {inode} {handle} {size} {offset} {lock_owner:?} {flags}"));
         if let Some(file) = &self.file {
@@ -140,17 +132,8 @@ impl FileSystem for Diary {
     }
 
     fn write<R: ZeroCopyReader>(
-        &self,
-        _: Context,
-        inode: u64,
-        handle: u64,
-        mut r: R,
-        size: u32,
-        offset: u64,
-        lock_owner: Option<u64>,
-        delayed_write: bool,
-        kill_priv: bool,
-        flags: u32,
+        &self, _: Context, inode: u64, handle: u64, mut r: R, size: u32, offset: u64,
+        lock_owner: Option<u64>, delayed_write: bool, kill_priv: bool, flags: u32,
     ) -> io::Result<usize> {
         if let Some(file) = &self.file {
             return r.write_to_file_at(file, size as usize, offset, None);
@@ -315,8 +298,7 @@ pub fn each_call() -> Vec<Row> {
     let numbers = |numbers: &[u32]| reply(&words(numbers));
     let done = || reply(&[]);
     let attr = padded(&[1, 0, 0, 0, 0, 0, 5], 104);
-    let statx =
-        [padded(&[1, 0, 2, 0, 0, 0, 0, 0, 0xfff], 32 + 40), padded(&[5], 288 - 72)].concat();
+    let statx = [padded(&[1, 0, 2, 0, 0, 0, 0, 0, 0xfff], 32 + 40), padded(&[5], 288 - 72)].concat();
     let agreed = |flags| padded(&[7, 38, 0, flags, 65535 | 49149 << 16, 1 << 20, 1, 256], 64);
     let copy = |opcode| r(opcode, 1).u64(2).u64(3).u64(4).u64(5).u64(6).u64(7).u64(8);
     rows! {
