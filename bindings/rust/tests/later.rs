@@ -10,6 +10,7 @@ use nizwarf::{
 };
 use std::ffi::{CStr, CString};
 use std::io;
+use std::panic::{catch_unwind, AssertUnwindSafe};
 use std::sync::mpsc::{channel, Receiver, Sender};
 use std::sync::Mutex;
 use std::thread;
@@ -94,9 +95,11 @@ fn serve(server: &Server<Taking>, ask: impl FnOnce(&Peer)) {
     let (peer, device) = Peer::new();
     thread::scope(|scope| {
         let thread = scope.spawn(|| server.serve(&device));
-        ask(&peer);
+        // (else a test that fails would wait for the server)
+        let asked = catch_unwind(AssertUnwindSafe(|| ask(&peer)));
         peer.send(&[]);
         thread.join().unwrap().unwrap();
+        asked.unwrap();
     });
 }
 
