@@ -157,8 +157,8 @@ pub extern "C" fn nizwarf_ask_at(
     }
 }
 
-// The same, of a request that may be told at once. It is apart, since any other is to go on with few steps.
-#[inline(never)]
+// The same, of a request that may be told at once.
+#[inline(always)]
 fn ask_at_once(
     alloc: Global,
     handle: &mut Handle,
