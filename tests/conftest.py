@@ -29,6 +29,7 @@ def pytest_configure(config):
     """Declares the marks of what tests require."""
     for name, (reason, _) in REQUIREMENTS.items():
         config.addinivalue_line("markers", f"{name}: {reason}")
+    config.addinivalue_line("markers", "sanitizers: tests/share/check.sh runs it with sanitizers too")
 
 
 def pytest_runtest_setup(item):
@@ -46,17 +47,17 @@ def pytest_sessionfinish(session, exitstatus):
 
 @pytest.fixture(scope="session")
 def libraries(request):
-    """The static libraries nizwarf_door and nizwarf_tree, and the C code that both need."""
+    """The libraries nizwarf_codec and nizwarf_tree, each by its C files and its static library, and the C code that both need."""
     if request.config.getoption("--prove", False):
-        for name in ("nizwarf_tree", "nizwarf_door", "nizwarf_border"):
+        for name in ("nizwarf_tree", "nizwarf_codec", "nizwarf_border"):
             run("rt", "lib", cwd=REPOSITORY / "crates" / name, seconds=3600)
-    return [find_library("nizwarf_door")[0], *find_library("nizwarf_tree")]
+    return [*find_library("nizwarf_codec")[:-1], *find_library("nizwarf_tree")]
 
 
 @pytest.fixture(scope="session")
 def share():
     """The path of nizwarf-share."""
-    return os.environ.get("NIZWARF_SHARE") or built_program("share", "nizwarf_door")
+    return os.environ.get("NIZWARF_SHARE") or built_program("share", "nizwarf_codec")
 
 
 @pytest.fixture(scope="session")

@@ -49,7 +49,8 @@ def shell(script, *arguments, seconds=3600):
 
 
 def find_library(name):
-    """The paths of a library for C, which is proved or built without a proof, and of the C code that it needs."""
+    """The paths of a library for C: its C files, its static library, which is proved or built without a proof, and last the C
+    code that it needs."""
     return shell('find_library "$1"; printf "%s\n" "${library[@]}"', name).splitlines()
 
 

@@ -22,8 +22,6 @@ static unsigned char *memory;
 /* Descriptors: of the socket, of the shared memory, and for each queue the events by which each side calls the
  * other. */
 static int connection, memory_file, kick[MOST_QUEUES], call[MOST_QUEUES];
-/* The features of the protocol that are agreed on, if the daemon has them. */
-static uint64_t protocol;
 
 /* What isn't so ends the program with status 3, and says why by errno. */
 static inline void need(int fact, const char *what)
@@ -69,28 +67,17 @@ static inline void tell_state(uint32_t request, uint32_t queue, uint32_t number)
 	tell(request, body, sizeof(body), -1);
 }
 
-/* The number that the daemon answers. */
-static inline uint64_t await_number(void)
+/* The number that the daemon replies to a request without a body. */
+static inline uint64_t ask_number(uint32_t request)
 {
 	uint32_t head[3];
 	uint64_t number = 0;
 
+	tell(request, "", 0, -1);
 	need(recv(connection, head, sizeof(head), MSG_WAITALL) == sizeof(head) && head[2] == sizeof(number) &&
 		     recv(connection, &number, sizeof(number), MSG_WAITALL) == sizeof(number),
 	     "an answer");
 	return number;
-}
-
-static inline uint64_t ask_number(uint32_t request)
-{
-	tell(request, "", 0, -1);
-	return await_number();
-}
-
-/* Agrees on the features of the protocol. */
-static inline void agree_protocol(void)
-{
-	tell_number(16, ask_number(15) & protocol, -1); /* SET_PROTOCOL_FEATURES, GET_PROTOCOL_FEATURES */
 }
 
 /* Connects as soon as the daemon listens. The name of its socket may be there before that. */
@@ -128,7 +115,8 @@ static inline uint64_t begin_queues(uint32_t queues, size_t size, uint32_t entri
 	const uint64_t offered = ask_number(1); /* GET_FEATURES */
 
 	need((offered & wanted) == wanted, "the daemon's features");
-	agree_protocol();
+	ask_number(15);					/* GET_PROTOCOL_FEATURES */
+	tell_number(16, 0, -1);				/* SET_PROTOCOL_FEATURES: none */
 	tell(3, "", 0, -1);				/* SET_OWNER */
 	tell_number(2, wanted | (offered & liked), -1); /* SET_FEATURES */
 	tell(5, &table, sizeof(table), file);		/* SET_MEM_TABLE */
@@ -152,12 +140,6 @@ static inline uint64_t begin_queues(uint32_t queues, size_t size, uint32_t entri
 	/* An answer, so the queues are started: a daemon may pass over a kick before that. */
 	ask_number(1);
 	return wanted | (offered & liked);
-}
-
-/* The same with one queue for requests. */
-static inline uint64_t begin(size_t size, uint32_t entries, uint64_t liked)
-{
-	return begin_queues(2, size, entries, liked);
 }
 
 /* The table of the first queue for requests. */

@@ -22,6 +22,7 @@ from vhost_user import FrontEnd
 
 # How long a server may take to begin, and to end, in seconds.
 BEGIN, END = 30, 30
+SANDBOXES = "namespace", "chroot", "none"
 REPORT = re.compile(r"ERROR: \w+Sanitizer|WARNING: ThreadSanitizer|runtime error:")
 
 
@@ -48,11 +49,52 @@ def build(tmp_path_factory):
 
 
 @pytest.fixture
+def fault(request, build):
+    """The environment in which functions of the C library fail or are late: fault("no_listen"), as faults.c says."""
+    if "share" in request.fixturenames and has_sanitizer(request.getfixturevalue("share")):
+        pytest.skip("a sanitizer must be loaded before any other library")
+    return lambda name: {"LD_PRELOAD": build("faults.c", "-shared"), "FAULT": name}
+
+
+@pytest.fixture
+def full_pipe():
+    """The writing end of a pipe that is full, and that nobody reads."""
+    ours, theirs = os.pipe()
+    os.set_blocking(theirs, False)
+    with contextlib.suppress(BlockingIOError):
+        while True:
+            os.write(theirs, bytes(4096))
+    os.set_blocking(theirs, True)
+    yield theirs
+    os.close(ours)
+    os.close(theirs)
+
+
+@pytest.fixture
 def directory(scratch):
     """A new directory to share."""
     path = scratch / "shared"
     path.mkdir()
     return path
+
+
+def has_sanitizer(program):
+    return any(it in pathlib.Path(program).read_bytes() for it in (b"__asan_init", b"__tsan_init"))
+
+
+def wait_until(fact, seconds=BEGIN):
+    """Returns whether a fact comes to be within this time."""
+    end = time.monotonic() + seconds
+    while not fact():
+        if time.monotonic() > end:
+            return False
+        time.sleep(0.02)
+    return True
+
+
+def last_child(pid):
+    """The last child of a process, or the process itself if it has none."""
+    return int((setting(f"/proc/{pid}/task/{pid}/children").split() or [pid])[-1])
 
 
 class Server:
@@ -61,8 +103,7 @@ class Server:
     def __init__(self, share, scratch, directory, options, environment, stderr=None):
         self.directory, self.number = directory, len(list(scratch.glob("stderr*")))
         self.log = scratch / f"stderr{self.number}"
-        program = pathlib.Path(share).read_bytes()
-        if b"__asan_init" in program or b"__tsan_init" in program:
+        if has_sanitizer(share):
             # (it makes system calls of its own, and reads /proc; a preloaded library comes before it)
             options += ("--sandbox=none", "--seccomp=none")
             environment = {"ASAN_OPTIONS": "verify_asan_link_order=0", **environment}
@@ -74,8 +115,7 @@ class Server:
     @property
     def pid(self):
         """The last child of the process that keeps the sandbox, or that process if there is no other one."""
-        children = setting(f"/proc/{self.process.pid}/task/{self.process.pid}/children").split()
-        return int(children[-1]) if children else self.process.pid
+        return last_child(self.process.pid)
 
     def descriptors(self):
         """What the open descriptors of the serving process are."""
@@ -93,13 +133,13 @@ class Server:
         """What the server has printed so far."""
         return self.log.read_text(errors="replace")
 
-    def finish(self, status=0):
+    def finish(self, status=0, seconds=END):
         """Waits for the end of the process, and checks its status and what it printed."""
         try:
-            came = self.process.wait(END)
+            came = self.process.wait(seconds)
         except subprocess.TimeoutExpired:
             self.kill()
-            pytest.fail(f"the server does not end within {END} seconds:\n{self.stderr()}")
+            pytest.fail(f"the server does not end within {seconds} seconds:\n{self.stderr()}")
         assert came == status, f"the server's status is {came}:\n{self.stderr()}"
         assert not REPORT.search(self.stderr()), self.stderr()
 
@@ -174,17 +214,46 @@ def serve(share, scratch, directory):
 
 @pytest.fixture
 def mount(share, scratch, directory):
-    """Mounts a directory over /dev/fuse: mount("--option", .., folder=.., environment={..})."""
+    """Mounts a directory over /dev/fuse: mount("--option", .., folder=.., environment={..}, stderr=..)."""
     require("fuse")
     servers = []
 
-    def start(*options, folder=directory, environment=None):
-        servers.append(MountServer(share, scratch, folder, options, environment or {}))
+    def start(*options, folder=directory, environment=None, stderr=None):
+        servers.append(MountServer(share, scratch, folder, options, environment or {}, stderr))
         servers[-1].await_mount()
         return servers[-1]
 
     yield start
     end_all(servers)
+
+
+@pytest.fixture(params=["no_io_uring", pytest.param("io_uring", marks=pytest.mark.io_uring)])
+def way(request):
+    """The option of a mount by which its requests come to the server."""
+    return request.param
+
+
+@pytest.fixture
+def share_mount(mount, way):
+    """The same as `mount`, by each way of requests."""
+    return lambda *options, **more: mount("-o", way, *options, **more)
+
+
+@pytest.fixture
+def started(share):
+    """Starts nizwarf-share, or a copy of it, with these arguments alone, by a command if one is given, and waits for nothing:
+    started(argument, .., environment={..}, command=[..], program=..)."""
+    processes = []
+
+    def start(*arguments, environment=None, command=(), program=share, **more):
+        processes.append(subprocess.Popen([*command, program, *arguments], stdin=subprocess.DEVNULL,
+                                          env={**os.environ, **(environment or {})}, **more))
+        return processes[-1]
+
+    yield start
+    for it in processes:
+        it.kill()
+        it.wait()
 
 
 @pytest.fixture

@@ -11,7 +11,7 @@ import struct
 
 HEADER, RECORD, NODE, FILE, END = "<8sIIQ", "<II", "<QQIIIiBBH", "<QQI", "<QQQ"
 END_KIND, MOUNT_KIND, NODE_KIND, FILE_KIND, DIRECTORY_KIND = range(5)
-VERSION, BY_PATHS, BY_HANDLES, ROOT, NOWHERE = 2, 0, 1, 0, 2**32 - 1
+MAGIC, VERSION, BY_PATHS, BY_HANDLES, ROOT, NOWHERE = b"nizwarf", 2, 0, 1, 0, 2**32 - 1
 REGULAR, DIRECTORY = 0o100000, 0o40000
 
 
@@ -40,41 +40,56 @@ def handle_of(path):
     return kind, room.raw[8:8 + size]
 
 
+def node_record(number, name=b"", parent=ROOT, kind=REGULAR, lookups=1, handle=(0, b""), mount=0):
+    """A node. Its parent is an entry; one without a name is in no directory."""
+    head = struct.pack(NODE, number, lookups, parent if name else NOWHERE, kind, mount, handle[0], len(handle[1]), 0, 0)
+    return NODE_KIND, head + handle[1] + name
+
+
+def directory_record(name, parent=ROOT):
+    """A directory that the client does not know."""
+    return DIRECTORY_KIND, struct.pack("<I", parent) + name
+
+
+def file_record(number, node, flags=os.O_RDONLY):
+    """An open file of a node."""
+    return FILE_KIND, struct.pack(FILE, number, node, flags)
+
+
+def state_of(header, records, nodes=None):
+    """A state of these records, with its end: the sum is FNV-1a of 64 bits. It may say another number of nodes."""
+    data = struct.pack(HEADER, *header) + b"".join(struct.pack(RECORD, kind, len(body)) + body for kind, body in records)
+    total = 0xcbf29ce484222325
+    for byte in data:
+        total = (total ^ byte) * 0x100000001b3 & 2**64 - 1
+    count, files = (sum(kind == wanted for kind, _ in records) for wanted in (NODE_KIND, FILE_KIND))
+    return data + struct.pack(RECORD, END_KIND, 24) + struct.pack(END, nodes or count, files, total)
+
+
 class Device:
     """A state with the shared folder in it. Entries are numbered as they are made; ROOT is the folder's."""
 
     def __init__(self, agreed=0, mode=BY_PATHS, version=VERSION):
-        self.data = bytearray(struct.pack(HEADER, b"nizwarf", version, mode, agreed))
-        self.entries = self.nodes = self.files = 0
-        if mode == BY_HANDLES:
-            self.record(MOUNT_KIND, b"")
-        self.node(1, parent=NOWHERE, kind=DIRECTORY, lookups=2)
+        self.header, self.entries = (MAGIC, version, mode, agreed), 0
+        self.records = [(MOUNT_KIND, b"")] if mode == BY_HANDLES else []
+        self.node(1, kind=DIRECTORY, lookups=2)
 
-    def record(self, kind, body):
-        self.data += struct.pack(RECORD, kind, len(body)) + body
-
-    def node(self, number, name=b"", parent=ROOT, kind=REGULAR, lookups=1, handle=(0, b"")):
-        """Adds a node, and returns its entry. One without a name is in no directory."""
-        head = struct.pack(NODE, number, lookups, parent if name else NOWHERE, kind, 0, handle[0], len(handle[1]), 0, 0)
-        self.record(NODE_KIND, head + handle[1] + name)
-        self.nodes += 1
+    def add(self, record):
+        self.records.append(record)
         self.entries += 1
         return self.entries - 1
+
+    def node(self, *values, **more):
+        """Adds a node, and returns its entry."""
+        return self.add(node_record(*values, **more))
 
     def directory(self, name, parent=ROOT):
         """Adds a directory that the client does not know, and returns its entry."""
-        self.record(DIRECTORY_KIND, struct.pack("<I", parent) + name)
-        self.entries += 1
-        return self.entries - 1
+        return self.add(directory_record(name, parent))
 
-    def file(self, number, node, flags=os.O_RDONLY):
+    def file(self, *values):
         """Adds an open file of a node."""
-        self.record(FILE_KIND, struct.pack(FILE, number, node, flags))
-        self.files += 1
+        self.records.append(file_record(*values))
 
     def bytes(self):
-        """The state, with its end: the sum is FNV-1a of 64 bits."""
-        total = 0xcbf29ce484222325
-        for byte in self.data:
-            total = (total ^ byte) * 0x100000001b3 & 2**64 - 1
-        return bytes(self.data) + struct.pack(RECORD, END_KIND, 24) + struct.pack(END, self.nodes, self.files, total)
+        return state_of(self.header, self.records)

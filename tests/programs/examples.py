@@ -36,13 +36,18 @@ def run(*command, **more):
     return done.stdout
 
 
-def library():
-    """The paths of the library for C and of what it needs, built as tools/lib/transport.sh builds them."""
-    script = ". tools/lib/usage.sh; . tools/lib/transport.sh; find_library nizwarf_door >&2; echo ${library[*]}"
-    found = subprocess.run(["bash", "-euc", script], cwd=REPOSITORY, stdout=subprocess.PIPE, text=True, timeout=1800)
+def transport(script):
+    """Runs lines of bash with the functions of tools/lib/transport.sh, and returns the words that they printed."""
+    found = subprocess.run(["bash", "-euc", f". tools/lib/usage.sh; . tools/lib/transport.sh; {script}"], cwd=REPOSITORY,
+                           stdout=subprocess.PIPE, text=True, timeout=1800)
     if found.returncode:
         pytest.fail("the library for C does not build")
     return found.stdout.split()
+
+
+def library():
+    """The paths of the library for C, with its C files, and of what it needs."""
+    return transport("find_library nizwarf_codec >&2; echo ${library[*]}")
 
 
 def build_c(folder, sources=REPOSITORY / "examples/c"):
@@ -54,15 +59,12 @@ def build_c(folder, sources=REPOSITORY / "examples/c"):
 
 def build_shared(folder):
     """Links the shared library, which Python and Go load."""
-    door, libc = library()
-    run("cc", "-shared", "-o", folder / "libnizwarf.so.0", "-Wl,-soname,libnizwarf.so.0", "-Wl,-z,defs",
-        "-Wl,--whole-archive", door, "-Wl,--no-whole-archive", libc)
-    (folder / "libnizwarf.so").symlink_to("libnizwarf.so.0")
+    transport(f"link_shared '{folder}' >&2")
     return folder
 
 
 def build_python(folder):
-    library_path = build_shared(folder) / "libnizwarf.so.0"
+    library_path = build_shared(folder) / "libnizwarf.so.1"
     return Example("python", ["env", f"NIZWARF_LIB={library_path}", str(REPOSITORY / "bindings/python/hello.py")])
 
 
@@ -70,16 +72,16 @@ def build_go(folder):
     if not shutil.which("go"):
         pytest.skip("requires go")
     build_shared(folder)
-    run("go", "build", "-o", folder / "hello", REPOSITORY / "bindings/go/hello.go",
+    run("go", "build", "-o", folder / "hello", "./examples/hello", cwd=REPOSITORY / "bindings/go",
         env={**os.environ, "GOCACHE": str(REPOSITORY / "out/bindings/go-cache"), "GOFLAGS": "-mod=mod", "GOPROXY": "off",
-             "CGO_CFLAGS": f"-O2 -I{REPOSITORY / 'include'}", "CGO_LDFLAGS": f"-L{folder}"})
+             "CGO_CFLAGS": "-O2", "CGO_LDFLAGS": f"-L{folder}"})
     return Example("go", ["env", f"LD_LIBRARY_PATH={folder}", str(folder / "hello")])
 
 
 def build_rust(folder, example="hello"):
     if not shutil.which("cargo"):
         pytest.skip("requires cargo")
-    for it in library():
+    for it in transport("find_library nizwarf_codec >&2; echo $archive $heap"):
         shutil.copy(it, folder)
     target = REPOSITORY / "out/rust"
     run("cargo", "build", "--quiet", "--offline", "--example", example, "--target-dir", target,

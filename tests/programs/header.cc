@@ -1,9 +1,9 @@
 // The transports' header in C++: a program of another language links with the functions of C.
 #include "transport.h"
 
-static int32_t serve(void *, unsigned, const nizwarf_segment *, size_t, const nizwarf_room *, size_t, size_t *)
+static int32_t serve(void *, unsigned, const struct iovec *, size_t, const struct iovec *, size_t, size_t *)
 {
-	return NIZWARF_ASKED;
+	return NIZWARF_CALL;
 }
 
 int main(int count, char **)

@@ -24,14 +24,14 @@ static void *complete(void *unused)
 	return NULL;
 }
 
-static int32_t serve(void *user, unsigned worker, const nizwarf_segment *request, size_t segments,
-		     const nizwarf_room *room, size_t rooms, size_t *len)
+static int32_t serve(void *user, unsigned worker, const struct iovec *request, size_t segments,
+		     const struct iovec *room, size_t rooms, size_t *len)
 {
 	transport_later *const later = transport_keep();
 
 	(void)user, (void)worker, (void)request, (void)segments, (void)room, (void)rooms, (void)len;
 	atomic_store(&kept, later);
-	return later ? NIZWARF_ASKED : NIZWARF_OUT_OF_MEMORY;
+	return later ? NIZWARF_CALL : NIZWARF_OUT_OF_MEMORY;
 }
 
 int main(void)

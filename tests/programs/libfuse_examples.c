@@ -68,7 +68,7 @@ static int is_asked, is_pruned;		 /* a RETRIEVE, a PRUNE was sent */
 static const struct kind *kind;		 /* set before there are threads */
 static transport_notices notices = TRANSPORT_NO_NOTICES;
 static nizwarf_session session = { 0, 4096, TRANSPORT_PAYLOAD };
-static nizwarf_slot slots[WORKERS];
+static nizwarf_scratch slots[WORKERS];
 
 /* ---- what changes, under the lock */
 
@@ -520,14 +520,14 @@ static const nizwarf_ops ops = { .forget = on_forget,
 static nizwarf_ops used;
 
 /* By one segment and one room, as /dev/fuse has them. */
-static int32_t serve(void *user, unsigned worker, const nizwarf_segment *request, size_t segments,
-		     const nizwarf_room *room, size_t rooms, size_t *len)
+static int32_t serve(void *user, unsigned worker, const struct iovec *request, size_t segments,
+		     const struct iovec *room, size_t rooms, size_t *len)
 {
-	nizwarf_item items[ITEMS];
+	nizwarf_dirent items[ITEMS];
 
 	(void)segments, (void)rooms;
-	return nizwarf_serve_ops(&used, user, &slots[worker], &session, request->at, request->len, room->at,
-				 room->len, items, ITEMS, len);
+	return nizwarf_serve_ops(&used, user, &slots[worker], &session, request->iov_base, request->iov_len,
+				 room->iov_base, room->iov_len, items, ITEMS, len);
 }
 
 /* The folder of the words, or NULL. */
@@ -588,7 +588,7 @@ int main(int count, char **words)
 		pthread_detach(changes);
 	status = fuse_device_serve(&by, device, folder);
 	for (int i = 0; i < WORKERS; i++)
-		nizwarf_end_slot(&slots[i]);
+		nizwarf_scratch_free(&slots[i]);
 	pthread_mutex_lock(&lock);
 	status |= wrong || (is_asked && !retrieved);
 	pthread_mutex_unlock(&lock);

@@ -47,7 +47,7 @@ static int is_spoilt, destroyed; /* whether replies are; how often `destroy` cam
 static pthread_mutex_t lock = PTHREAD_MUTEX_INITIALIZER;
 static pthread_cond_t change = PTHREAD_COND_INITIALIZER;
 static uint64_t interrupted;
-static nizwarf_slot slots[WORKERS];
+static nizwarf_scratch slots[WORKERS];
 
 /* (of BAD it says 100 bytes, so that Linux asks for some) */
 static int on_getattr(const nizwarf_req *req, uint64_t ino, const nizwarf_file_info *fi, nizwarf_attr *attr,
@@ -210,16 +210,16 @@ static void spoil(const void *request, unsigned char *room, size_t *len)
 }
 
 /* A reply is spoilt after it is made: as by a server with a fault, which this layer can't be. */
-static int32_t serve(void *user, unsigned worker, const nizwarf_segment *request, size_t segments,
-		     const nizwarf_room *room, size_t rooms, size_t *len)
+static int32_t serve(void *user, unsigned worker, const struct iovec *request, size_t segments,
+		     const struct iovec *room, size_t rooms, size_t *len)
 {
 	int32_t code;
 
 	(void)segments, (void)rooms;
-	code = nizwarf_serve_ops(&ops, user, &slots[worker], &session, request->at, request->len, room->at,
-				 room->len, NULL, 0, len);
+	code = nizwarf_serve_ops(&ops, user, &slots[worker], &session, request->iov_base, request->iov_len,
+				 room->iov_base, room->iov_len, NULL, 0, len);
 	if (is_spoilt && code == NIZWARF_OK && *len)
-		spoil(request->at, room->at, len);
+		spoil(request->iov_base, room->iov_base, len);
 	return code;
 }
 
@@ -353,7 +353,7 @@ int main(void)
 		status |= run(",default_permissions");
 	}
 	for (int i = 0; i < WORKERS; i++)
-		nizwarf_end_slot(&slots[i]);
+		nizwarf_scratch_free(&slots[i]);
 	rmdir(folder);
 	if (status)
 		return fputs("mounted.c: a mount ended, or its server failed\n", stderr), status;

@@ -1,10 +1,12 @@
 """What nizwarf-share prints of a command line that cannot be served: it names what is wrong, in the words of getopt(3),
 and points to --help where that helps. The errors are those of Linux for the path that is named."""
+import json
 import os
 import shutil
 import subprocess
 
 import pytest
+from building import run
 
 HINT = "Try 'nizwarf-share --help' for more information.\n"
 
@@ -67,6 +69,41 @@ def test_a_value_that_cannot_be_is_named_with_those_that_can(refuse, directory, 
     assert refuse(option, directory, point) == message
 
 
+@pytest.mark.parametrize("options", [
+    "--fd=77 {shared}", "--socket-path={scratch}/socket {shared} too-many", "{shared} {shared}/below", "--modcaps=sys_admin {all}",
+    "--inode-file-handles=always {all}", "--inode-file-handles=auto {all}", "--uid-map=:0:1:1: {all}", "--sandbox=some {all}",
+    "--passthrough --socket-path={scratch}/socket {shared}", "--watch --socket-path={scratch}/socket {shared}",
+    "--passthrough --writeback {all}", "--watch --writeback {all}", "--passthrough --modcaps=-dac_override {all}",
+    "--watch --inode-file-handles=prefer {all}", "--passthrough --xattrmap=:map::user.virtiofs.: {all}",
+    "--migration-mode=find-paths {all}", "--migration-confirm-paths {all}", "--socket-path= {shared}",
+    "--migration-mode=file-handles --migration-verify-handles --socket-path={scratch}/none {shared}",
+    "--migration-mode=file-handles --migration-confirm-paths --socket-path={scratch}/none {shared}",
+    "--migration-unlinked-files --socket-path={scratch}/none {shared}", "-o =5 {all}", "-o fsname= {all}"])
+def test_options_that_cannot_be_combined_or_served_are_refused(refuse, directory, point, scratch, options):
+    (directory / "below").mkdir()
+    assert refuse(*options.format(shared=directory, scratch=scratch, all=f"{directory} {point}").split())
+
+
+@pytest.mark.parametrize("options, name", [
+    ("--cach=never", "never"), ("-o no-such-option", "no-such-option"), ("-o loglevel", "loglevel"), ("-o sandbox=some", "some"),
+    ("--migration-mode=some", "some"), ("--migration-on-error=some", "some")])
+def test_what_cannot_be_of_an_option_is_named(refuse, directory, point, options, name):
+    assert name in refuse(directory, point, *options.split())
+
+
+def test_how_many_files_can_be_open_is_reported_if_more_were_asked_for(share):
+    asked = subprocess.run([share, "--rlimit-nofile=2147483647", "--socket-path=/", "/tmp"], stderr=subprocess.PIPE, text=True)
+    assert "can be open, and not 2147483647" in asked.stderr
+    unasked = subprocess.run(["sh", "-c", 'ulimit -n 1000 && exec "$0" --socket-path=/ /tmp', share], stderr=subprocess.PIPE,
+                             text=True)
+    assert "can be open" not in unasked.stderr
+
+
+def test_help_warns_of_programs_that_a_guests_root_makes_and_capabilities_are_json(share):
+    assert "set-user-ID" in run(share, "--help")
+    assert json.loads(run(share, "--print-capabilities"))["type"] == "fs"
+
+
 def test_missing_and_unexpected_arguments_are_named(refuse, directory, point):
     assert refuse() == "missing directory to share\n" + HINT
     assert refuse(directory) == "missing mount point, or --socket-path\n" + HINT
@@ -125,7 +162,8 @@ def test_a_served_session_is_summed_up_in_words(serve, directory):
 
 
 @pytest.mark.fuse
-def test_allow_other_says_what_to_do_about_access_control_lists(mount):
-    server = mount("-o", "allow_other")
+@pytest.mark.parametrize("options, is_said", [(("-o", "allow_other"), True), (("-o", "allow_other", "--posix-acl"), False), ((), False)])
+def test_allow_other_says_what_to_do_about_access_control_lists(mount, options, is_said):
+    server = mount(*options)
     server.end()
-    assert "add it if files of the directory have access control lists" in server.stderr()
+    assert ("add it if files of the directory have access control lists" in server.stderr()) == is_said

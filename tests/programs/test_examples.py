@@ -113,6 +113,7 @@ def test_a_signal_unmounts_what_check_rs_mounts(scratch, tmp_path, number):
 
 def test_hello_py_can_be_imported(tmp_path, monkeypatch, capfd):
     monkeypatch.setattr(sys, "argv", ["other", "word"])
+    monkeypatch.syspath_prepend(REPOSITORY / "bindings/python")
     spec = importlib.util.spec_from_file_location("hello", REPOSITORY / "bindings/python/hello.py")
     module = importlib.util.module_from_spec(spec)
     spec.loader.exec_module(module)

@@ -48,7 +48,7 @@ def file_systems(libfuse, built_with_threads, build_program):
         (folder / "example" / name).symlink_to("hello")
     # (the filter of system calls lacks those of a sanitizer)
     sanitized = any("sanitize" in it for it in built_with_threads.flags)
-    share = build_program("share", "nizwarf_door", *built_with_threads.flags * sanitized)
+    share = build_program("share", "nizwarf_codec", *built_with_threads.flags * sanitized)
     options = "--sandbox=none --seccomp=none" if sanitized else ""
     # (EXPIRE_ONLY came with Linux 6.2)
     version = tuple(int(it) for it in re.findall(r"\d+", platform.release())[:2])

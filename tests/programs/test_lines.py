@@ -12,20 +12,6 @@ from vhost_user import GET_FEATURES, GUEST
 UNKNOWN = 77
 
 
-@pytest.fixture
-def full_pipe():
-    """The writing end of a pipe that is full, and that nobody reads."""
-    ours, theirs = os.pipe()
-    os.set_blocking(theirs, False)
-    with contextlib.suppress(BlockingIOError):
-        while True:
-            os.write(theirs, bytes(4096))
-    os.set_blocking(theirs, True)
-    yield theirs
-    os.close(ours)
-    os.close(theirs)
-
-
 def break_ring(client, queue):
     """Puts an index into an available ring that is more than the queue's size ahead, and kicks."""
     client.put(queue.available + 2, queue.made + 1000)

@@ -12,7 +12,9 @@ import subprocess
 import time
 
 import pytest
+from conftest import wait_until
 from shapes import Op, record
+from test_share_mount import drop_caches
 
 KINDS, MOUNTS = ("flock", "fcntl"), (0, 1, 2)
 SECONDS = float(os.environ.get("NIZWARF_LOCK_SECONDS", "20")) / (len(KINDS) * len(MOUNTS) + 1)
@@ -23,15 +25,24 @@ ERRORS = {0, errno.EAGAIN, errno.EINTR, errno.ENOLCK, errno.EDEADLK, errno.EBADF
 @pytest.mark.parametrize("kind", KINDS)
 @pytest.mark.parametrize("mounts", MOUNTS)
 def test_no_step_is_lost_under_a_lock(build, mount, directory, kind, mounts):
-    """On a directory, on a mount, and on two mounts of one directory. (With --cache=never each read is the host's.)"""
-    places = [mount("--flock", "--posix-lock", "--cache=never").path for _ in range(mounts)] or [directory]
-    paths = [place / "counters" for place in places]
+    """On a directory, on a mount, and on a directory and two mounts of it. (With --cache=never each read is the host's.)"""
+    servers = [mount("--flock", "--posix-lock", "--cache=never") for _ in range(mounts)]
+    paths = [place / "counters" for place in [it.path for it in servers] + ([directory] if mounts != 1 else [])]
+    before = [len(it.descriptors()) for it in servers]
     paths[0].touch()
     seconds = max(1, round(SECONDS))
     came = subprocess.run([build("lock_stress.c"), kind, str(seconds), *paths], stdout=subprocess.PIPE, text=True,
                           timeout=seconds + 120)
     print(came.stdout)
     assert came.returncode == 0, came.stdout
+    (directory / "counters").unlink()
+    assert wait_until(lambda: has_forgotten(servers, before)), [it.descriptors() for it in servers]
+
+
+def has_forgotten(servers, before):
+    """Whether the servers have no more descriptors than before, once Linux has forgotten the files that nobody uses."""
+    drop_caches()
+    return all(len(it.descriptors()) <= count for it, count in zip(servers, before))
 
 
 class AnyOrder:

@@ -6,6 +6,7 @@ import contextlib
 import errno
 import fcntl
 import os
+import pathlib
 import random
 import shutil
 import struct
@@ -15,6 +16,7 @@ import threading
 import time
 
 import pytest
+from building import run
 from shapes import Op, record
 
 READ, WRITE, NONE = fcntl.F_RDLCK, fcntl.F_WRLCK, fcntl.F_UNLCK
@@ -280,6 +282,104 @@ def test_each_queue_has_places_of_its_own(serve, directory):
     assert [guest.client.wait(it).error for it in waits] == [0] * 4
 
 
+# What waits holds nothing up: the server has one worker.
+
+WAITERS = 12
+
+
+@pytest.fixture
+def busy(serve, directory):
+    return Guest(serve(*OPTIONS, "--thread-pool-size=1", "--log-level=warn"), directory)
+
+
+def waiting(guest, flock):
+    """Has the owner 1 lock the file, and others wait for it: handles by owners, and the requests that wait."""
+    owners = [1, 2, *range(10, 10 + WAITERS)]
+    handles = {it: guest.open() for it in owners} if flock else dict.fromkeys(owners, guest.open())
+    assert guest.lock(handles[1], 1, flock=flock) == 0
+    waits = [guest.lock(handles[it], it, READ, wait=True, flock=flock) for it in owners[2:]]
+    for _ in range(20):
+        guest.client.getattr(guest.node)
+    time.sleep(LATER)
+    assert not any(guest.client.is_done(it) for it in waits)
+    return handles, waits
+
+
+def interrupt(guest, unique):
+    """Sends an INTERRUPT, which comes back without a reply."""
+    assert guest.client.ask(Op.INTERRUPT, struct.pack("<Q", unique), reply_size=0).error is None
+
+
+def test_init_agrees_on_both_kinds_of_locks(serve):
+    reply = serve(*OPTIONS).connect(init=False).init()
+    # (FUSE_POSIX_LOCKS and FUSE_FLOCK_LOCKS)
+    assert struct.unpack_from("<I", reply, 12)[0] & 0x402 == 0x402
+
+
+@pytest.mark.sanitizers
+@pytest.mark.parametrize("flock", [False, True])
+def test_each_lock_that_waits_is_granted_once_it_is_free_or_interrupted(busy, flock):
+    handles, waits = waiting(busy, flock)
+    interrupt(busy, waits[0].unique)
+    assert busy.client.wait(waits[0]).error == errno.EINTR
+    assert busy.lock(handles[1], 1, NONE, flock=flock) == 0
+    assert [busy.client.wait(it).error for it in waits[1:]] == [0] * (WAITERS - 1)
+
+
+@pytest.mark.sanitizers
+@pytest.mark.parametrize("flock", [False, True])
+def test_an_interrupt_that_comes_before_its_request_ends_its_waiting(busy, flock):
+    handles, _ = waiting(busy, flock)
+    interrupt(busy, busy.client.unique + 4)
+    assert busy.client.wait(busy.lock(handles[2], 2, wait=True, flock=flock)).error == errno.EINTR
+    # (there is no request of this number)
+    interrupt(busy, 16)
+
+
+@pytest.mark.sanitizers
+@pytest.mark.parametrize("flock", [False, True])
+@pytest.mark.parametrize("stops", [True, False], ids=["queue", "memory"])
+def test_locks_that_wait_fail_before_their_queue_stops_or_memory_is_shared_anew(busy, flock, stops):
+    client, (_, waits) = busy.client, waiting(busy, flock)
+    if stops:
+        assert client.stop(client.queues[1]) == client.queues[1].made
+    else:
+        client.share_memory()
+    assert [client.wait(it).error for it in waits] == [errno.ENOLCK] * WAITERS
+
+
+@pytest.mark.sanitizers
+def test_a_front_end_that_goes_while_locks_wait_leaves_no_lock(busy, directory):
+    waiting(busy, False)
+    busy.client.close()
+    after = Guest(busy.server, directory)
+    assert after.lock(after.open(), 5) == 0
+
+
+@pytest.mark.sanitizers
+def test_a_signal_ends_a_server_while_locks_wait(busy):
+    waiting(busy, False)
+    busy.server.process.terminate()
+    busy.server.finish()
+    assert busy.server.stderr() == ""
+
+
+def test_a_flush_does_not_wait_for_the_host_to_report_which_lock_is_in_the_way(serve, directory, fault):
+    guest = Guest(serve(*OPTIONS, "--thread-pool-size=2", environment=fault("late_lock")), directory)
+    handle = guest.open()
+    assert guest.lock(handle, 1) == 0
+    asked = guest.client.submit(Op.GETLK, record(Op.GETLK, handle=handle, lock_owner=2, end=2**63 - 1, type=READ), guest.node,
+                                reply_size=40)
+    time.sleep(LATER)
+    begun = time.monotonic()
+    for owner in (3, 1):
+        guest.flush(handle, owner)
+    # (the locks of who closes are free at once)
+    assert guest.lock(handle, 3) == 0
+    assert time.monotonic() - begun < 3
+    assert guest.client.wait(asked).error == 0
+
+
 # Migration.
 
 
@@ -316,6 +416,7 @@ def test_any_byte_that_is_locked_stops_a_migration(guest):
     handle = guest.open()
     assert guest.lock(handle, 5, **bytes_of(0, 29)) == guest.lock(handle, 5, NONE, **bytes_of(0, 28)) == 0
     assert not migrates(guest)
+    assert "holds locks" in guest.server.stderr()
     assert guest.lock(handle, 5, NONE, **bytes_of(29, 29)) == 0
     assert migrates(guest)
 
@@ -423,6 +524,19 @@ with open(sys.argv[1], "rb+") as file:
 @pytest.fixture(params=["directory", "mount"])
 def place(request, mount, directory):
     return directory if request.param == "directory" else mount(*OPTIONS).path
+
+
+@pytest.mark.sanitizers
+@pytest.mark.parametrize("options", [(), ("--cache=always", "--writeback", "--inode-file-handles=prefer")], ids=" ".join)
+def test_locks_of_a_mount_are_those_of_any_file_system_and_of_the_host(share_mount, directory, options):
+    (directory / "file").touch()
+    path = share_mount(*OPTIONS, "--thread-pool-size=2", *options).path
+    run(sys.executable, "-B", pathlib.Path(__file__).with_name("locks.py"), path / "file", seconds=600)
+    for one, other in ((path, directory), (directory, path)):
+        with open(one / "file") as locked, open(other / "file") as file:
+            fcntl.flock(locked, fcntl.LOCK_EX)
+            with pytest.raises(BlockingIOError):
+                fcntl.flock(file, fcntl.LOCK_EX | fcntl.LOCK_NB)
 
 
 def test_one_of_two_processes_that_wait_for_one_another_is_told(place):

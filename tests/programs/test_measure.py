@@ -8,14 +8,14 @@ LIB = f"{HERE}/tools/lib"
 
 def need_proved(unproved, root):
     """Runs the check of the measuring tools for a tree of sources below `root`."""
-    script = f'. "{LIB}/usage.sh"; . "{LIB}/transport.sh"; here=$1; need_proved "$2" nizwarf_door'
+    script = f'. "{LIB}/usage.sh"; . "{LIB}/transport.sh"; here=$1; need_proved "$2" nizwarf_codec'
     return subprocess.run(["bash", "-c", script, "tool", str(root), unproved], capture_output=True, text=True, check=False)
 
 
 def make_sources(root):
     """A tree of sources without any library."""
-    (root / "crates/nizwarf_door/src").mkdir(parents=True)
-    (root / "crates/nizwarf_door/src/lib.rt").write_text("")
+    (root / "crates/nizwarf_codec/src").mkdir(parents=True)
+    (root / "crates/nizwarf_codec/src/lib.rt").write_text("")
     (root / "crates.txt").write_text("")
 
 
@@ -33,15 +33,15 @@ def test_a_library_without_a_proof_is_measured_on_request(tmp_path):
 
 def test_a_proved_library_is_measured(tmp_path):
     make_sources(tmp_path)
-    (tmp_path / "crates/nizwarf_door/out").mkdir()
-    (tmp_path / "crates/nizwarf_door/out/libnizwarf_door.a").write_text("")
+    (tmp_path / "crates/nizwarf_codec/out").mkdir()
+    (tmp_path / "crates/nizwarf_codec/out/libnizwarf_codec.a").write_text("")
     assert need_proved("", tmp_path).returncode == 0
 
 
 def test_a_proved_library_older_than_its_sources_is_not_measured(tmp_path):
     make_sources(tmp_path)
-    (tmp_path / "crates/nizwarf_door/out").mkdir()
-    library = tmp_path / "crates/nizwarf_door/out/libnizwarf_door.a"
+    (tmp_path / "crates/nizwarf_codec/out").mkdir()
+    library = tmp_path / "crates/nizwarf_codec/out/libnizwarf_codec.a"
     library.write_text("")
     os.utime(library, (0, 0))
     assert need_proved("", tmp_path).returncode == 2

@@ -5,6 +5,7 @@ import pathlib
 import socket
 
 import pytest
+from building import REPOSITORY, find_library, run
 from requirements import setting
 from shapes import Op, record
 from vhost_user import GET_FEATURES, GUEST, USER
@@ -98,3 +99,11 @@ def test_a_front_end_that_cuts_its_memory_is_disconnected_and_the_next_one_serve
     server.connect().getattr(1)
     # (that of the next front end)
     assert len(mappings(server)) == 1
+
+
+@pytest.mark.parametrize("sanitizer", ["address,undefined", "thread"])
+def test_a_late_answer_goes_into_the_memory_that_it_was_asked_in(build, sanitizer):
+    """By the queues alone, since no front end is told when memory changes."""
+    transport = REPOSITORY / "programs/transport"
+    run(build("late_answer.c", "-O1", "-g", f"-fsanitize={sanitizer}", transport / "vhost_queue.c", transport / "later.c",
+              *find_library("nizwarf_border")))

@@ -26,15 +26,9 @@ LISTS, LABELS = (1 << 20 | 1 << 6 | 1 << 29, 0), (0, 1)
 ALL_FLAGS = (0x7bfffffb, 15)
 
 
-def stop_all(client):
-    """Stops the queues, as a source does before it saves."""
-    for queue in client.queues:
-        client.stop(queue)
-
-
 def move(client, target, state=None):
     """Saves a client's state and loads it at another server: the client there, which must be taken."""
-    stop_all(client)
+    client.stop_all()
     state = state or client.save()
     assert state, "the source saved no state"
     other = target.connect(init=False)
@@ -95,7 +89,7 @@ def lose_name(client, directory, other):
 
 def agreed(client):
     """The options that a client's INIT agreed on, as its state has them."""
-    stop_all(client)
+    client.stop_all()
     return header_of(client.save())[2]
 
 
@@ -117,45 +111,42 @@ def save_within(client, seconds):
     return state
 
 
-# Sizes.
+# Sizes: of a thousand files below 200 directories, whose names have 255 bytes.
+
+THOUSAND = [b"%x" % i for i in range(1000)]
+OF_THOUSAND = (len(THOUSAND) + 200) * OF_NODE
 
 
-def test_size_of_a_state_follows_the_number_of_nodes(serve, directory):
-    names = [b"%x" % i for i in range(1000)]
+@pytest.fixture
+def thousand(directory):
     with deep(directory, 200) as at:
-        for name in names:
+        for name in THOUSAND:
             make(name, dir_fd=at)
+
+
+def test_size_of_a_state_follows_the_number_of_nodes(serve, thousand):
     client = serve().connect()
-    know_deep(client, names, 200)
-    stop_all(client)
-    # (the names of the 200 directories have 255 bytes)
-    assert len(client.save()) <= (len(names) + 200) * OF_NODE
+    know_deep(client, THOUSAND, 200)
+    client.stop_all()
+    assert len(client.save()) <= OF_THOUSAND
 
 
-def test_memory_of_a_source_follows_the_number_of_nodes(serve, directory):
-    names = [b"%x" % i for i in range(1000)]
-    with deep(directory, 200) as at:
-        for name in names:
-            make(name, dir_fd=at)
+def test_memory_of_a_source_follows_the_number_of_nodes(serve, thousand):
     server = serve()
     client = server.connect()
-    know_deep(client, names, 200)
-    stop_all(client)
+    know_deep(client, THOUSAND, 200)
+    client.stop_all()
     with memory(server) as grown:
         assert client.save()
-        assert grown() <= OF_ALL + (len(names) + 200) * OF_NODE
+        assert grown() <= OF_ALL + OF_THOUSAND
 
 
-def test_memory_of_a_destination_follows_the_number_of_nodes(serve, directory):
-    names = [b"%x" % i for i in range(1000)]
-    with deep(directory, 200) as at:
-        for name in names:
-            make(name, dir_fd=at)
+def test_memory_of_a_destination_follows_the_number_of_nodes(serve, thousand):
     client, target = serve().connect(), serve()
-    nodes = know_deep(client, names, 200)
+    nodes = know_deep(client, THOUSAND, 200)
     with memory(target) as grown:
         other = move(client, target)
-        assert grown() <= OF_ALL + (len(names) + 200) * OF_NODE
+        assert grown() <= OF_ALL + OF_THOUSAND
     assert other.lookup(b"d" * 255) and other.getattr(nodes[-1])
 
 
@@ -167,7 +158,7 @@ def test_memory_of_a_search_does_not_grow_with_the_directories_of_a_folder(serve
     server = serve()
     client = server.connect()
     lose_name(client, directory, scratch / "outside")
-    stop_all(client)
+    client.stop_all()
     with memory(server) as grown:
         assert client.save()
         assert grown() <= OF_ALL
@@ -179,21 +170,13 @@ def test_memory_of_a_search_does_not_grow_with_the_depth_of_a_folder(serve, dire
     server = serve()
     client = server.connect()
     lose_name(client, directory, scratch / "outside")
-    stop_all(client)
+    client.stop_all()
     with memory(server) as grown:
         assert client.save()
         assert grown() <= OF_ALL
 
 
 # What is found.
-
-
-@pytest.mark.parametrize("options", [[], ["--inode-file-handles=prefer"], [BY_FILE_HANDLES]])
-def test_file_that_lost_its_first_name_is_found_by_another(serve, directory, options):
-    (directory / "d").mkdir()
-    client, target = serve(*options).connect(), serve(*options)
-    node, handle = lose_name(client, directory, directory / "d" / "second")
-    assert move(client, target).read(node, handle, 100) == b"content"
 
 
 def test_search_finds_a_name_below_more_directories_than_it_keeps(serve, directory):
@@ -225,7 +208,7 @@ def test_file_whose_directories_the_client_forgot_is_found(serve, directory):
     handle = client.open(node, os.O_RDONLY)
     for it in (b, a):
         client.ask(Op.FORGET, (1).to_bytes(8, "little"), it)
-    stop_all(client)
+    client.stop_all()
     state = client.save()
     # (the folder and the file; MOUNT, FILE and the end are no nodes)
     assert sum(kind == 2 for kind, _ in entries_of(state)) == 2
@@ -248,7 +231,7 @@ def test_directories_that_a_client_forgets_do_not_make_its_state_large(serve, di
         client.lookup(b"file", nodes[-1])
         pairs = b"".join(struct.pack("<QQ", it, 1) for it in nodes[1:])
         client.ask(Op.BATCH_FORGET, struct.pack("<II", 200, 0) + pairs, 0, reply_size=0)
-    stop_all(client)
+    client.stop_all()
     kinds = [kind for kind, _ in entries_of(client.save())]
     # (of 1,200 directories above 6 files: as many as nodes and 1,024)
     assert kinds.count(2) == 7
@@ -277,7 +260,7 @@ def test_search_ends_in_a_folder_without_end(serve, build, directory, scratch):
     server = serve(environment=endless)
     client = server.connect()
     lose_name(client, directory, scratch / "outside")
-    stop_all(client)
+    client.stop_all()
     assert save_within(client, 20)
     assert "too many names" in server.stderr()
 
@@ -289,7 +272,7 @@ def test_search_begins_with_the_directories_that_the_client_knows(serve, build, 
     client = server.connect()
     client.lookup(b"d")
     node, handle = lose_name(client, directory, directory / "d" / "second")
-    stop_all(client)
+    client.stop_all()
     state = save_within(client, 20)
     # (the folder was not read to its end, which it does not have)
     assert "too many names" not in server.stderr()
@@ -303,7 +286,7 @@ def test_search_stops_inside_a_directory_once_the_front_end_goes(serve, build, d
     server = serve(environment=endless)
     client = server.connect()
     lose_name(client, directory, scratch / "outside")
-    stop_all(client)
+    client.stop_all()
     ours, theirs = os.pipe()
     client.send(SET_DEVICE_STATE_FD, SAVE, 0, shape="II", fds=[theirs])
     client.receive()
@@ -332,7 +315,7 @@ def test_state_is_refused_of_a_client_that_init_refuses(serve, directory, option
     client = serve("--xattr").connect(init=False)
     client.init(flags, flags2)
     client.lookup(b"file")
-    stop_all(client)
+    client.stop_all()
     assert not target.connect(init=False).load(client.save())
     assert option in target.stderr()
 
@@ -471,16 +454,6 @@ def test_state_with_a_handle_of_an_unlinked_file_is_refused(serve, options_of_in
     assert not target.connect(init=False).load(state.bytes())
 
 
-def test_unlinked_file_of_the_client_goes_on_if_an_option_says_so(serve, directory):
-    (directory / "file").write_bytes(b"content")
-    client = serve(BY_FILE_HANDLES).connect()
-    target = serve(BY_FILE_HANDLES, "--migration-unlinked-files")
-    node = client.lookup(b"file")
-    handle = client.open(node, os.O_RDONLY)
-    os.unlink(directory / "file")
-    assert move(client, target).read(node, handle, 100) == b"content"
-
-
 def test_handle_is_not_found_by_trying(serve, options_of_init, outside):
     kind, handle = outside
     server = serve("--migration-on-error=guest-error", BY_FILE_HANDLES, "--migration-unlinked-files")
@@ -494,20 +467,6 @@ def test_handle_is_not_found_by_trying(serve, options_of_init, outside):
         assert client.load(state.bytes()), server.stderr()
         assert (client.ask(Op.GETATTR, bytes(16), 2).error == 0) == is_had, f"after {tries} wrong handles"
         server.clients.pop().close()
-
-
-def test_handle_of_a_file_in_the_folder_is_opened_also_if_it_was_renamed(serve, directory):
-    (directory / "d").mkdir()
-    (directory / "file").write_bytes(b"content")
-    if not handle_of(directory / "file"):
-        pytest.skip("requires a file system with handles")
-    client, target = serve(BY_FILE_HANDLES).connect(), serve(BY_FILE_HANDLES)
-    node = client.lookup(b"file")
-    handle = client.open(node, os.O_RDONLY)
-    stop_all(client)
-    state = client.save()
-    os.rename(directory / "file", directory / "d" / "renamed")
-    assert move(client, target, state).read(node, handle, 100) == b"content"
 
 
 # Limits of a state.

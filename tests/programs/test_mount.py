@@ -10,16 +10,9 @@ import sys
 import time
 
 import pytest
-from building import REPOSITORY, run
+from building import run
 
-SHARE_TESTS = REPOSITORY / "tests/share"
 MIB = 1 << 20
-
-
-@pytest.fixture
-def preload(build):
-    """The environment in which a library is preloaded: preload("name.c"), a source of tests/share."""
-    return lambda source: {"LD_PRELOAD": build(SHARE_TESTS / source, "-shared")}
 
 
 def ends(process, seconds=20):
@@ -74,36 +67,36 @@ def test_a_signal_unmounts_and_is_a_good_end(mount_tree):
 
 
 @pytest.mark.fuse
-def test_a_signal_just_after_the_mount_leaves_no_mount(tree_mount, scratch, preload):
-    run(tree_mount, scratch, env={**os.environ, **preload("early_signal.c")})
+def test_a_signal_just_after_the_mount_leaves_no_mount(tree_mount, scratch, fault):
+    run(tree_mount, scratch, env={**os.environ, **fault("early_signal")})
     assert not os.path.ismount(scratch)
 
 
-def test_a_signal_just_after_the_socket_leaves_no_socket(tree_vhost, scratch, preload):
-    run(tree_vhost, scratch / "socket", env={**os.environ, **preload("early_signal.c")})
+def test_a_signal_just_after_the_socket_leaves_no_socket(tree_vhost, scratch, fault):
+    run(tree_vhost, scratch / "socket", env={**os.environ, **fault("early_signal")})
     assert not (scratch / "socket").exists()
 
 
-def test_a_socket_on_which_it_cannot_listen_is_a_failure_and_removed(tree_vhost, scratch, preload):
-    ended = subprocess.run([tree_vhost, scratch / "socket"], env={**os.environ, **preload("no_listen.c")}, timeout=60)
+def test_a_socket_on_which_it_cannot_listen_is_a_failure_and_removed(tree_vhost, scratch, fault):
+    ended = subprocess.run([tree_vhost, scratch / "socket"], env={**os.environ, **fault("no_listen")}, timeout=60)
     assert ended.returncode > 0
     assert not (scratch / "socket").exists()
 
 
-@pytest.mark.parametrize("when", ["BOUND", "REMOVED"])
-def test_a_signal_ends_it_while_the_directory_of_its_socket_does_not_answer(tree_vhost, scratch, preload, when):
-    process = subprocess.Popen([tree_vhost, scratch / "socket"], env={**os.environ, **preload("no_answer.c"), when: ""})
+@pytest.mark.parametrize("name", ["no_bind", "no_unlink"])
+def test_a_signal_ends_it_while_the_directory_of_its_socket_does_not_answer(tree_vhost, scratch, fault, name):
+    process = subprocess.Popen([tree_vhost, scratch / "socket"], env={**os.environ, **fault(name)})
     until = time.monotonic() + 10
     # (bind(2) does not return, so there is no socket)
-    while not (is_asleep(process.pid) if when == "BOUND" else (scratch / "socket").exists()):
+    while not (is_asleep(process.pid) if name == "no_bind" else (scratch / "socket").exists()):
         assert time.monotonic() < until
         time.sleep(0.05)
     process.terminate()
     assert ends(process) == 0
 
 
-def test_a_mount_that_cannot_be_unmounted_is_reported_and_a_failure(mount_tree, preload):
-    server = mount_tree(environment=preload("no_unmount.c"))
+def test_a_mount_that_cannot_be_unmounted_is_reported_and_a_failure(mount_tree, fault):
+    server = mount_tree(environment=fault("no_unmount"))
     server.process.terminate()
     server.finish(status=1)
     subprocess.run(["umount", "-l", server.path], check=True)
@@ -139,12 +132,6 @@ def serving(program, socket):
     finally:
         process.terminate()
         assert ends(process) == 0
-
-
-@pytest.mark.fuse
-def test_full_events_a_hung_directory_of_a_socket_and_a_moved_mount_point_keep_no_end(tree_mount, tree_vhost, scratch):
-    print(run("unshare", "--mount", "timeout", "60", sys.executable, "-B", SHARE_TESTS / "ends.py", "--tree", tree_mount,
-              tree_vhost, scratch))
 
 
 # ---- limits

@@ -7,17 +7,15 @@ import pytest
 from shapes import Op, record
 from vhost_user import EVENT_IDX
 
-# What a slow request takes, in seconds, and when one that should not wait for it counts as having waited.
-SLOW, LATE = 1.0, 0.8
+# What a slow request takes, in seconds, as faults.c says, and when one that should not wait for it counts as having waited.
+SLOW, LATE = 1.2, 0.8
 
 
 @pytest.fixture
-def slow_share(serve, build, directory):
+def slow_share(serve, fault, directory):
     """A server with 16 workers whose disk is slow."""
     (directory / "file").touch()
-    library = build("slow_fsync.c", "-shared")
-    return serve("--sandbox=none", "--seccomp=none", "--posix-lock", "--thread-pool-size=16",
-                 environment={"LD_PRELOAD": library, "SLOW_MS": str(int(SLOW * 1000))})
+    return serve("--sandbox=none", "--seccomp=none", "--posix-lock", "--thread-pool-size=16", environment=fault("slow_disk"))
 
 
 def submit_fsyncs(client, node, handle, queues):

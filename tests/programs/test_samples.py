@@ -14,14 +14,14 @@ PROGRAM = """
 #include <errno.h>
 #include <stdio.h>
 #include <sys/stat.h>
-static size_t serve(const nizwarf_segment *request, size_t segments, const nizwarf_room *room, size_t rooms);
+static size_t serve(const struct iovec *request, size_t request_count, const struct iovec *reply, size_t reply_count);
 
 int make_call(const nizwarf_call *call, nizwarf_answer *answer)
 {
-	if (call->call == NIZWARF_INIT)
+	if (call->opcode == NIZWARF_INIT)
 		return 0;
-	if (call->call != NIZWARF_GETATTR)
-		return call->call == NIZWARF_LOOKUP ? ENOENT : ENOSYS;
+	if (call->opcode != NIZWARF_GETATTR)
+		return call->opcode == NIZWARF_LOOKUP ? ENOENT : ENOSYS;
 	answer->entry.attr.ino = 1;
 	answer->entry.attr.mode = S_IFDIR | 0755;
 	return 0;
@@ -38,26 +38,26 @@ int main(void)
 	uint32_t len;
 
 	while (fread(&len, 4, 1, stdin) == 1 && fread(request, 1, len, stdin) == len) {
-		const nizwarf_segment piece = { request, len };
-		const nizwarf_room whole = { room, sizeof(room) };
+		const struct iovec piece = { request, len };
+		const struct iovec whole = { room, sizeof(room) };
 
 		len = (uint32_t)serve(&piece, 1, &whole, 1);
 		fwrite(&len, 4, 1, stdout);
 		fwrite(room, 1, len, stdout);
 	}
-	return nizwarf_end_slot(&slot) != NIZWARF_OK;
+	return nizwarf_scratch_free(&scratch) != NIZWARF_OK;
 }
 """
 # What the header's sample leaves out as `..`, and around it.
 AROUND_HEADER = """
-static size_t serve(const nizwarf_segment *request, size_t segments, const nizwarf_room *room, size_t rooms)
+static size_t serve(const struct iovec *request, size_t request_count, const struct iovec *reply, size_t reply_count)
 {
 	nizwarf_call call;
-	nizwarf_told told;
+	nizwarf_result result;
 	int32_t code;
 
 %s
-	return told.len;
+	return result.len;
 }
 """
 
@@ -68,14 +68,14 @@ def of_header():
     lines = re.findall(r"^ \*(?:\t(.*))?$", text.partition(" */\n")[0], re.M)
     sample = "\n".join(lines).strip("\n")
     begin, _, body = sample.partition("..\n")
-    assert "nizwarf_slot slot" in begin and body.rstrip().endswith("complete(told.len);")
+    assert "nizwarf_scratch scratch" in begin and body.rstrip().endswith("complete(result.len);")
     return (f"#include <nizwarf.h>\nstatic {begin.replace(chr(10) + 'nizwarf_session', chr(10) + 'static nizwarf_session')}"
-            + PROGRAM + AROUND_HEADER % body.replace("complete(told.len);", ""))
+            + PROGRAM + AROUND_HEADER % body.replace("complete(result.len);", ""))
 
 
 def of_page():
     """The example of nizwarf(3), as a program."""
-    awk = ["awk", "-f", REPOSITORY / "packaging/examples.awk", REPOSITORY / "packaging/man/nizwarf.3"]
+    awk = ["awk", "-f", REPOSITORY / "packaging/examples.awk", REPOSITORY / "packaging/man/nizwarf.3.in"]
     sample = subprocess.run(awk, stdout=subprocess.PIPE, text=True, check=True).stdout
     assert "\nsize_t serve(" in sample
     return sample.replace("\nsize_t serve(", "\nstatic size_t serve(") + PROGRAM

@@ -7,7 +7,7 @@ import socket
 import subprocess
 
 import pytest
-from building import REPOSITORY
+from building import REPOSITORY, run
 
 pytestmark = pytest.mark.root
 KILLED = "nizwarf-share: signal 31 ended the server\n"
@@ -15,17 +15,31 @@ SHARE, TRANSPORT = REPOSITORY / "programs/share", REPOSITORY / "programs/transpo
 
 
 @pytest.fixture(scope="session")
-def sandboxed(share, tmp_path_factory):
+def sandbox_program(share, tmp_path_factory):
+    """Compiles a source beside this one with the sandbox: sandbox_program("name.c") returns the program. It has the filter
+    of system calls if nizwarf-share has it, as `has_filter` says."""
+    folder = tmp_path_factory.mktemp("sandbox")
+    has_filter = "with libseccomp" in subprocess.run([share, "--version"], stdout=subprocess.PIPE, text=True).stdout
+    sources = [*(SHARE / it for it in ("share_sandbox.c", "share_users.c", "passthrough_who.c", "passthrough_ids.c")),
+               *(TRANSPORT / it for it in ("fuse_backing.c", "fuse_mount.c", "uring.c"))]
+
+    def build(source):
+        program = folder / source.removesuffix(".c")
+        flags = ("-DWITH_SECCOMP", "-lseccomp") if has_filter else ()
+        run("cc", "-std=c11", "-O1", "-Wall", "-Wextra", "-Werror", "-pthread", *flags[:1], "-I", REPOSITORY / "include", "-I",
+            TRANSPORT, "-o", program, pathlib.Path(__file__).with_name(source), *sources, *flags[1:])
+        return program
+
+    build.has_filter = has_filter
+    return build
+
+
+@pytest.fixture(scope="session")
+def sandboxed(sandbox_program):
     """Runs an attempt: sandboxed(sandbox, directory, attempt, process) returns what it printed."""
-    version = subprocess.run([share, "--version"], stdout=subprocess.PIPE, text=True).stdout
-    if "with libseccomp" not in version:
+    if not sandbox_program.has_filter:
         pytest.skip("requires libseccomp-dev")
-    program = tmp_path_factory.mktemp("sandbox") / "sandboxed"
-    sources = [pathlib.Path(__file__).with_name("sandboxed.c"), *(SHARE / it for it in (
-        "share_sandbox.c", "share_users.c", "passthrough_who.c", "passthrough_ids.c")), *(TRANSPORT / it for it in (
-            "fuse_backing.c", "fuse_mount.c", "uring.c"))]
-    subprocess.run(["cc", "-std=c11", "-O1", "-Wall", "-Wextra", "-Werror", "-pthread", "-DWITH_SECCOMP", "-I",
-                    REPOSITORY / "include", "-I", TRANSPORT, "-o", program, *sources, "-lseccomp"], check=True)
+    program = sandbox_program("sandboxed.c")
 
     def attempt(sandbox, directory, what, process=0):
         ran = subprocess.run([program, sandbox, directory, what, str(process)], stdin=subprocess.DEVNULL,
@@ -36,6 +50,11 @@ def sandboxed(share, tmp_path_factory):
     return attempt
 
 
+@pytest.fixture(scope="session")
+def escape(sandbox_program):
+    return sandbox_program("escape.c")
+
+
 @pytest.fixture
 def bystander():
     """A process that the server did not start."""
@@ -43,6 +62,22 @@ def bystander():
     yield process
     process.kill()
     process.wait()
+
+
+@pytest.mark.parametrize("sandbox", ["namespace", "chroot"])
+@pytest.mark.parametrize("ring", [(), pytest.param(("ring",), marks=pytest.mark.io_uring)], ids=["plain", "ring"])
+@pytest.mark.parametrize("has_filter", [False, True])
+def test_code_in_the_server_finds_no_way_out_of_the_sandbox(sandbox_program, escape, directory, scratch, sandbox, ring,
+                                                            has_filter):
+    """escape.c tries each, and prints those that it finds. The filter ends it at the call that opens a handle, or makes a
+    ring."""
+    if has_filter and not sandbox_program.has_filter:
+        pytest.skip("requires libseccomp-dev")
+    (scratch / "outside").touch()
+    ran = subprocess.run([escape, sandbox, "kill" if has_filter else "none", directory, scratch / "outside", *ring],
+                         stdout=subprocess.PIPE, stderr=subprocess.STDOUT, text=True, timeout=200)
+    assert ran.stdout == (KILLED if has_filter else "")
+    assert has_filter or ran.returncode == 0
 
 
 @pytest.mark.parametrize("where", ["device", "device-below"])

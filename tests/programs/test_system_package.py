@@ -121,7 +121,7 @@ def judge_part(request, packages):
         for it in (check, root / str(REPOSITORY)[1:]):
             it.mkdir(parents=True, exist_ok=True)
         run("mount", "--bind", REPOSITORY, root / str(REPOSITORY)[1:])
-        for it in ("libnizwarf0", "nizwarf"):
+        for it in ("libnizwarf1", "nizwarf"):
             shutil.copy(next(packages.glob(f"{it}_*.deb")), check)
         if is_copy:
             run("chroot", root, "sh", "-c", "dpkg -i /root/check/*.deb")

@@ -1,12 +1,13 @@
 """Load and faults for nizwarf-share, for load.sh.
 
-Usage: load.py SHARE REFUSING ASK WORK MINUTES [DAEMON]
-SHARE is the program, REFUSING the same one linked with refuse_some.c, ASK tests/lib/ask.c, WORK an empty
-folder, DAEMON virtiofsd over the layer here, whose machines migrate. It wants root and stress-ng.
+Usage: load.py SHARE REFUSING WORK MINUTES [DAEMON]
+SHARE is the program, REFUSING the same one linked with refuse_some.c, WORK an empty folder, DAEMON virtiofsd over the
+layer here, whose machines migrate. It wants root and stress-ng.
 
 One server is mounted and one serves machines from beginning to end; others are started for a part of it. Parts
 follow each other until the minutes are over; each ends with what is held there: what was written and synced is
 there, byte by byte; no descriptor of the server is left but those it began with; its memory is bounded."""
+import contextlib
 import errno
 import hashlib
 import os
@@ -23,8 +24,8 @@ import time
 sys.path.insert(0, os.path.dirname(os.path.abspath(__file__)) + "/../lib")
 import requests
 import rounds
-from loaded import MOST_MEMORY, PATIENCE, Server, count, counts, drop_caches, empty, faults, hold_descriptors, hold_end
-from loaded import wait_for, wrong
+from loaded import MOST_MEMORY, PATIENCE, Machine, Server, count, counts, drop_caches, empty, faults, hold_descriptors
+from loaded import hold_end, wait_for, wrong
 from requests import line, request, transfer
 
 MIB = 1 << 20
@@ -332,35 +333,35 @@ def makers_without():
               35: lambda _: struct.pack("<IIII", 0o102, 0o644, 0, 0) + b"made\0"}
     for words in ([], ["--inode-file-handles=prefer"]):
         server = Server(share, folder, "--rlimit-nofile=64", "--thread-pool-size=1", *words, socket=socket)
-        one = Asking(socket)
+        one = Machine(socket)
         for opcode, body in makers.items():
             for left in range(6):
                 hold_maker(one, folder, opcode, body, left, words)
-        one.end()
+        one.close()
         hold_end(server, f"makers of names, with {words}")
     empty(folder)
 
 
 def hold_maker(one, folder, opcode, body, left, words):
     """Asks a request that makes a name, where the server can open `left` more descriptors."""
-    one.ask(requests.FIRST[1])
-    node = number(one.ask(line("16+128", request(1, b"some0\0")))[1])
+    one.reply(requests.FIRST[1])
+    node = number(one.reply(line("16+128", request(1, b"some0\0")))[1])
     held, error = [], 0
     for i in range(1, 64):
-        error, entry = one.ask(line("16+128", request(1, b"some%d\0" % i)))
+        error, entry = one.reply(line("16+128", request(1, b"some%d\0" % i)))
         if error:
             break
         held.append(number(entry))
     # (where files are held by handles, those that are open run out)
     while not error:
-        error, entry = one.ask(line("16+16", request(27, bytes(8))))
+        error, entry = one.reply(line("16+16", request(27, bytes(8))))
     if error not in SCARCE:
         wrong(f"{error} came of a want of descriptors, with {words}")
     for it in held[-left - 1:]:
-        one.ask(line("0", request(2, struct.pack("<Q", 1), node=it)))
+        one.reply(line("0", request(2, struct.pack("<Q", 1), node=it)))
     # (the last one that is there is taken by a file that wasn't known)
-    one.ask(line("16+128", request(1, b"some%d\0" % len(held))))
-    error, entry = one.ask(line("16+144", request(opcode, body(node))))
+    one.reply(line("16+128", request(1, b"some%d\0" % len(held))))
+    error, entry = one.reply(line("16+144", request(opcode, body(node))))
     is_there = os.path.lexists(folder + "/made")
     what = f"{requests.NAMES[opcode]} with {left} descriptors left, and {words}"
     if error not in {0, *SCARCE} or is_there == bool(error):
@@ -369,8 +370,8 @@ def hold_maker(one, folder, opcode, body, left, words):
         wrong(f"{what}: error {error}, {entry.hex()}")
     count("names made, or refused for want of a descriptor")
     if is_there:
-        one.ask(line("16", request(11 if opcode == 9 else 10, b"made\0")))
-    one.ask(line("0", request(38)))
+        one.reply(line("16", request(11 if opcode == 9 else 10, b"made\0")))
+    one.reply(line("0", request(38)))
 
 
 def many_directories():
@@ -380,21 +381,21 @@ def many_directories():
         with open(f"{folder}/name{i}", "w"):
             pass
     server = Server(share, folder, socket=socket)
-    one = Asking(socket)
-    one.ask(requests.FIRST[1])
-    handles = [number(one.ask(line("16+16", request(27, bytes(8))))[1]) for _ in range(times)]
+    one = Machine(socket)
+    one.reply(requests.FIRST[1])
+    handles = [number(one.reply(line("16+16", request(27, bytes(8))))[1]) for _ in range(times)]
     before, seen = server.memory()[0], [[] for _ in handles]
     places = [0] * times
     for size in (1000, 40000):
         for i, handle in enumerate(handles):
-            names, places[i] = names_in(one.ask(line(f"16+{size}", transfer(28, size, b"", places[i], 1, handle)))[1])
+            names, places[i] = names_in(one.reply(line(f"16+{size}", transfer(28, size, b"", places[i], 1, handle)))[1])
             seen[i] += names
     wanted = sorted([".", "..", *os.listdir(folder)])
     if any(sorted(it) != wanted for it in seen):
         wrong("a directory that is open many times isn't listed once by each")
     if server.memory()[0] > before + 32 * 1024:
         wrong(f"{times} open directories take {server.memory()[0] - before} KiB")
-    one.end()
+    one.close()
     hold_end(server, "many directories")
     empty(folder)
     count("listings of a directory at once", times)
@@ -473,44 +474,6 @@ def few_allocations(chance):
     return count("runs with allocations refused by chance")
 
 
-class Asking:
-    """A front end of a virtual machine, which can be killed."""
-
-    def __init__(self, path):
-        self.program = subprocess.Popen([ask, path], stdin=subprocess.PIPE, stdout=subprocess.PIPE, text=True)
-
-    def send(self, text):
-        """Sends a request. If the server has ended, that no answer comes tells it."""
-        try:
-            self.program.stdin.write(text + "\n")
-            self.program.stdin.flush()
-        except BrokenPipeError:
-            pass
-
-    def is_answered(self):
-        """Whether there is a server that answers."""
-        self.send(line("16", request(99)))
-        return self.program.stdout.readline()[:1].isdigit()
-
-    def ask(self, text):
-        """The reply: its error, and what is after its header."""
-        self.send(text)
-        answer = self.program.stdout.readline().split()
-        reply = bytes.fromhex(answer[1]) if len(answer) > 1 else b""
-        if not answer or not answer[0].isdigit():
-            return wrong(f"{answer} came of {text[:200]}") or (None, b"")
-        return (-struct.unpack_from("<i", reply, 4)[0], reply[16:]) if len(reply) >= 16 else (None, b"")
-
-    def end(self, is_killed=False):
-        if is_killed:
-            self.program.kill()
-        try:
-            self.program.stdin.close()
-        except BrokenPipeError:
-            pass
-        self.program.wait()
-
-
 def asked_by_chance(chance, nodes, handles):
     """A line of a request of what may be there."""
     node, handle = chance.choice(nodes), chance.choice(handles)
@@ -537,34 +500,34 @@ def asked_by_chance(chance, nodes, handles):
 
 
 def machines(server, chance, socket):
-    """Machines that are killed amid a request, one after another."""
-    one = Asking(socket)
-    one.ask(requests.FIRST[1])
+    """Machines that disconnect amid a request, one after another, as those do that are killed."""
+    one = Machine(socket)
+    one.reply(requests.FIRST[1])
     before = server.descriptors()
-    one.end()
+    one.close()
     for _ in range(20):
-        one, nodes, handles = Asking(socket), [1], [0]
-        one.ask(requests.FIRST[1])
+        one, nodes, handles = Machine(socket), [1], [0]
+        one.reply(requests.FIRST[1])
         for _ in range(chance.randrange(300)):
             text = asked_by_chance(chance, nodes, handles)
-            error, body = one.ask(text)
+            error, body = one.reply(text)
             count("requests of machines")
             if error == 0 and len(body) in (128, 144):
                 nodes = (nodes + [struct.unpack_from("<Q", body)[0]])[-20:]
             if error == 0 and len(body) in (16, 144):
                 handles = (handles + [struct.unpack_from("<Q", body, len(body) - 16)[0]])[-20:]
-        one.send(asked_by_chance(chance, nodes, handles))
-        one.end(is_killed=True)
-        count("machines killed by SIGKILL")
+        one.send_line(asked_by_chance(chance, nodes, handles))
+        one.close()
+        count("machines that are gone amid a request")
         if server.process.poll() is not None:
             return wrong(f"machines: the server ended with {server.process.returncode}: {server.said()}")
-    one = Asking(socket)
-    one.ask(requests.FIRST[1])
+    one = Machine(socket)
+    one.reply(requests.FIRST[1])
     if not wait_for(lambda: server.descriptors() <= before):
         wrong(f"machines: {server.descriptors()} descriptors, and {before} before them")
     if server.memory()[0] > MOST_MEMORY:
         wrong(f"machines: {server.memory()} KiB")
-    return one.end()
+    return one.close()
 
 
 def number(body, at=0):
@@ -581,11 +544,11 @@ class Steps:
     def ask(self, text, *others, makes=None):
         """The body of the reply. Errors besides may come. What makes a name, in a node, leaves none if it is refused."""
         for _ in range(3):
-            error, body = self.one.ask(text)
+            error, body = self.one.reply(text)
             if error not in (errno.ENOMEM, errno.ENFILE, None):
                 break
             count("requests refused for want of memory or a descriptor")
-            if makes and self.one.ask(line("16+128", request(1, makes[1], node=makes[0])))[0] != errno.ENOENT:
+            if makes and self.one.reply(line("16+128", request(1, makes[1], node=makes[0])))[0] != errno.ENOENT:
                 wrong(f"{makes[1]} was made, and refused")
         self.came.append(0 if error in others else error)
         return body
@@ -630,7 +593,7 @@ class Steps:
         self.name_and_list(node)
         self.ask(line("16+80", request(17)))
         self.ask(line("16", request(10, b"file\0")))
-        self.one.ask(line("0", request(38)))
+        self.one.reply(line("0", request(38)))
         return self.came
 
 
@@ -642,15 +605,19 @@ def in_turn(what, variable):
         empty(folder)
         server = Server(refusing, folder, "--xattr", "--sandbox=none", "--thread-pool-size=1", socket=socket,
                         environment={variable: str(number)})
-        one = Asking(socket) if server.is_up else None
-        if one and one.is_answered():
+        one = None
+        if server.is_up:
+            # (a server may end as it is connected to)
+            with contextlib.suppress(OSError):
+                one = Machine(socket)
+        if one and one.ask_line(requests.LAST[1])[0].isdigit():
             before, came = server.descriptors(), Steps(one).run()
             wanted = wanted or came
             if came != wanted:
                 wrong(f"{what} {number} is refused, and {came} came for {wanted}")
             if server.descriptors() > before:
                 wrong(f"{what} {number} is refused, and {server.descriptors()} descriptors are left of {before}")
-            one.end()
+            one.close()
             hold_end(server, f"{what} {number} is refused")
         elif not wait_for(lambda: server.process.poll()) or len(server.said().splitlines()) < 2:
             wrong(f"{what} {number} is refused: status {server.process.poll()}, {server.said()}")
@@ -681,8 +648,8 @@ def main(minutes):
     first = {it: it.memory()[0] for it in (mounted, served)}
     parts = (lambda: stress_and_keep(mounted, chance, "the mount"), lambda: machines(served, chance, work + "/socket"),
              lambda: with_words(chance), lambda: full_disk(chance), lambda: few_descriptors(chance),
-             lambda: few_allocations(chance), *(lambda act=act: act(share, work, chance) for act in rounds.PARTS),
-             *(lambda it=it: rounds.migrate(ask, it, work, chance) for it in (share, *sys.argv[6:])))
+             lambda: few_allocations(chance), lambda: rounds.come_and_go(share, work, chance),
+             *(lambda it=it: rounds.migrate(it, work, chance) for it in (share, *sys.argv[5:])))
     turns = 0
     while time.monotonic() < until and len(faults) < 20:
         for part in parts:
@@ -701,5 +668,5 @@ def main(minutes):
 
 
 if __name__ == "__main__":
-    share, refusing, ask, work = sys.argv[1:5]
-    sys.exit(main(float(sys.argv[5])))
+    share, refusing, work = sys.argv[1:4]
+    sys.exit(main(float(sys.argv[4])))

@@ -5,6 +5,9 @@ import sys
 import tempfile
 import time
 
+from asking import Asking
+from vhost_user import Reply
+
 # How many seconds what ends may take to do so: on a machine with other work a process may not run for minutes.
 PATIENCE = 600
 # What a server may keep, in KiB.
@@ -83,6 +86,16 @@ class Server:
         except subprocess.TimeoutExpired:
             self.process.kill()
             return "no end"
+
+
+class Machine(Asking):
+    """A machine, of which is noted what is wrong."""
+
+    def reply(self, text):
+        try:
+            return super().reply(text)
+        except ConnectionError as error:
+            return wrong(str(error)) or Reply(None, b"")
 
 
 def drop_caches():

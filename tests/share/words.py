@@ -1,10 +1,11 @@
-"""What comes of virtiofsd's words, as a machine sees it, asked over vhost-user as root: for check.sh, and for
-tests/compare/test_servers.py, which asks virtiofsd itself.
+"""What comes of virtiofsd's words, as a machine sees it, asked over vhost-user as root: for
+tests/programs/test_virtiofsd_options.py, and for tests/compare/test_servers.py, which asks virtiofsd itself.
 
-    words.py ASK WORK (--write | --compare | --known) DAEMON..: the built tests/lib/ask.c, an empty folder on a file
-    system with attributes of users, and the program with words of its own. Lines of what came are written to words.txt,
+    words.py WORK (--write | --compare | --known) DAEMON..: an empty folder on a file system with attributes of users,
+    and the program with words of its own. Lines of what came are written to words.txt,
     which has those of virtiofsd 1.13.2, or compared with it; with --known those of KNOWN differ, as these say.
 """
+import errno
 import fcntl
 import itertools
 import os
@@ -17,11 +18,11 @@ import sys
 import time
 
 sys.path.insert(0, os.path.dirname(os.path.abspath(__file__)) + "/../lib")
-from requests import line
+from asking import Asking
+from requests import line, request
+from shapes import Op, record
 
 STORED = pathlib.Path(__file__).with_suffix(".txt")
-LOOKUP, GETATTR, SETATTR, SYMLINK, MKNOD, MKDIR, OPEN, READ, WRITE = 1, 3, 4, 6, 8, 9, 14, 15, 16
-SETXATTR, GETXATTR, LISTXATTR, REMOVEXATTR, INIT, ACCESS, CREATE = 21, 22, 23, 24, 26, 34, 35
 KILLPRIV_V2, SECURITY_CTX, ALLOW_MMAP = 1 << 28, 1 << 32, 1 << 36
 OPTIONS = {KILLPRIV_V2: "HANDLE_KILLPRIV_V2", SECURITY_CTX: "SECURITY_CTX", ALLOW_MMAP: "DIRECT_IO_ALLOW_MMAP"}
 INIT_EXT, ASYNC_READ, CREATE_SUPP_GROUP = 1 << 30, 1, 1 << 34
@@ -54,8 +55,7 @@ came = {}
 
 
 def name_of(error):
-    return {0: "0", 1: "EPERM", 5: "EIO", 13: "EACCES", 34: "ERANGE", 38: "ENOSYS", 61: "ENODATA", 71: "EPROTO",
-            95: "ENOTSUP", 2: "ENOENT", 22: "EINVAL", 17: "EEXIST"}.get(error, str(error))
+    return errno.errorcode.get(error, str(error))
 
 
 class Daemon:
@@ -72,21 +72,16 @@ class Daemon:
 
     def __enter__(self):
         self.server = subprocess.Popen([*DAEMON, *self.words, "--shared-dir", self.folder, "--socket-path", self.socket])
-        for _ in range(500):
-            if os.path.exists(self.socket) or self.server.poll() is not None:
-                break
-            time.sleep(0.01)
-        self.front = subprocess.Popen([ASK, self.socket], stdin=subprocess.PIPE, stdout=subprocess.PIPE, text=True)
-        self.error, said = self.ask(INIT, struct.pack("<IIIII44x", 7, 38, 65536, INIT_EXT | self.flags & 0xFFFFFFFF,
-                                                      self.flags >> 32), node=0, room=64)
+        self.front = Asking(self.socket)
+        self.error, said = self.ask(Op.INIT, struct.pack("<IIIII44x", 7, 38, 65536, INIT_EXT | self.flags & 0xFFFFFFFF,
+                                                         self.flags >> 32), node=0, room=64)
         self.agreed = 0
         if not self.error:
             self.agreed = struct.unpack_from("<I", said, 12)[0] | struct.unpack_from("<I", said, 32)[0] << 32
         return self
 
     def __exit__(self, *_):
-        self.front.stdin.close()
-        self.front.wait(20)
+        self.front.close()
         self.server.terminate()
         self.server.wait(20)
         # (virtiofsd leaves both)
@@ -96,23 +91,19 @@ class Daemon:
 
     def ask(self, opcode, body=b"", node=1, room=144, uid=0, gid=0, extensions=b"", cuts=(40,)):
         """The error, and what is after the header."""
-        header = struct.pack("<IIQQIIIHH", 40 + len(body) + len(extensions), opcode, 1, node, uid, gid, 1,
-                             len(extensions) // 8, 0)
-        self.front.stdin.write(line(f"16+{room}", header + body + extensions, cuts) + "\n")
-        self.front.stdin.flush()
-        said = self.front.stdout.readline().split()
-        reply = bytes.fromhex(said[1]) if len(said) > 1 else b""
-        if len(reply) < 16:
-            raise SystemExit(f"{DAEMON[0]} {' '.join(self.words)}: opcode {opcode}: {' '.join(said)}")
-        return -struct.unpack_from("<i", reply, 4)[0], reply[16:]
+        made = request(opcode, body + extensions, node=node, uid=uid, gid=gid, extensions=len(extensions) // 8)
+        error, said = self.front.reply(line(f"16+{room}", made, cuts))
+        if error is None:
+            raise SystemExit(f"{DAEMON[0]} {' '.join(self.words)}: opcode {opcode} has no reply")
+        return error, said
 
     def look_up(self, name, node=1):
         """The node of a name; 0: there is none."""
-        error, said = self.ask(LOOKUP, name.encode() + b"\0", node)
+        error, said = self.ask(Op.LOOKUP, name.encode() + b"\0", node)
         return struct.unpack_from("<Q", said)[0] if not error else 0
 
     def open(self, node, flags):
-        error, said = self.ask(OPEN, struct.pack("<II", flags, 0), node)
+        error, said = self.ask(Op.OPEN, struct.pack("<II", flags, 0), node)
         return error, struct.unpack_from("<Q", said)[0] if not error else 0
 
     def flags_of(self, name):
@@ -170,10 +161,11 @@ def options():
         for what, name, value in (("a long name", "user." + "n" * 300, b"1"), ("another kind", "kind", b"1"),
                                   ("a list", "system.posix_acl_access", b"1"), ("a long value", "user.l", bytes(65537))):
             made = what.replace(" ", "-")
-            error, _ = one.ask(MKDIR, struct.pack("<II", 0o755, 0) + made.encode() + b"\0", extensions=label(name, value))
+            body = record(Op.MKDIR, mode=0o755) + made.encode() + b"\0"
+            error, _ = one.ask(Op.MKDIR, body, extensions=label(name, value))
             is_there = os.path.exists(f"{one.folder}/{made}")
             came[f"a label of {what}"] = f"{name_of(error)}, {'made' if is_there else 'not made'}"
-        error, _ = one.ask(MKDIR, struct.pack("<II", 0o755, 0) + b"none\0", extensions=struct.pack("<II", 8, 0))
+        error, _ = one.ask(Op.MKDIR, struct.pack("<II", 0o755, 0) + b"none\0", extensions=struct.pack("<II", 8, 0))
         came["no label"] = f"{name_of(error)}, {os.path.exists(one.folder + '/none')}"
     with Daemon("--security-label", flags=ASYNC_READ) as one:
         came["a client without labels"] = name_of(one.error)
@@ -185,10 +177,10 @@ def labels():
                   ["--security-label", "--xattrmap=:unsupported:all:user.l:user.l: :ok:all:::"],
                   ["--security-label", "--xattrmap=:bad:all:user.l:user.l: :ok:all:::"]):
         with Daemon(*words) as one:
-            for name, opcode, body in (("made", CREATE, struct.pack("<IIII", os.O_RDWR, 0o644, 0, 0) + b"made\0"),
-                                       ("directory", MKDIR, struct.pack("<II", 0o755, 0) + b"directory\0"),
-                                       ("node", MKNOD, struct.pack("<IIII", 0o100644, 0, 0, 0) + b"node\0"),
-                                       ("link", SYMLINK, b"link\0text\0")):
+            for name, opcode, body in (("made", Op.CREATE, struct.pack("<IIII", os.O_RDWR, 0o644, 0, 0) + b"made\0"),
+                                       ("directory", Op.MKDIR, struct.pack("<II", 0o755, 0) + b"directory\0"),
+                                       ("node", Op.MKNOD, struct.pack("<IIII", 0o100644, 0, 0, 0) + b"node\0"),
+                                       ("link", Op.SYMLINK, b"link\0text\0")):
                 error, _ = one.ask(opcode, body, room=160, extensions=label("user.label", b"secret"))
                 path = f"{one.folder}/{name}"
                 there = changes({}, path) if os.path.lexists(path) else "it isn't there"
@@ -217,14 +209,14 @@ def rules():
             for name in ("user.a", "user.b", "user.virtiofs.user.a", "user.virtiofs.user.b"):
                 os.setxattr(path, name, b"of the host")
             node = one.look_up("file")
-            _, said = one.ask(LISTXATTR, struct.pack("<II", 4096, 0), node, 4096)
+            _, said = one.ask(Op.LISTXATTR, struct.pack("<II", 4096, 0), node, 4096)
             came[f"list, {shown}"] = " ".join(sorted(it.decode() for it in said.split(b"\0") if it)) or "nothing"
             for name in ("user.a", "user.b", "user.virtiofs.user.a", "system.posix_acl_access", "user." + "n" * 240):
                 body, key = name.encode() + b"\0", f"{shortened(name)}, {shown}"
-                error, said = one.ask(GETXATTR, struct.pack("<II", 100, 0) + body, node, 100)
+                error, said = one.ask(Op.GETXATTR, struct.pack("<II", 100, 0) + body, node, 100)
                 came[f"get {key}"] = name_of(error) + (" " + said.decode() if said else "")
-                for what, opcode, asked in (("set", SETXATTR, struct.pack("<II", 1, 0) + body + b"1"),
-                                            ("remove", REMOVEXATTR, body)):
+                for what, opcode, asked in (("set", Op.SETXATTR, struct.pack("<II", 1, 0) + body + b"1"),
+                                            ("remove", Op.REMOVEXATTR, body)):
                     before = attributes(path)
                     error, _ = one.ask(opcode, asked, node, 0)
                     came[f"{what} {key}"] = f"{name_of(error)}, {changes(before, path)}"
@@ -241,23 +233,22 @@ def capabilities():
             left = "there" if "user.virtiofs.security.capability" in os.listxattr(path) else "gone"
             came[f"capabilities after {what}"] = name_of(error) if error or name == "link" else left
 
-    def set_attr(valid, **fields):
-        it = {"size": 0, "mode": 0, "uid": 0, "gid": 0, **fields}
-        return lambda one, node: one.ask(SETATTR, struct.pack("<IIQQQQQQIIIIIIII", valid, 0, 0, it["size"], 0, 0, 0, 0, 0,
-                                                              0, 0, it["mode"], 0, it["uid"], it["gid"], 0), node)[0]
+    def set_attr(**fields):
+        return lambda one, node: one.ask(Op.SETATTR, record(Op.SETATTR, **fields), node)[0]
 
     def write(one, node):
         handle = one.open(node, os.O_RDWR)[1]
-        return one.ask(WRITE, struct.pack("<QQIIQII", handle, 0, 1, 0, 0, 0, 0) + b"w", node)[0]
+        return one.ask(Op.WRITE, struct.pack("<QQIIQII", handle, 0, 1, 0, 0, 0, 0) + b"w", node)[0]
 
     hold("OPEN to read", lambda one, node: one.open(node, os.O_RDONLY)[0])
     hold("OPEN with O_TRUNC", lambda one, node: one.open(node, os.O_RDWR | os.O_TRUNC)[0])
     hold("WRITE", write)
-    hold("a change of the mode", set_attr(MODE, mode=0o100600))
-    hold("a change of the size", set_attr(SIZE, size=1))
-    hold("a change of the owner", set_attr(UID | GID, uid=7, gid=7))
-    hold("a change of a link's owner", set_attr(UID, uid=7), "link")
-    hold("SETXATTR of another", lambda one, node: one.ask(SETXATTR, struct.pack("<II", 1, 0) + b"user.x\0001", node, 0)[0])
+    hold("a change of the mode", set_attr(valid=MODE, mode=0o100600))
+    hold("a change of the size", set_attr(valid=SIZE, size=1))
+    hold("a change of the owner", set_attr(valid=UID | GID, uid=7, gid=7))
+    hold("a change of a link's owner", set_attr(valid=UID, uid=7), "link")
+    attribute = struct.pack("<II", 1, 0) + b"user.x\0001"
+    hold("SETXATTR of another", lambda one, node: one.ask(Op.SETXATTR, attribute, node, 0)[0])
 
 
 def flags():
@@ -274,7 +265,7 @@ def flags():
                 came[key] = one.flags_of("file") if not error else name_of(error)
         if words in ([], ["--allow-direct-io"]):
             with Daemon(*words) as one:
-                one.ask(CREATE, struct.pack("<IIII", os.O_RDWR | os.O_DIRECT, 0o644, 0, 0) + b"made\0", room=160)
+                one.ask(Op.CREATE, struct.pack("<IIII", os.O_RDWR | os.O_DIRECT, 0o644, 0, 0) + b"made\0", room=160)
                 came[f"flags of a new O_DIRECT with{'out' if not words else ''} {with_words}"] = one.flags_of("made")
 
 
@@ -283,13 +274,13 @@ def direct():
     the host's from then on."""
     def write(one, node, handle, size, cached):
         body = struct.pack("<QQIIQII", handle, 0, size, cached, 0, 0, 0) + b"w" * size
-        return name_of(one.ask(WRITE, body, node, 8, cuts=(40, 80))[0])
+        return name_of(one.ask(Op.WRITE, body, node, 8, cuts=(40, 80))[0])
 
     with Daemon("--allow-direct-io") as one:
         node = one.look_up("file")
         handle = one.open(node, os.O_RDWR | os.O_DIRECT)[1]
         came["O_DIRECT: WRITE of a page"] = write(one, node, handle, 4096, 0)
-        error, said = one.ask(READ, struct.pack("<QQIIQII", handle, 0, 8192, 0, 0, 0, 0), node, 8192)
+        error, said = one.ask(Op.READ, struct.pack("<QQIIQII", handle, 0, 8192, 0, 0, 0, 0), node, 8192)
         came["O_DIRECT: READ of two"] = f"{name_of(error)} {said == b'w' * 4096 + bytes(4096)}"
         write(one, node, handle, 9, 1)
         came["O_DIRECT: after a WRITE of nine bytes from a cache"] = one.flags_of("file")
@@ -319,19 +310,19 @@ def ids():
                 os.chown(path, id_, id_)
                 os.chmod(path, 0o640)
                 node = one.look_up("file")
-                _, said = one.ask(GETATTR, bytes(16), node)
+                _, said = one.ask(Op.GETATTR, bytes(16), node)
                 came[f"ids {what}: GETATTR of {id_}"] = "%d:%d" % struct.unpack_from("<II", said, 16 + 68)
-                may = [name_of(one.ask(ACCESS, struct.pack("<II", 2, 0), node, 0, uid, 1)[0]) for uid in asking]
+                may = [name_of(one.ask(Op.ACCESS, struct.pack("<II", 2, 0), node, 0, uid, 1)[0]) for uid in asking]
                 came[f"ids {what}: ACCESS to that of {id_}"] = " ".join(may)
             for id_ in asking:
                 for name, user, group in (("", id_, 1), ("the group ", 1, id_)):
                     made = f"{name[:1]}{id_}"
-                    error, _ = one.ask(MKDIR, struct.pack("<II", 0o755, 0) + made.encode() + b"\0", uid=user, gid=group)
+                    body = record(Op.MKDIR, mode=0o755) + made.encode() + b"\0"
+                    error, _ = one.ask(Op.MKDIR, body, uid=user, gid=group)
                     path = f"{one.folder}/{made}"
                     owner = os.path.exists(path) and f"{os.stat(path).st_uid}:{os.stat(path).st_gid}"
                     came[f"ids {what}: MKDIR of {name}{id_}"] = owner if not error else name_of(error)
-                error, said = one.ask(SETATTR, struct.pack("<IIQQQQQQIIIIIIII", UID | GID, 0, 0, 0, 0, 0, 0, 0, 0, 0, 0, 0, 0,
-                                                           id_, id_, 0), node)
+                error, said = one.ask(Op.SETATTR, record(Op.SETATTR, valid=UID | GID, uid=id_, gid=id_), node)
                 owner = os.stat(one.folder + "/file")
                 came[f"ids {what}: SETATTR to {id_}"] = name_of(error) if error else \
                     f"{owner.st_uid}:{owner.st_gid}, told %d:%d" % struct.unpack_from("<II", said, 16 + 68)
@@ -352,7 +343,7 @@ def pid_file():
         second = subprocess.run([*DAEMON, "--shared-dir", one.folder, "--socket-path", one.socket], check=False,
                                 capture_output=True, timeout=20)
         came["a second one on the socket"] = "refused" if second.returncode else "served"
-        came["and the first one then"] = name_of(one.ask(GETATTR, bytes(16))[0])
+        came["and the first one then"] = name_of(one.ask(Op.GETATTR, bytes(16))[0])
 
 
 WRONG = (
@@ -439,5 +430,5 @@ def main():
     return 1 if faults else 0
 
 
-ASK, WORK, HOW, *DAEMON = sys.argv[1:]
+WORK, HOW, *DAEMON = sys.argv[1:]
 sys.exit(main())

@@ -8,7 +8,7 @@ import pathlib
 import stat
 import sys
 
-sys.path.append(str(pathlib.Path(__file__).resolve().parents[1]))
+sys.path.append(str(pathlib.Path(__file__).resolve().parents[2] / "lib"))
 from file_operations import Op, record  # noqa: E402
 from vhost_user import FrontEnd  # noqa: E402
 

@@ -1,11 +1,8 @@
 """File operations over FUSE: each sends the requests that it needs, and returns the result or raises OSError."""
 import os
-import pathlib
 import struct
-import sys
 
-sys.path.append(str(pathlib.Path(__file__).resolve().parents[1] / "lib"))
-from shapes import Op, record  # noqa: E402
+from shapes import Op, record
 
 PAGE = 4096
 

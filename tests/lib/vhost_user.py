@@ -14,20 +14,17 @@ that a test reads like one that calls the operating system.
 import collections
 import mmap
 import os
-import pathlib
 import select
 import socket
 import struct
-import sys
 import threading
 import time
 
-sys.path.append(str(pathlib.Path(__file__).resolve().parents[1] / "lib"))
-from file_operations import PAGE, FileOperations  # noqa: E402
-from shapes import SHAPES, Op  # noqa: E402
+from file_operations import PAGE, FileOperations
+from shapes import SHAPES, Op
 
 # Messages of vhost-user.
-GET_FEATURES, SET_FEATURES, SET_OWNER, SET_MEM_TABLE, SET_LOG_BASE = 1, 2, 3, 5, 6
+GET_FEATURES, SET_FEATURES, SET_OWNER, SET_MEM_TABLE, SET_LOG_BASE, SET_LOG_FD = 1, 2, 3, 5, 6, 7
 SET_VRING_NUM, SET_VRING_ADDR, SET_VRING_BASE, GET_VRING_BASE, SET_VRING_KICK, SET_VRING_CALL = 8, 9, 10, 11, 12, 13
 GET_PROTOCOL_FEATURES, SET_PROTOCOL_FEATURES, GET_QUEUE_NUM, SET_VRING_ENABLE = 15, 16, 17, 18
 SET_DEVICE_STATE_FD, CHECK_DEVICE_STATE = 42, 43
@@ -41,8 +38,9 @@ NEXT, WRITE, INDIRECT = 1, 2, 4
 # Where the guest sees its memory, and where its monitor does: SET_MEM_TABLE carries both.
 GUEST, USER = 1 << 31, 1 << 40
 IN_HEADER, OUT_HEADER = struct.Struct("<IIQQIIIHH"), struct.Struct("<IiQ")
-# How long wait() waits, in seconds, where a test does not say otherwise.
-PATIENCE = 20
+# How long a reply is waited for, in seconds, where a test does not say otherwise. On a busy machine a server with the
+# sanitizer of threads takes more than twenty for some states.
+PATIENCE = 120
 
 Reply = collections.namedtuple("Reply", "error body")
 
@@ -144,8 +142,7 @@ class FrontEnd(FileOperations):
     def begin(self):
         """Negotiates features, shares the memory and starts all queues."""
         self.query(GET_FEATURES)
-        self.query(GET_PROTOCOL_FEATURES)
-        self.send(SET_PROTOCOL_FEATURES, self.protocol)
+        self.send(SET_PROTOCOL_FEATURES, self.protocol & self.query(GET_PROTOCOL_FEATURES))
         self.send(SET_OWNER)
         self.send(SET_FEATURES, self.features)
         self.share_memory()
@@ -154,11 +151,12 @@ class FrontEnd(FileOperations):
         # (a reply to this one says that all before it are done)
         self.query(GET_FEATURES)
 
-    def share_memory(self):
-        """Sends the memory table, which replaces the one before it."""
-        values = [it for region in self.regions for it in (region[0], region[1], region[2], region[3])]
-        self.send(SET_MEM_TABLE, len(self.regions), 0, *values, shape="II" + "QQQQ" * len(self.regions),
-                  fds=[self.memory] * len(self.regions))
+    def share_memory(self, *more):
+        """Sends the memory table, which replaces the one before it, with more regions: each as those of `regions`, and the
+        descriptor of its file."""
+        regions = [*((*it, self.memory) for it in self.regions), *more]
+        self.send(SET_MEM_TABLE, len(regions), 0, *(it for region in regions for it in region[:4]),
+                  shape="II" + "QQQQ" * len(regions), fds=[it[4] for it in regions])
 
     def start(self, queue, base=None):
         """Starts a queue where it was stopped, or at this index of the available ring."""
@@ -169,17 +167,36 @@ class FrontEnd(FileOperations):
         self.send(SET_VRING_KICK, queue.number, fds=[queue.kick])
         self.send(SET_VRING_ENABLE, queue.number, 1, shape="II")
 
-    def place(self, queue, flags=0):
-        """Sends the addresses of a queue's rings; with flag 1 the used ring's writes are logged."""
+    def place(self, queue, flags=0, log=None):
+        """Sends the addresses of a queue's rings; with flag 1 the used ring's writes are logged, as writes to this address
+        of the guest."""
         self.send(SET_VRING_ADDR, queue.number, flags, USER + queue.descriptors, USER + queue.used,
-                  USER + queue.available, GUEST + queue.used, shape="IIQQQQ")
+                  USER + queue.available, GUEST + queue.used if log is None else log, shape="IIQQQQ")
 
     def stop(self, queue):
         """Stops a queue and returns the index where it stopped."""
         self.send(GET_VRING_BASE, queue.number, 0, shape="II")
         return struct.unpack("<II", self.receive())[1]
 
+    def stop_all(self):
+        """Stops the queues, as a source does before it saves."""
+        for queue in self.queues:
+            self.stop(queue)
+
     # Migration.
+
+    def follow(self, other, state):
+        """Loads the state of another front end's device, and goes on with its memory and rings, as a guest does that
+        migrates. This one was made with begin=False. Returns whether the device takes the state."""
+        self.send(SET_PROTOCOL_FEATURES, self.protocol)
+        if not self.load(state):
+            return False
+        self.view[:] = other.view[:]
+        self.unique = other.unique
+        for queue, before in zip(self.queues, other.queues):
+            queue.made, queue.kicked, queue.seen, queue.free = before.made, before.kicked, before.seen, before.free
+        self.begin()
+        return True
 
     def save(self):
         """Returns the state of the device, or None if the device reports that it failed."""
@@ -202,23 +219,26 @@ class FrontEnd(FileOperations):
             pass
         return reply == NO_DESCRIPTOR and self.query(CHECK_DEVICE_STATE) == 0
 
-    def share_log(self, size, file_size=0, memfd_flags=0):
+    def share_log(self, size, file_size=0, memfd_flags=0, offset=0, begin=True):
         """Shares a log of `size` bytes, one bit a page of memory from address 0 of the guest on, and has writes marked
-        there from now on. It is the first part of a file of `file_size` bytes, if that is given."""
+        there from now on, unless `begin` is False. It is the part at `offset` of a file of `file_size` bytes, if that is
+        given."""
         log = os.memfd_create("log", memfd_flags)
         os.ftruncate(log, file_size or size)
-        self.send(SET_LOG_BASE, size, 0, fds=[log])
+        self.send(SET_LOG_BASE, size, offset, fds=[log])
         self.receive()
-        self.log = mmap.mmap(log, file_size or size)
+        self.log, self.log_at = mmap.mmap(log, file_size or size), offset
         os.close(log)
-        self.send(SET_FEATURES, self.features | LOG_ALL)
-        self.query(GET_FEATURES)
+        if begin:
+            self.send(SET_FEATURES, self.features | LOG_ALL)
+            self.query(GET_FEATURES)
 
     def take_marked(self):
         """Returns the numbers of the guest's pages that were marked, and clears the log. Pages are marked after they
         were written, so a message comes first, whose reply waits for requests that are not quite done."""
         self.query(GET_FEATURES)
-        pages = {8 * i + bit for i, byte in enumerate(self.log[:]) if byte for bit in range(8) if byte >> bit & 1}
+        assert not any(self.log[:self.log_at]), "the file is written before the log"
+        pages = {8 * i + bit for i, byte in enumerate(self.log[self.log_at:]) if byte for bit in range(8) if byte >> bit & 1}
         self.log[:] = bytes(len(self.log))
         return pages
 

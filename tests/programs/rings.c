@@ -1,4 +1,4 @@
-/* A front end that writes its memory while a server reads it, for hostile.py: descriptors, indirect tables, requests and
+/* A front end that writes its memory while a server reads it, for test_hostile.py: descriptors, indirect tables, requests and
  * both rings are changed by a thread of their own, indices jump, queues stop and begin anew, with and without
  * VIRTIO_RING_F_EVENT_IDX, and at the end the memory is cut while requests are in flight.
  *
@@ -177,8 +177,8 @@ int main(int count, char **words)
 	/* A server that answers nothing must not hold it up. */
 	alarm((unsigned)(most / 1000) + 60);
 	meet(words[1]);
-	features =
-		begin(MEMORY, ENTRIES, 1ull << VIRTIO_RING_F_EVENT_IDX | 1ull << VIRTIO_RING_F_INDIRECT_DESC);
+	features = begin_queues(2, MEMORY, ENTRIES,
+				1ull << VIRTIO_RING_F_EVENT_IDX | 1ull << VIRTIO_RING_F_INDIRECT_DESC);
 	seed = next_number(&state);
 	need(!pthread_create(&writer, NULL, scribble, &seed), "a thread");
 	clock_gettime(CLOCK_MONOTONIC, &from);

@@ -1,6 +1,6 @@
 /* A request that is answered later, while its worker is in one that takes longer than a front end waits for
  * answers; the memory of the guest is to change meanwhile. The answer goes into the memory that it was asked in, and
- * before that changes. check.sh links it with the queues of a vhost-user device and the library nizwarf_border. */
+ * before that changes. test_memory.py links it with the queues of a vhost-user device and the library nizwarf_border. */
 #define _GNU_SOURCE
 #include <stdio.h>
 #include <string.h>
@@ -25,13 +25,13 @@ static transport_later *_Atomic kept;
 static atomic_int calls;
 
 /* The first request is kept, the second takes long. */
-static int32_t serve(void *user, unsigned worker, const nizwarf_segment *request, size_t segments,
-		     const nizwarf_room *room, size_t rooms, size_t *len)
+static int32_t serve(void *user, unsigned worker, const struct iovec *request, size_t segments,
+		     const struct iovec *room, size_t rooms, size_t *len)
 {
 	(void)user, (void)worker, (void)request, (void)segments, (void)room, (void)rooms, (void)len;
 	if (atomic_fetch_add(&calls, 1) == 0) {
 		kept = transport_keep();
-		return kept ? NIZWARF_ASKED : NIZWARF_OK;
+		return kept ? NIZWARF_CALL : NIZWARF_OK;
 	}
 	sleep(SECONDS);
 	return NIZWARF_OK;
@@ -88,7 +88,7 @@ int main(void)
 	if (queues_hold(-1, -1))
 		return wrong("it could not begin");
 	guest->region[0] = (struct region){ memory, memory, SIZE };
-	guest->told[0] = (struct vhost_region){ .size = SIZE };
+	guest->vhost_regions[0] = (struct vhost_region){ .size = SIZE };
 	guest->shared[0] = (nizwarf_region){ 0, SIZE };
 	guest->regions = 1;
 	queue->size = 8;

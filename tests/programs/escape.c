@@ -1,4 +1,4 @@
-/* Does what code could that got into a sandboxed server, to leave it: check.sh holds that it can't.
+/* Does what code could that got into a sandboxed server, to leave it: test_sandbox.py holds that it can't.
  * Sandbox, capabilities and filter are taken as programs/share/share.c takes them, with all that words let a server do
  * but hold handles; and what names files to Linux for it is asked for what it must refuse. Nothing is written.
  *
