@@ -1,13 +1,13 @@
 #!/usr/bin/env bash
-# Tests the bindings for other languages: `hello` in Python and in Go, with a client and, as root if there is
-# /dev/fuse, mounted; and the crate for Rust, with rust/check.sh.
+# Tests the bindings for other languages: the packages for Python and for Go, and `hello` in both, with a client and, as
+# root if there is /dev/fuse, mounted; and the crate for Rust, with rust/check.sh.
 #
 # Usage: bindings/check.sh [--msrv] [--fuser]
 # Both words are passed to rust/check.sh. Languages that are not installed are skipped, with a message.
 #
 # Python and Go use the shared library. If out/packages has one and no source is newer, it is used. Otherwise
 # it is linked from the proved library, or from that which tools/lib/unproved.sh builds in a minute.
-# It needs a C compiler and the Rattle toolchain; and python3, go with cgo, and cargo for their languages.
+# It needs a C compiler and the Rattle toolchain; and python3 with pytest, go with cgo, and cargo for their languages.
 # Status 0: all checks passed; 1: one failed; 2: it could not start.
 
 # shellcheck source-path=SCRIPTDIR/../tools
@@ -33,18 +33,14 @@ mkdir -p "$built"
 make_shared() {
     local packed
     for packed in "$here"/out/packages/nizwarf-*-linux-x86_64.tar.gz; do
-        if [ -e "$packed" ] && is_newest "$packed"; then
+        if [ -e "$packed" ] && is_newest "$packed" && [ -z "$(find "$here"/{lib,include} -newer "$packed" -print -quit)" ]; then
             # (NAME/lib/FILE becomes FILE)
             tar -xzf "$packed" -C "$built" --strip-components=2 --wildcards '*/lib/libnizwarf.so*'
             echo "The shared library is from ${packed##*/}." >&2
             return
         fi
     done
-    find_library nizwarf_door
-    rm -f "$built"/libnizwarf.so*
-    cc -shared -o "$built/libnizwarf.so.0" -Wl,-soname,libnizwarf.so.0 -Wl,-z,defs -Wl,--whole-archive "${library[0]}" \
-        -Wl,--no-whole-archive "${library[1]}"
-    ln -s libnizwarf.so.0 "$built/libnizwarf.so"
+    link_shared "$built"
 }
 
 # Tests a program with a client, and mounted.
@@ -73,45 +69,50 @@ follow_readme() {
 }
 
 # (bindings/rust/check.sh counts its own)
-steps=13
+steps=15
 make_shared
 export LD_LIBRARY_PATH=$built${LD_LIBRARY_PATH:+:$LD_LIBRARY_PATH}
-if command -v python3 > /dev/null; then
+if command -v pytest-3 > /dev/null; then
+    export NIZWARF_LIB=$built/libnizwarf.so.1
+    tests=(pytest-3 -q "$here/bindings/python/tests")
+    step "Tests of the package for Python" "${tests[@]}"
     check_hello hello.py "$here/bindings/python/hello.py"
     sanitizer=$(cc -print-file-name=libasan.so)
     if [ -e "$sanitizer" ]; then
         # (Python's own allocator would hide what is read past; what it leaks is its own)
         LD_PRELOAD=$sanitizer PYTHONMALLOC=malloc ASAN_OPTIONS=detect_leaks=0 \
-            step "hello.py with the address sanitizer" \
-            ask_hello "$here/bindings/python/hello.py"
+            step "The same tests with the address sanitizer" "${tests[@]}"
     else
         skip 1 "The compiler has no address sanitizer, so it is skipped."
     fi
 else
-    skip 4 "python3 is not installed, so Python is skipped: apt-get install python3."
+    skip 5 "pytest is not installed, so Python is skipped: apt-get install python3-pytest."
 fi
 if command -v go > /dev/null; then
     export GOCACHE=$built/go-cache GOFLAGS=-mod=mod GOPROXY=off
-    export CGO_CFLAGS="-O2 -Wall -I$here/include" CGO_LDFLAGS=-L$built
+    export CGO_CFLAGS="-O2 -Wall" CGO_LDFLAGS=-L$built
+    cd "$here/bindings/go"
     # cgo checks all pointers that are passed to C.
     case $(go env GOVERSION) in
         go1.1[0-9]* | go1.20*) export GODEBUG=cgocheck=2 ;;
         *) export GOEXPERIMENT=cgocheck2 ;;
     esac
-    step "Format of hello.go" test -z "$(gofmt -l "$here/bindings/go")"
-    step "go vet" go vet "$here/bindings/go/hello.go"
-    step "The README of hello.go" follow_readme
-    step "Build of hello.go" go build -o "$built/hello" "$here/bindings/go/hello.go"
-    check_hello hello.go "$built/hello"
+    step "Format of the package for Go" test -z "$(gofmt -l .)"
+    step "go vet" go vet ./...
+    step "The README for Go" follow_readme
+    step "Build of hello" go build -o "$built/hello" ./examples/hello
+    step "Tests of the package for Go" go test -count=1 ./...
+    check_hello hello "$built/hello"
     for sanitizer in -asan -race; do
-        if go build $sanitizer -o "$built/hello$sanitizer" "$here/bindings/go/hello.go" 2> "$folder/said"; then
-            step "hello.go with $sanitizer" ask_hello "$built/hello$sanitizer"
+        if go build $sanitizer -o "$built/hello$sanitizer" ./examples/hello 2> "$folder/said"; then
+            step "Tests of the package for Go with $sanitizer" go test -count=1 $sanitizer .
         else
             skip 1 "go has no $sanitizer here, so it is skipped."
         fi
     done
+    cd "$here"
 else
-    skip 9 "go is not installed, so Go is skipped: apt-get install golang-go."
+    skip 10 "go is not installed, so Go is skipped: apt-get install golang-go."
 fi
 if command -v cargo > /dev/null; then
     "$here/bindings/rust/check.sh" "$@"

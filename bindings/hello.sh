@@ -25,11 +25,10 @@ skip() {
     echo "$2" >&2
 }
 
-# Tests a program with tests/c/hello.c, which runs it as `PROGRAM --fd N`.
+# Tests a program with tests/lib/hello_client.py, which runs it as `PROGRAM --fd N`.
 ask_hello() {
     # shellcheck disable=SC2154
-    [ -e "$folder/client" ] || cc -O1 -o "$folder/client" "$here/tests/c/hello.c"
-    timeout 60 "$folder/client" "$1"
+    timeout 60 python3 -B "$here/tests/lib/hello_client.py" "$1"
 }
 
 # Runs a program that mounts the file on `$folder/mount`, uses the mount, and unmounts it:

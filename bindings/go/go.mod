@@ -1,0 +1,3 @@
+module nizwarf
+
+go 1.19

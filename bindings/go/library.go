@@ -1,0 +1,480 @@
+package nizwarf
+
+// Decodes requests, calls methods, and encodes replies by libnizwarf. No other file has names of C.
+
+/*
+#cgo CFLAGS: -I${SRCDIR}/../../include
+#cgo LDFLAGS: -lnizwarf
+#include <stdlib.h>
+#include "nizwarf_ops.h"
+*/
+import "C"
+
+import (
+	"encoding/binary"
+	"errors"
+	"fmt"
+	"io"
+	"log"
+	"runtime/debug"
+	"strings"
+	"syscall"
+	"time"
+	"unsafe"
+)
+
+const (
+	payload, headerSize = 1 << 20, 16
+	// The size of the buffers of a request and of a reply.
+	bufferSize = payload + 4096
+	interrupt  = 36 // an opcode that calls no method
+	initExt    = 1 << 30
+	// The optional operations that FileSystem has, and the options of INIT, HAS_IOCTL_DIR and HAS_INODE_DAX, that need
+	// others.
+	features = C.NIZWARF_FEATURE_LOCKS | C.NIZWARF_FEATURE_COPY_64 | C.NIZWARF_FEATURE_TMPFILE | C.NIZWARF_FEATURE_INIT
+	unserved = 1<<11 | 1<<33
+)
+
+// Structs of this package that have the layout of the library's, which a test compares.
+var layouts = [][2]any{
+	{Attr{}, C.nizwarf_attr{}}, {Setattr{}, C.nizwarf_setattr{}}, {Statfs{}, C.nizwarf_statfs{}},
+	{Lock{}, C.nizwarf_lock{}},
+}
+
+// worker serves one request at a time. C allocates the memory that it reads through pointers: the buffers of the request
+// and of the reply.
+type worker struct {
+	*server
+	request, buffer unsafe.Pointer
+	scratch         C.nizwarf_scratch
+	session         C.nizwarf_session
+	call            C.nizwarf_call
+	result          C.nizwarf_result
+	answer          C.nizwarf_answer
+	entries         []C.nizwarf_dirent
+	opened          bool
+	// The fields of the call. openFile is nil if the request names no open file.
+	who                        *Request
+	node, offset, size, length uint64
+	name, otherName            string
+	data                       []byte
+	file, openFile             *File
+	otherNode                  uint64
+	flags, mode, more, rdev    uint32
+	datasync                   bool
+	lock                       Lock
+}
+
+func newWorker(s *server) *worker {
+	return &worker{server: s, request: C.malloc(bufferSize), buffer: C.malloc(bufferSize)}
+}
+
+func (w *worker) free() {
+	C.nizwarf_scratch_free(&w.scratch)
+	C.free(w.request)
+	C.free(w.buffer)
+}
+
+// requestBuffer is where a request is read to.
+func (w *worker) requestBuffer() []byte {
+	return unsafe.Slice((*byte)(w.request), bufferSize)
+}
+
+// body is what follows the header of a reply.
+func (w *worker) body() []byte {
+	return unsafe.Slice((*byte)(unsafe.Add(w.buffer, headerSize)), w.replySize-headerSize)
+}
+
+// serve serves the request of this size, and returns the reply, which may be empty.
+func (w *worker) serve(size int) []byte {
+	w.session = C.nizwarf_session{options: C.uint64_t(w.options.Load()), page_size: 4096, max_buffer: payload}
+	request := C.struct_iovec{w.request, C.size_t(size)}
+	reply := C.struct_iovec{w.buffer, C.size_t(w.replySize)}
+	code := C.nizwarf_decode(&w.scratch, &w.session, features, &request, 1, &reply, 1, &w.call, &w.result)
+	if w.result.interrupts != 0 {
+		w.fs.Interrupt(uint64(w.result.interrupts))
+	}
+	if code == C.NIZWARF_CALL {
+		w.answer, w.entries, w.opened = C.nizwarf_answer{}, nil, false
+		w.describe()
+		w.answer.error = C.int32_t(w.number(w.run()))
+		code = w.encode(&reply)
+	}
+	if code != C.NIZWARF_OK {
+		return w.reject(size, int32(code))
+	}
+	return unsafe.Slice((*byte)(w.buffer), w.result.len)
+}
+
+// encode encodes the reply. What the kernel does not get is released and forgotten.
+func (w *worker) encode(reply *C.struct_iovec) C.int32_t {
+	if count := len(w.entries); count > 0 {
+		w.answer.items = (*C.nizwarf_dirent)(C.malloc(C.size_t(count) * C.sizeof_nizwarf_dirent))
+		w.answer.items_len = C.size_t(count)
+		copy(unsafe.Slice(w.answer.items, count), w.entries)
+		defer C.free(unsafe.Pointer(w.answer.items))
+	}
+	code := C.nizwarf_encode(&w.scratch, &w.session, &w.call, &w.answer, reply, 1, &w.result)
+	if code != C.NIZWARF_OK && w.opened && w.answer.error == 0 {
+		file := &File{Handle: uint64(w.answer.handle), Flags: w.flags}
+		switch w.call.opcode {
+		case C.NIZWARF_OPENDIR:
+			w.number(w.fs.Releasedir(w.who, w.node, file))
+		case C.NIZWARF_OPEN:
+			w.number(w.fs.Release(w.who, w.node, file))
+		default:
+			w.number(w.fs.Release(w.who, uint64(w.answer.entry.node), file))
+		}
+	}
+	lost := []C.uint64_t{w.result.forget}
+	for _, it := range w.entries[w.result.entries:] {
+		lost = append(lost, it.entry.node)
+	}
+	for _, node := range lost {
+		if node != 0 {
+			w.fs.Forget(w.who, uint64(node), 1)
+		}
+	}
+	if w.call.opcode == C.NIZWARF_INIT || w.call.opcode == C.NIZWARF_DESTROY {
+		w.options.Store(uint64(w.result.options))
+	}
+	return code
+}
+
+// reject returns an error for a request that was rejected, or for which there is no memory, because the kernel waits for
+// a reply.
+func (w *worker) reject(size int, code int32) []byte {
+	if size < headerSize {
+		return nil
+	}
+	request := w.requestBuffer()[:size]
+	opcode, unique := binary.LittleEndian.Uint32(request[4:]), binary.LittleEndian.Uint64(request[8:])
+	log.Printf("nizwarf: rejected request %d with opcode %d: libnizwarf returned %d", unique, opcode, code)
+	switch opcode {
+	case C.NIZWARF_FORGET, C.NIZWARF_BATCH_FORGET, C.NIZWARF_NOTIFY_REPLY, interrupt: // no reply is expected
+		return nil
+	}
+	if code == C.NIZWARF_OUT_OF_MEMORY {
+		return fault(unique, syscall.ENOMEM)
+	}
+	return fault(unique, syscall.EIO)
+}
+
+// number returns the error number for Linux: EIO for an error without a valid one, which is logged.
+func (w *worker) number(err error) syscall.Errno {
+	var number syscall.Errno
+	if err == nil || errors.As(err, &number) && number > 0 && number <= C.NIZWARF_MAX_ERRNO {
+		return number
+	}
+	log.Printf("nizwarf: the method for opcode %d failed without a valid error number: %v", w.call.opcode, err)
+	return syscall.EIO
+}
+
+// part returns the bytes of a range of the request.
+func (w *worker) part(it C.nizwarf_range) []byte {
+	return unsafe.Slice((*byte)(unsafe.Add(w.request, it.at)), it.len)
+}
+
+// describe fills in the fields of the call.
+func (w *worker) describe() {
+	c := &w.call
+	w.who = &Request{Unique: uint64(c.unique), UID: uint32(c.uid), GID: uint32(c.gid), PID: int32(c.pid),
+		Umask: uint32(c.umask), Has: uint32(c.has), Group: uint32(c.group), ContextName: string(w.part(c.context_name)),
+		Context: w.part(c.context), ExtFlags: uint32(c.more)}
+	w.node, w.offset, w.size, w.length = uint64(c.node), uint64(c.offset), uint64(c.size), uint64(c.length)
+	w.otherNode, w.datasync = uint64(c.other_node), c.has&C.NIZWARF_FSYNC_FDATASYNC != 0
+	w.name, w.otherName, w.data = string(w.part(c.name)), string(w.part(c.other_name)), w.part(c.data)
+	w.flags, w.mode, w.more, w.rdev = uint32(c.flags), uint32(c.mode), uint32(c.more), uint32(c.rdev)
+	w.file, w.openFile = &File{uint64(c.handle), uint64(c.lock_owner), w.flags}, nil
+	lock := C.nizwarf_lock_of(c)
+	w.lock = *(*Lock)(unsafe.Pointer(&lock))
+	switch c.opcode {
+	case C.NIZWARF_SETATTR, C.NIZWARF_GETLK, C.NIZWARF_SETLK, C.NIZWARF_SETLKW: // flags are not those of open(2)
+		w.file.Flags = 0
+	case C.NIZWARF_COPY, C.NIZWARF_COPY_64:
+		w.file.LockOwner = 0
+	}
+	if c.has&C.NIZWARF_HAS_HANDLE != 0 {
+		w.openFile = w.file
+	}
+}
+
+// From here on: methods that put the results of a method of the file system into the answer.
+
+func recordOf(e Entry) C.nizwarf_entry {
+	seconds, nanoseconds := split(e.EntryTimeout)
+	attrSeconds, attrNanoseconds := split(e.AttrTimeout)
+	return C.nizwarf_entry{node: C.uint64_t(e.Node), generation: C.uint64_t(e.Generation), entry_seconds: seconds,
+		attr_seconds: attrSeconds, entry_nanoseconds: nanoseconds, attr_nanoseconds: attrNanoseconds,
+		attr: *(*C.nizwarf_attr)(unsafe.Pointer(&e.Attr))}
+}
+
+// split splits a time into seconds and nanoseconds. Less than 0 is 0.
+func split(it time.Duration) (C.uint64_t, C.uint32_t) {
+	if it < 0 {
+		it = 0
+	}
+	return C.uint64_t(it / time.Second), C.uint32_t(it % time.Second)
+}
+
+func (w *worker) entry(e Entry, err error) error {
+	w.answer.entry = recordOf(e)
+	return err
+}
+
+func (w *worker) attr(attr Attr, timeout time.Duration, err error) error {
+	return w.entry(Entry{Attr: attr, AttrTimeout: timeout}, err)
+}
+
+func (w *worker) open(it Opened, err error) error {
+	w.opened, w.answer.has_handle, w.answer.handle = true, 1, C.uint64_t(it.Handle)
+	w.answer.open_flags, w.answer.count = C.uint32_t(it.Flags), C.uint64_t(it.BackingID)
+	return err
+}
+
+func (w *worker) create(e Entry, it Opened, err error) error {
+	return w.open(it, w.entry(e, err))
+}
+
+func (w *worker) number64(it uint64, err error) error {
+	w.answer.count = C.uint64_t(it)
+	return err
+}
+
+// count sets a number of bytes, of which at most so many were requested.
+func (w *worker) count(count int64, err error, most uint64) error {
+	if err == nil && (count < 0 || uint64(count) > most) {
+		return fmt.Errorf("%d bytes, where at most %d were requested", count, most)
+	}
+	return w.number64(uint64(count), err)
+}
+
+// text puts bytes into the reply buffer.
+func (w *worker) text(it []byte, err error) error {
+	w.answer.text = (*C.uint8_t)(unsafe.Add(w.buffer, headerSize))
+	w.answer.text_len = C.size_t(copy(w.body(), it))
+	return err
+}
+
+func (w *worker) xattr(it []byte, err error) error {
+	if w.size == 0 { // the length alone is requested
+		w.answer.has_count = 1
+		return w.number64(uint64(len(it)), err)
+	}
+	if err == nil && uint64(len(it)) > w.size {
+		return syscall.ERANGE
+	}
+	return w.text(it, err)
+}
+
+// run calls the method for the request. A panic is an error, so that the process that waits gets a reply.
+func (w *worker) run() (err error) {
+	defer func() {
+		if it := recover(); it != nil {
+			err = fmt.Errorf("panic: %v\n%s", it, debug.Stack())
+		}
+	}()
+	if int(w.call.opcode) < len(methods) && methods[w.call.opcode] != nil {
+		return methods[w.call.opcode](w)
+	}
+	return syscall.ENOSYS
+}
+
+// methods has the function for each opcode.
+var methods = [...]func(w *worker) error{
+	C.NIZWARF_LOOKUP:       func(w *worker) error { return w.entry(w.fs.Lookup(w.who, w.node, w.name)) },
+	C.NIZWARF_FORGET:       (*worker).forget,
+	C.NIZWARF_BATCH_FORGET: (*worker).forgetMany,
+	C.NIZWARF_GETATTR:      func(w *worker) error { return w.attr(w.fs.Getattr(w.who, w.node, w.openFile)) },
+	C.NIZWARF_SETATTR:      (*worker).setattr,
+	C.NIZWARF_READLINK:     (*worker).readlink,
+	C.NIZWARF_SYMLINK:      func(w *worker) error { return w.entry(w.fs.Symlink(w.who, w.otherName, w.node, w.name)) },
+	C.NIZWARF_MKNOD:        func(w *worker) error { return w.entry(w.fs.Mknod(w.who, w.node, w.name, w.mode, w.rdev)) },
+	C.NIZWARF_MKDIR:        func(w *worker) error { return w.entry(w.fs.Mkdir(w.who, w.node, w.name, w.mode)) },
+	C.NIZWARF_UNLINK:       func(w *worker) error { return w.fs.Unlink(w.who, w.node, w.name) },
+	C.NIZWARF_RMDIR:        func(w *worker) error { return w.fs.Rmdir(w.who, w.node, w.name) },
+	C.NIZWARF_RENAME: func(w *worker) error {
+		return w.fs.Rename(w.who, w.node, w.name, w.otherNode, w.otherName, w.flags)
+	},
+	C.NIZWARF_LINK:        func(w *worker) error { return w.entry(w.fs.Link(w.who, w.node, w.otherNode, w.name)) },
+	C.NIZWARF_OPEN:        func(w *worker) error { return w.open(w.fs.Open(w.who, w.node, w.flags)) },
+	C.NIZWARF_CREATE:      func(w *worker) error { return w.create(w.fs.Create(w.who, w.node, w.name, w.mode, w.flags)) },
+	C.NIZWARF_TMPFILE:     func(w *worker) error { return w.create(w.fs.Tmpfile(w.who, w.node, w.mode, w.flags)) },
+	C.NIZWARF_READ:        (*worker).read,
+	C.NIZWARF_WRITE:       (*worker).write,
+	C.NIZWARF_STATFS:      (*worker).statfs,
+	C.NIZWARF_FLUSH:       func(w *worker) error { return w.fs.Flush(w.who, w.node, w.file) },
+	C.NIZWARF_RELEASE:     func(w *worker) error { return w.fs.Release(w.who, w.node, w.file) },
+	C.NIZWARF_FSYNC:       func(w *worker) error { return w.fs.Fsync(w.who, w.node, w.datasync, w.file) },
+	C.NIZWARF_SETXATTR:    func(w *worker) error { return w.fs.Setxattr(w.who, w.node, w.name, w.data, w.flags) },
+	C.NIZWARF_GETXATTR:    func(w *worker) error { return w.xattr(w.fs.Getxattr(w.who, w.node, w.name)) },
+	C.NIZWARF_LISTXATTR:   (*worker).listxattr,
+	C.NIZWARF_REMOVEXATTR: func(w *worker) error { return w.fs.Removexattr(w.who, w.node, w.name) },
+	C.NIZWARF_INIT:        (*worker).init,
+	C.NIZWARF_DESTROY:     (*worker).destroy,
+	C.NIZWARF_OPENDIR:     func(w *worker) error { return w.open(w.fs.Opendir(w.who, w.node, w.flags)) },
+	C.NIZWARF_READDIR:     (*worker).list,
+	C.NIZWARF_RELEASEDIR:  func(w *worker) error { return w.fs.Releasedir(w.who, w.node, w.file) },
+	C.NIZWARF_FSYNCDIR:    func(w *worker) error { return w.fs.Fsyncdir(w.who, w.node, w.datasync, w.file) },
+	C.NIZWARF_GETLK:       (*worker).getlk,
+	C.NIZWARF_SETLK:       (*worker).setlk,
+	C.NIZWARF_SETLKW:      (*worker).setlk,
+	C.NIZWARF_ACCESS:      func(w *worker) error { return w.fs.Access(w.who, w.node, w.more) },
+	C.NIZWARF_FALLOCATE: func(w *worker) error {
+		return w.fs.Fallocate(w.who, w.node, w.mode, w.offset, w.length, w.file)
+	},
+	C.NIZWARF_LSEEK:   func(w *worker) error { return w.number64(w.fs.Lseek(w.who, w.node, w.offset, w.more, w.file)) },
+	C.NIZWARF_COPY:    (*worker).copyRange,
+	C.NIZWARF_COPY_64: (*worker).copyRange,
+	C.NIZWARF_SYNCFS:  func(w *worker) error { return w.fs.Syncfs(w.who, w.node) },
+}
+
+// init negotiates options: those that are wanted, that the kernel supports, and that are served.
+func (w *worker) init() error {
+	capable, extension := uint64(C.nizwarf_init_capable(&w.call)), uint64(C.nizwarf_init_ext_flags(&w.call))
+	it := Connection{Capable: capable | extension, Want: capable & C.NIZWARF_WANT_DEFAULT &^ WantAtomicTruncate,
+		Device: w.device}
+	err := w.fs.Init(&it)
+	it.Want &= it.Capable &^ unserved
+	if it.Want>>32 != 0 {
+		it.Want |= capable & initExt
+	}
+	// (the library enables some options that are not wanted, unless the kernel seems not to support them)
+	C.nizwarf_init_keep(&w.call, C.uint64_t(it.Want))
+	C.nizwarf_answer_options(&w.answer, C.uint64_t(it.Want&capable))
+	params := C.nizwarf_init_params{want: C.uint64_t(it.Want & extension), max_readahead: C.uint32_t(it.MaxReadahead),
+		max_write: C.uint32_t(it.MaxWrite), time_gran: C.uint32_t(it.TimeGran),
+		max_stack_depth: C.uint32_t(it.MaxStackDepth), request_timeout: C.uint32_t(it.RequestTimeout),
+		max_background: C.uint16_t(it.MaxBackground), congestion_threshold: C.uint16_t(it.CongestionThreshold)}
+	return w.text(unsafe.Slice((*byte)(unsafe.Pointer(&params)), unsafe.Sizeof(params)), err)
+}
+
+func (w *worker) destroy() error {
+	w.fs.Destroy()
+	return nil
+}
+
+func (w *worker) forget() error {
+	w.fs.Forget(w.who, w.node, w.length)
+	return nil
+}
+
+func (w *worker) forgetMany() error {
+	for pairs := w.data; len(pairs) >= 16; pairs = pairs[16:] {
+		w.fs.Forget(w.who, binary.LittleEndian.Uint64(pairs), binary.LittleEndian.Uint64(pairs[8:]))
+	}
+	return nil
+}
+
+func (w *worker) setattr() error {
+	return w.attr(w.fs.Setattr(w.who, w.node, (*Setattr)(unsafe.Pointer(&w.call.attr)), w.flags, w.openFile))
+}
+
+func (w *worker) readlink() error {
+	target, err := w.fs.Readlink(w.who, w.node)
+	if err == nil && len(target) > C.NIZWARF_MAX_LINK {
+		return fmt.Errorf("a link of %d bytes", len(target))
+	}
+	return w.text([]byte(target), err)
+}
+
+func (w *worker) read() error {
+	size := w.size
+	if most := uint64(C.nizwarf_read_max(&w.call)); size > most {
+		size = most
+	}
+	count, err := w.fs.Read(w.who, w.node, w.body()[:size:size], w.offset, w.file)
+	if errors.Is(err, io.EOF) {
+		err = nil
+	}
+	return w.count(int64(count), err, size)
+}
+
+func (w *worker) write() error {
+	data := w.data
+	if uint64(len(data)) > w.size {
+		data = data[:w.size]
+	}
+	count, err := w.fs.Write(w.who, w.node, data, w.offset, w.file)
+	return w.count(int64(count), err, uint64(len(data)))
+}
+
+func (w *worker) statfs() error {
+	statfs, err := w.fs.Statfs(w.who, w.node)
+	w.answer.statfs = *(*C.nizwarf_statfs)(unsafe.Pointer(&statfs))
+	return err
+}
+
+func (w *worker) listxattr() error {
+	names, err := w.fs.Listxattr(w.who, w.node)
+	return w.xattr([]byte(strings.Join(append(names, ""), "\x00")), err)
+}
+
+func (w *worker) copyRange() error {
+	c, size := &w.call, w.length
+	if c.opcode == C.NIZWARF_COPY && size > C.NIZWARF_MAX_COPY {
+		size = C.NIZWARF_MAX_COPY
+	}
+	count, err := w.fs.CopyFileRange(w.who, w.node, w.offset, w.file, w.otherNode, uint64(c.other_offset),
+		&File{Handle: uint64(c.other_handle)}, size, uint64(C.nizwarf_copy_flags(c)))
+	return w.count(int64(count), err, size)
+}
+
+// list lists a directory: entries until one does not fit, or until there are no more. Their names are in the reply buffer,
+// which suffices because a record is longer than its name.
+func (w *worker) list() error {
+	plus, left, names := C.int(w.call.has&C.NIZWARF_PLUS), int(w.size), w.body()
+	if left > len(names) {
+		left = len(names)
+	}
+	var wrong error
+	err := w.fs.Readdir(w.who, w.node, w.offset, w.file, func(it DirectoryEntry) bool {
+		size := len(it.Name) + 1
+		if left -= int(C.nizwarf_record_size(C.size_t(size), plus)); left < 0 {
+			return false
+		}
+		if it.Name == "" || strings.Contains(it.Name, "\x00") {
+			wrong = fmt.Errorf("%q is no name", it.Name)
+			return false
+		}
+		entry := C.nizwarf_dirent{ino: C.uint64_t(it.Ino), offset: C.uint64_t(it.Offset), name: (*C.uint8_t)(&names[0]),
+			name_size: C.size_t(size), _type: C.uint32_t(it.Mode >> 12)}
+		copy(names, it.Name+"\x00")
+		names = names[size:]
+		if plus != 0 && it.Name != "." && it.Name != ".." {
+			// (without an entry the kernel looks the name up when it needs it)
+			if found, err := w.fs.Lookup(w.who, w.node, it.Name); err == nil {
+				entry.entry = recordOf(found)
+			}
+		}
+		w.entries = append(w.entries, entry)
+		return true
+	})
+	if err == nil {
+		err = wrong
+	}
+	return err
+}
+
+func (w *worker) getlk() error {
+	lock, err := w.fs.Getlk(w.who, w.node, w.file, w.lock)
+	return w.text(unsafe.Slice((*byte)(unsafe.Pointer(&lock)), unsafe.Sizeof(lock)), err)
+}
+
+func (w *worker) setlk() error {
+	sleep := w.call.opcode == C.NIZWARF_SETLKW
+	if w.call.has&C.NIZWARF_LK_FLOCK == 0 {
+		return w.fs.Setlk(w.who, w.node, w.file, w.lock, sleep)
+	}
+	operation := syscall.LOCK_EX
+	switch w.lock.Type {
+	case syscall.F_RDLCK:
+		operation = syscall.LOCK_SH
+	case syscall.F_UNLCK:
+		operation = syscall.LOCK_UN
+	}
+	if operation != syscall.LOCK_UN && !sleep {
+		operation |= syscall.LOCK_NB
+	}
+	return w.fs.Flock(w.who, w.node, w.file, operation)
+}

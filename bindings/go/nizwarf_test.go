@@ -1,0 +1,296 @@
+package nizwarf
+
+import (
+	"bytes"
+	"encoding/binary"
+	"errors"
+	"fmt"
+	"io"
+	"log"
+	"os"
+	"reflect"
+	"strings"
+	"syscall"
+	"testing"
+	"time"
+)
+
+// memory is a file system of files in its root, which records the handles and lookups that were released and forgotten.
+type memory struct {
+	Default
+	files    map[string][]byte
+	released []uint64
+	forgot   map[uint64]uint64
+	want     uint64
+	waiting  chan Lock
+}
+
+func newMemory() *memory {
+	return &memory{files: map[string][]byte{"a": []byte("text")}, forgot: map[uint64]uint64{},
+		waiting: make(chan Lock)}
+}
+
+func (m *memory) Init(c *Connection) error {
+	c.Want |= m.want
+	return nil
+}
+
+func (m *memory) Lookup(r *Request, parent uint64, name string) (Entry, error) {
+	if _, ok := m.files[name]; !ok {
+		return Entry{}, &os.PathError{Op: "lookup", Path: name, Err: syscall.ENOENT}
+	}
+	return Entry{Node: uint64(name[0]), AttrTimeout: 1500 * time.Millisecond}, nil
+}
+
+func (m *memory) Forget(r *Request, node, count uint64) { m.forgot[node] += count }
+
+func (m *memory) Getattr(r *Request, node uint64, file *File) (Attr, time.Duration, error) {
+	return Attr{Ino: Root, Mode: syscall.S_IFDIR | 0755, Nlink: 2}, 0, nil
+}
+
+func (m *memory) Create(r *Request, parent uint64, name string, mode, flags uint32) (Entry, Opened, error) {
+	m.files[name] = nil
+	e, err := m.Lookup(r, parent, name)
+	return e, Opened{Handle: 7}, err
+}
+
+func (m *memory) Release(r *Request, node uint64, file *File) error {
+	m.released = append(m.released, file.Handle)
+	return nil
+}
+
+func (m *memory) Read(r *Request, node uint64, data []byte, offset uint64, file *File) (int, error) {
+	return bytes.NewReader(m.files[string(rune(node))]).ReadAt(data, int64(offset))
+}
+
+func (m *memory) Write(r *Request, node uint64, data []byte, offset uint64, file *File) (int, error) {
+	name := string(rune(node))
+	m.files[name] = append(m.files[name][:offset:offset], data...)
+	return len(data), nil
+}
+
+func (m *memory) Readdir(r *Request, node, offset uint64, file *File, add func(DirectoryEntry) bool) error {
+	for i, name := range []string{".", "a", "b"}[offset:] {
+		if !add(DirectoryEntry{Name: name, Offset: offset + uint64(i) + 1, Ino: 1, Mode: syscall.S_IFREG}) {
+			break
+		}
+	}
+	return nil
+}
+
+// wrong has methods whose results Linux would refuse.
+type wrong struct{ Default }
+
+func (wrong) Lookup(*Request, uint64, string) (Entry, error)             { return Entry{}, syscall.Errno(512) }
+func (wrong) Unlink(*Request, uint64, string) error                      { panic("unlink") }
+func (wrong) Rmdir(*Request, uint64, string) error                       { return errors.New("no number") }
+func (wrong) Readlink(*Request, uint64) (string, error)                  { return strings.Repeat("a", 4096), nil }
+func (wrong) Read(*Request, uint64, []byte, uint64, *File) (int, error)  { return 1 << 20, nil }
+func (wrong) Write(*Request, uint64, []byte, uint64, *File) (int, error) { return 4, nil }
+func (wrong) Getxattr(*Request, uint64, string) ([]byte, error)          { return make([]byte, 9), nil }
+func (wrong) Readdir(_ *Request, _, _ uint64, _ *File, add func(DirectoryEntry) bool) error {
+	add(DirectoryEntry{Name: "a\x00b", Offset: 1})
+	return nil
+}
+
+// kernel plays the kernel at the other end of a socket.
+type kernel struct {
+	*testing.T
+	device int
+	unique uint64
+	served chan error
+}
+
+// begin serves a file system, and begins its session with these options. The end of the test ends it.
+func begin(t *testing.T, fs FileSystem, options uint64) *kernel {
+	log.SetOutput(io.Discard)
+	ends, err := syscall.Socketpair(syscall.AF_UNIX, syscall.SOCK_SEQPACKET|syscall.SOCK_CLOEXEC, 0)
+	if err != nil {
+		t.Fatal(err)
+	}
+	k := &kernel{T: t, device: ends[0], served: make(chan error, 1)}
+	go func() {
+		k.served <- Serve(fs, ends[1])
+		syscall.Close(ends[1])
+	}()
+	t.Cleanup(func() {
+		syscall.Close(ends[0])
+		if err := <-k.served; err != nil {
+			t.Error(err)
+		}
+	})
+	k.init(options)
+	return k
+}
+
+// init begins the session again with these options, and returns those that were negotiated.
+func (k *kernel) init(options uint64) uint64 {
+	const extended = 1 << 30
+	options |= extended
+	reply := k.call(26, 0, pack(uint32(7), uint32(45), uint32(0), uint32(options), uint32(options>>32), [44]byte{}), 0)
+	return uint64(binary.LittleEndian.Uint32(reply[12:])&^extended) | uint64(binary.LittleEndian.Uint32(reply[32:]))<<32
+}
+
+func pack(values ...any) []byte {
+	var packed bytes.Buffer
+	for _, it := range values {
+		if text, ok := it.(string); ok {
+			it = []byte(text)
+		}
+		if err := binary.Write(&packed, binary.LittleEndian, it); err != nil {
+			panic(err)
+		}
+	}
+	return packed.Bytes()
+}
+
+func (k *kernel) send(opcode uint32, node uint64, body []byte) {
+	k.unique++
+	request := pack(uint32(40+len(body)), opcode, k.unique, node, uint32(1), uint32(2), uint32(3), uint32(0), body)
+	if _, err := syscall.Write(k.device, request); err != nil {
+		k.Fatal(err)
+	}
+}
+
+// call returns the body of the reply, which must have this error.
+func (k *kernel) call(opcode uint32, node uint64, body []byte, expected syscall.Errno) []byte {
+	k.Helper()
+	k.send(opcode, node, body)
+	reply := make([]byte, bufferSize)
+	size, err := syscall.Read(k.device, reply)
+	if err != nil || size < headerSize || int(binary.LittleEndian.Uint32(reply)) != size {
+		k.Fatalf("a reply of %d bytes to %d: %v", size, opcode, err)
+	}
+	if !bytes.Equal(reply[4:headerSize], fault(k.unique, expected)[4:]) {
+		k.Fatalf("the reply to %d is % x", opcode, reply[:headerSize])
+	}
+	return reply[headerSize:size]
+}
+
+var (
+	readBody  = pack(uint64(0), uint64(1), uint32(100), uint32(0), uint64(0), uint64(0))
+	writeBody = pack(uint64(0), uint64(2), uint32(3), uint32(0), uint64(0), uint64(0), "abc")
+)
+
+func TestStructsHaveTheLayoutOfTheLibrary(t *testing.T) {
+	for _, pair := range layouts {
+		ours, theirs := reflect.TypeOf(pair[0]), reflect.TypeOf(pair[1])
+		if ours.NumField() != theirs.NumField() || ours.Size() != theirs.Size() {
+			t.Fatalf("%v has another size than %v", ours, theirs)
+		}
+		for i := 0; i < ours.NumField(); i++ {
+			a, b := ours.Field(i), theirs.Field(i)
+			if a.Offset != b.Offset || a.Type.Size() != b.Type.Size() || a.Name != "_" &&
+				!strings.EqualFold(a.Name, strings.ReplaceAll(b.Name, "_", "")) {
+				t.Errorf("%v: %v is not %v", ours, a, b)
+			}
+		}
+	}
+}
+
+func TestFilesAreFoundReadAndWritten(t *testing.T) {
+	k := begin(t, newMemory(), 0)
+	entry := k.call(1, Root, pack("a\x00"), 0)
+	if len(entry) != 128 || !bytes.Equal(entry[:8], pack(uint64('a'))) ||
+		!bytes.Equal(entry[24:40], pack(uint64(1), uint32(0), uint32(5e8))) {
+		t.Errorf("entry % x", entry)
+	}
+	k.call(1, Root, pack("c\x00"), syscall.ENOENT)
+	if count := k.call(16, 'a', writeBody, 0); !bytes.Equal(count, pack(uint32(3), uint32(0))) {
+		t.Errorf("count % x", count)
+	}
+	if data := k.call(15, 'a', readBody, 0); string(data) != "eabc" {
+		t.Errorf("data %q", data)
+	}
+}
+
+func TestReaddirplusLooksEntriesUp(t *testing.T) {
+	m := newMemory()
+	m.want = WantReaddirplus
+	k := begin(t, m, WantReaddirplus)
+	// The second entry has been looked up; the third one has no file.
+	plus := k.call(44, Root, pack(uint64(0), uint64(0), uint32(4096), uint32(0), uint64(0), uint64(0)), 0)
+	if len(plus) != 480 || plus[160] != 'a' || plus[320] != 0 {
+		t.Errorf("entries % x", plus)
+	}
+}
+
+func TestWhatIsMissingIsENOSYSOrSucceeds(t *testing.T) {
+	k := begin(t, struct{ Default }{}, 0)
+	for opcode, expected := range map[uint32]syscall.Errno{3: syscall.ENOSYS, 16: syscall.ENOSYS, 14: 0, 18: 0, 27: 0, 29: 0,
+		17: 0, 31: syscall.ENOSYS, 39: syscall.ENOSYS, 40: syscall.ENOSYS, 51: syscall.ENOSYS, 9999: syscall.ENOSYS} {
+		k.call(opcode, Root, make([]byte, 64), expected)
+	}
+}
+
+func TestWhatLinuxWouldRefuseIsAnError(t *testing.T) {
+	k := begin(t, wrong{}, 0)
+	for _, it := range []struct {
+		opcode   uint32
+		body     []byte
+		expected syscall.Errno
+	}{{1, pack("a\x00"), syscall.EIO}, {10, pack("a\x00"), syscall.EIO}, {11, pack("a\x00"), syscall.EIO},
+		{5, nil, syscall.EIO}, {15, readBody, syscall.EIO}, {16, writeBody, syscall.EIO}, {28, readBody, syscall.EIO},
+		{22, pack(uint64(8), "a\x00"), syscall.ERANGE}, {22, pack(uint64(9), "a\x00"), 0}, {22, pack(uint64(0), "a\x00"), 0}} {
+		k.call(it.opcode, 1, it.body, it.expected)
+	}
+}
+
+func TestWhatTheKernelDoesNotGetIsReleasedAndForgotten(t *testing.T) {
+	m := newMemory()
+	w := newWorker(&server{fs: m, replySize: 20})
+	defer w.free()
+	log.SetOutput(io.Discard)
+	// A CREATE, whose reply does not fit.
+	request := pack(uint32(58), uint32(35), uint64(5), uint64(Root), uint64(0), uint32(3), uint32(0), uint64(0), uint64(0), "b\x00")
+	copy(w.requestBuffer(), request)
+	if reply := w.serve(len(request)); !bytes.Equal(reply, fault(5, syscall.EIO)) {
+		t.Errorf("reply % x", reply)
+	}
+	if fmt.Sprint(m.released, m.forgot) != "[7] map[98:1]" {
+		t.Error(m.released, m.forgot)
+	}
+}
+
+func TestOptionsAreNegotiatedIfTheyAreWantedAndServed(t *testing.T) {
+	for _, it := range []struct{ want, capable, expected uint64 }{
+		{0, 1 << 3, 0}, {WantAtomicTruncate, 1 << 3, 1 << 3}, {WantAtomicTruncate, 0, 0}, {1 << 11, 1 << 11, 0},
+		{0, WantIDMap, 0}, {WantIDMap, WantIDMap, WantIDMap}, {0, 1, 1}, {1 << 38, 1 << 38, 1 << 38}, {0, 1 << 38, 0}} {
+		m := newMemory()
+		m.want = it.want
+		if negotiated := begin(t, m, 0).init(it.capable); negotiated != it.expected {
+			t.Errorf("%x: %x", it, negotiated)
+		}
+	}
+}
+
+func (m *memory) Getlk(r *Request, node uint64, file *File, lock Lock) (Lock, error) {
+	return Lock{Start: 1, End: 2, Type: syscall.F_WRLCK, PID: 3}, nil
+}
+
+func (m *memory) Setlk(r *Request, node uint64, file *File, lock Lock, sleep bool) error {
+	if sleep {
+		m.waiting <- lock
+	}
+	return nil
+}
+
+func TestALockThatIsWaitedForHoldsUpNobody(t *testing.T) {
+	m := newMemory()
+	k := begin(t, m, 0)
+	lock := pack(uint64(1), uint64(9), uint64(5), uint64(6), uint32(syscall.F_RDLCK), uint32(4), uint64(0))
+	if got := k.call(31, 'a', lock, 0); !bytes.Equal(got, pack(uint64(1), uint64(2), uint32(syscall.F_WRLCK), uint32(3))) {
+		t.Errorf("lock % x", got)
+	}
+	k.call(32, 'a', pack(lock[:40], uint32(1), uint32(0)), syscall.ENOSYS) // a lock of flock(2)
+	k.send(33, 'a', lock)
+	waits := k.unique
+	k.call(3, Root, make([]byte, 16), 0)
+	if got := <-m.waiting; got != (Lock{5, 6, syscall.F_RDLCK, 4}) {
+		t.Error(got)
+	}
+	reply := make([]byte, 100)
+	if size, err := syscall.Read(k.device, reply); err != nil || !bytes.Equal(reply[:size], fault(waits, 0)) {
+		t.Errorf("reply % x, %v", reply[:size], err)
+	}
+}

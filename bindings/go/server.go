@@ -1,0 +1,159 @@
+package nizwarf
+
+import (
+	"context"
+	"encoding/binary"
+	"errors"
+	"fmt"
+	"log"
+	"os"
+	"runtime"
+	"sync"
+	"sync/atomic"
+	"syscall"
+)
+
+// server is a file system and its session with one kernel, which any number of goroutines serve.
+type server struct {
+	fs        FileSystem
+	device    int
+	replySize int
+	options   atomic.Uint64
+	// How many goroutines read, and serve none.
+	idle    atomic.Int32
+	workers sync.WaitGroup
+	failed  sync.Once
+	failure error
+}
+
+// Serve serves the requests that come by a descriptor, each as one read, until its other end is closed, or it is
+// unmounted. It returns once all methods have.
+func Serve(fs FileSystem, device int) error {
+	s := &server{fs: fs, device: device, replySize: bufferSize}
+	s.start()
+	s.workers.Wait()
+	if s.options.Load() != 0 { // the kernel has not ended the session
+		fs.Destroy()
+	}
+	return s.failure
+}
+
+// start starts another goroutine that reads requests.
+func (s *server) start() {
+	s.workers.Add(1)
+	s.idle.Add(1)
+	go s.work()
+}
+
+// work serves requests until the end, or until enough other goroutines read. While one serves another reads, so that a
+// method may wait, for instance for a lock.
+func (s *server) work() {
+	w := newWorker(s)
+	defer s.workers.Done()
+	defer w.free()
+	for {
+		size, err := syscall.Read(s.device, w.requestBuffer())
+		switch {
+		case errors.Is(err, syscall.EINTR), errors.Is(err, syscall.ENOENT), errors.Is(err, syscall.EAGAIN):
+			continue // the request was aborted
+		case isEnd(err) || err == nil && size == 0:
+			return
+		case err != nil:
+			s.failed.Do(func() { s.failure = fmt.Errorf("reading requests: %w", err) })
+			return
+		}
+		if s.idle.Add(-1) == 0 {
+			s.start()
+		}
+		if reply := w.serve(size); len(reply) > 0 {
+			s.send(reply)
+		}
+		if int(s.idle.Load()) >= runtime.GOMAXPROCS(0) {
+			return
+		}
+		s.idle.Add(1)
+	}
+}
+
+// isEnd returns whether an error is the end of the connection.
+func isEnd(err error) bool {
+	return errors.Is(err, syscall.ENODEV) || errors.Is(err, syscall.ECONNABORTED) || errors.Is(err, syscall.ECONNRESET) ||
+		errors.Is(err, syscall.EPIPE)
+}
+
+// send sends a reply. If Linux refuses it, the process that waits gets EIO.
+func (s *server) send(reply []byte) {
+	_, err := syscall.Write(s.device, reply)
+	if err == nil || isEnd(err) || errors.Is(err, syscall.ENOENT) { // nobody waits for it any longer
+		return
+	}
+	log.Printf("nizwarf: a reply could not be sent: %v", err)
+	// (an error of this one says that the process has its error already)
+	_, _ = syscall.Write(s.device, fault(binary.LittleEndian.Uint64(reply[8:]), syscall.EIO))
+}
+
+// fault returns a reply that is an error.
+func fault(unique uint64, number syscall.Errno) []byte {
+	reply := make([]byte, headerSize)
+	binary.LittleEndian.PutUint32(reply, headerSize)
+	binary.LittleEndian.PutUint32(reply[4:], uint32(-int32(number)))
+	binary.LittleEndian.PutUint64(reply[8:], unique)
+	return reply
+}
+
+// MountOptions says how a file system is mounted.
+type MountOptions struct {
+	// Name is the source that mount(8) lists, by default nizwarf.
+	Name string
+	// AllowOther lets other users than root use the mount.
+	ReadOnly, AllowOther bool
+	// NoDefaultPermissions leaves it to the file system to check permissions.
+	NoDefaultPermissions bool
+}
+
+// Mount mounts a file system, as root, and serves it until it is unmounted. The end of the context unmounts it: at once,
+// or, if somebody still uses it, with its last user.
+func Mount(ctx context.Context, fs FileSystem, mountpoint string, options MountOptions) error {
+	var st syscall.Stat_t
+	if err := syscall.Stat(mountpoint, &st); err != nil {
+		return &os.PathError{Op: "mount", Path: mountpoint, Err: err}
+	}
+	device, err := syscall.Open("/dev/fuse", syscall.O_RDWR|syscall.O_CLOEXEC, 0)
+	if err != nil {
+		return &os.PathError{Op: "open", Path: "/dev/fuse", Err: err}
+	}
+	defer syscall.Close(device)
+	data := fmt.Sprintf("fd=%d,rootmode=%o,user_id=%d,group_id=%d", device, st.Mode&syscall.S_IFMT, os.Getuid(), os.Getgid())
+	flags := uintptr(syscall.MS_NOSUID | syscall.MS_NODEV)
+	if options.ReadOnly {
+		flags |= syscall.MS_RDONLY
+	}
+	if options.AllowOther {
+		data += ",allow_other"
+	}
+	if !options.NoDefaultPermissions {
+		data += ",default_permissions"
+	}
+	if options.Name == "" {
+		options.Name = "nizwarf"
+	}
+	if err := syscall.Mount(options.Name, mountpoint, "fuse."+options.Name, flags, data); err != nil {
+		return &os.PathError{Op: "mount", Path: mountpoint, Err: err}
+	}
+	served := make(chan error, 1)
+	go func() { served <- Serve(fs, device) }()
+	select {
+	case err = <-served:
+		if err == nil { // it was unmounted
+			return nil
+		}
+	case <-ctx.Done():
+	}
+	if failure := syscall.Unmount(mountpoint, syscall.MNT_DETACH); failure != nil {
+		return &os.PathError{Op: "unmount", Path: mountpoint, Err: failure}
+	}
+	if err == nil {
+		err = <-served
+	}
+	return err
+}
